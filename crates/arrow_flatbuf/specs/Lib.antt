@@ -1,0 +1,6 @@
+pub mod Place
+pub mod Vtable
+pub mod Table
+pub mod Text
+pub mod Vector
+pub mod Answers

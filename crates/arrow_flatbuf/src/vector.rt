@@ -1,0 +1,93 @@
+//! Vectors, read element by element.
+ghost use Rattle.std.specs.Prelude.{◌≡◌, ◌≤◌, ◌<◌, ◌+◌, ◌*◌, ◌^◌, ◌↔◌, IsTrue, IfOk, IfSome};
+ghost use Rattle.std.specs.Result.{result_ok};
+ghost use Rattle.arrow_flatbuf.specs.Place.{number_at, behind};
+ghost use Rattle.arrow_flatbuf.specs.Table.{table_at};
+ghost use Rattle.arrow_flatbuf.specs.Vector.{VectorAt, vector_at};
+
+use crate::place::{target_at, u32_at};
+use crate::table::{Table, Unreadable};
+use byteorder::{ByteOrder, LittleEndian};
+use std::marker::Model;
+
+/// A readable vector of elements of one size.
+#[derive(Drop)]
+pub struct Vector<'a> {
+    bytes: &'a [u8],
+    place: usize,
+    count: usize,
+    size: usize,
+}
+
+impl<'a> Model for Vector<'a> {
+    ghost use Rattle.std.specs.Prelude.{◌≤◌, ◌+◌, ◌*◌, ◌^◌, length};
+    ghost use Rattle.arrow_flatbuf.specs.Vector.{VectorAt};
+
+    ghost Value = { VectorAt };
+
+    ghost view = { λ a. record { bytes = a.bytes.now; place = a.place; count = a.count; size = a.size } };
+
+    ghost invariant = { λ a. (a.place + a.count * a.size ≤ length a.bytes.now) × (a.size ≤ 2 ^ 16)
+        × (a.count ≤ 2 ^ 32) };
+}
+
+impl<'a> Vector<'a> {
+    /// How many elements there are.
+    pub fn len(&self) -> usize
+        ensures count { result ≡ self.now.count }
+    {
+        self.count
+    }
+
+    /// Whether there is no element.
+    pub fn is_empty(&self) -> bool
+        ensures none { IsTrue result ↔ (self.now.count ≡ 0) }
+    {
+        self.count == 0
+    }
+
+    /// The number of `width` bytes that stands `at` bytes into an element.
+    #[tactic(auto, unfolding(crate::specs::Place::number_at))]
+    pub fn number(&self, index: usize, at: usize, width: usize) -> u64
+        requires index { index < self.now.count }
+        requires low { 1 ≤ width }
+        requires high { width ≤ 8 }
+        requires within { at + width ≤ self.now.size }
+        ensures value { Some result
+            ≡ number_at width self.now.bytes (self.now.place + index * self.now.size + at) }
+    {
+        let start = self.place + index * self.size + at;
+        LittleEndian::read_uint(&self.bytes[start..], width)
+    }
+
+    /// The table behind an element's offset.
+    pub fn table(&self, index: usize) -> Result<Table<'a>, Unreadable>
+        requires index { index < self.now.count }
+        requires offsets { self.now.size ≡ 4 }
+        ensures value { result_ok result ≡ behind table_at self.now.bytes (self.now.place + index * 4) }
+        ensures bytes { IfOk result (λ t. t.bytes ≡ self.now.bytes) }
+    {
+        Table::behind(self.bytes, self.place + index * 4).ok_or(Unreadable)
+    }
+
+    /// The vector that the offset at a place names.
+    #[tactic(auto, unfolding(crate::specs::Place::behind, crate::specs::Vector::vector_at))]
+    pub(crate) fn behind(bytes: &'a [u8], place: usize, size: usize) -> Option<Vector<'a>>
+        requires size { size ≤ 2 ^ 16 }
+        ensures value { result ≡ behind (vector_at size) bytes.now place }
+        ensures bytes { IfSome result (λ v. (v.bytes ≡ bytes.now) × (v.size ≡ size)) }
+    {
+        let place = target_at(bytes, place)?;
+        let count = u32_at(bytes, place)? as usize;
+        let start = place + 4;
+        if bytes.len() - start < count * size {
+            return None;
+        }
+        Some(Vector {
+            bytes,
+            place: start,
+            count,
+            size,
+        })
+    }
+}
