@@ -1,13 +1,35 @@
-//! FlatBuffers as read: tables, texts and vectors of bytes that come from strangers.
+//! FlatBuffers as read: tables, texts and vectors in bytes that come from strangers.
 //!
-//! The layer takes a whole byte slice, keeps it borrowed and takes no memory. [`Root::open`] gives the table that the
-//! first offset names; [`Table`] answers a field by its number; [`Vector`] answers an element by its index. Each
-//! answer is what the FlatBuffers internals document says stands there, the field's absence, or [`Unreadable`].
+//! The layer takes a whole byte slice, lends it to what it answers, and takes no memory. It never
+//! trusts a number of the bytes: what it answers lies inside them.
+//!
+//! - [`Root::open`] gives the table that the first offset names.
+//! - [`Table`] answers a field by its number: a number, a table, a text, a vector, its absence, or
+//!   [`Unreadable`].
+//! - [`Vector`] answers an element by its index.
+//!
+//! What stands at a place is defined once, as a function of the whole list of bytes, in the terms of
+//! the FlatBuffers internals document, and each call meets its definition exactly, so also where it
+//! answers that there is nothing:
+//!
+//! | Notion | Definition |
+//! |---|---|
+//! | number, offset | `specs/Place.antt`: `number_at`, `target_at`, `behind` |
+//! | vtable, entry of a field | `specs/Vtable.antt`: `vtable_at`, `entry` |
+//! | table, place of a field | `specs/Table.antt`: `table_at`, `field_place` |
+//! | text | `specs/Text.antt`: `text_at` |
+//! | vector | `specs/Vector.antt`: `vector_at` |
+//! | answer on a field | `specs/Answers.antt`: `Answers` |
+//!
+//! Tables, vtables and vectors may overlap and be shared. Nothing needs to be aligned, no zero byte
+//! needs to follow a text, and the size that a vtable gives its table is not looked at.
 #![tactic(auto)]
 
 mod place;
 mod root;
 mod table;
+#[cfg(test)]
+mod tests;
 mod text;
 mod vector;
 mod vtable;

@@ -10,12 +10,16 @@ use crate::table::{Table, Unreadable};
 use byteorder::{ByteOrder, LittleEndian};
 use std::marker::Model;
 
-/// A readable vector of elements of one size.
+/// A readable vector of elements of one size (FlatBuffers internals, "Vectors"). It keeps the bytes
+/// that it lies in borrowed. All its elements lie inside them, so an element's numbers are always
+/// there; a table that an element's offset names may not be.
 #[derive(Drop)]
 pub struct Vector<'a> {
     bytes: &'a [u8],
+    // of the first element, in bytes from the first
     place: usize,
     count: usize,
+    // of one element, in bytes
     size: usize,
 }
 
@@ -25,9 +29,12 @@ impl<'a> Model for Vector<'a> {
 
     ghost Value = { VectorAt };
 
-    ghost view = { λ a. record { bytes = a.bytes.now; place = a.place; count = a.count; size = a.size } };
+    ghost view = { λ a.
+        record { bytes = a.bytes.now; place = a.place; count = a.count; size = a.size } };
 
-    ghost invariant = { λ a. (a.place + a.count * a.size ≤ length a.bytes.now) × (a.size ≤ 2 ^ 16)
+    ghost invariant = { λ a.
+        (a.place + a.count * a.size ≤ length a.bytes.now)
+        × (a.size ≤ 2 ^ 16)
         × (a.count ≤ 2 ^ 32) };
 }
 
@@ -46,7 +53,11 @@ impl<'a> Vector<'a> {
         self.count == 0
     }
 
-    /// The number of `width` bytes that stands `at` bytes into an element.
+    /// The number of `width` bytes, lowest byte first, that stands `at` bytes into an element: the
+    /// element itself, or a field of a struct (FlatBuffers internals, "Structs"). A signed number
+    /// comes as its bits: cast it to the signed type of that width.
+    ///
+    /// Condition: the index is below `len`, and the number lies inside the element.
     #[tactic(auto, unfolding(crate::specs::Place::number_at))]
     pub fn number(&self, index: usize, at: usize, width: usize) -> u64
         requires index { index < self.now.count }
@@ -60,7 +71,11 @@ impl<'a> Vector<'a> {
         LittleEndian::read_uint(&self.bytes[start..], width)
     }
 
-    /// The table behind an element's offset.
+    /// The table that an element's offset names, counted from the element's place.
+    ///
+    /// Condition: the index is below `len`, and the vector was read with elements of four bytes.
+    /// `Err` where the offset is 0, or where no readable table stands at the place that it names.
+    /// Other elements can still be read after it.
     pub fn table(&self, index: usize) -> Result<Table<'a>, Unreadable>
         requires index { index < self.now.count }
         requires offsets { self.now.size ≡ 4 }
