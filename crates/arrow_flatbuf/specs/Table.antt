@@ -1,7 +1,7 @@
 -- Tables and the places of their fields (FlatBuffers internals, "Tables").
-use Rattle.std.specs.Prelude.{ℕ, ◌+◌, List, Option, Some, None, ◌==◌, if◌then◌else◌}
+use Rattle.std.specs.Prelude.{◌≡◌, ◌≤◌, ℕ, ◌+◌, List, length, Option, Some, None, ◌==◌, if◌then◌else◌}
 use Rattle.arrow_flatbuf.specs.Place.{◌>>=◌}
-use Rattle.arrow_flatbuf.specs.Vtable.{vtable_at, entry}
+use Rattle.arrow_flatbuf.specs.Vtable.{Vtable, vtable_at, entry}
 
 -- a readable table: the bytes that it lies in, and its place
 pub record TableAt : Type 0 where
@@ -21,3 +21,9 @@ field_place t i = do
   vtable ← vtable_at t.bytes t.place
   offset ← entry t.bytes vtable i
   if offset == 0 then None else Some (t.place + offset)
+
+-- What a value that stands for a readable table keeps: v is the vtable of the table at p.
+pub record HasVtable (bytes : List ℕ) (p : ℕ) (v : Vtable) : Type 0 where
+  pub found : vtable_at bytes p ≡ Some v
+  pub table_inside : p + 4 ≤ length bytes
+  pub vtable_inside : v.place + v.size ≤ length bytes

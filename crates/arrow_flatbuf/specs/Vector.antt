@@ -1,5 +1,5 @@
 -- Vectors (FlatBuffers internals, "Vectors").
-use Rattle.std.specs.Prelude.{ℕ, ◌+◌, ◌*◌, List, length, Option, Some, None, nat_le, if◌then◌else◌}
+use Rattle.std.specs.Prelude.{◌≤◌, ℕ, ◌+◌, ◌*◌, ◌^◌, List, length, Option, Some, None, nat_le, if◌then◌else◌}
 use Rattle.arrow_flatbuf.specs.Place.{◌>>=◌, number_at}
 
 -- a readable vector: the bytes that it lies in, the place of its first element, how many elements it
@@ -18,3 +18,10 @@ vector_at size bytes p = do
   if nat_le (p + 4 + count * size) (length bytes)
       then Some (record { bytes = bytes; place = p + 4; count = count; size = size })
       else None
+
+-- What a value that stands for a readable vector keeps: its elements lie inside, and how far they
+-- reach can be counted in a machine's word.
+pub record IsInside (v : VectorAt) : Type 0 where
+  pub inside : v.place + v.count * v.size ≤ length v.bytes
+  pub size_fits : v.size ≤ 2 ^ 16
+  pub count_fits : v.count ≤ 2 ^ 32

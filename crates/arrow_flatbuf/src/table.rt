@@ -20,13 +20,13 @@ pub struct Unreadable;
 /// A readable table (FlatBuffers internals, "Tables"). It keeps the bytes that it lies in borrowed,
 /// and answers a field by its number, which counts from 0 in the order of the schema.
 ///
-/// The calls on a field take no memory and change nothing. Of each, `Ok(None)` means that the field is
-/// absent: that the vtable's entry is 0, or lies past the vtable's size. `Err` means that the field is
-/// there, and that what the call asks for is not readable at its place. Other fields can still be read
-/// after it.
+/// The calls on a field take no memory and change nothing. Of each, `Ok(None)` means that the field
+/// is absent: that the vtable's entry is 0, or does not lie inside the vtable's size. `Err` means
+/// that the field is there, and that what the call asks for is not readable at its place. Other
+/// fields can still be read after it.
 ///
-/// A union is two fields: its code, by `scalar` with a width of one byte, and the table that the code
-/// opens, by `table` at the next number (FlatBuffers internals, "Unions").
+/// A union is two fields: its code, by `scalar` with a width of one byte, and the table that the
+/// code opens, by `table` at the next number (FlatBuffers internals, "Unions").
 #[derive(Drop)]
 pub struct Table<'a> {
     bytes: &'a [u8],
@@ -36,19 +36,14 @@ pub struct Table<'a> {
 }
 
 impl<'a> Model for Table<'a> {
-    ghost use Rattle.std.specs.Prelude.{◌≡◌, ◌+◌, ◌≤◌, length, Some};
-    ghost use Rattle.arrow_flatbuf.specs.Table.{TableAt};
-    ghost use Rattle.arrow_flatbuf.specs.Vtable.{vtable_at};
+    ghost use Rattle.arrow_flatbuf.specs.Table.{TableAt, HasVtable};
 
     ghost Value = { TableAt };
 
     ghost view = { λ a. record { bytes = a.bytes.now; place = a.place } };
 
     ghost invariant = { λ a.
-        (vtable_at a.bytes.now a.place
-        ≡ Some (record { place = a.vtable.place; size = a.vtable.size }))
-        × (a.place + 4 ≤ length a.bytes.now)
-        × (a.vtable.place + a.vtable.size ≤ length a.bytes.now) };
+        HasVtable a.bytes.now a.place (record { place = a.vtable.place; size = a.vtable.size }) };
 }
 
 impl<'a> Table<'a> {
@@ -66,7 +61,8 @@ impl<'a> Table<'a> {
     pub fn scalar(&self, field: u16, width: usize) -> Result<Option<u64>, Unreadable>
         requires low { 1 ≤ width }
         requires high { width ≤ 8 }
-        ensures answer { Answers (λ n. n) result (field_place self.now field) (number_at width self.now.bytes) }
+        ensures answer { Answers (λ n. n) result (field_place self.now field)
+            (number_at width self.now.bytes) }
     {
         match self.field_place(field) {
             None => Ok(None),
@@ -79,7 +75,8 @@ impl<'a> Table<'a> {
     /// `Err` where the offset is 0 or does not lie inside, or where no readable table stands at the
     /// place that it names.
     pub fn table(&self, field: u16) -> Result<Option<Table<'a>>, Unreadable>
-        ensures answer { Answers (λ t. t) result (field_place self.now field) (behind table_at self.now.bytes) }
+        ensures answer { Answers (λ t. t) result (field_place self.now field)
+            (behind table_at self.now.bytes) }
         ensures bytes { IfOk result (λ o. IfSome o (λ t. t.bytes ≡ self.now.bytes)) }
     {
         match self.field_place(field) {
@@ -94,7 +91,8 @@ impl<'a> Table<'a> {
     /// `Err` where the offset is 0 or does not lie inside, where the count or the last byte of the
     /// text does not lie inside, or where the bytes are not UTF-8. No zero byte needs to follow.
     pub fn text(&self, field: u16) -> Result<Option<&'a str>, Unreadable>
-        ensures answer { Answers (λ t. t.now) result (field_place self.now field) (behind text_at self.now.bytes) }
+        ensures answer { Answers (λ t. t.now) result (field_place self.now field)
+            (behind text_at self.now.bytes) }
     {
         match self.field_place(field) {
             None => Ok(None),
@@ -113,7 +111,8 @@ impl<'a> Table<'a> {
         requires size { size ≤ 2 ^ 16 }
         ensures answer { Answers (λ v. v) result (field_place self.now field)
             (behind (vector_at size) self.now.bytes) }
-        ensures bytes { IfOk result (λ o. IfSome o (λ v. (v.bytes ≡ self.now.bytes) × (v.size ≡ size))) }
+        ensures bytes { IfOk result
+            (λ o. IfSome o (λ v. (v.bytes ≡ self.now.bytes) × (v.size ≡ size))) }
     {
         match self.field_place(field) {
             None => Ok(None),

@@ -24,8 +24,7 @@ pub struct Vector<'a> {
 }
 
 impl<'a> Model for Vector<'a> {
-    ghost use Rattle.std.specs.Prelude.{◌≤◌, ◌+◌, ◌*◌, ◌^◌, length};
-    ghost use Rattle.arrow_flatbuf.specs.Vector.{VectorAt};
+    ghost use Rattle.arrow_flatbuf.specs.Vector.{VectorAt, IsInside};
 
     ghost Value = { VectorAt };
 
@@ -33,9 +32,7 @@ impl<'a> Model for Vector<'a> {
         record { bytes = a.bytes.now; place = a.place; count = a.count; size = a.size } };
 
     ghost invariant = { λ a.
-        (a.place + a.count * a.size ≤ length a.bytes.now)
-        × (a.size ≤ 2 ^ 16)
-        × (a.count ≤ 2 ^ 32) };
+        IsInside (record { bytes = a.bytes.now; place = a.place; count = a.count; size = a.size }) };
 }
 
 impl<'a> Vector<'a> {
