@@ -2,8 +2,8 @@
 use Rattle.std.specs.Prelude.{◌≤◌, ℕ, ◌+◌, ◌*◌, ◌^◌, List, length, Option, Some, None, nat_le, if◌then◌else◌}
 use Rattle.arrow_flatbuf.specs.Place.{◌>>=◌, number_at}
 
--- a readable vector: the bytes that it lies in, the place of its first element, how many elements it
--- has, and how many bytes each of them has
+-- a readable vector: the bytes that it lies in, the place of its first element, how many elements
+-- it has, and how many bytes each of them has
 pub record VectorAt : Type 0 where
   pub bytes : List ℕ
   pub place : ℕ

@@ -8,8 +8,8 @@
 //!   [`Unreadable`].
 //! - [`Vector`] answers an element by its index.
 //!
-//! What stands at a place is defined once, as a function of the whole list of bytes, in the terms of
-//! the FlatBuffers internals document, and each call meets its definition exactly, so also where it
+//! What stands at a place is defined once, as a function of the whole list of bytes, in the terms
+//! of the FlatBuffers internals document. Each call meets its definition exactly, so also where it
 //! answers that there is nothing:
 //!
 //! | Notion | Definition |

@@ -54,8 +54,8 @@ impl<'a> Table<'a> {
         self.field_place(field).is_some()
     }
 
-    /// The number of `width` bytes in a field, lowest byte first. A signed number comes as its bits:
-    /// cast it to the signed type of that width.
+    /// The number of `width` bytes in a field, lowest byte first. A signed number comes as its
+    /// bits: cast it to the signed type of that width.
     ///
     /// `Err` where the bytes of the number do not all lie inside.
     pub fn scalar(&self, field: u16, width: usize) -> Result<Option<u64>, Unreadable>
@@ -100,10 +100,12 @@ impl<'a> Table<'a> {
         }
     }
 
-    /// The vector that a field's offset names, counted from the field's place, of elements of `size`
-    /// bytes (FlatBuffers internals, "Vectors"): a count of elements in four bytes, and then the
-    /// elements. The size is that of the scalar or struct, and 4 where the elements are offsets. No
-    /// element is looked at, so the call costs the same for any count.
+    /// The vector that a field's offset names, counted from the field's place, of elements of
+    /// `size` bytes (FlatBuffers internals, "Vectors"): a count of elements in four bytes, and then
+    /// the elements. The size is that of the scalar or struct, and 4 where the elements are
+    /// offsets. No element is looked at, so the call costs the same for any count.
+    ///
+    /// Condition: the size is at most 65,536, more than any struct has.
     ///
     /// `Err` where the offset is 0 or does not lie inside, or where the count or the last element
     /// does not lie inside.

@@ -1,5 +1,5 @@
-//! Buffers that were laid out by hand from the FlatBuffers internals document, and the metadata of two
-//! Arrow messages, each with the answers that stand in them.
+//! Buffers that were laid out by hand from the FlatBuffers internals document, and the metadata of
+//! two Arrow messages, each with the answers that stand in them.
 
 use super::*;
 use std::test::Fail;
@@ -231,8 +231,8 @@ fn a_vector_lies_inside_with_all_elements(rt: HostRuntime) {
     }
 }
 
-// Field 0 of the root table at 12 is a vector of three offsets. The first two name the same table at
-// 36, which has its vtable at 4 in common with the root table; the third is 0.
+// Field 0 of the root table at 12 is a vector of three offsets. The first two name the same table
+// at 36, which has its vtable at 4 in common with the root table; the third is 0.
 const SHARED: &[u8] =
     b"\x0c\0\0\0\x06\0\x08\0\x04\0\0\0\x08\0\0\0\x04\0\0\0\x03\0\0\0\x0c\0\0\0\x08\0\0\0\0\0\0\0\x20\0\0\0\x2a\x01\0\0";
 

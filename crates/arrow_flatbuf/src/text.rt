@@ -27,7 +27,8 @@ fn text_at(bytes: &[u8], place: usize) -> Option<&str>
 /// The bytes as a text, where they are UTF-8.
 #[tactic(auto, using(crate::proofs::Texts::utf8_tests))]
 fn text_of(bytes: &[u8]) -> Option<&str>
-    ensures value { option_map (λ t. t.now) result ≡ (if is_utf8 bytes.now then Some bytes.now else None) }
+    ensures value { option_map (λ t. t.now) result
+        ≡ (if is_utf8 bytes.now then Some bytes.now else None) }
 {
     match simdutf8::basic::from_utf8(bytes) {
         Ok(text) => Some(text),

@@ -32,7 +32,8 @@ impl<'a> Model for Vector<'a> {
         record { bytes = a.bytes.now; place = a.place; count = a.count; size = a.size } };
 
     ghost invariant = { λ a.
-        IsInside (record { bytes = a.bytes.now; place = a.place; count = a.count; size = a.size }) };
+        IsInside
+        (record { bytes = a.bytes.now; place = a.place; count = a.count; size = a.size }) };
 }
 
 impl<'a> Vector<'a> {
@@ -47,7 +48,7 @@ impl<'a> Vector<'a> {
     pub fn is_empty(&self) -> bool
         ensures none { IsTrue result ↔ (self.now.count ≡ 0) }
     {
-        self.count == 0
+        self.len() == 0
     }
 
     /// The number of `width` bytes, lowest byte first, that stands `at` bytes into an element: the
@@ -76,7 +77,8 @@ impl<'a> Vector<'a> {
     pub fn table(&self, index: usize) -> Result<Table<'a>, Unreadable>
         requires index { index < self.now.count }
         requires offsets { self.now.size ≡ 4 }
-        ensures value { result_ok result ≡ behind table_at self.now.bytes (self.now.place + index * 4) }
+        ensures value { result_ok result
+            ≡ behind table_at self.now.bytes (self.now.place + index * 4) }
         ensures bytes { IfOk result (λ t. t.bytes ≡ self.now.bytes) }
     {
         Table::behind(self.bytes, self.place + index * 4).ok_or(Unreadable)

@@ -35,7 +35,8 @@ impl Vtable {
     #[tactic(auto, unfolding(crate::specs::Vtable::entry))]
     pub fn entry(&self, bytes: &[u8], field: u16) -> Option<u16>
         requires { self.now.place + self.now.size ≤ length bytes.now }
-        ensures entry { result ≡ entry bytes.now (record { place = self.now.place; size = self.now.size }) field }
+        ensures entry { result
+            ≡ entry bytes.now (record { place = self.now.place; size = self.now.size }) field }
     {
         let at = 4 + 2 * field as usize;
         if at + 2 > self.size {
@@ -46,7 +47,7 @@ impl Vtable {
 }
 
 /// The place that lies `distance` bytes before `place`, behind it where the distance is negative.
-#[tactic(auto, using(crate::proofs::Naturals::natural_of))]
+#[tactic(auto, unfolding(crate::specs::Vtable::natural))]
 fn place_before(place: usize, distance: i32) -> Option<usize>
     requires { place < 2 ^ 63 }
     ensures before { result ≡ natural (pos place -ℤ distance) }
