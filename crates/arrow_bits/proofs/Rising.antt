@@ -1,0 +1,87 @@
+-- Offsets that do not fall.
+use Rattle.std.proofs.Common.{◌≡◌, ℕ, zero, suc, ◌+◌, ◌-◌, ◌*◌, ◌<◌, ◌≤◌, List, ◌∷◌, length, map, get_or, refl, ap, ◌∙◌, sym, subst, arith, add-one, add-zero}
+use Rattle.std.specs.Prelude.{ℤ, pos, ◌≤ℤ◌, slice_index, All}
+use Rattle.std.specs.List.{range_with_len}
+use Rattle.std.specs.List.Sorted.{IsNonDecreasing}
+use Rattle.std.proofs.lemmas.Int.{ints}
+use Rattle.std.proofs.lemmas.List.FromFn.{length-map-range_with_len, get_or-map-range_with_len}
+use Rattle.arrow_bits.specs.Numbers.{number_at, signed_at}
+use Rattle.arrow_bits.specs.OffsetList.{offset_at, AreOffsets, offsets_of}
+use Rattle.arrow_bits.proofs.Reading.{number_at-lt}
+
+-- there is one more than slots
+pub length_offsets : (len : ℕ) (bytes : List ℕ) → length (offsets_of len bytes) ≡ len + 1
+length_offsets len bytes = length-map-range_with_len (λ j. number_at bytes (4 * j) 4) 0 (len + 1)
+
+-- the one at an index
+pub offset_found : (len : ℕ) (bytes : List ℕ) (i : ℕ) → i < len + 1 → slice_index (offsets_of len bytes) i ≡ number_at bytes (4 * i) 4
+offset_found len bytes i h = get_or-map-range_with_len (λ j. number_at bytes (4 * j) 4) 0 (len + 1) i i 0 h (omega arith)
+
+-- an offset that is not negative is its number without a sign
+pub unsigned_offset : (bytes : List ℕ) (j : ℕ) → ((i : ℕ) → get_or bytes i 0 < 256) → 4 * j + 4 ≤ length bytes
+    → pos 0 ≤ℤ offset_at bytes j → offset_at bytes j ≡ pos (number_at bytes (4 * j) 4)
+unfolding signed_at
+unsigned_offset bytes j small inside sign =
+    let fits = number_at-lt (4 * j) 4 bytes small inside in
+    grind (arith, ints, fits, sign)
+
+-- no offset is negative
+pub no_sign : (bytes : List ℕ) (len top : ℕ) → AreOffsets bytes len top → (j : ℕ) → j ≤ len → pos 0 ≤ℤ offset_at bytes j
+no_sign bytes len top are zero h = are.first
+no_sign bytes len top are (suc j) h =
+    omega (arith, ints, no_sign bytes len top are j (omega arith), subst (λ k. offset_at bytes j ≤ℤ offset_at bytes k) (add-one j) (are.rise j (omega arith)))
+
+-- so each is its number without a sign
+pub plain_offset : (bytes : List ℕ) (len top : ℕ) → ((i : ℕ) → get_or bytes i 0 < 256) → AreOffsets bytes len top
+    → (j : ℕ) → j ≤ len → offset_at bytes j ≡ pos (number_at bytes (4 * j) 4)
+plain_offset bytes len top small are j h =
+    unsigned_offset bytes j small (omega (arith, are.there)) (no_sign bytes len top are j h)
+
+-- none falls, also not to one further on
+pub offsets_order : (bytes : List ℕ) (len top : ℕ) → AreOffsets bytes len top → (i k : ℕ) → i + k ≤ len
+    → offset_at bytes i ≤ℤ offset_at bytes (i + k)
+offsets_order bytes len top are i zero h = rw (add-zero i) (omega (arith, ints))
+offsets_order bytes len top are i (suc k) h =
+    let far = offsets_order bytes len top are i k (omega arith) in
+    let near = are.rise (i + k) (omega arith) in
+    let e : i + k + 1 ≡ i + suc k = omega arith in
+    subst (λ m. offset_at bytes i ≤ℤ offset_at bytes m) e (omega (arith, ints, far, near))
+
+-- the list of the offsets does not fall
+pub offsets_rise : (bytes : List ℕ) (len top : ℕ) → ((i : ℕ) → get_or bytes i 0 < 256) → AreOffsets bytes len top
+    → IsNonDecreasing (offsets_of len bytes)
+offsets_rise bytes len top small are i j d le inside =
+    let room = length_offsets len bytes in
+    let gap : i + (j - i) ≡ j = omega (arith, le) in
+    let low = plain_offset bytes len top small are i (omega (arith, le, inside, room)) in
+    let high = plain_offset bytes len top small are j (omega (arith, inside, room)) in
+    let order = subst (λ m. offset_at bytes i ≤ℤ offset_at bytes m) gap (offsets_order bytes len top are i (j - i) (omega (arith, gap, inside, room))) in
+    let at_low = get_or-map-range_with_len (λ m. number_at bytes (4 * m) 4) 0 (len + 1) i i d (omega (arith, le, inside, room)) (omega arith) in
+    let at_high = get_or-map-range_with_len (λ m. number_at bytes (4 * m) 4) 0 (len + 1) j j d (omega (arith, inside, room)) (omega arith) in
+    rw (at_low, at_high) (omega (arith, ints, low, high, order))
+
+-- none is above the top
+pub offsets_inside : (bytes : List ℕ) (len top : ℕ) → ((i : ℕ) → get_or bytes i 0 < 256) → AreOffsets bytes len top
+    → All (λ x. x ≤ top) (offsets_of len bytes)
+offsets_inside bytes len top small are j d inside =
+    let room = length_offsets len bytes in
+    let gap : j + (len - j) ≡ len = omega (arith, inside, room) in
+    let value = plain_offset bytes len top small are j (omega (arith, inside, room)) in
+    let order = subst (λ m. offset_at bytes j ≤ℤ offset_at bytes m) gap (offsets_order bytes len top are j (len - j) (omega (arith, gap))) in
+    let at_place = get_or-map-range_with_len (λ m. number_at bytes (4 * m) 4) 0 (len + 1) j j d (omega (arith, inside, room)) (omega arith) in
+    rw at_place (omega (arith, ints, value, order, are.last))
+
+-- two functions that agree on the numbers of a range list the same
+same_on_range : (f : ℕ → ℤ) (g : ℕ → ℕ) (a n : ℕ) → ((j : ℕ) → j < a + n → f j ≡ pos (g j))
+    → map pos (map g (range_with_len a n)) ≡ map f (range_with_len a n)
+same_on_range f g a zero same = refl
+same_on_range f g a (suc n) same =
+    let head = sym (same a (omega arith)) in
+    let tail = same_on_range f g (a + 1) n (λ j h. same j (omega (arith, h))) in
+    ap (λ z. z ∷ map pos (map g (range_with_len (a + 1) n))) head ∙ ap (λ zs. f a ∷ zs) tail
+
+-- the list is that of the signed offsets
+pub offsets_signed : (bytes : List ℕ) (len top : ℕ) → ((i : ℕ) → get_or bytes i 0 < 256) → AreOffsets bytes len top
+    → map pos (offsets_of len bytes) ≡ map (offset_at bytes) (range_with_len 0 (len + 1))
+offsets_signed bytes len top small are =
+    same_on_range (offset_at bytes) (λ j. number_at bytes (4 * j) 4) 0 (len + 1) (λ j h. plain_offset bytes len top small are j (omega (arith, h)))

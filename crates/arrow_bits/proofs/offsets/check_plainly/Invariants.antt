@@ -1,0 +1,12 @@
+use Rattle.std.proofs.Common.{◌≡◌, ◌+◌, ◌<◌, ℕ}
+use Rattle.std.specs.Prelude.{pos, ◌≤ℤ◌}
+use Rattle.arrow_bits.specs.OffsetList.{offset_at}
+use Rattle.arrow_bits.proofs.offsets.check_plainly.Given as goal
+
+abbrev pub invariant-loop-i : goal.invariant-loop-i
+invariant-loop-i l = record {
+  first : pos 0 ≤ℤ offset_at l.bytes 0;
+  rise : (j : ℕ) → j < l.i → offset_at l.bytes j ≤ℤ offset_at l.bytes (j + 1);
+  here : l.last ≡ offset_at l.bytes l.i;
+  sign : pos 0 ≤ℤ l.last;
+}

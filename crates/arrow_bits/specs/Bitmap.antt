@@ -1,0 +1,18 @@
+-- Bits in a list of bytes.
+use Rattle.std.specs.Prelude.{ℕ, ◌/◌, ◌%◌, ◌==◌, ◌≡◌, ◌≤◌, Bool, false, List, length, map, slice_index}
+use Rattle.std.specs.List.{range_with_len}
+use Rattle.std.specs.Int.{bit_at, div_ceil}
+
+-- bit j: bit j mod 8, from the least significant, of byte j div 8 (Columnar Format, "Validity bitmaps")
+unfoldable pub bit_of : List ℕ → ℕ → Bool
+bit_of bytes j = bit_at (slice_index bytes (j / 8)) (j % 8) == 1
+
+-- the first bits
+abbrev pub bits_of : ℕ → List ℕ → List Bool
+bits_of len bytes = map (bit_of bytes) (range_with_len 0 len)
+
+-- the bytes hold these bits and no others: as few bytes as can be, and the bits behind them 0
+pub record IsPacked (bits : List Bool) (bytes : List ℕ) : Type 0 where
+  pub few : length bytes ≡ div_ceil (length bits) 8
+  pub same : bits_of (length bits) bytes ≡ bits
+  pub spare : (j : ℕ) → length bits ≤ j → bit_of bytes j ≡ false

@@ -1,0 +1,19 @@
+-- Offsets of 32 bits in a list of bytes.
+use Rattle.std.specs.Prelude.{ℕ, ◌+◌, ◌*◌, ◌≤◌, ◌<◌, List, length, map, ℤ, pos, ◌≤ℤ◌}
+use Rattle.std.specs.List.{range_with_len}
+use Rattle.arrow_bits.specs.Numbers.{number_at, signed_at}
+
+-- offset j: the signed number in slot j of 4 bytes (Columnar Format, "Variable-size Binary Layout")
+abbrev pub offset_at : List ℕ → ℕ → ℤ
+offset_at bytes j = signed_at bytes (4 * j) 4
+
+-- `len + 1` offsets stand there, none is negative, none falls, and the last is at most `top`
+pub record AreOffsets (bytes : List ℕ) (len top : ℕ) : Type 0 where
+  pub there : 4 * (len + 1) ≤ length bytes
+  pub first : pos 0 ≤ℤ offset_at bytes 0
+  pub rise : (j : ℕ) → j < len → offset_at bytes j ≤ℤ offset_at bytes (j + 1)
+  pub last : offset_at bytes len ≤ℤ pos top
+
+-- the `len + 1` offsets, of which none is negative
+abbrev pub offsets_of : ℕ → List ℕ → List ℕ
+offsets_of len bytes = map (λ j. number_at bytes (4 * j) 4) (range_with_len 0 (len + 1))

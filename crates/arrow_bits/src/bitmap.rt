@@ -1,0 +1,90 @@
+ghost use Rattle.std.specs.Prelude.{◌≡◌, ◌*◌, ◌≤◌, ◌<◌, ◌↔◌, ◌==◌, length, not, count_by, slice_get, IsSome, IfSome, Some};
+ghost use Rattle.arrow_bits.specs.Bitmap.{bit_of, bits_of};
+
+use std::marker::Model;
+
+/// Bit `j` of the bytes.
+#[tactic(auto, unfolding(crate::specs::Bitmap::bit_of))]
+pub fn bit(bytes: &[u8], j: usize) -> bool
+    requires { j < 8 * length bytes.now }
+    ensures { result ≡ bit_of bytes.now j }
+{
+    (bytes[j / 8] >> (j % 8)) % 2 == 1
+}
+
+/// A list of bits in lent bytes.
+#[derive(Debug, Drop)]
+pub struct Bits<'a> {
+    bytes: &'a [u8],
+    len: usize,
+}
+
+impl<'a> Model for Bits<'a> {
+    ghost use Rattle.std.specs.Prelude.{◌*◌, ◌≤◌, Bool, List, length};
+    ghost use Rattle.arrow_bits.specs.Bitmap.{bits_of};
+
+    ghost Value = { List Bool };
+
+    ghost view = { λ b. bits_of b.len b.bytes.now };
+
+    ghost invariant = { λ b. b.len ≤ 8 * length b.bytes.now };
+}
+
+#[tactic(auto, using(crate::proofs::Listed::length_bits, crate::proofs::Listed::bit_found))]
+impl<'a> Bits<'a> {
+    /// The first `len` bits of the bytes.
+    pub fn new(bytes: &'a [u8], len: usize) -> Option<Bits<'a>>
+        ensures found { IsSome result ↔ (len ≤ 8 * length bytes.now) }
+        ensures value { IfSome result (λ b. b ≡ bits_of len bytes.now) }
+    {
+        if len.div_ceil(8) <= bytes.len() {
+            Some(Bits { bytes, len })
+        } else {
+            None
+        }
+    }
+
+    /// The number of bits.
+    pub fn len(&self) -> usize
+        ensures { result ≡ length self.now }
+    {
+        self.len
+    }
+
+    /// Whether there is no bit.
+    pub fn is_empty(&self) -> bool
+        ensures { result ≡ (length self.now == 0) }
+    {
+        self.len == 0
+    }
+
+    /// Bit `i`.
+    pub fn get(&self, i: usize) -> bool
+        requires { i < length self.now }
+        ensures { slice_get self.now i ≡ Some result }
+    {
+        bit(self.bytes, i)
+    }
+
+    /// How many of the bits are 0.
+    pub fn count_zero(&self) -> usize
+        ensures { result ≡ count_by not self.now }
+    {
+        count_zero_plainly(self.bytes, self.len)
+    }
+}
+
+// Bit by bit.
+#[tactic(auto, using(crate::proofs::Listed::more_zeros))]
+fn count_zero_plainly(bytes: &[u8], len: usize) -> usize
+    requires { len ≤ 8 * length bytes.now }
+    ensures { result ≡ count_by not (bits_of len bytes.now) }
+{
+    let mut zeros = 0;
+    for j in 0..len {
+        if !bit(bytes, j) {
+            zeros += 1;
+        }
+    }
+    zeros
+}

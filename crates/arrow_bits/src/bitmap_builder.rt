@@ -1,0 +1,81 @@
+ghost use Rattle.std.specs.Prelude.{◌≡◌, ◌==◌, ◌∷◌, ◌++◌, [], length, OnOk, OnErr};
+ghost use Rattle.arrow_bits.specs.Bitmap.{IsPacked};
+
+use std::alloc::{AllocError, Global};
+use std::marker::Model;
+
+/// A list of bits that grows, packed eight to a byte.
+#[derive(Debug, Drop)]
+pub struct BitsBuilder {
+    bytes: Vec<u8>,
+    len: usize,
+}
+
+impl Model for BitsBuilder {
+    ghost use Rattle.std.specs.Prelude.{Bool, List};
+    ghost use Rattle.arrow_bits.specs.Bitmap.{bits_of, IsPacked};
+
+    ghost Value = { List Bool };
+
+    ghost view = { λ b. bits_of b.len b.bytes.items };
+
+    ghost invariant = { λ b. IsPacked (bits_of b.len b.bytes.items) b.bytes.items };
+}
+
+#[tactic(auto, using(crate::proofs::Listed::length_bits))]
+impl BitsBuilder {
+    /// No bits.
+    pub fn new(alloc: Global) -> BitsBuilder
+        ensures { result ≡ [] }
+    {
+        BitsBuilder {
+            bytes: Vec::new(alloc),
+            len: 0,
+        }
+    }
+
+    /// The number of bits.
+    pub fn len(&self) -> usize
+        ensures { result ≡ length self.now }
+    {
+        self.len
+    }
+
+    /// Whether there is no bit.
+    pub fn is_empty(&self) -> bool
+        ensures { result ≡ (length self.now == 0) }
+    {
+        self.len == 0
+    }
+
+    /// Appends a bit.
+    pub fn push(&mut self, bit: bool) -> Result<(), AllocError>
+        ensures ok { OnOk result (self.new ≡ self.old ++ bit ∷ []) }
+        ensures err { OnErr result (self.new ≡ self.old) }
+    {
+        let len = self.len.checked_add(1).ok_or(AllocError)?;
+        let place = self.len % 8;
+        if place == 0 {
+            self.bytes.push(u8::from(bit))?;
+        } else if bit {
+            self.bytes[self.len / 8] |= 1 << place;
+        }
+        self.len = len;
+        Ok(())
+    }
+
+    /// The bytes of the bits.
+    pub fn as_bytes(&self) -> &[u8]
+        ensures { IsPacked self.now result.now }
+    {
+        self.bytes.as_slice()
+    }
+
+    /// The bytes of the bits.
+    pub fn into_bytes(self) -> Vec<u8>
+        ensures { IsPacked self result.items }
+    {
+        let BitsBuilder { bytes, .. } = self;
+        bytes
+    }
+}

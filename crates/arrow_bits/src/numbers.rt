@@ -1,0 +1,88 @@
+ghost use Rattle.std.specs.Prelude.{◌≡◌, ◌+◌, ◌*◌, ◌≤◌, ◌++◌, Bool, length, OnOk, OnErr};
+ghost use Rattle.arrow_bits.specs.Numbers.{number_at, signed_at, int_of, int_bytes, IsWidth, FitsInt, FitsWidth};
+
+use byteorder::{ByteOrder, LittleEndian};
+use std::alloc::AllocError;
+
+/// The integer in slot `i` of a list of integers of `width` bytes each.
+pub fn int_at(bytes: &[u8], width: usize, signed: bool, i: usize) -> i128
+    requires width { IsWidth width }
+    requires inside { width * i + width ≤ length bytes.now }
+    ensures { result ≡ int_of bytes.now (width * i) width signed }
+{
+    let place = width * i;
+    if signed {
+        i128::from(read_signed(bytes, width, place))
+    } else {
+        i128::from(read_unsigned(bytes, width, place))
+    }
+}
+
+// The number of the two bytes at a place.
+fn u16_at(bytes: &[u8], place: usize) -> u16
+    requires { place + 2 ≤ length bytes.now }
+    ensures { result ≡ number_at bytes.now place 2 }
+{
+    LittleEndian::read_u16(&bytes[place..])
+}
+
+// The number of the four bytes at a place.
+pub(crate) fn u32_at(bytes: &[u8], place: usize) -> u32
+    requires { place + 4 ≤ length bytes.now }
+    ensures { result ≡ number_at bytes.now place 4 }
+{
+    LittleEndian::read_u32(&bytes[place..])
+}
+
+// The number of the eight bytes at a place.
+pub(crate) fn u64_at(bytes: &[u8], place: usize) -> u64
+    requires { place + 8 ≤ length bytes.now }
+    ensures { result ≡ number_at bytes.now place 8 }
+{
+    LittleEndian::read_u64(&bytes[place..])
+}
+
+// The number of the `width` bytes at a place.
+fn read_unsigned(bytes: &[u8], width: usize, place: usize) -> u64
+    requires width { IsWidth width }
+    requires inside { place + width ≤ length bytes.now }
+    ensures { result ≡ number_at bytes.now place width }
+{
+    match width {
+        1 => u64::from(bytes[place]),
+        2 => u64::from(u16_at(bytes, place)),
+        4 => u64::from(u32_at(bytes, place)),
+        _ => u64_at(bytes, place),
+    }
+}
+
+// The same, by its sign.
+fn read_signed(bytes: &[u8], width: usize, place: usize) -> i64
+    requires width { IsWidth width }
+    requires inside { place + width ≤ length bytes.now }
+    ensures { result ≡ signed_at bytes.now place width }
+{
+    match width {
+        1 => i64::from(bytes[place].cast_signed()),
+        2 => i64::from(u16_at(bytes, place).cast_signed()),
+        4 => i64::from(u32_at(bytes, place).cast_signed()),
+        _ => u64_at(bytes, place).cast_signed(),
+    }
+}
+
+/// Appends an integer of `width` bytes.
+pub fn put_int(out: &mut Vec<u8>, width: usize, value: i128) -> Result<(), AllocError>
+    requires width { IsWidth width }
+    requires fits { FitsWidth width value }
+    ensures bytes { OnOk result (out.new.items ≡ out.old.items ++ int_bytes width value) }
+    ensures reads { OnOk result ((signed : Bool) → FitsInt width signed value →
+        int_of out.new.items (length out.old.items) width signed ≡ value) }
+    ensures err { OnErr result (out.new.items ≡ out.old.items) }
+{
+    let number = if value < 0 {
+        (value as i64).cast_unsigned()
+    } else {
+        value as u64
+    };
+    out.extend_from_slice(&number.to_le_bytes()[..width])
+}
