@@ -1,0 +1,61 @@
+use Rattle.std.proofs.Common.{◌≡◌, ℕ, ◌<◌, ◌≤◌, ℤ, Option, length, sym, ◌∙◌, take_all, ap, subst, rules, arith}
+use Rattle.std.specs.BTreeMap.{get}
+use Rattle.std.proofs.lemmas.Int.{to_z-of_z}
+use mir.Val.{SFits}
+use mir.Syntax.{w64}
+use Rattle.std.specs.Ordering.{int_cmp}
+use Rattle.arrow_types.specs.Dictionaries.{encoded_views}
+use Rattle.arrow_types.proofs.Look.{so_far, known_below, look_same, look_other, look_new, look_done}
+use Rattle.arrow_types.proofs.Scan.{Scanned}
+use Rattle.arrow_types.proofs.dictionaries.ids_of_one_type.Goals as goal
+use Rattle.arrow_types.proofs.dictionaries.ids_of_one_type.Goals.{in-Some+else-ne, in-None+in_ok-insert-in-None+in_ok-push-in-None}
+
+-- the place that the map has for a known id lies before the field at hand
+pub bounds-fields-first : goal.bounds-fields-first
+bounds-fields-first c =
+    omega (
+      arith,
+      known_below c.loop-i.i c.args.fields.now c.loop-i.ids.items (λ q. get int_cmp c.loop-i.places q) _ c.in-Some.first.now
+          c.loop-i.invariant (omega arith) c.in-Some.ensures.value,
+    )
+
+pub offset_bounds-fields-first : goal.offset_bounds-fields-first
+offset_bounds-fields-first c =
+    let below : c.in-Some.first.now < length c.args.fields.now =
+    omega (
+      arith,
+      known_below c.loop-i.i c.args.fields.now c.loop-i.ids.items (λ q. get int_cmp c.loop-i.places q) _ c.in-Some.first.now
+          c.loop-i.invariant (omega arith) c.in-Some.ensures.value,
+    ) in
+    search rules
+
+-- the type at that place is another one
+pub returns-then-ne : goal.returns-then-ne
+returns-then-ne c =
+    look_other c.loop-i.i c.in-Some.first.now c.args.fields.now c.index-fields-i.result c.index-fields-first.result c.loop-i.ids.items
+    (λ q. get int_cmp c.loop-i.places q) c.loop-i.invariant c.loop-i-test.true c.index-fields-i.is c.in-Some.ensures.value
+    c.index-fields-first.is (sym c.ne.ensures ∙ c.if-ne.true)
+
+-- one more field is looked at
+pub loop-i-preserved : goal.loop-i-preserved
+loop-i-preserved c =
+    elim c.match-get.branch [
+      | in-Some+else-ne w ↦
+          let here = look_same c.loop-i.i w.in-Some.first.now c.args.fields.now c.index-fields-i.result w.index-fields-first.result c.loop-i.ids.items
+          (λ q. get int_cmp c.loop-i.places q) c.loop-i.invariant c.loop-i-test.true c.index-fields-i.is w.in-Some.ensures.value
+          w.index-fields-first.is (sym w.ne.ensures ∙ w.if-ne.false) in
+          rw (w.ids-is, w.places-is) here
+      | in-None+in_ok-insert-in-None+in_ok-push-in-None w ↦
+          let fits : SFits w64 c.index-fields-i.result.id = search rules in
+          let added = simp to_z-of_z at w.in_ok-insert-in-None.ensures.updates.0 in
+          let here = look_new c.loop-i.i c.args.fields.now c.index-fields-i.result c.loop-i.ids.items
+          (λ q. get int_cmp c.loop-i.places q) (λ q. get int_cmp w.insert.new.self q) c.loop-i.invariant c.loop-i-test.true c.index-fields-i.is
+          w.in-None.ensures.value added in
+          let pushed = simp to_z-of_z at w.in_ok-push-in-None.ensures.items in
+          rw (w.ids-is, pushed, w.places-is) here
+    ]
+
+-- all fields are looked at
+pub returns : goal.returns
+returns c =
+    look_done c.loop-i.i c.args.fields.now c.loop-i.ids.items (λ q. get int_cmp c.loop-i.places q) c.loop-i.invariant (omega arith)

@@ -1,0 +1,11 @@
+use Rattle.std.proofs.Common.{rules}
+use Rattle.arrow_types.proofs.Schemas.{schema_kept}
+use Rattle.arrow_types.specs.Schema.{IsBounded}
+use Rattle.arrow_types.specs.View.{fields_view}
+use Rattle.arrow_types.proofs.schema.Schema.new.Goals as goal
+
+-- fields that pass all tests keep what a schema keeps
+pub invariant_of-result : goal.invariant_of-result
+invariant_of-result c =
+    let bounded : IsBounded (fields_view c.args.fields.items) = search rules in
+    schema_kept (fields_view c.args.fields.items) c.in-Ok-Some.dictionary_ids.items bounded (rw (c.in-Ok-Some.field-0-is, c.deref-4.ensures.value) at c.in-Ok-Some.ensures)

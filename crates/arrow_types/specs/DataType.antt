@@ -1,0 +1,40 @@
+-- Types without what stands below them (Schema.fbs, union "Type"), and the widths that units ask for.
+use Rattle.std.specs.Prelude.{ℕ, Bool, List, Option}
+use Rattle.arrow_types.specs.declared.data_type.BitWidth.{BitWidth}
+use Rattle.arrow_types.specs.declared.data_type.BitWidth.TheVariants.{Eight, Sixteen, ThirtyTwo, SixtyFour}
+use Rattle.arrow_types.specs.declared.data_type.DateUnit.{DateUnit}
+use Rattle.arrow_types.specs.declared.data_type.DateUnit.TheVariants as dates
+use Rattle.arrow_types.specs.declared.data_type.TimeUnit.{TimeUnit}
+use Rattle.arrow_types.specs.declared.data_type.TimeUnit.TheVariants as times
+
+-- A type's own part. A zone is given by the bytes of its name.
+pub data Tag : Type 0 where
+  null : Tag
+  boolean : Tag
+  int : BitWidth → Bool → Tag
+  binary : Tag
+  utf8 : Tag
+  date : DateUnit → Tag
+  time : TimeUnit → Tag
+  timestamp : TimeUnit → Option (List ℕ) → Tag
+  list : Tag
+  struct : Tag
+
+-- a width in bits (Schema.fbs, table "Int")
+abbrev pub bits_of : BitWidth → ℕ
+bits_of Eight = 8
+bits_of Sixteen = 16
+bits_of ThirtyTwo = 32
+bits_of SixtyFour = 64
+
+-- the width of a date (Schema.fbs, table "Date")
+abbrev pub date_width_of : DateUnit → BitWidth
+date_width_of dates.Day = ThirtyTwo
+date_width_of dates.Millisecond = SixtyFour
+
+-- the width of a time of day (Schema.fbs, table "Time")
+abbrev pub time_width_of : TimeUnit → BitWidth
+time_width_of times.Second = ThirtyTwo
+time_width_of times.Millisecond = ThirtyTwo
+time_width_of times.Microsecond = SixtyFour
+time_width_of times.Nanosecond = SixtyFour

@@ -1,0 +1,51 @@
+-- Fields as plain values, without where they lie in memory (Schema.fbs, table "Field").
+use Rattle.std.specs.Prelude.{ℕ, ◌+◌, max, Bool, List, [], ◌∷◌, Option}
+use Rattle.arrow_types.specs.DataType.{Tag}
+use Rattle.arrow_types.specs.declared.field.Encoding.{Encoding}
+
+-- A field without its children. Its name is given by bytes.
+pub record Head : Type 0 where
+  pub name : List ℕ
+  pub nullable : Bool
+  pub tag : Tag
+  pub encoding : Option Encoding
+
+-- Fields side by side: the first one's head and children, and the fields after it.
+pub data Fields : Type 0 where
+  none : Fields
+  more : Head → Fields → Fields → Fields
+
+-- a type: its own part, and the child fields
+pub record TypeShape : Type 0 where
+  pub tag : Tag
+  pub children : Fields
+
+-- one field: its head, and the child fields
+pub record FieldShape : Type 0 where
+  pub head : Head
+  pub children : Fields
+
+abbrev pub fields_of : List FieldShape → Fields
+fields_of [] = none
+fields_of (f ∷ fs) = more f.head f.children (fields_of fs)
+
+-- how many fields stand side by side
+abbrev pub width : Fields → ℕ
+width none = 0
+width (more head children rest) = width rest + 1
+
+-- how many levels there are, where a field that stands side by side is level 1
+abbrev pub levels : Fields → ℕ
+levels none = 0
+levels (more head children rest) = max (levels children + 1) (levels rest)
+
+abbrev pub field_levels : FieldShape → ℕ
+field_levels f = levels f.children + 1
+
+-- how many fields there are on all levels
+abbrev pub count : Fields → ℕ
+count none = 0
+count (more head children rest) = count children + 1 + count rest
+
+abbrev pub field_count : FieldShape → ℕ
+field_count f = count f.children + 1

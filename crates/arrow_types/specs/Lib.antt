@@ -1,0 +1,9 @@
+pub mod DataType
+pub mod Dictionaries
+pub mod Equality
+pub mod Field
+pub mod Limits
+pub mod Room
+pub mod Schema
+pub mod Stored
+pub mod View

@@ -1,0 +1,89 @@
+-- How the logic stores plain types and fields: as trees of numbers, another one for each other value.
+use Rattle.std.specs.Prelude.{◌≡◌, ℕ, Bool, List, Option}
+use Rattle.std.proofs.Common.{ap, subst, sym, refl}
+use Rattle.std.specs.Coded.{Coded, code_by, coded×, coded_ℕ, coded_bool, coded_list, coded_option}
+use base.Stored.{Gv, gnil, gnum, gcons}
+use Rattle.arrow_types.specs.declared.field.Encoding.{Encoding}
+use Rattle.arrow_types.specs.contracts.data_type.BitWidth.{the_row as width_row}
+use Rattle.arrow_types.specs.contracts.data_type.DateUnit.{the_row as date_row}
+use Rattle.arrow_types.specs.contracts.data_type.TimeUnit.{the_row as time_row}
+use Rattle.arrow_types.specs.contracts.field.Encoding.{the_row as encoding_row}
+use Rattle.arrow_types.specs.DataType.{Tag, null, boolean, int, binary, utf8, date, time, timestamp, list, struct}
+use Rattle.arrow_types.specs.Field.{Head, Fields, none, more, TypeShape, FieldShape}
+
+abbrev first : Gv → Gv
+first gnil = gnil
+first (gnum n) = gnil
+first (gcons a b) = a
+
+abbrev second : Gv → Gv
+second gnil = gnil
+second (gnum n) = gnil
+second (gcons a b) = b
+
+abbrev IsPair : Gv → Type 0
+IsPair gnil = ⊥
+IsPair (gnum n) = ⊥
+IsPair (gcons a b) = Unit {0}
+
+abbrev zone_code : Coded (Option (List ℕ))
+zone_code = coded_option (coded_list coded_ℕ)
+
+abbrev tag_gv : Tag → Gv
+tag_gv null = gnum 0
+tag_gv boolean = gnum 1
+tag_gv binary = gnum 2
+tag_gv utf8 = gnum 3
+tag_gv list = gnum 4
+tag_gv struct = gnum 5
+tag_gv (int bits signed) = gcons (gnum 0) (gcons (width_row.coded.code bits) (coded_bool.code signed))
+tag_gv (date unit) = gcons (gnum 1) (date_row.coded.code unit)
+tag_gv (time unit) = gcons (gnum 2) (time_row.coded.code unit)
+tag_gv (timestamp unit zone) = gcons (gnum 3) (gcons (time_row.coded.code unit) (zone_code.code zone))
+
+pub tag_inj : (x y : Tag) → tag_gv x ≡ tag_gv y → x ≡ y
+tag_inj null null p = refl
+tag_inj boolean boolean p = refl
+tag_inj binary binary p = refl
+tag_inj utf8 utf8 p = refl
+tag_inj list list p = refl
+tag_inj struct struct p = refl
+tag_inj (int a s) (int b t) p =
+    λ i. int (width_row.coded.inj a b (ap (λ g. first (second g)) p) i) (coded_bool.inj s t (ap (λ g. second (second g)) p) i)
+tag_inj (date u) (date v) p = λ i. date (date_row.coded.inj u v (ap second p) i)
+tag_inj (time u) (time v) p = λ i. time (time_row.coded.inj u v (ap second p) i)
+tag_inj (timestamp u x) (timestamp v y) p =
+    λ i. timestamp (time_row.coded.inj u v (ap (λ g. first (second g)) p) i) (zone_code.inj x y (ap (λ g. second (second g)) p) i)
+tag_inj x y p = cc
+
+abbrev pub tag_code : Coded Tag
+tag_code = record { code = tag_gv; inj = tag_inj }
+
+abbrev pub head_code : Coded Head
+head_code = code_by (List ℕ × (Bool × (Tag × Option Encoding)))
+    (coded× (coded_list coded_ℕ) (coded× coded_bool (coded× tag_code (coded_option encoding_row.coded))))
+    (λ h. (h.name, (h.nullable, (h.tag, h.encoding))))
+    (λ p. record { name = p.0; nullable = p.1.0; tag = p.1.1.0; encoding = p.1.1.1 })
+    (λ _. refl)
+
+abbrev pub fields_gv : Fields → Gv
+fields_gv none = gnil
+fields_gv (more head children rest) = gcons (head_code.code head) (gcons (fields_gv children) (fields_gv rest))
+
+pub fields_inj : (x y : Fields) → fields_gv x ≡ fields_gv y → x ≡ y
+fields_inj none none p = refl
+fields_inj (more h b r) (more h' b' r') p =
+    λ i. more (head_code.inj h h' (ap first p) i) (fields_inj b b' (ap (λ g. first (second g)) p) i) (fields_inj r r' (ap (λ g. second (second g)) p) i)
+fields_inj none (more h b r) p = absurd (subst IsPair (sym p) tt)
+fields_inj (more h b r) none p = absurd (subst IsPair p tt)
+
+abbrev pub fields_code : Coded Fields
+fields_code = record { code = fields_gv; inj = fields_inj }
+
+abbrev pub type_code : Coded TypeShape
+type_code = code_by (Tag × Fields) (coded× tag_code fields_code)
+    (λ t. (t.tag, t.children)) (λ p. record { tag = p.0; children = p.1 }) (λ _. refl)
+
+abbrev pub field_code : Coded FieldShape
+field_code = code_by (Head × Fields) (coded× head_code fields_code)
+    (λ f. (f.head, f.children)) (λ p. record { head = p.0; children = p.1 }) (λ _. refl)

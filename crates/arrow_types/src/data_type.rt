@@ -1,0 +1,180 @@
+//! The types of values: the first profile of the standard's `Schema.fbs`, table `Type`.
+
+ghost use Rattle.std.specs.Prelude.{◌≡◌, ◌↔◌, IsTrue, IfOk};
+ghost use Rattle.arrow_types.specs.DataType.{bits_of, time_width_of, date_width_of};
+ghost use Rattle.arrow_types.specs.Equality.{is_equal, is_equal_equivalence};
+ghost use Rattle.arrow_types.specs.Stored.{type_code};
+ghost use Rattle.arrow_types.specs.View.{type_view};
+ghost use Rattle.std.specs.Cmp.{on_per, on_equiv, partial_equiv_from_equiv};
+ghost use Rattle.std.specs.Ordering.{on};
+
+use crate::field::{Field, copy_fields, same_field, same_fields};
+use std::alloc::{AllocError, Global};
+
+/// How many bits a whole number takes (`Schema.fbs`, table `Int`, field `bitWidth`).
+#[derive(Clone, Copy, Debug, PartialEq, Eq)]
+pub enum BitWidth {
+    Eight,
+    Sixteen,
+    ThirtyTwo,
+    SixtyFour,
+}
+
+impl BitWidth {
+    /// The width in bits: 8, 16, 32 or 64.
+    pub fn bits(self) -> u8
+        ensures { result ≡ bits_of self }
+    {
+        match self {
+            BitWidth::Eight => 8,
+            BitWidth::Sixteen => 16,
+            BitWidth::ThirtyTwo => 32,
+            BitWidth::SixtyFour => 64,
+        }
+    }
+}
+
+/// What a date counts since 1970-01-01 (`Schema.fbs`, enum `DateUnit`).
+#[derive(Clone, Copy, Debug, PartialEq, Eq)]
+pub enum DateUnit {
+    /// Days, in signed numbers of 32 bits.
+    Day,
+    /// Milliseconds, in signed numbers of 64 bits.
+    Millisecond,
+}
+
+impl DateUnit {
+    /// The width of one date: 32 bits for days, 64 for milliseconds.
+    pub fn width(self) -> BitWidth
+        ensures { result ≡ date_width_of self }
+    {
+        match self {
+            DateUnit::Day => BitWidth::ThirtyTwo,
+            DateUnit::Millisecond => BitWidth::SixtyFour,
+        }
+    }
+}
+
+/// What a time of day or a timestamp counts (`Schema.fbs`, enum `TimeUnit`).
+#[derive(Clone, Copy, Debug, PartialEq, Eq)]
+pub enum TimeUnit {
+    Second,
+    Millisecond,
+    Microsecond,
+    Nanosecond,
+}
+
+impl TimeUnit {
+    /// The width of one time of day in this unit: 32 bits for seconds and milliseconds, 64 for the finer units.
+    /// A timestamp has 64 bits in every unit.
+    pub fn time_width(self) -> BitWidth
+        ensures { result ≡ time_width_of self }
+    {
+        match self {
+            TimeUnit::Second | TimeUnit::Millisecond => BitWidth::ThirtyTwo,
+            TimeUnit::Microsecond | TimeUnit::Nanosecond => BitWidth::SixtyFour,
+        }
+    }
+}
+
+/// The type of a column's values, without a dictionary (`Schema.fbs`, union `Type`).
+///
+/// Any tree of types can be built; that it keeps to the limits is tested where a `Schema` is made of it.
+#[cycle(types)]
+#[derive(Debug, Drop)]
+pub enum DataType {
+    /// Every slot is null.
+    Null,
+    /// Truth values, a bit each.
+    Bool,
+    /// Whole numbers of 8 to 64 bits.
+    Int { bits: BitWidth, signed: bool },
+    /// Byte strings of any length.
+    Binary,
+    /// Texts in UTF-8.
+    Utf8,
+    /// Days or milliseconds since 1970-01-01.
+    Date(DateUnit),
+    /// A time of day since midnight. Its width follows its unit.
+    Time(TimeUnit),
+    /// Signed 64-bit numbers since 1970-01-01 00:00, and the name of a time zone where there is one.
+    Timestamp(TimeUnit, Option<String>),
+    /// Lists of values of the one child field.
+    List(Box<Field>),
+    /// A value of each child field.
+    Struct(Vec<Field>),
+}
+
+impl DataType {
+    /// An equal type in memory of its own, or `AllocError` where a growth was refused.
+    #[cycle(copy)]
+    pub fn copy(&self, alloc: Global) -> Result<DataType, AllocError>
+        ensures { IfOk result (λ t. type_view t ≡ type_view self.now) }
+    {
+        match self {
+            DataType::Null => Ok(DataType::Null),
+            DataType::Bool => Ok(DataType::Bool),
+            DataType::Int { bits, signed } => Ok(DataType::Int {
+                bits: *bits,
+                signed: *signed,
+            }),
+            DataType::Binary => Ok(DataType::Binary),
+            DataType::Utf8 => Ok(DataType::Utf8),
+            DataType::Date(unit) => Ok(DataType::Date(*unit)),
+            DataType::Time(unit) => Ok(DataType::Time(*unit)),
+            DataType::Timestamp(unit, None) => Ok(DataType::Timestamp(*unit, None)),
+            DataType::Timestamp(unit, Some(zone)) => {
+                Ok(DataType::Timestamp(*unit, Some(zone.clone()?)))
+            }
+            DataType::List(item) => Ok(DataType::List(Box::new(alloc, item.copy(alloc)?)?)),
+            DataType::Struct(fields) => Ok(DataType::Struct(copy_fields(alloc, fields)?)),
+        }
+    }
+}
+
+/// Whether the types are equal, with all that they hold.
+#[cycle(same)]
+pub(crate) fn same_type(one: &DataType, other: &DataType) -> bool
+    ensures { IsTrue result ↔ (type_view one.now ≡ type_view other.now) }
+{
+    match (one, other) {
+        (DataType::Null, DataType::Null) => true,
+        (DataType::Bool, DataType::Bool) => true,
+        (
+            DataType::Int { bits, signed },
+            DataType::Int {
+                bits: other_bits,
+                signed: other_signed,
+            },
+        ) => bits == other_bits && signed == other_signed,
+        (DataType::Binary, DataType::Binary) => true,
+        (DataType::Utf8, DataType::Utf8) => true,
+        (DataType::Date(unit), DataType::Date(other)) => unit == other,
+        (DataType::Time(unit), DataType::Time(other)) => unit == other,
+        (DataType::Timestamp(unit, zone), DataType::Timestamp(other, other_zone)) => {
+            unit == other && zone == other_zone
+        }
+        (DataType::List(item), DataType::List(other)) => same_field(item, other),
+        (DataType::Struct(fields), DataType::Struct(others)) => same_fields(fields, others),
+        _ => false,
+    }
+}
+
+/// Types are equal where everything that they hold is: units, zones, names, `nullable` and encodings of the fields
+/// below them included. No memory is taken.
+impl PartialEq for DataType {
+    ghost eq = { on type_view (is_equal type_code) };
+
+    ghost laws = { on_per type_view (partial_equiv_from_equiv (is_equal_equivalence type_code)) };
+
+    fn eq(&self, other: &DataType) -> bool
+        ensures gives { result ≡ is_equal type_code (type_view self.now) (type_view other.now) }
+        ensures same { IsTrue result ↔ (type_view self.now ≡ type_view other.now) }
+    {
+        same_type(self, other)
+    }
+}
+
+impl Eq for DataType {
+    ghost laws = { on_equiv type_view (is_equal_equivalence type_code) };
+}

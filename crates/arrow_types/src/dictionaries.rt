@@ -1,0 +1,93 @@
+//! Which dictionaries the fields refer to, and that each has one value type.
+
+ghost use Rattle.std.specs.Prelude.{◌≡◌, ◌++◌, OnOk, IfOk};
+ghost use Rattle.arrow_types.specs.Dictionaries.{encoded_views, GivesIds};
+ghost use Rattle.arrow_types.specs.Schema.{dictionary_fields, field_dictionaries};
+ghost use Rattle.arrow_types.specs.View.{field_view, fields_view, type_view};
+
+use crate::data_type::DataType;
+use crate::field::Field;
+use std::alloc::{AllocError, Global};
+use std::collections::BTreeMap;
+
+/// What a dictionary-encoded field says of its dictionary.
+#[derive(Clone, Copy)]
+struct Encoded<'a> {
+    id: i64,
+    value_type: &'a DataType,
+}
+
+/// The ids of the dictionaries of the fields, each once in the order of their first fields, or None where two
+/// fields share an id and have unequal value types.
+pub(crate) fn ids_of(alloc: Global, fields: &[Field]) -> Result<Option<Vec<i64>>, AllocError>
+    ensures { IfOk result (λ ids. GivesIds ids (dictionary_fields (fields_view fields.now))) }
+{
+    let mut found = Vec::new(alloc);
+    add_fields(fields, &mut found)?;
+    ids_of_one_type(alloc, &found)
+}
+
+/// Adds the dictionary-encoded ones of the fields, on all levels, in pre-order.
+#[cycle(encoded)]
+fn add_fields<'a>(fields: &'a [Field], found: &mut Vec<Encoded<'a>>) -> Result<(), AllocError>
+    ensures { OnOk result (encoded_views found.new.items
+        ≡ encoded_views found.old.items ++ dictionary_fields (fields_view fields.now)) }
+{
+    for field in fields {
+        add_field(field, found)?;
+    }
+    Ok(())
+}
+
+/// Adds the field where it is dictionary-encoded, and then those below it.
+#[cycle(encoded)]
+fn add_field<'a>(field: &'a Field, found: &mut Vec<Encoded<'a>>) -> Result<(), AllocError>
+    ensures { OnOk result (encoded_views found.new.items
+        ≡ encoded_views found.old.items ++ field_dictionaries (field_view field.now)) }
+{
+    if let Some(encoding) = field.dictionary {
+        found.push(Encoded {
+            id: encoding.id,
+            value_type: &field.data_type,
+        })?;
+    }
+    add_children(&field.data_type, found)
+}
+
+/// Adds the dictionary-encoded ones of the type's children.
+#[cycle(encoded)]
+fn add_children<'a>(data_type: &'a DataType, found: &mut Vec<Encoded<'a>>) -> Result<(), AllocError>
+    ensures { OnOk result (encoded_views found.new.items
+        ≡ encoded_views found.old.items ++ dictionary_fields ((type_view data_type.now).children)) }
+{
+    match data_type {
+        DataType::List(item) => add_field(item, found),
+        DataType::Struct(fields) => add_fields(fields, found),
+        _ => Ok(()),
+    }
+}
+
+/// The ids of the dictionaries, each once in the order of their first fields, or None where two fields share an id
+/// and have unequal value types. The time grows as n log n.
+fn ids_of_one_type(alloc: Global, fields: &[Encoded]) -> Result<Option<Vec<i64>>, AllocError>
+    ensures { IfOk result (λ ids. GivesIds ids (encoded_views fields.now)) }
+{
+    let mut ids = Vec::new(alloc);
+    let mut places = BTreeMap::new(alloc);
+    for i in 0..fields.len() {
+        let field = &fields[i];
+        match places.get(&field.id) {
+            Some(first) => {
+                let earlier = &fields[*first];
+                if earlier.value_type != field.value_type {
+                    return Ok(None);
+                }
+            }
+            None => {
+                places.insert(field.id, i)?;
+                ids.push(field.id)?;
+            }
+        }
+    }
+    Ok(Some(ids))
+}

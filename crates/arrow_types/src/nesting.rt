@@ -1,0 +1,61 @@
+//! Whether a dictionary stands below a dictionary.
+
+ghost use Rattle.std.specs.Prelude.{◌≡◌};
+ghost use Rattle.arrow_types.specs.Schema.{has_encoding, is_nested, field_is_nested};
+ghost use Rattle.arrow_types.specs.View.{field_view, fields_view, type_view};
+
+use crate::data_type::DataType;
+use crate::field::Field;
+
+/// Whether a dictionary-encoded field stands below a dictionary-encoded field.
+#[cycle(nesting)]
+pub(crate) fn are_nested(fields: &[Field]) -> bool
+    ensures { result ≡ is_nested (fields_view fields.now) }
+{
+    for field in fields {
+        if has_nested(field) {
+            return true;
+        }
+    }
+    false
+}
+
+/// The same for one field and what stands below it.
+#[cycle(nesting)]
+fn has_nested(field: &Field) -> bool
+    ensures { result ≡ field_is_nested (field_view field.now) }
+{
+    if field.dictionary.is_some() && has_encoding_below(&field.data_type) {
+        return true;
+    }
+    match &field.data_type {
+        DataType::List(item) => has_nested(item),
+        DataType::Struct(fields) => are_nested(fields),
+        _ => false,
+    }
+}
+
+/// Whether a child of the type, on any level, is dictionary-encoded.
+#[cycle(encodings)]
+fn has_encoding_below(data_type: &DataType) -> bool
+    ensures { result ≡ has_encoding ((type_view data_type.now).children) }
+{
+    match data_type {
+        DataType::List(item) => { item.dictionary.is_some() || has_encoding_below(&item.data_type) }
+        DataType::Struct(fields) => have_encoding(fields),
+        _ => false,
+    }
+}
+
+/// Whether one of the fields, on any level, is dictionary-encoded.
+#[cycle(encodings)]
+fn have_encoding(fields: &[Field]) -> bool
+    ensures { result ≡ has_encoding (fields_view fields.now) }
+{
+    for field in fields {
+        if field.dictionary.is_some() || has_encoding_below(&field.data_type) {
+            return true;
+        }
+    }
+    false
+}

@@ -1,0 +1,62 @@
+//! How deep and how many fields are.
+
+ghost use Rattle.std.specs.Prelude.{◌≡◌, ◌≤◌, ◌↔◌, IsTrue};
+ghost use Rattle.arrow_types.specs.Field.{levels, field_levels, count, field_count};
+ghost use Rattle.arrow_types.specs.Room.{left_of};
+ghost use Rattle.arrow_types.specs.View.{field_view, fields_view};
+
+use crate::data_type::DataType;
+use crate::field::Field;
+
+/// Whether the fields have at most `most` levels. No level below is looked at, however deep they are.
+#[cycle(levels)]
+pub(crate) fn have_levels(fields: &[Field], most: u32) -> bool
+    ensures { IsTrue result ↔ (levels (fields_view fields.now) ≤ most) }
+{
+    for field in fields {
+        if !has_levels(field, most) {
+            return false;
+        }
+    }
+    true
+}
+
+/// Whether the field has at most `most` levels, its own among them.
+#[cycle(levels)]
+fn has_levels(field: &Field, most: u32) -> bool
+    ensures { IsTrue result ↔ (field_levels (field_view field.now) ≤ most) }
+{
+    if most == 0 {
+        return false;
+    }
+    match &field.data_type {
+        DataType::List(item) => has_levels(item, most - 1),
+        DataType::Struct(fields) => have_levels(fields, most - 1),
+        _ => true,
+    }
+}
+
+/// What is left of `most` after the fields on all levels are counted, None where there are more.
+#[cycle(counting)]
+pub(crate) fn after_fields(fields: &[Field], most: u32) -> Option<u32>
+    ensures { result ≡ left_of most (count (fields_view fields.now)) }
+{
+    let mut left = most;
+    for field in fields {
+        left = after_field(field, left)?;
+    }
+    Some(left)
+}
+
+/// What is left of `most` after the field and all below it are counted.
+#[cycle(counting)]
+fn after_field(field: &Field, most: u32) -> Option<u32>
+    ensures { result ≡ left_of most (field_count (field_view field.now)) }
+{
+    let most = most.checked_sub(1)?;
+    match &field.data_type {
+        DataType::List(item) => after_field(item, most),
+        DataType::Struct(fields) => after_fields(fields, most),
+        _ => Some(most),
+    }
+}
