@@ -1,9 +1,9 @@
 -- The bits of bytes as a list.
-use Rattle.std.proofs.Common.{◌≡◌, ℕ, ◌+◌, ◌<◌, Bool, true, false, cond, List, [], ◌∷◌, ◌++◌, length, refl, ap, ◌∙◌, arith, Some}
+use Rattle.std.proofs.Common.{◌≡◌, ℕ, zero, suc, ◌+◌, ◌<◌, ◌≤◌, Bool, true, false, cond, List, [], ◌∷◌, ◌++◌, length, refl, ap, ◌∙◌, subst, arith, add-one, Some}
 use Rattle.std.specs.Prelude.{slice_get, count_by, not}
 use Rattle.std.proofs.lemmas.Option.{slice_get-get_or}
 use Rattle.std.proofs.lemmas.List.FromFn.{length-map-range_with_len, get_or-map-range_with_len, map-range_with_len_more, sum_by-map-range_with_len_more}
-use Rattle.arrow_bits.specs.Bitmap.{bit_of, bits_of}
+use Rattle.arrow_bits.specs.Bitmap.{bit_of, bits_of, ones_of}
 
 -- there are as many as were asked for
 pub length_bits : (n : ℕ) (bytes : List ℕ) → length (bits_of n bytes) ≡ n
@@ -29,3 +29,26 @@ pub more_zeros : (n : ℕ) (bytes : List ℕ) → count_by not (bits_of (n + 1) 
 more_zeros n bytes =
     sum_by-map-range_with_len_more (λ (b : Bool). cond (not b) 1 0) (bit_of bytes) 0 n n (omega arith)
     ∙ ap (λ m. count_by not (bits_of n bytes) + m) (zero_of (bit_of bytes n))
+
+-- the ones with one bit more
+pub more_ones : (n : ℕ) (bytes : List ℕ) → ones_of (n + 1) bytes ≡ ones_of n bytes + cond (bit_of bytes n) 1 0
+more_ones n bytes = sum_by-map-range_with_len_more (λ (b : Bool). cond b 1 0) (bit_of bytes) 0 n n (omega arith)
+
+-- a bit is set or not
+one_of_two : (b : Bool) → ◌≡◌ {A = ℕ} (cond b 1 0 + cond b 0 1) 1
+one_of_two true = refl
+one_of_two false = refl
+
+-- each bit is counted once
+pub ones_and_zeros : (n : ℕ) (bytes : List ℕ) → ones_of n bytes + count_by not (bits_of n bytes) ≡ n
+ones_and_zeros zero bytes = refl
+ones_and_zeros (suc n) bytes =
+    let before = ones_and_zeros n bytes in
+    let ones = more_ones n bytes in
+    let zeros = more_zeros n bytes in
+    let last = one_of_two (bit_of bytes n) in
+    subst (λ m. ones_of m bytes + count_by not (bits_of m bytes) ≡ m) (add-one n) (omega (arith, before, ones, zeros, last))
+
+-- so no more are set than there are
+pub few_ones : (n : ℕ) (bytes : List ℕ) → ones_of n bytes ≤ n
+few_ones n bytes = omega (arith, ones_and_zeros n bytes)

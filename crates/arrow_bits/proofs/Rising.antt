@@ -6,7 +6,7 @@ use Rattle.std.specs.List.Sorted.{IsNonDecreasing}
 use Rattle.std.proofs.lemmas.Int.{ints}
 use Rattle.std.proofs.lemmas.List.FromFn.{length-map-range_with_len, get_or-map-range_with_len}
 use Rattle.arrow_bits.specs.Numbers.{number_at, signed_at}
-use Rattle.arrow_bits.specs.OffsetList.{offset_at, AreOffsets, offsets_of}
+use Rattle.arrow_bits.specs.OffsetList.{offset_at, AreOffsets, offsets_of, NeverFall}
 use Rattle.arrow_bits.proofs.Reading.{number_at-lt}
 
 -- there is one more than slots
@@ -85,3 +85,58 @@ pub offsets_signed : (bytes : List ℕ) (len top : ℕ) → ((i : ℕ) → get_o
     → map pos (offsets_of len bytes) ≡ map (offset_at bytes) (range_with_len 0 (len + 1))
 offsets_signed bytes len top small are =
     same_on_range (offset_at bytes) (λ j. number_at bytes (4 * j) 4) 0 (len + 1) (λ j h. plain_offset bytes len top small are j (omega (arith, h)))
+
+-- an offset whose number has no sign bit
+plain_number : (bytes : List ℕ) (j : ℕ) → number_at bytes (4 * j) 4 < 2147483648 → offset_at bytes j ≡ pos (number_at bytes (4 * j) 4)
+unfolding signed_at
+plain_number bytes j low = grind (arith, low)
+
+-- an offset that is not negative has no sign bit
+no_sign_bit : (bytes : List ℕ) (j : ℕ) → ((i : ℕ) → get_or bytes i 0 < 256) → 4 * j + 4 ≤ length bytes
+    → pos 0 ≤ℤ offset_at bytes j → number_at bytes (4 * j) 4 < 2147483648
+unfolding signed_at
+no_sign_bit bytes j small inside sign =
+    let fits = number_at-lt (4 * j) 4 bytes small inside in
+    grind (arith, ints, fits, sign)
+
+-- numbers that never fall are not above the last
+below_last : (bytes : List ℕ) (len k : ℕ) → NeverFall bytes 0 len → k ≤ len → number_at bytes (4 * (len - k)) 4 ≤ number_at bytes (4 * len) 4
+below_last bytes len zero never h =
+    let same : len - 0 ≡ len = omega arith in
+    rw same (omega arith)
+below_last bytes len (suc k) never h =
+    let near = never (len - suc k) (omega arith) (omega (arith, h)) in
+    let next : len - suc k + 1 ≡ len - k = omega (arith, h) in
+    let far = below_last bytes len k never (omega (arith, h)) in
+    omega (arith, far, subst (λ m. number_at bytes (4 * (len - suc k)) 4 ≤ number_at bytes (4 * m) 4) next near)
+
+-- the test without signs is the test
+pub offsets_from_numbers : (bytes : List ℕ) (len top : ℕ) → 4 * (len + 1) ≤ length bytes → number_at bytes (4 * len) 4 < 2147483648
+    → number_at bytes (4 * len) 4 ≤ top → NeverFall bytes 0 len → AreOffsets bytes len top
+offsets_from_numbers bytes len top there low le never =
+    let plain : (j : ℕ) → j ≤ len → offset_at bytes j ≡ pos (number_at bytes (4 * j) 4) =
+    λ j h.
+    let back : len - (len - j) ≡ j = omega (arith, h) in
+    let under = subst (λ m. number_at bytes (4 * m) 4 ≤ number_at bytes (4 * len) 4) back (below_last bytes len (len - j) never (omega (arith, h))) in
+    plain_number bytes j (omega (arith, under, low)) in
+    record {
+      there = there;
+      first = omega (arith, ints, plain 0 (omega arith));
+      rise = λ j h. omega (arith, ints, plain j (omega (arith, h)), plain (j + 1) (omega (arith, h)), never j (omega arith) h);
+      last = omega (arith, ints, plain len (omega arith), le);
+    }
+
+pub record HasNumbers (bytes : List ℕ) (len top : ℕ) : Type 0 where
+  pub low : number_at bytes (4 * len) 4 < 2147483648
+  pub le : number_at bytes (4 * len) 4 ≤ top
+  pub never : NeverFall bytes 0 len
+
+-- and the other way
+pub numbers_from_offsets : (bytes : List ℕ) (len top : ℕ) → ((i : ℕ) → get_or bytes i 0 < 256) → AreOffsets bytes len top → HasNumbers bytes len top
+numbers_from_offsets bytes len top small are =
+    let plain = plain_offset bytes len top small are in
+    record {
+      low = no_sign_bit bytes len small (omega (arith, are.there)) (no_sign bytes len top are len (omega arith));
+      le = omega (arith, ints, plain len (omega arith), are.last);
+      never = λ j from h. omega (arith, ints, plain j (omega (arith, h)), plain (j + 1) (omega (arith, h)), are.rise j h);
+    }

@@ -1,5 +1,5 @@
 -- Bits in a list of bytes.
-use Rattle.std.specs.Prelude.{ℕ, ◌/◌, ◌%◌, ◌==◌, ◌≡◌, ◌≤◌, Bool, false, List, length, map, slice_index}
+use Rattle.std.specs.Prelude.{ℕ, ◌/◌, ◌%◌, ◌==◌, ◌≡◌, ◌≤◌, Bool, false, List, length, map, slice_index, count_by}
 use Rattle.std.specs.List.{range_with_len}
 use Rattle.std.specs.Int.{bit_at, div_ceil}
 
@@ -10,6 +10,10 @@ bit_of bytes j = bit_at (slice_index bytes (j / 8)) (j % 8) == 1
 -- the first bits
 abbrev pub bits_of : ℕ → List ℕ → List Bool
 bits_of len bytes = map (bit_of bytes) (range_with_len 0 len)
+
+-- how many of the first bits are set
+abbrev pub ones_of : ℕ → List ℕ → ℕ
+ones_of len bytes = count_by (λ b. b) (bits_of len bytes)
 
 -- the bytes hold these bits and no others: as few bytes as can be, and the bits behind them 0
 pub record IsPacked (bits : List Bool) (bytes : List ℕ) : Type 0 where

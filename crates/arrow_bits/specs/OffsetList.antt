@@ -17,3 +17,7 @@ pub record AreOffsets (bytes : List ℕ) (len top : ℕ) : Type 0 where
 -- the `len + 1` offsets, of which none is negative
 abbrev pub offsets_of : ℕ → List ℕ → List ℕ
 offsets_of len bytes = map (λ j. number_at bytes (4 * j) 4) (range_with_len 0 (len + 1))
+
+-- none of the numbers of 4 bytes from number `from` up to `to` is above the one behind it
+abbrev pub NeverFall : List ℕ → ℕ → ℕ → Type 0
+NeverFall bytes from to = (j : ℕ) → from ≤ j → j < to → number_at bytes (4 * j) 4 ≤ number_at bytes (4 * (j + 1)) 4

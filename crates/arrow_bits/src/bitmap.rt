@@ -1,6 +1,7 @@
 ghost use Rattle.std.specs.Prelude.{◌≡◌, ◌*◌, ◌≤◌, ◌<◌, ◌↔◌, ◌==◌, length, not, count_by, slice_get, IsSome, IfSome, Some};
-ghost use Rattle.arrow_bits.specs.Bitmap.{bit_of, bits_of};
+ghost use Rattle.arrow_bits.specs.Bitmap.{bit_of, bits_of, ones_of};
 
+use crate::numbers::u64_at;
 use std::marker::Model;
 
 /// Bit `j` of the bytes.
@@ -30,7 +31,7 @@ impl<'a> Model for Bits<'a> {
     ghost invariant = { λ b. b.len ≤ 8 * length b.bytes.now };
 }
 
-#[tactic(auto, using(crate::proofs::Listed::length_bits, crate::proofs::Listed::bit_found))]
+#[tactic(auto, using(crate::proofs::Listed::length_bits, crate::proofs::Listed::bit_found, crate::proofs::Listed::ones_and_zeros))]
 impl<'a> Bits<'a> {
     /// The first `len` bits of the bytes.
     pub fn new(bytes: &'a [u8], len: usize) -> Option<Bits<'a>>
@@ -70,21 +71,36 @@ impl<'a> Bits<'a> {
     pub fn count_zero(&self) -> usize
         ensures { result ≡ count_by not self.now }
     {
-        count_zero_plainly(self.bytes, self.len)
+        self.len - count_ones(self.bytes, self.len)
     }
 }
 
-// Bit by bit.
-#[tactic(auto, using(crate::proofs::Listed::more_zeros))]
-fn count_zero_plainly(bytes: &[u8], len: usize) -> usize
+// How many of the first bits are set.
+#[tactic(auto, using(crate::proofs::Counting::ones_byte, crate::proofs::Counting::ones_part, crate::proofs::Listed::few_ones))]
+fn count_ones(bytes: &[u8], len: usize) -> usize
     requires { len ≤ 8 * length bytes.now }
-    ensures { result ≡ count_by not (bits_of len bytes.now) }
+    ensures { result ≡ ones_of len bytes.now }
 {
-    let mut zeros = 0;
-    for j in 0..len {
-        if !bit(bytes, j) {
-            zeros += 1;
-        }
+    let mut ones = count_ones_in_words(bytes, len / 64);
+    for i in len / 64 * 8..len / 8 {
+        ones += bytes[i].count_ones() as usize;
     }
-    zeros
+    let rest = len % 8;
+    if rest > 0 {
+        ones += (bytes[len / 8] % (1 << rest)).count_ones() as usize;
+    }
+    ones
+}
+
+// The same of the first words of 64 bits.
+#[tactic(auto, using(crate::proofs::Counting::ones_word, crate::proofs::Listed::few_ones))]
+fn count_ones_in_words(bytes: &[u8], words: usize) -> usize
+    requires { 8 * words ≤ length bytes.now }
+    ensures { result ≡ ones_of (64 * words) bytes.now }
+{
+    let mut ones = 0;
+    for i in 0..words {
+        ones += u64_at(bytes, 8 * i).count_ones() as usize;
+    }
+    ones
 }

@@ -3,8 +3,10 @@
 
 mod bitmap;
 mod bitmap_builder;
+mod lanes;
 mod numbers;
 mod offsets;
+pub mod plain;
 
 pub use bitmap::{Bits, bit};
 pub use bitmap_builder::BitsBuilder;

@@ -3,7 +3,9 @@ ghost use Rattle.std.specs.List.{range_with_len};
 ghost use Rattle.std.specs.List.Sorted.{IsNonDecreasing};
 ghost use Rattle.arrow_bits.specs.OffsetList.{AreOffsets, offset_at, offsets_of};
 
+use crate::lanes::never_fall;
 use crate::numbers::u32_at;
+use crate::plain::check_offsets;
 use std::marker::Model;
 
 /// A list of offsets in lent bytes.
@@ -31,7 +33,11 @@ impl<'a> Offsets<'a> {
     pub fn check(bytes: &[u8], len: usize, top: u64) -> bool
         ensures { IsTrue result ↔ AreOffsets bytes.now len top }
     {
-        check_plainly(bytes, len, top)
+        if len < 16 {
+            check_offsets(bytes, len, top)
+        } else {
+            check_lanes(bytes, len, top)
+        }
     }
 
     /// The offsets in the bytes, by the test of `check`.
@@ -78,30 +84,22 @@ impl<'a> Offsets<'a> {
 }
 
 // Offset `i`, by its sign.
-fn offset(bytes: &[u8], i: usize) -> i32
+pub(crate) fn offset(bytes: &[u8], i: usize) -> i32
     requires { 4 * i + 4 ≤ length bytes.now }
     ensures { result ≡ offset_at bytes.now i }
 {
     u32_at(bytes, 4 * i).cast_signed()
 }
 
-// Offset by offset.
-fn check_plainly(bytes: &[u8], len: usize, top: u64) -> bool
+// The same test, with the neighbours compared many at once.
+fn check_lanes(bytes: &[u8], len: usize, top: u64) -> bool
     ensures { IsTrue result ↔ AreOffsets bytes.now len top }
 {
     if len >= bytes.len() / 4 {
         return false;
     }
-    let mut last = offset(bytes, 0);
-    if last < 0 {
+    if u64::from(u32_at(bytes, 4 * len)) > top.min(i32::MAX as u64) {
         return false;
     }
-    for i in 0..len {
-        let next = offset(bytes, i + 1);
-        if next < last {
-            return false;
-        }
-        last = next;
-    }
-    last as u64 <= top
+    never_fall(bytes, len)
 }

@@ -1,0 +1,99 @@
+-- Numbers of 32 bits compared lane by lane.
+use Rattle.std.proofs.Common.{◌≡◌, ◌↔◌, ℕ, zero, suc, ◌+◌, ◌-◌, ◌*◌, ◌/◌, ◌%◌, ◌^◌, ◌<◌, ◌≤◌, List, [], ◌∷◌, Bool, true, false, true≢false, cond, leb, nat_eq, length, map, take, drop, get_or, refl, sym, ap, ◌∙◌, subst, IsTrue, arith, w8, w32, Fits, inl, inr, eq-eqb}
+use Rattle.std.specs.Simd.Lanes.{zip2, mask_l, top, chunk, number_l, digits_l}
+use Rattle.std.proofs.Math.Nat.{pow-suc}
+use Rattle.std.proofs.lemmas.Nat.{pow_pos}
+use Rattle.std.proofs.lemmas.Bool.{cases_lt, eqb-true, leb-true, le-leb}
+use Rattle.std.proofs.lemmas.Simd.{tops_compared, mask_l-mod, get_or-zip2, length-zip2, get_or_wider, chunk-fits, below_from_Fits}
+use Rattle.arrow_bits.specs.Numbers.{number_of, number_at}
+use Rattle.arrow_bits.specs.OffsetList.{NeverFall}
+use Rattle.arrow_bits.proofs.Places.{number_at-take}
+
+-- std's word for the number of some bytes
+number_l-number_of : (bytes : List ℕ) → number_l 256 bytes ≡ number_of bytes
+number_l-number_of [] = refl
+number_l-number_of (byte ∷ bytes) = ap (λ n. byte + 256 * n) (number_l-number_of bytes)
+
+-- a lane in front
+full_cons : (lanes : List Bool) → ((k : ℕ) → k < length lanes → get_or lanes k false ≡ true)
+    → (k : ℕ) → k < suc (length lanes) → get_or (true ∷ lanes) k false ≡ true
+full_cons lanes all zero h = refl
+full_cons lanes all (suc k) h = all k (omega (arith, h))
+
+-- a mask has all its bits where each lane has its own
+mask_full : (lanes : List Bool) → (mask_l lanes ≡ 2 ^ length lanes - 1) ↔ ((k : ℕ) → k < length lanes → get_or lanes k false ≡ true)
+mask_full [] = ((λ e k h. absurd (omega (arith, h))), (λ all. refl))
+mask_full (true ∷ lanes) =
+    let two = pow-suc 2 (length lanes) in
+    let one = pow_pos (length lanes) in
+    let rest = mask_full lanes in (
+      (λ e k h. full_cons lanes (rest.0 (omega (arith, e, two, one))) k h),
+      (λ all. let e = rest.1 (λ k h. all (suc k) (omega (arith, h))) in omega (arith, e, two, one)),
+    )
+mask_full (false ∷ lanes) =
+    let two = pow-suc 2 (length lanes) in
+    let one = pow_pos (length lanes) in (
+      (λ e k h. absurd (omega (arith, e, two, one))),
+      (λ all. absurd (true≢false (sym (all zero (omega arith))))),
+    )
+
+-- four bytes of a list
+number_at_chunk : (bytes : List ℕ) (k : ℕ) → number_l 256 (chunk (4 * k) 4 bytes) ≡ number_at bytes (4 * k) 4
+unfolding number_at
+number_at_chunk bytes k = number_l-number_of (take 4 (drop (4 * k) bytes))
+
+-- so the mask of a comparison is full where it holds in each lane
+pub lanes_hold : (n : ℕ) (xs ys : List ℕ) → n ≤ 64 → length xs ≡ n → length ys ≡ n
+    → IsTrue (nat_eq (mask_l (map (top 31) (zip2 (λ a b. cond (leb a b) 4294967295 0) xs ys)) % 18446744073709551616) (2 ^ n - 1))
+    ↔ ((k : ℕ) → k < n → get_or xs k 0 ≤ get_or ys k 0)
+lanes_hold n xs ys few low high =
+    let lanes = zip2 leb xs ys in
+    let long : length lanes ≡ n = length-zip2 leb xs ys (low ∙ sym high) ∙ low in
+    let whole = mask_full lanes in
+    let mask : mask_l (map (top 31) (zip2 (λ a b. cond (leb a b) 4294967295 0) xs ys)) % 18446744073709551616 ≡ mask_l lanes =
+    ap (λ bs. mask_l bs % 18446744073709551616) (tops_compared w32 leb xs ys) ∙ mask_l-mod lanes 64 (omega (arith, few, long)) in
+    let lane : (k : ℕ) → k < n → get_or lanes k false ≡ leb (get_or xs k 0) (get_or ys k 0) =
+    λ k h. get_or-zip2 leb xs ys k 0 0 false (omega (arith, h, low)) (omega (arith, h, high)) in (
+      (λ t k h.
+          let full : mask_l lanes ≡ 2 ^ length lanes - 1 = sym mask ∙ eqb-true _ _ t ∙ ap (λ m. 2 ^ m - 1) (sym long) in
+          leb-true _ _ (sym (lane k h) ∙ whole.0 full k (omega (arith, h, long)))),
+      (λ all.
+          let full = whole.1 (λ k h. lane k (omega (arith, h, long)) ∙ le-leb _ _ (all k (omega (arith, h, long)))) in
+          eq-eqb _ _ (mask ∙ full ∙ ap (λ m. 2 ^ m - 1) long)),
+    )
+
+-- a lane of four bytes is the number that stands at its place
+pub lane_number : (bytes : List ℕ) (at n : ℕ) → ((i : ℕ) → Fits w8 (get_or bytes i 0)) → (k : ℕ) → k < n
+    → get_or (digits_l 4294967296 n (number_l 256 (take (4 * n) (drop at bytes)))) k 0 ≡ number_at bytes (at + 4 * k) 4
+lane_number bytes at n fits k h =
+    let part = take (4 * n) (drop at bytes) in
+    let below = below_from_Fits w8 part (chunk-fits w8 at (4 * n) bytes fits) in
+    get_or_wider 256 4 4294967296 n part k refl below h
+    ∙ number_at_chunk part k
+    ∙ number_at-take bytes at (4 * n) (4 * k) 4 (omega (arith, h))
+
+-- what a step over n numbers from number i on says
+block_of : (bytes : List ℕ) (i n len : ℕ) → i + n ≤ len → NeverFall bytes 0 len
+    → (k : ℕ) → k < n → number_at bytes (4 * i + 4 * k) 4 ≤ number_at bytes (4 * i + 4 + 4 * k) 4
+block_of bytes i n len room all k h =
+    let low : 4 * i + 4 * k ≡ 4 * (i + k) = omega arith in
+    let high : 4 * i + 4 + 4 * k ≡ 4 * (i + k + 1) = omega arith in
+    rw (low, high) (all (i + k) (omega arith) (omega (arith, room, h)))
+
+-- a step over n numbers goes n further
+pub block_more : (bytes : List ℕ) (i n : ℕ) → NeverFall bytes 0 i
+    → ((k : ℕ) → k < n → number_at bytes (4 * i + 4 * k) 4 ≤ number_at bytes (4 * i + 4 + 4 * k) 4) → NeverFall bytes 0 (i + n)
+block_more bytes i n before step j from h = elim (cases_lt j i) [
+  | inl below ↦ before j from below
+  | inr above ↦
+      let k = j - i in
+      let low : 4 * j ≡ 4 * i + 4 * k = omega (arith, above) in
+      let high : 4 * (j + 1) ≡ 4 * i + 4 + 4 * k = omega (arith, above) in
+      rw (low, high) (step k (omega (arith, above, h)))
+]
+
+-- where it does not hold, a number falls
+pub block_fails : (bytes : List ℕ) (i n len : ℕ) (b : Bool) → i + n ≤ len → b ≡ false
+    → IsTrue b ↔ ((k : ℕ) → k < n → number_at bytes (4 * i + 4 * k) 4 ≤ number_at bytes (4 * i + 4 + 4 * k) 4)
+    → NeverFall bytes 0 len → ⊥
+block_fails bytes i n len b room failed step all = true≢false (sym (step.1 (block_of bytes i n len room all)) ∙ failed)

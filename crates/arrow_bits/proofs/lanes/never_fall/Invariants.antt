@@ -1,0 +1,9 @@
+use Rattle.std.proofs.Common.{◌≤◌, ◌-◌}
+use Rattle.arrow_bits.specs.OffsetList.{NeverFall}
+use Rattle.arrow_bits.proofs.lanes.never_fall.Given as goal
+
+abbrev pub invariant-loop-i : goal.invariant-loop-i
+invariant-loop-i l = record { inside : l.i ≤ l.len; below : NeverFall l.bytes 0 l.i }
+
+abbrev pub decreases-loop-i : goal.decreases-loop-i
+decreases-loop-i l = l.len - l.i

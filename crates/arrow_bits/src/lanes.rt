@@ -1,0 +1,55 @@
+ghost use Rattle.std.specs.Prelude.{◌≡◌, ◌+◌, ◌*◌, ◌≤◌, ◌<◌, ◌↔◌, ℕ, length, slice_index, IsTrue};
+ghost use Rattle.arrow_bits.specs.Numbers.{number_at};
+ghost use Rattle.arrow_bits.specs.OffsetList.{NeverFall};
+
+use crate::numbers::u32_at;
+use std::simd::prelude::*;
+
+// Whether no number of 32 bits is above the one behind it, sixteen at a time and then one at a time.
+pub(crate) fn never_fall(bytes: &[u8], len: usize) -> bool
+    requires { 4 * (len + 1) ≤ length bytes.now }
+    ensures { IsTrue result ↔ NeverFall bytes.now 0 len }
+{
+    let mut i = 0;
+    while i + 16 <= len {
+        if !sixteen_rise(bytes, 4 * i) {
+            return false;
+        }
+        i += 16;
+    }
+    rest_rises(bytes, i, len)
+}
+
+// The same from number `from` on, one at a time.
+fn rest_rises(bytes: &[u8], from: usize, len: usize) -> bool
+    requires order { from ≤ len }
+    requires inside { 4 * (len + 1) ≤ length bytes.now }
+    ensures { IsTrue result ↔ NeverFall bytes.now from len }
+{
+    for i in from..len {
+        if u32_at(bytes, 4 * i) > u32_at(bytes, 4 * (i + 1)) {
+            return false;
+        }
+    }
+    true
+}
+
+// Whether none of the sixteen numbers at a place is above the one behind it.
+fn sixteen_rise(bytes: &[u8], at: usize) -> bool
+    requires { at + 68 ≤ length bytes.now }
+    ensures { IsTrue result ↔ ((k : ℕ) → k < 16 →
+        number_at bytes.now (at + 4 * k) 4 ≤ number_at bytes.now (at + 4 + 4 * k) 4) }
+{
+    let low = sixteen_at(bytes, at);
+    let high = sixteen_at(bytes, at + 4);
+    low.simd_le(high).all()
+}
+
+// The sixteen numbers at a place.
+fn sixteen_at(bytes: &[u8], at: usize) -> u32x16
+    requires { at + 64 ≤ length bytes.now }
+    ensures long { length result ≡ 16 }
+    ensures lanes { (k : ℕ) → k < 16 → slice_index result k ≡ number_at bytes.now (at + 4 * k) 4 }
+{
+    u32x16::from_le_bytes(u8x64::from_slice(&bytes[at..]))
+}

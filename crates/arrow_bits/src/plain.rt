@@ -1,0 +1,46 @@
+//! The definitions as loops, one bit or one offset at a time.
+//!
+//! They have the contracts of the calls that work on many at once. Those calls use them for short inputs, and the
+//! tests compare the two at every length.
+ghost use Rattle.std.specs.Prelude.{◌≡◌, ◌*◌, ◌≤◌, ◌↔◌, length, not, count_by, IsTrue};
+ghost use Rattle.arrow_bits.specs.Bitmap.{bits_of};
+ghost use Rattle.arrow_bits.specs.OffsetList.{AreOffsets};
+
+use crate::bitmap::bit;
+use crate::offsets::offset;
+
+/// How many of the first `len` bits are 0.
+#[tactic(auto, using(crate::proofs::Listed::more_zeros))]
+pub fn count_zero(bytes: &[u8], len: usize) -> usize
+    requires { len ≤ 8 * length bytes.now }
+    ensures { result ≡ count_by not (bits_of len bytes.now) }
+{
+    let mut zeros = 0;
+    for j in 0..len {
+        if !bit(bytes, j) {
+            zeros += 1;
+        }
+    }
+    zeros
+}
+
+/// Whether `len + 1` offsets stand there that begin at 0 or above, never fall and end at `top` or below.
+pub fn check_offsets(bytes: &[u8], len: usize, top: u64) -> bool
+    ensures { IsTrue result ↔ AreOffsets bytes.now len top }
+{
+    if len >= bytes.len() / 4 {
+        return false;
+    }
+    let mut last = offset(bytes, 0);
+    if last < 0 {
+        return false;
+    }
+    for i in 0..len {
+        let next = offset(bytes, i + 1);
+        if next < last {
+            return false;
+        }
+        last = next;
+    }
+    last as u64 <= top
+}
