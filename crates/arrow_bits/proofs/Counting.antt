@@ -2,7 +2,7 @@
 use Rattle.std.proofs.Common.{◌≡◌, ℕ, zero, suc, ◌+◌, ◌-◌, ◌*◌, ◌/◌, ◌%◌, ◌^◌, ◌<◌, ◌≤◌, Bool, true, false, cond, List, [], ◌∷◌, length, take, drop, get_or, refl, ap, ◌∙◌, sym, subst, arith, add-one, add-zero, drop-cons}
 use Rattle.std.specs.Prelude.{count_ones, ◌==◌}
 use Rattle.std.specs.Int.{bit_at}
-use Rattle.std.proofs.lemmas.Nat.{mod-pow-add, ones_cat, mod_below, pow_pos}
+use Rattle.std.proofs.lemmas.Nat.{mod-pow-add, one_shl, ones_cat, mod_below, pow_pos}
 use Rattle.std.proofs.lemmas.Nat.Bits.{bit_at-lt}
 use Rattle.arrow_bits.specs.Numbers.{number_of, number_at}
 use Rattle.arrow_bits.specs.Bitmap.{bit_of, bits_of, ones_of}
@@ -46,6 +46,15 @@ ones_part bytes i (suc r) h =
     let flag = ap (λ t. cond {A = ℕ} t 1 0) (bit_in_byte bytes i r (omega arith)) in
     let next : 8 * i + suc r ≡ 8 * i + r + 1 = omega arith in
     rw (next, sym (add-one r)) (omega (arith, before, more, low, flag))
+
+-- the last byte, of which some bits are left out
+pub ones_rest : (bytes : List ℕ) (len : ℕ)
+    → ones_of len bytes ≡ ones_of (8 * (len / 8)) bytes + count_ones (get_or bytes (len / 8) 0 % (1 * 2 ^ (len % 8) % 256))
+ones_rest bytes len =
+    let power : 1 * 2 ^ (len % 8) % 256 ≡ 2 ^ (len % 8) = one_shl (len % 8) 8 (omega arith) in
+    let part = ones_part bytes (len / 8) (len % 8) (omega arith) in
+    let whole : 8 * (len / 8) + len % 8 ≡ len = omega arith in
+    rw power (ap (λ n. ones_of n bytes) (sym whole) ∙ part)
 
 -- a whole byte
 pub ones_byte : (bytes : List ℕ) (i : ℕ) → get_or bytes i 0 < 256 → ones_of (8 * (i + 1)) bytes ≡ ones_of (8 * i) bytes + count_ones (get_or bytes i 0)

@@ -1,4 +1,4 @@
-ghost use Rattle.std.specs.Prelude.{◌≡◌, ◌*◌, ◌≤◌, ◌<◌, ◌↔◌, ◌==◌, length, not, count_by, slice_get, IsSome, IfSome, Some};
+ghost use Rattle.std.specs.Prelude.{◌≡◌, ◌*◌, ◌^◌, ◌≤◌, ◌<◌, ◌↔◌, ◌==◌, length, not, count_by, slice_get, IsSome, IfSome, Some};
 ghost use Rattle.arrow_bits.specs.Bitmap.{bit_of, bits_of, ones_of};
 
 use crate::numbers::u64_at;
@@ -76,7 +76,6 @@ impl<'a> Bits<'a> {
 }
 
 // How many of the first bits are set.
-#[tactic(auto, using(crate::proofs::Counting::ones_byte, crate::proofs::Counting::ones_part, crate::proofs::Listed::few_ones))]
 fn count_ones(bytes: &[u8], len: usize) -> usize
     requires { len ≤ 8 * length bytes.now }
     ensures { result ≡ ones_of len bytes.now }
@@ -93,9 +92,9 @@ fn count_ones(bytes: &[u8], len: usize) -> usize
 }
 
 // The same of the first words of 64 bits.
-#[tactic(auto, using(crate::proofs::Counting::ones_word, crate::proofs::Listed::few_ones))]
 fn count_ones_in_words(bytes: &[u8], words: usize) -> usize
-    requires { 8 * words ≤ length bytes.now }
+    requires inside { 8 * words ≤ length bytes.now }
+    requires few { 64 * words < 2 ^ 64 }
     ensures { result ≡ ones_of (64 * words) bytes.now }
 {
     let mut ones = 0;
