@@ -1,0 +1,92 @@
+-- What a layer says of the trees that lie there.
+use Rattle.std.proofs.Common.{◌≡◌, ℕ, ◌+◌, ◌<◌, ◌⊎◌, inl, inr, List, Option, Some, None, Result, option_map, refl, sym, ap, subst, ◌∙◌, arith}
+use Rattle.arrow_meta.specs.declared.kinds.Kind.{Kind}
+use Rattle.arrow_meta.specs.declared.kinds.Shape.{Shape}
+use Rattle.arrow_meta.specs.declared.kinds.Shape.TheVariants as shapes
+use Rattle.arrow_flatbuf.specs.Place.{behind}
+use Rattle.arrow_flatbuf.specs.Table.{table_at, TableAt}
+use Rattle.arrow_flatbuf.specs.Vector.{vector_at, VectorAt}
+use Rattle.arrow_meta.specs.Kinds.{spots_of, opened}
+use Rattle.arrow_meta.specs.Kinds.{Spot}
+use Rattle.arrow_meta.specs.declared.fault.MetaFault.{MetaFault}
+use Rattle.arrow_meta.specs.Lies.{AllStand, layer, layer_at, Layer, leaf_layer, table_layer, tables_layer, elements}
+use Rattle.arrow_meta.specs.Trees.{Leaf, Tree, leaf, table, tables}
+use Rattle.arrow_meta.specs.Within.{visit, text_bytes, text_length, Room}
+use Rattle.arrow_meta.specs.Reads.{NoneFits, NoRowFits, ReadsTree}
+use Rattle.arrow_meta.proofs.OneTree.{one}
+
+-- the layer of a field that is there
+pub layer_there : (bytes : List ℕ) (shape : Shape) (place : Option ℕ) (p : ℕ) → place ≡ Some p → layer bytes (record { shape = shape; place = place }) ≡ layer_at bytes shape p
+unfolding layer
+layer_there bytes shape place p e = rw e refl
+
+-- What is read where a layer stands is read wherever the bytes are the same.
+pub over : {X : Type 0} (view : X → Tree) (result : Result X MetaFault) (a b : List ℕ) (l : Layer) (most : ℕ) (old new : Room) → a ≡ b → ((s : Spot) → layer a s ≡ Some l → ReadsTree view result a s most old new) → (s : Spot) → layer b s ≡ Some l → ReadsTree view result b s most old new
+over view result a b l most old new e h =
+    let P : List ℕ → Type 0 = λ bytes. (s : Spot) → layer bytes s ≡ Some l → ReadsTree view result bytes s most old new in
+    subst P e h
+
+-- Nothing lies where no layer stands.
+pub none_fits : (bytes : List ℕ) (s : Spot) (most : ℕ) (room : Room) → layer bytes s ≡ None → NoneFits bytes s most room
+none_fits bytes s most room e (leaf a) h fits = cc
+none_fits bytes s most room e (table kind xs) h fits = let f = h.1 in cc
+none_fits bytes s most room e (tables xs) h fits = let f = h.1 in cc
+
+-- a leaf that is too long
+pub too_long : (bytes : List ℕ) (s : Spot) (a : Leaf) (most : ℕ) (room : Room) → layer bytes s ≡ Some (leaf_layer a) → room.text < text_length a → NoneFits bytes s most room
+too_long bytes s a most room e short x h fits =
+    let same : x ≡ leaf a = one bytes s x (leaf a) h e in
+    omega (arith, ap text_bytes same, fits.text_fits)
+
+-- a table with no room for it
+pub no_room : (bytes : List ℕ) (s : Spot) (kind : Kind) (ss : List Spot) (most : ℕ) (room : Room) → layer bytes s ≡ Some (table_layer kind ss) → (most < visit kind) ⊎ (room.visits < visit kind) → NoneFits bytes s most room
+no_room bytes s kind ss most room e short (leaf a) h fits = cc
+no_room bytes s kind ss most room e short (tables xs) h fits = let f = h.1 in cc
+no_room bytes s kind ss most room e short (table j xs) h fits =
+    let f = h.1 in
+    let same : j ≡ kind = cc in
+    elim short [ inl a ↦ omega (arith, ap visit same, fits.levels_fit) | inr a ↦ omega (arith, ap visit same, fits.visits_fit) ]
+
+-- a table whose fields do not fit
+pub no_fields : (bytes : List ℕ) (s : Spot) (kind : Kind) (ss : List Spot) (most below : ℕ) (old mid : Room) → layer bytes s ≡ Some (table_layer kind ss) → below + visit kind ≡ most → mid.visits + visit kind ≡ old.visits → mid.text ≡ old.text → NoRowFits bytes ss below mid → NoneFits bytes s most old
+no_fields bytes s kind ss most below old mid e a b c never (leaf x) h fits = cc
+no_fields bytes s kind ss most below old mid e a b c never (tables xs) h fits = let f = h.1 in cc
+no_fields bytes s kind ss most below old mid e a b c never (table j xs) h fits =
+    let f = h.1 in
+    let same : j ≡ kind = cc in
+    let spots : h.0 ≡ ss = cc in
+    let P : List Spot → Type 0 = λ ss. AllStand bytes ss xs in
+    never xs (subst P spots h.2) (record {
+      levels_fit = omega (arith, a, ap visit same, fits.levels_fit);
+      visits_fit = omega (arith, b, ap visit same, fits.visits_fit);
+      text_fits = omega (arith, c, fits.text_fits);
+    })
+
+-- a vector whose tables do not fit
+pub no_elements : (bytes : List ℕ) (s : Spot) (ss : List Spot) (most : ℕ) (room : Room) → layer bytes s ≡ Some (tables_layer ss) → NoRowFits bytes ss most room → NoneFits bytes s most room
+no_elements bytes s ss most room e never (leaf x) h fits = cc
+no_elements bytes s ss most room e never (table j xs) h fits = let f = h.1 in cc
+no_elements bytes s ss most room e never (tables xs) h fits =
+    let f = h.1 in
+    let spots : h.0 ≡ ss = cc in
+    let P : List Spot → Type 0 = λ ss. AllStand bytes ss xs in
+    never xs (subst P spots h.2) (record { levels_fit = fits.levels_fit; visits_fit = fits.visits_fit; text_fits = fits.text_fits })
+
+-- a field of a shape that is there, and unreadable
+pub unreadable : (bytes : List ℕ) (shape : Shape) (place : Option ℕ) (most : ℕ) (room : Room) (p : ℕ) → place ≡ Some p → layer_at bytes shape p ≡ None → NoneFits bytes (record { shape = shape; place = place }) most room
+unreadable bytes shape place most room p e f = none_fits bytes (record { shape = shape; place = place }) most room (layer_there bytes shape place p e ∙ f)
+
+-- an opened table that is there, and unreadable
+pub unreadable_child : (bytes : List ℕ) (opens : Option Kind) (kind : Kind) (place : Option ℕ) (most : ℕ) (room : Room) (p : ℕ) → opens ≡ Some kind → place ≡ Some p → behind table_at bytes p ≡ None → NoneFits bytes (opened opens place) most room
+unreadable_child bytes opens kind place most room p o e f =
+    let P : Option Kind → Type 0 = λ k. NoneFits bytes (opened k place) most room in
+    let here = unreadable bytes (shapes.Table kind) place most room p e (ap (option_map (λ t. table_layer kind (spots_of kind t))) f) in
+    subst P (sym o) here
+
+-- the layer of a vector of tables
+pub vector_layer : (bytes : List ℕ) (kind : Kind) (place : Option ℕ) (p : ℕ) (v : VectorAt) → place ≡ Some p → behind (vector_at 4) bytes p ≡ Some v → layer bytes (record { shape = shapes.Tables kind; place = place }) ≡ Some (tables_layer (elements kind v.place v.count))
+vector_layer bytes kind place p v e f = layer_there bytes (shapes.Tables kind) place p e ∙ ap (option_map (λ v. tables_layer (elements kind v.place v.count))) f
+
+-- the layer of an element
+pub element_layer : (bytes : List ℕ) (kind : Kind) (p : ℕ) (t : TableAt) → behind table_at bytes p ≡ Some t → layer bytes (record { shape = shapes.Table kind; place = Some p }) ≡ Some (table_layer kind (spots_of kind t))
+element_layer bytes kind p t f = layer_there bytes (shapes.Table kind) (Some p) p refl ∙ ap (option_map (λ t. table_layer kind (spots_of kind t))) f

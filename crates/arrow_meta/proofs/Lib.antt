@@ -1,0 +1,6 @@
+pub mod OneTree
+pub mod Rows
+pub mod Layers
+pub mod Spots
+pub mod Pairs
+pub mod Roots

@@ -1,0 +1,22 @@
+-- The tree of a table, without where it lies.
+use Rattle.std.specs.Prelude.{ℕ, List}
+use Rattle.arrow_meta.specs.declared.kinds.Kind.{Kind}
+
+-- what stands in a field that holds no table
+pub data Leaf : Type 0 where
+  absent : Leaf
+  number : ℕ → Leaf
+  text : List ℕ → Leaf
+  pairs : List (ℕ × ℕ) → Leaf
+  present : Leaf
+
+mutual
+  -- A table has one tree for each of its fields that are looked at, in order of their numbers.
+  pub data Tree : Type 0 where
+    leaf : Leaf → Tree
+    table : Kind → Trees → Tree
+    tables : Trees → Tree
+
+  pub data Trees : Type 0 where
+    none : Trees
+    more : Tree → Trees → Trees

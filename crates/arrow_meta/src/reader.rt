@@ -1,0 +1,311 @@
+//! Reading of the tree that lies in the bytes of a metadata, within limits.
+ghost use Rattle.std.specs.Prelude.{◌≡◌, ◌<◌, ◌≤◌, ◌+◌, ◌*◌, ◌⊎◌, ℕ, length, Some, None, MatchResult, IfOk, IfErr};
+ghost use Rattle.arrow_flatbuf.specs.Table.{field_place};
+ghost use Rattle.arrow_meta.specs.Kinds.{Spot, code_at, spot, shapes_of, spots_of, opened};
+ghost use Rattle.arrow_meta.specs.Views.{plain, plain_all};
+ghost use Rattle.arrow_meta.specs.Lies.{Stands, LiesAtRoot, elements, layer, table_layer, number_layer, layer_at, pairs_from};
+ghost use Rattle.arrow_meta.specs.Trees.{Tree as PlainTree};
+ghost use Rattle.arrow_meta.specs.Within.{IsWithin, visit};
+ghost use Rattle.arrow_meta.specs.declared.kinds.Shape.{Shape as FieldShape};
+ghost use Rattle.arrow_meta.specs.declared.kinds.Shape.TheVariants as shape;
+ghost use Rattle.arrow_meta.specs.Reads.{ReadsTree, ReadsRow, room, root, Faulty};
+
+use crate::fault::MetaFault;
+use crate::kinds;
+use crate::kinds::{Kind, Shape};
+use crate::message_tree::{Leaf, MessageTree, Tree};
+use arrow_flatbuf::{Root, Table, Vector};
+use arrow_types::Limits;
+use std::alloc::{AllocError, Global};
+
+/// The most levels of fields, where a column is level 1.
+const MAX_LEVELS: u64 = 32;
+
+/// The most Field tables, each visit counted.
+const MAX_VISITS: u64 = 65_536;
+
+/// The tree of the message whose metadata the bytes are (Columnar Format, "Encapsulated message
+/// format"): the one that lies at the root, if it keeps to the limits.
+///
+/// `Metadata` where something that is looked at is not readable, or where there are more than 32 levels
+/// of fields, more than 65,536 fields, or names and zones of more than `max_metadata` bytes together,
+/// each visit counted. `Memory` where a growth was refused. How long the bytes may be is for the
+/// caller to say.
+pub fn tree(alloc: Global, bytes: &[u8], limits: &Limits) -> Result<MessageTree, MetaFault>
+    ensures found { IfOk result (λ t. LiesAtRoot t bytes.now × IsWithin limits.now.max_metadata t) }
+    ensures none { IfErr result (λ e. Faulty e
+        ((x : PlainTree) → LiesAtRoot x bytes.now → ¬ (IsWithin limits.now.max_metadata x))) }
+{
+    let mut reader = Reader {
+        alloc,
+        visits: MAX_VISITS,
+        text: limits.max_metadata(),
+    };
+    match Root::open(bytes) {
+        None => Err(MetaFault::Metadata),
+        Some(table) => {
+            let root = reader.table(Kind::Message, &table, MAX_LEVELS)?;
+            Ok(MessageTree { root })
+        }
+    }
+}
+
+/// Reads trees, and counts what it may still read. However the bytes share their tables and texts, no
+/// more is read than was counted.
+#[derive(Drop)]
+struct Reader {
+    alloc: Global,
+    // how many Field tables may still be opened
+    visits: u64,
+    // how many bytes of names and zones may still be copied
+    text: u64,
+}
+
+impl Reader {
+    /// Pays for a table, and answers how many levels may stand below it. Field tables are opened only
+    /// behind this call.
+    fn enter(&mut self, kind: Kind, levels: u64) -> Result<u64, MetaFault>
+        ensures paid { MatchResult result
+            (λ below. (below + visit kind ≡ levels) × (self.new.visits + visit kind ≡ self.old.visits))
+            (λ e. (e ≡ MetaFault.Metadata) × ((levels < visit kind) ⊎ (self.old.visits < visit kind))) }
+        ensures text { self.new.text ≡ self.old.text }
+    {
+        match kind {
+            Kind::Field => {
+                if levels == 0 || self.visits == 0 {
+                    return Err(MetaFault::Metadata);
+                }
+                self.visits -= 1;
+                Ok(levels - 1)
+            }
+            _ => Ok(levels),
+        }
+    }
+
+    /// Reads the table, with all that belongs to it.
+    #[cycle(trees)]
+    fn table(&mut self, kind: Kind, table: &Table, levels: u64) -> Result<Tree, MetaFault>
+        ensures read { (s : Spot) → layer table.now.bytes s ≡ Some (table_layer kind (spots_of kind table.now))
+            → ReadsTree plain result table.now.bytes s levels (room self.old) (room self.new) }
+    {
+        let below = self.enter(kind, levels)?;
+        let fields = self.fields(kind, table, below)?;
+        Ok(Tree::Table(kind, fields))
+    }
+
+    /// Reads the fields of a table.
+    #[cycle(trees)]
+    fn fields(&mut self, kind: Kind, table: &Table, levels: u64) -> Result<Vec<Tree>, MetaFault>
+        ensures read { ReadsRow (λ v. plain_all v.items) result table.now.bytes (spots_of kind table.now)
+            levels (room self.old) (room self.new) }
+    {
+        let shapes = kinds::shapes(kind);
+        let mut trees = Vec::new(self.alloc);
+        for field in 0..shapes.len() as u16 {
+            let tree = self.field(table, field, shapes[field as usize], levels)?;
+            match trees.push(tree) {
+                Err(_) => return Err(MetaFault::Memory),
+                Ok(()) => {}
+            }
+        }
+        Ok(trees)
+    }
+
+    /// Reads what stands in a field of this shape.
+    #[cycle(trees)]
+    fn field(
+        &mut self,
+        table: &Table,
+        field: u16,
+        shape: Shape,
+        levels: u64,
+    ) -> Result<Tree, MetaFault>
+        ensures read { ReadsTree plain result table.now.bytes (spot shape table.now field)
+            levels (room self.old) (room self.new) }
+    {
+        match shape {
+            Shape::Byte => self.number(table, field, 1),
+            Shape::Short => self.number(table, field, 2),
+            Shape::Int => self.number(table, field, 4),
+            Shape::Long => self.number(table, field, 8),
+            Shape::Text => self.text(table, field),
+            Shape::Pairs => self.pairs(table, field),
+            Shape::Presence => self.presence(table, field),
+            Shape::Table(kind) => self.child(Some(kind), table, field, levels),
+            Shape::Tables(kind) => self.children(kind, table, field, levels),
+            Shape::Header => {
+                let kind = kinds::header_table(code_at(table, field.saturating_sub(1)));
+                self.child(kind, table, field, levels)
+            }
+            Shape::Type => {
+                let kind = kinds::type_table(code_at(table, field.saturating_sub(1)));
+                self.child(kind, table, field, levels)
+            }
+        }
+    }
+
+    /// Reads the table in a field, where something opens one.
+    #[cycle(trees)]
+    #[tactic(auto, unfolding(crate::specs::Lies::layer))]
+    fn child(
+        &mut self,
+        kind: Option<Kind>,
+        table: &Table,
+        field: u16,
+        levels: u64,
+    ) -> Result<Tree, MetaFault>
+        ensures read { ReadsTree plain result table.now.bytes (opened kind (field_place table.now field))
+            levels (room self.old) (room self.new) }
+    {
+        match kind {
+            None => Ok(Tree::Leaf(Leaf::Absent)),
+            Some(opened) => match table.table(field) {
+                Err(_) => Err(MetaFault::Metadata),
+                Ok(None) => Ok(Tree::Leaf(Leaf::Absent)),
+                Ok(Some(child)) => self.table(opened, &child, levels),
+            },
+        }
+    }
+
+    /// Reads the vector of tables in a field.
+    #[cycle(trees)]
+    #[tactic(auto, unfolding(crate::specs::Lies::layer))]
+    fn children(
+        &mut self,
+        kind: Kind,
+        table: &Table,
+        field: u16,
+        levels: u64,
+    ) -> Result<Tree, MetaFault>
+        ensures read { ReadsTree plain result table.now.bytes
+            (record { shape = shape.Tables kind; place = field_place table.now field })
+            levels (room self.old) (room self.new) }
+    {
+        match table.vector(field, 4) {
+            Err(_) => Err(MetaFault::Metadata),
+            Ok(None) => Ok(Tree::Leaf(Leaf::Absent)),
+            Ok(Some(vector)) => Ok(Tree::Tables(self.elements(kind, &vector, levels)?)),
+        }
+    }
+
+    /// Reads the tables of a vector, one after the other.
+    #[cycle(trees)]
+    fn elements(&mut self, kind: Kind, vector: &Vector, levels: u64) -> Result<Vec<Tree>, MetaFault>
+        requires offsets { vector.now.size ≡ 4 }
+        ensures read { ReadsRow (λ v. plain_all v.items) result vector.now.bytes
+            (elements kind vector.now.place vector.now.count)
+            levels (room self.old) (room self.new) }
+    {
+        let mut trees = Vec::new(self.alloc);
+        for index in 0..vector.len() {
+            let tree = match vector.table(index) {
+                Err(_) => return Err(MetaFault::Metadata),
+                Ok(table) => self.table(kind, &table, levels)?,
+            };
+            match trees.push(tree) {
+                Err(_) => return Err(MetaFault::Memory),
+                Ok(()) => {}
+            }
+        }
+        Ok(trees)
+    }
+
+    /// Reads the number of `width` bytes in a field.
+    #[tactic(auto, unfolding(crate::specs::Lies::layer))]
+    fn number(&mut self, table: &Table, field: u16, width: usize) -> Result<Tree, MetaFault>
+        requires low { 1 ≤ width }
+        requires high { width ≤ 8 }
+        ensures read { (form : FieldShape) (most : ℕ)
+            → ((p : ℕ) → layer_at table.now.bytes form p ≡ number_layer width table.now.bytes p)
+            → ReadsTree plain result table.now.bytes (record { shape = form; place = field_place table.now field })
+            most (room self.old) (room self.new) }
+    {
+        match table.scalar(field, width) {
+            Err(_) => Err(MetaFault::Metadata),
+            Ok(None) => Ok(Tree::Leaf(Leaf::Absent)),
+            Ok(Some(number)) => Ok(Tree::Leaf(Leaf::Number(number))),
+        }
+    }
+
+    /// Reads the text in a field. Names and zones are copied only here, and counted first.
+    #[tactic(auto, unfolding(crate::specs::Lies::layer))]
+    fn text(&mut self, table: &Table, field: u16) -> Result<Tree, MetaFault>
+        ensures read { (most : ℕ) → ReadsTree plain result table.now.bytes
+            (record { shape = shape.Text; place = field_place table.now field })
+            most (room self.old) (room self.new) }
+    {
+        match table.text(field) {
+            Err(_) => Err(MetaFault::Metadata),
+            Ok(None) => Ok(Tree::Leaf(Leaf::Absent)),
+            Ok(Some(text)) => {
+                let length = text.len() as u64;
+                if self.text < length {
+                    return Err(MetaFault::Metadata);
+                }
+                match String::from_str(self.alloc, text) {
+                    Err(_) => Err(MetaFault::Memory),
+                    Ok(copy) => {
+                        self.text -= length;
+                        Ok(Tree::Leaf(Leaf::Text(copy)))
+                    }
+                }
+            }
+        }
+    }
+
+    /// Reads the pairs of numbers in a field.
+    #[tactic(auto, unfolding(crate::specs::Lies::layer))]
+    fn pairs(&mut self, table: &Table, field: u16) -> Result<Tree, MetaFault>
+        ensures read { (most : ℕ) → ReadsTree plain result table.now.bytes
+            (record { shape = shape.Pairs; place = field_place table.now field })
+            most (room self.old) (room self.new) }
+    {
+        match table.vector(field, 16) {
+            Err(_) => Err(MetaFault::Metadata),
+            Ok(None) => Ok(Tree::Leaf(Leaf::Absent)),
+            Ok(Some(vector)) => match pairs_of(self.alloc, &vector) {
+                Err(_) => Err(MetaFault::Memory),
+                Ok(pairs) => Ok(Tree::Leaf(Leaf::Pairs(pairs))),
+            },
+        }
+    }
+
+    /// Reads whether a field is there.
+    #[tactic(auto, unfolding(crate::specs::Lies::layer))]
+    fn presence(&mut self, table: &Table, field: u16) -> Result<Tree, MetaFault>
+        ensures read { (most : ℕ) → ReadsTree plain result table.now.bytes
+            (record { shape = shape.Presence; place = field_place table.now field })
+            most (room self.old) (room self.new) }
+    {
+        if table.has(field) {
+            Ok(Tree::Leaf(Leaf::Present))
+        } else {
+            Ok(Tree::Leaf(Leaf::Absent))
+        }
+    }
+}
+
+/// The code in a field, 0 where it is absent. An unreadable one is found when the field itself is
+/// read.
+fn code_at(table: &Table, field: u16) -> u64
+    ensures code { result ≡ code_at table.now field }
+{
+    match table.scalar(field, 1) {
+        Ok(Some(code)) => code,
+        Ok(None) => 0,
+        Err(_) => 0,
+    }
+}
+
+/// The pairs of numbers of a vector.
+fn pairs_of(alloc: Global, vector: &Vector) -> Result<Vec<(u64, u64)>, AllocError>
+    requires pairs { vector.now.size ≡ 16 }
+    ensures pairs { IfOk result
+        (λ v. v.items ≡ pairs_from vector.now.bytes vector.now.place vector.now.count) }
+{
+    let mut pairs = Vec::new(alloc);
+    for index in 0..vector.len() {
+        pairs.push((vector.number(index, 0, 8), vector.number(index, 8, 8)))?;
+    }
+    Ok(pairs)
+}
