@@ -18,6 +18,8 @@ mod limits;
 mod nesting;
 mod schema;
 mod size;
+#[cfg(test)]
+mod tests;
 
 pub use data_type::{BitWidth, DataType, DateUnit, TimeUnit};
 pub use field::{Encoding, Field, IndexType};

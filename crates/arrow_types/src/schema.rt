@@ -9,6 +9,8 @@ use crate::field::{Field, copy_fields, same_fields};
 use crate::nesting::are_nested;
 use crate::size::{after_fields, have_levels};
 use std::alloc::{AllocError, Global};
+use std::error::Error;
+use std::fmt;
 use std::marker::Model;
 
 /// Why fields make no schema, in the order of the faults' numbers.
@@ -42,6 +44,20 @@ impl SchemaFault {
         }
     }
 }
+
+impl fmt::Display for SchemaFault {
+    fn fmt<W: fmt::Write>(&self, f: &mut fmt::Formatter<W>) -> fmt::Result {
+        f.write_str(match self {
+            SchemaFault::TooDeep => "more than 32 levels of fields",
+            SchemaFault::TooManyFields => "more than 65,536 fields",
+            SchemaFault::NestedDictionary => "a dictionary below a dictionary",
+            SchemaFault::SharedIdTypesDiffer => "two value types for one dictionary id",
+            SchemaFault::Memory => "out of memory",
+        })
+    }
+}
+
+impl Error for SchemaFault {}
 
 /// The columns of a stream's batches (`Schema.fbs`, table `Schema`).
 ///
