@@ -6,7 +6,7 @@ use Rattle.std.proofs.lemmas.Nat.{pow_pos}
 use Rattle.std.proofs.lemmas.Bool.{cases_lt, eqb-true, leb-true, le-leb}
 use Rattle.std.proofs.lemmas.Simd.{tops_compared, mask_l-mod, get_or-zip2, length-zip2, get_or_wider, chunk-fits, below_from_Fits}
 use Rattle.arrow_bits.specs.Numbers.{number_of, number_at}
-use Rattle.arrow_bits.specs.OffsetList.{NeverFall}
+use Rattle.arrow_bits.specs.Offsets.{NeverFall}
 use Rattle.arrow_bits.proofs.Places.{number_at-take}
 
 -- std's word for the number of some bytes

@@ -6,7 +6,7 @@ use Rattle.std.specs.List.Sorted.{IsNonDecreasing}
 use Rattle.std.proofs.lemmas.Int.{ints}
 use Rattle.std.proofs.lemmas.List.FromFn.{length-map-range_with_len, get_or-map-range_with_len}
 use Rattle.arrow_bits.specs.Numbers.{number_at, signed_at}
-use Rattle.arrow_bits.specs.OffsetList.{offset_at, AreOffsets, offsets_of, NeverFall}
+use Rattle.arrow_bits.specs.Offsets.{offset_at, AreOffsets, offsets_of, signed_offsets_of, NeverFall}
 use Rattle.arrow_bits.proofs.Reading.{number_at-lt}
 
 -- there is one more than slots
@@ -82,7 +82,7 @@ same_on_range f g a (suc n) same =
 
 -- the list is that of the signed offsets
 pub offsets_signed : (bytes : List ℕ) (len top : ℕ) → ((i : ℕ) → get_or bytes i 0 < 256) → AreOffsets bytes len top
-    → map pos (offsets_of len bytes) ≡ map (offset_at bytes) (range_with_len 0 (len + 1))
+    → map pos (offsets_of len bytes) ≡ signed_offsets_of len bytes
 offsets_signed bytes len top small are =
     same_on_range (offset_at bytes) (λ j. number_at bytes (4 * j) 4) 0 (len + 1) (λ j h. plain_offset bytes len top small are j (omega (arith, h)))
 

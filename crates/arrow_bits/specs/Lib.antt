@@ -1,3 +1,3 @@
 pub mod Numbers
 pub mod Bitmap
-pub mod OffsetList
+pub mod Offsets

@@ -4,7 +4,10 @@ ghost use Rattle.arrow_bits.specs.Bitmap.{bit_of, bits_of, ones_of};
 use crate::numbers::u64_at;
 use std::marker::Model;
 
-/// Bit `j` of the bytes.
+/// Bit `j` of the bytes: bit `j % 8`, counted from the least significant, of byte `j / 8`.
+///
+/// That is the numbering of validity bitmaps and of truth values (Columnar Format, "Validity bitmaps"). The byte has to
+/// lie inside the slice.
 #[tactic(auto, unfolding(crate::specs::Bitmap::bit_of))]
 pub fn bit(bytes: &[u8], j: usize) -> bool
     requires { j < 8 * length bytes.now }
@@ -13,7 +16,10 @@ pub fn bit(bytes: &[u8], j: usize) -> bool
     (bytes[j / 8] >> (j % 8)) % 2 == 1
 }
 
-/// A list of bits in lent bytes.
+/// The first bits of a slice of bytes, as a list of truth values.
+///
+/// Bit 0 is the least significant of the first byte (Columnar Format, "Validity bitmaps"). The bytes are lent and are
+/// not copied. Bits behind the last, and bytes behind that, may hold anything.
 #[derive(Debug, Drop)]
 pub struct Bits<'a> {
     bytes: &'a [u8],
@@ -33,7 +39,7 @@ impl<'a> Model for Bits<'a> {
 
 #[tactic(auto, using(crate::proofs::Listed::length_bits, crate::proofs::Listed::bit_found, crate::proofs::Listed::ones_and_zeros))]
 impl<'a> Bits<'a> {
-    /// The first `len` bits of the bytes.
+    /// The first `len` bits of the bytes, or None where the bytes have fewer bits than that.
     pub fn new(bytes: &'a [u8], len: usize) -> Option<Bits<'a>>
         ensures found { IsSome result ↔ (len ≤ 8 * length bytes.now) }
         ensures value { IfSome result (λ b. b ≡ bits_of len bytes.now) }
@@ -59,7 +65,7 @@ impl<'a> Bits<'a> {
         self.len == 0
     }
 
-    /// Bit `i`.
+    /// Bit `i`, counted from 0. It has to be one of the list.
     pub fn get(&self, i: usize) -> bool
         requires { i < length self.now }
         ensures { slice_get self.now i ≡ Some result }
@@ -67,7 +73,9 @@ impl<'a> Bits<'a> {
         bit(self.bytes, i)
     }
 
-    /// How many of the bits are 0.
+    /// How many of the bits are 0: the number of nulls, for a validity bitmap.
+    ///
+    /// The time grows with the number of bytes, of which eight are counted at once.
     pub fn count_zero(&self) -> usize
         ensures { result ≡ count_by not self.now }
     {
@@ -75,7 +83,8 @@ impl<'a> Bits<'a> {
     }
 }
 
-// How many of the first bits are set.
+// How many of the first bits are set: those of whole words of 64 bits, of the whole bytes behind them, and of the byte
+// that is left.
 fn count_ones(bytes: &[u8], len: usize) -> usize
     requires { len ≤ 8 * length bytes.now }
     ensures { result ≡ ones_of len bytes.now }
@@ -91,7 +100,7 @@ fn count_ones(bytes: &[u8], len: usize) -> usize
     ones
 }
 
-// The same of the first words of 64 bits.
+// How many bits of the first words of 64 bits are set.
 fn count_ones_in_words(bytes: &[u8], words: usize) -> usize
     requires inside { 8 * words ≤ length bytes.now }
     requires few { 64 * words < 2 ^ 64 }

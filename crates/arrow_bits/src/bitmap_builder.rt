@@ -4,7 +4,10 @@ ghost use Rattle.arrow_bits.specs.Bitmap.{IsPacked};
 use std::alloc::{AllocError, Global};
 use std::marker::Model;
 
-/// A list of bits that grows, packed eight to a byte.
+/// A list of bits that grows, packed eight to a byte from the least significant on (Columnar Format, "Validity
+/// bitmaps").
+///
+/// The bytes are always as few as the bits need, and the unused bits of the last byte are 0.
 #[derive(Debug, Drop)]
 pub struct BitsBuilder {
     bytes: Vec<u8>,
@@ -24,7 +27,7 @@ impl Model for BitsBuilder {
 
 #[tactic(auto, using(crate::proofs::Listed::length_bits))]
 impl BitsBuilder {
-    /// No bits.
+    /// A list of no bits, whose bytes will come from this allocator. It takes no memory yet.
     pub fn new(alloc: Global) -> BitsBuilder
         ensures { result ≡ [] }
     {
@@ -49,6 +52,9 @@ impl BitsBuilder {
     }
 
     /// Appends a bit.
+    ///
+    /// The only error is `AllocError`, where the list found no memory to grow (or holds `usize::MAX` bits already, more
+    /// than any memory has), and the list is then as it was.
     pub fn push(&mut self, bit: bool) -> Result<(), AllocError>
         ensures ok { OnOk result (self.new ≡ self.old ++ bit ∷ []) }
         ensures err { OnErr result (self.new ≡ self.old) }
@@ -64,14 +70,14 @@ impl BitsBuilder {
         Ok(())
     }
 
-    /// The bytes of the bits.
+    /// The bytes that hold the bits, one for each eight and one for what is left.
     pub fn as_bytes(&self) -> &[u8]
         ensures { IsPacked self.now result.now }
     {
         self.bytes.as_slice()
     }
 
-    /// The bytes of the bits.
+    /// The same bytes as a list of their own. It takes no memory.
     pub fn into_bytes(self) -> Vec<u8>
         ensures { IsPacked self result.items }
     {

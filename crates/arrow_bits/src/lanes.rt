@@ -1,9 +1,12 @@
 ghost use Rattle.std.specs.Prelude.{◌≡◌, ◌+◌, ◌*◌, ◌≤◌, ◌<◌, ◌↔◌, ℕ, length, slice_index, IsTrue};
 ghost use Rattle.arrow_bits.specs.Numbers.{number_at};
-ghost use Rattle.arrow_bits.specs.OffsetList.{NeverFall};
+ghost use Rattle.arrow_bits.specs.Offsets.{NeverFall};
 
 use crate::numbers::u32_at;
 use std::simd::prelude::*;
+
+/// How many numbers are compared at once.
+pub(crate) const LANES: usize = 16;
 
 // Whether no number of 32 bits is above the one behind it, sixteen at a time and then one at a time.
 pub(crate) fn never_fall(bytes: &[u8], len: usize) -> bool
@@ -11,11 +14,11 @@ pub(crate) fn never_fall(bytes: &[u8], len: usize) -> bool
     ensures { IsTrue result ↔ NeverFall bytes.now 0 len }
 {
     let mut i = 0;
-    while i + 16 <= len {
+    while i + LANES <= len {
         if !sixteen_rise(bytes, 4 * i) {
             return false;
         }
-        i += 16;
+        i += LANES;
     }
     rest_rises(bytes, i, len)
 }

@@ -1,14 +1,17 @@
-ghost use Rattle.std.specs.Prelude.{◌≡◌, ◌+◌, ◌*◌, ◌≤◌, ◌<◌, ◌↔◌, length, map, pos, slice_index, All, IsTrue, IsSome, IfSome};
-ghost use Rattle.std.specs.List.{range_with_len};
+ghost use Rattle.std.specs.Prelude.{◌≡◌, ◌+◌, ◌*◌, ◌≤◌, ◌<◌, ◌↔◌, ◌==◌, length, map, pos, slice_index, All, IsTrue, IsSome, IfSome};
 ghost use Rattle.std.specs.List.Sorted.{IsNonDecreasing};
-ghost use Rattle.arrow_bits.specs.OffsetList.{AreOffsets, offset_at, offsets_of};
+ghost use Rattle.arrow_bits.specs.Offsets.{AreOffsets, offset_at, offsets_of, signed_offsets_of};
 
-use crate::lanes::never_fall;
+use crate::lanes::{LANES, never_fall};
 use crate::numbers::u32_at;
 use crate::plain::check_offsets;
 use std::marker::Model;
 
-/// A list of offsets in lent bytes.
+/// The offsets of a column of variable size: one more than it has slots, and none below the one before it.
+///
+/// Slot `j` of the column is what lies from offset `j` up to offset `j + 1` (Columnar Format, "Variable-size Binary
+/// Layout" and "Variable-size List Layout"). Each offset is a signed number of 32 bits in the bytes, which are lent and
+/// are not copied. Bytes behind the last offset may hold anything.
 #[derive(Debug, Drop)]
 pub struct Offsets<'a> {
     bytes: &'a [u8],
@@ -18,7 +21,7 @@ pub struct Offsets<'a> {
 impl<'a> Model for Offsets<'a> {
     ghost use Rattle.std.specs.Prelude.{◌+◌, ◌*◌, ◌≤◌, ℕ, List, length};
     ghost use Rattle.std.specs.List.Sorted.{IsNonDecreasing};
-    ghost use Rattle.arrow_bits.specs.OffsetList.{offsets_of};
+    ghost use Rattle.arrow_bits.specs.Offsets.{offsets_of};
 
     ghost Value = { List ℕ };
 
@@ -29,22 +32,26 @@ impl<'a> Model for Offsets<'a> {
 
 #[tactic(auto, using(crate::proofs::Rising::length_offsets, crate::proofs::Rising::offset_found))]
 impl<'a> Offsets<'a> {
-    /// Whether offsets stand there.
+    /// Whether `len + 1` signed 32-bit offsets stand there, the first is 0 or more, none is below the one before it, and
+    /// the last is `top` or less.
+    ///
+    /// `len` counts slots. `top` counts what the offsets lead into, bytes or slots of a child, and may be more than an
+    /// offset can hold. Neighbours are compared sixteen at a time.
     pub fn check(bytes: &[u8], len: usize, top: u64) -> bool
         ensures { IsTrue result ↔ AreOffsets bytes.now len top }
     {
-        if len < 16 {
+        if len < LANES {
             check_offsets(bytes, len, top)
         } else {
             check_lanes(bytes, len, top)
         }
     }
 
-    /// The offsets in the bytes, by the test of `check`.
+    /// The `len + 1` offsets in the bytes, or None where `check` is false.
     pub fn new(bytes: &'a [u8], len: usize, top: u64) -> Option<Offsets<'a>>
         ensures found { IsSome result ↔ AreOffsets bytes.now len top }
         ensures value { IfSome result (λ o. o ≡ offsets_of len bytes.now) }
-        ensures signed { IfSome result (λ o. map pos o ≡ map (offset_at bytes.now) (range_with_len 0 (len + 1))) }
+        ensures signed { IfSome result (λ o. map pos o ≡ signed_offsets_of len bytes.now) }
         ensures order { IfSome result IsNonDecreasing }
         ensures inside { IfSome result (All (λ x. x ≤ top)) }
     {
@@ -55,25 +62,34 @@ impl<'a> Offsets<'a> {
         }
     }
 
-    /// The same of bytes that are known to pass `check`, without the test.
-    pub fn new_unchecked(bytes: &'a [u8], len: usize, _top: u64) -> Offsets<'a>
-        requires { AreOffsets bytes.now len _top }
+    /// The `len + 1` offsets in bytes that are known to pass `check`, without looking at them.
+    ///
+    /// For a column that was tested when it was made: the call takes the same time for every length.
+    pub fn new_unchecked(bytes: &'a [u8], len: usize, top: u64) -> Offsets<'a>
+        requires { AreOffsets bytes.now len top }
         ensures value { result ≡ offsets_of len bytes.now }
-        ensures signed { map pos result ≡ map (offset_at bytes.now) (range_with_len 0 (len + 1)) }
+        ensures signed { map pos result ≡ signed_offsets_of len bytes.now }
         ensures order { IsNonDecreasing result }
-        ensures inside { All (λ x. x ≤ _top) result }
+        ensures inside { All (λ x. x ≤ top) result }
     {
         Offsets { bytes, len }
     }
 
-    /// The number of slots that the offsets bound, one less than there are offsets.
+    /// The number of slots that the offsets bound: one less than there are offsets.
     pub fn len(&self) -> usize
         ensures { result + 1 ≡ length self.now }
     {
         self.len
     }
 
-    /// Offset `i`.
+    /// Whether the offsets bound no slot.
+    pub fn is_empty(&self) -> bool
+        ensures { result ≡ (length self.now == 1) }
+    {
+        self.len == 0
+    }
+
+    /// Offset `i`, counted from 0, which has to be `len()` or less.
     pub fn at(&self, i: usize) -> usize
         requires { i < length self.now }
         ensures value { result ≡ slice_index self.now i }
@@ -83,7 +99,7 @@ impl<'a> Offsets<'a> {
     }
 }
 
-// Offset `i`, by its sign.
+// Offset `i` of the bytes, by its sign.
 pub(crate) fn offset(bytes: &[u8], i: usize) -> i32
     requires { 4 * i + 4 ≤ length bytes.now }
     ensures { result ≡ offset_at bytes.now i }
@@ -91,7 +107,7 @@ pub(crate) fn offset(bytes: &[u8], i: usize) -> i32
     u32_at(bytes, 4 * i).cast_signed()
 }
 
-// The same test, with the neighbours compared many at once.
+// What `check` answers, by numbers without a sign: where they never fall and the last has no sign bit, none has one.
 fn check_lanes(bytes: &[u8], len: usize, top: u64) -> bool
     ensures { IsTrue result ↔ AreOffsets bytes.now len top }
 {

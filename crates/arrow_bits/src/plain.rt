@@ -4,7 +4,7 @@
 //! tests compare the two at every length.
 ghost use Rattle.std.specs.Prelude.{◌≡◌, ◌*◌, ◌≤◌, ◌↔◌, length, not, count_by, IsTrue};
 ghost use Rattle.arrow_bits.specs.Bitmap.{bits_of};
-ghost use Rattle.arrow_bits.specs.OffsetList.{AreOffsets};
+ghost use Rattle.arrow_bits.specs.Offsets.{AreOffsets};
 
 use crate::bitmap::bit;
 use crate::offsets::offset;

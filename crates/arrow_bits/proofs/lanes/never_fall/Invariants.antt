@@ -1,5 +1,5 @@
 use Rattle.std.proofs.Common.{◌≤◌, ◌-◌}
-use Rattle.arrow_bits.specs.OffsetList.{NeverFall}
+use Rattle.arrow_bits.specs.Offsets.{NeverFall}
 use Rattle.arrow_bits.proofs.lanes.never_fall.Given as goal
 
 abbrev pub invariant-loop-i : goal.invariant-loop-i

@@ -1,6 +1,6 @@
 use Rattle.std.proofs.Common.{◌≡◌, ◌+◌, ◌<◌, ℕ}
 use Rattle.std.specs.Prelude.{pos, ◌≤ℤ◌}
-use Rattle.arrow_bits.specs.OffsetList.{offset_at}
+use Rattle.arrow_bits.specs.Offsets.{offset_at}
 use Rattle.arrow_bits.proofs.plain.check_offsets.Given as goal
 
 abbrev pub invariant-loop-i : goal.invariant-loop-i

@@ -14,7 +14,11 @@ pub record AreOffsets (bytes : List ℕ) (len top : ℕ) : Type 0 where
   pub rise : (j : ℕ) → j < len → offset_at bytes j ≤ℤ offset_at bytes (j + 1)
   pub last : offset_at bytes len ≤ℤ pos top
 
--- the `len + 1` offsets, of which none is negative
+-- the `len + 1` offsets that stand there
+abbrev pub signed_offsets_of : ℕ → List ℕ → List ℤ
+signed_offsets_of len bytes = map (offset_at bytes) (range_with_len 0 (len + 1))
+
+-- the same read without a sign: where none is negative, they are the same numbers
 abbrev pub offsets_of : ℕ → List ℕ → List ℕ
 offsets_of len bytes = map (λ j. number_at bytes (4 * j) 4) (range_with_len 0 (len + 1))
 
