@@ -4,3 +4,9 @@ pub mod Layers
 pub mod Spots
 pub mod Pairs
 pub mod Roots
+pub mod TableFields
+pub mod FieldTables
+pub mod Misfits
+pub mod Shallow
+pub mod Least
+pub mod OneAnswer

@@ -6,3 +6,11 @@ pub mod Views
 pub mod Reads
 pub mod Ranks
 pub mod Stored
+pub mod Codes
+pub mod Parts
+pub mod SchemaMeaning
+pub mod Conditions
+pub mod Faults
+pub mod Means
+pub mod Builds
+pub mod Judges

@@ -1,0 +1,55 @@
+-- A misfit below is a misfit, and what is built is smaller than what it is built of.
+use Rattle.std.proofs.Common.{◌≡◌, ℕ, zero, suc, Bool, true, false, ◌||◌, not, refl, sym, ap, ◌∙◌, subst, true≢false, List, [], ◌∷◌, length, Option, ◌+◌, ◌<◌, ◌≤◌, arith}
+use Rattle.arrow_types.specs.Field.{width, TypeShape}
+use Rattle.arrow_types.specs.declared.field.Encoding.{Encoding}
+use Rattle.arrow_meta.specs.declared.kinds.Kind.{Kind}
+use Rattle.arrow_meta.specs.declared.kinds.Kind.TheVariants as kinds
+use Rattle.arrow_meta.specs.declared.fields.Refusal.{Refusal}
+use Rattle.arrow_meta.specs.declared.fields.Refusal.TheVariants.{Misfit, Memory}
+use Rattle.arrow_meta.specs.Builds.{Refuses, size, size_all, field_by}
+use Rattle.arrow_meta.specs.Codes.{type_code}
+use Rattle.arrow_meta.specs.Conditions.{any, any_in, is_misfit, children_fit}
+use Rattle.arrow_meta.specs.Parts.{nth, number_at}
+use Rattle.arrow_meta.specs.SchemaMeaning.{fields_in}
+use Rattle.arrow_meta.specs.Trees.{Tree, leaf, table, tables, Trees, none, more}
+
+pub or_left : (a b : Bool) → a ≡ true → (a || b) ≡ true
+or_left true b h = refl
+or_left false b h = absurd (true≢false (sym h))
+
+pub or_right : (a b : Bool) → b ≡ true → (a || b) ≡ true
+or_right true b h = refl
+or_right false b h = h
+
+-- what is found in field i is found in the row
+pub any_nth : (test : Kind → Trees → Bool) (i : ℕ) (xs : Trees) → any test (nth i xs) ≡ true → any_in test xs ≡ true
+any_nth test i none h = absurd (true≢false (sym h))
+any_nth test zero (more x xs) h = or_left (any test x) (any_in test xs) h
+any_nth test (suc i) (more x xs) h = or_right (any test x) (any_in test xs) (any_nth test i xs h)
+
+-- a refusal says of more what it says of less
+pub refuses_more : (e : Refusal) (a b : Bool) → (a ≡ true → b ≡ true) → Refuses e a → Refuses e b
+refuses_more Misfit a b f h = f h
+refuses_more Memory a b f h = tt
+
+pub misfit_here : (xs : Trees) → not (children_fit (type_code (number_at 2 0 xs)) (width (fields_in (nth 5 xs)))) ≡ true → any is_misfit (table kinds.Field xs) ≡ true
+misfit_here xs h = or_left (is_misfit kinds.Field xs) (any_in is_misfit xs) h
+
+pub misfit_below : (xs : Trees) (i : ℕ) → any is_misfit (nth i xs) ≡ true → any is_misfit (table kinds.Field xs) ≡ true
+misfit_below xs i h = or_right (is_misfit kinds.Field xs) (any_in is_misfit xs) (any_nth is_misfit i xs h)
+
+pub size_nth : (i : ℕ) (xs : Trees) → size (nth i xs) ≤ size_all xs
+size_nth i none = omega arith
+size_nth zero (more x xs) = omega arith
+size_nth (suc i) (more x xs) = omega (arith, size_nth i xs)
+
+pub size_positive : (xs : Trees) → 1 ≤ size_all xs
+size_positive none = omega arith
+size_positive (more x xs) = omega arith
+
+pub joined_same : (n n' : List ℕ) (b b' : Bool) (e e' : Option Encoding) (k k' : TypeShape) → n ≡ n' → b ≡ b' → e ≡ e' → k ≡ k' → field_by n b e k ≡ field_by n' b' e' k'
+joined_same n n' b b' e e' k k' p q r s = cc
+
+pub empty_list : {X : Type 0} (xs : List X) → length xs ≡ 0 → xs ≡ []
+empty_list [] h = refl
+empty_list (x ∷ xs) h = absurd (omega (arith, h))

@@ -1,0 +1,79 @@
+-- What a message is, without where it lies in memory, and which message a tree means.
+use Rattle.std.specs.Prelude.{◌≡◌, ℕ, ℤ, Bool, List, map, Option, None, ◌==◌, if◌then◌else◌}
+use Rattle.std.specs.Int.{cast_signed, w16, w64}
+use Rattle.arrow_types.specs.Field.{Fields}
+use Rattle.arrow_meta.specs.declared.message.FieldNode.{FieldNode}
+use Rattle.arrow_meta.specs.declared.message.Buffer.{Buffer}
+use Rattle.arrow_meta.specs.declared.message.RecordBatch.{RecordBatch}
+use Rattle.arrow_meta.specs.declared.message.Header.{Header}
+use Rattle.arrow_meta.specs.declared.message.Header.TheVariants as headers
+use Rattle.arrow_meta.specs.declared.message.Message.{Message}
+use Rattle.arrow_meta.specs.Faults.{fault_of, version_of, code_of, header_of, body_of}
+use Rattle.arrow_meta.specs.Parts.{nth, parts, number_at, flag_at, pairs_in}
+use Rattle.arrow_meta.specs.SchemaMeaning.{schema_fields}
+use Rattle.arrow_meta.specs.Trees.{Tree, Trees}
+
+-- a record batch (Message.fbs, table "RecordBatch")
+pub record PlainBatch : Type 0 where
+  pub length : ℤ
+  pub nodes : List FieldNode
+  pub buffers : List Buffer
+
+-- a header: a schema's fields; a dictionary's id, whether it is a delta, and its values; a batch's columns
+pub data PlainHeader : Type 0 where
+  schema : Fields → PlainHeader
+  dictionary : ℤ → Bool → PlainBatch → PlainHeader
+  batch : PlainBatch → PlainHeader
+
+-- a message (Message.fbs, table "Message"); the body's length is in bytes
+pub record PlainMessage : Type 0 where
+  pub version : ℤ
+  pub header : PlainHeader
+  pub body_len : ℕ
+
+-- a field node and a buffer of the two numbers of its struct (Message.fbs, structs "FieldNode" and "Buffer")
+abbrev pub node_of : ℕ × ℕ → FieldNode
+node_of p = record { length = cast_signed w64 p.0; null_count = cast_signed w64 p.1 }
+
+abbrev pub buffer_of : ℕ × ℕ → Buffer
+buffer_of p = record { offset = cast_signed w64 p.0; length = cast_signed w64 p.1 }
+
+-- what a RecordBatch table with these fields says
+abbrev pub batch_of : Trees → PlainBatch
+batch_of xs = record {
+  length = cast_signed w64 (number_at 0 0 xs);
+  nodes = map node_of (pairs_in (nth 1 xs));
+  buffers = map buffer_of (pairs_in (nth 2 xs));
+}
+
+-- what a header's table with these fields says, by the header's code
+abbrev pub header_by : ℕ → Trees → PlainHeader
+header_by code xs =
+    if code == 1 then schema (schema_fields xs) else
+    (if code == 2 then dictionary (cast_signed w64 (number_at 0 0 xs)) (flag_at 2 xs) (batch_of (parts (nth 1 xs))) else
+    batch (batch_of xs))
+
+-- What a Message table with these fields says. Where a fault holds of them it is no message.
+abbrev pub meaning_of : Trees → PlainMessage
+meaning_of xs = record {
+  version = cast_signed w16 (version_of xs);
+  header = header_by (code_of xs) (parts (header_of xs));
+  body_len = body_of xs;
+}
+
+-- A message's tree means this message: no fault holds of it, and this is what it says.
+pub record Means (max_body : ℕ) (x : Tree) (m : PlainMessage) : Type 0 where
+  pub sound : fault_of max_body (parts x) ≡ None
+  pub same : m ≡ meaning_of (parts x)
+
+-- what the messages of the program say
+abbrev pub batch_view : RecordBatch → PlainBatch
+batch_view b = record { length = b.length; nodes = b.nodes.items; buffers = b.buffers.items }
+
+abbrev pub header_view : Header → PlainHeader
+header_view (headers.Schema s) = schema s
+header_view (headers.Dictionary id delta b) = dictionary id delta (batch_view b)
+header_view (headers.Batch b) = batch (batch_view b)
+
+abbrev pub message_view : Message → PlainMessage
+message_view m = record { version = m.version; header = header_view m.header; body_len = m.body_len }

@@ -1,0 +1,299 @@
+//! The fields of a schema, built of their tables.
+//!
+//! Names and zones are moved out of the tree, so they are copied only once, where the tree is read.
+ghost use Rattle.std.specs.Prelude.{◌≡◌, ℕ, ◌==◌, false, length, string_bytes, MatchResult, MatchOption, IfOk, OnOk, Some, [], ◌∷◌, ◌++◌};
+ghost use Rattle.arrow_meta.specs.Builds.{Builds, BuildsAll, BuildsType, leaf_type, field_by};
+ghost use Rattle.arrow_meta.specs.Conditions.{any, any_in, is_misfit};
+ghost use Rattle.arrow_meta.specs.Parts.{nth, flag_at};
+ghost use Rattle.arrow_meta.specs.SchemaMeaning.{encoding_in, index_in, width_in, fields_in, fields_from, is_field, tag_by};
+ghost use Rattle.arrow_meta.specs.Trees.{Trees, none, table};
+ghost use Rattle.arrow_meta.specs.Views.{plain, plain_all};
+ghost use Rattle.arrow_meta.specs.declared.kinds.Kind.{Kind as TableKind};
+ghost use Rattle.arrow_types.specs.DataType.{int, list};
+ghost use Rattle.arrow_types.specs.Field.{none as empty, fields_of};
+ghost use Rattle.arrow_types.specs.View.{field_view, fields_view, type_view};
+
+use crate::codes::{TypeCode, bit_width, date_unit, time_unit, type_code};
+use crate::kinds::Kind;
+use crate::message_tree::Tree;
+use crate::parts::{flag_at, into_parts, into_some_text, into_text, number_at, part, take};
+use arrow_types::{BitWidth, DataType, DateUnit, Encoding, Field, IndexType, TimeUnit};
+use std::alloc::{AllocError, Global};
+
+/// Why there are no fields.
+#[derive(Clone, Copy, Debug)]
+pub enum Refusal {
+    /// A type has another number of children.
+    Misfit,
+    /// A growth was refused.
+    Memory,
+}
+
+/// The fields of a vector of Field tables, none of anything else.
+#[cycle(fields)]
+pub fn fields(alloc: Global, tree: Tree) -> Result<Vec<Field>, Refusal>
+    ensures built { BuildsAll result (fields_in (plain tree)) (any is_misfit (plain tree)) }
+{
+    match tree {
+        Tree::Leaf(_) => Ok(Vec::new(alloc)),
+        Tree::Table(_, _) => Ok(Vec::new(alloc)),
+        Tree::Tables(tables) => fields_of(alloc, tables),
+    }
+}
+
+/// The fields of those of the tables that are Field tables.
+#[cycle(fields)]
+fn fields_of(alloc: Global, tables: Vec<Tree>) -> Result<Vec<Field>, Refusal>
+    ensures built { BuildsAll result (fields_from (plain_all tables.items))
+        (any_in is_misfit (plain_all tables.items)) }
+{
+    let mut fields = Vec::new(alloc);
+    for table in tables {
+        if let Some(parts) = into_field_parts(table) {
+            let field = match field(alloc, parts) {
+                Ok(field) => field,
+                Err(refusal) => return Err(refusal),
+            };
+            match add(&mut fields, field) {
+                Ok(()) => (),
+                Err(_) => return Err(Refusal::Memory),
+            }
+        }
+    }
+    Ok(fields)
+}
+
+/// The field of a Field table with these fields.
+#[cycle(fields)]
+fn field(alloc: Global, parts: Vec<Tree>) -> Result<Field, Refusal>
+    ensures built { Builds result (plain_all parts.items) }
+{
+    let nullable = flag_at(&parts, 1);
+    let code = type_code(number_at(&parts, 2, 0));
+    let dictionary = encoding_at(&parts, 4);
+    let moved = move_out(parts);
+    let children = match fields(alloc, moved.children) {
+        Ok(children) => children,
+        Err(refusal) => return Err(refusal),
+    };
+    let table = into_parts(alloc, moved.table);
+    let data_type = match data_type(alloc, code, table, children) {
+        Ok(data_type) => data_type,
+        Err(refusal) => return Err(refusal),
+    };
+    Ok(joined(
+        into_text(alloc, moved.name),
+        nullable,
+        data_type,
+        dictionary,
+    ))
+}
+
+fn joined(name: String, nullable: bool, data_type: DataType, dictionary: Option<Encoding>) -> Field
+    ensures field { field_view result
+        ≡ field_by (string_bytes name) nullable dictionary (type_view data_type) }
+{
+    Field {
+        name,
+        nullable,
+        data_type,
+        dictionary,
+    }
+}
+
+fn add(fields: &mut Vec<Field>, field: Field) -> Result<(), AllocError>
+    ensures last { OnOk result (fields.new.items ≡ fields.old.items ++ field ∷ []) }
+{
+    fields.push(field)?;
+    Ok(())
+}
+
+/// The fields of a Field table, None of anything else.
+fn into_field_parts(tree: Tree) -> Option<Vec<Tree>>
+    ensures parts { MatchOption result (is_field (plain tree) ≡ false)
+        (λ v. plain tree ≡ table TableKind.Field (plain_all v.items)) }
+{
+    match tree {
+        Tree::Leaf(_) => None,
+        Tree::Table(Kind::Field, parts) => Some(parts),
+        Tree::Table(_, _) => None,
+        Tree::Tables(_) => None,
+    }
+}
+
+/// What moves from the table of a field into the field.
+#[derive(Drop)]
+struct Moved {
+    name: Tree,
+    table: Tree,
+    children: Tree,
+}
+
+fn move_out(parts: Vec<Tree>) -> Moved
+    ensures name { plain result.name ≡ nth 0 (plain_all parts.items) }
+    ensures table { plain result.table ≡ nth 3 (plain_all parts.items) }
+    ensures children { plain result.children ≡ nth 5 (plain_all parts.items) }
+{
+    let mut parts = parts;
+    let children = take(&mut parts, 5);
+    let table = take(&mut parts, 3);
+    let name = take(&mut parts, 0);
+    Moved {
+        name,
+        table,
+        children,
+    }
+}
+
+/// The type of a code, with the fields of its table and its children.
+fn data_type(
+    alloc: Global,
+    code: Option<TypeCode>,
+    parts: Vec<Tree>,
+    children: Vec<Field>,
+) -> Result<DataType, Refusal>
+    ensures built { BuildsType result code (plain_all parts.items) children.items }
+{
+    match code {
+        None => childless(DataType::Null, children),
+        Some(TypeCode::Null) => childless(DataType::Null, children),
+        Some(TypeCode::Int) => childless(int_type(&parts), children),
+        Some(TypeCode::Binary) => childless(DataType::Binary, children),
+        Some(TypeCode::Utf8) => childless(DataType::Utf8, children),
+        Some(TypeCode::Bool) => childless(DataType::Bool, children),
+        Some(TypeCode::Date) => childless(date_type(&parts), children),
+        Some(TypeCode::Time) => childless(time_type(&parts), children),
+        Some(TypeCode::Timestamp) => childless(timestamp_type(parts), children),
+        Some(TypeCode::List) => list_type(alloc, children),
+        Some(TypeCode::Struct) => Ok(DataType::Struct(children)),
+    }
+}
+
+/// The type, if there are no children.
+#[tactic(auto, using(crate::proofs::TableFields::no_fields))]
+fn childless(data_type: DataType, children: Vec<Field>) -> Result<DataType, Refusal>
+    ensures alone { MatchResult result
+        (λ t. (t ≡ data_type) × (fields_view children.items ≡ empty))
+        (λ e. (e ≡ Refusal.Misfit) × ((length children.items == 0) ≡ false)) }
+{
+    if children.is_empty() {
+        Ok(data_type)
+    } else {
+        Err(Refusal::Misfit)
+    }
+}
+
+/// A list of the one child.
+fn list_type(alloc: Global, children: Vec<Field>) -> Result<DataType, Refusal>
+    ensures built { BuildsType result (Some TypeCode.List) none children.items }
+{
+    let mut children = children;
+    if children.len() != 1 {
+        return Err(Refusal::Misfit);
+    }
+    match children.pop() {
+        None => Err(Refusal::Misfit),
+        Some(item) => match boxed(alloc, item) {
+            Ok(list) => Ok(list),
+            Err(_) => Err(Refusal::Memory),
+        },
+    }
+}
+
+fn boxed(alloc: Global, item: Field) -> Result<DataType, AllocError>
+    ensures list { IfOk result
+        (λ t. type_view t ≡ record { tag = list; children = fields_of (field_view item ∷ []) }) }
+{
+    Ok(DataType::List(Box::new(alloc, item)?))
+}
+
+fn int_type(parts: &[Tree]) -> DataType
+    ensures int { type_view result ≡ leaf_type (tag_by (Some TypeCode.Int) (plain_all parts.now)) }
+{
+    DataType::Int {
+        bits: width_in(parts),
+        signed: flag_at(parts, 1),
+    }
+}
+
+fn date_type(parts: &[Tree]) -> DataType
+    ensures date { type_view result ≡ leaf_type (tag_by (Some TypeCode.Date) (plain_all parts.now)) }
+{
+    DataType::Date(date_unit(number_at(parts, 0, 1)).unwrap_or(DateUnit::Day))
+}
+
+fn time_type(parts: &[Tree]) -> DataType
+    ensures time { type_view result ≡ leaf_type (tag_by (Some TypeCode.Time) (plain_all parts.now)) }
+{
+    DataType::Time(time_unit(number_at(parts, 0, 1)).unwrap_or(TimeUnit::Second))
+}
+
+fn timestamp_type(parts: Vec<Tree>) -> DataType
+    ensures timestamp { type_view result
+        ≡ leaf_type (tag_by (Some TypeCode.Timestamp) (plain_all parts.items)) }
+{
+    let mut parts = parts;
+    let unit = time_unit(number_at(&parts, 0, 0)).unwrap_or(TimeUnit::Second);
+    let zone = into_some_text(take(&mut parts, 1));
+    DataType::Timestamp(unit, zone)
+}
+
+/// The width that an Int table with these fields says.
+fn width_in(parts: &[Tree]) -> BitWidth
+    ensures width { result ≡ width_in (plain_all parts.now) }
+{
+    bit_width(number_at(parts, 0, 0)).unwrap_or(BitWidth::Eight)
+}
+
+/// What field `index` says of a dictionary, None where it is absent.
+fn encoding_at(parts: &[Tree], index: usize) -> Option<Encoding>
+    ensures encoding { result ≡ encoding_in (nth index (plain_all parts.now)) }
+{
+    match part(parts, index) {
+        Some(tree) => encoding_in(tree),
+        None => None,
+    }
+}
+
+fn encoding_in(tree: &Tree) -> Option<Encoding>
+    ensures encoding { result ≡ encoding_in (plain tree.now) }
+{
+    match tree {
+        Tree::Leaf(_) => None,
+        Tree::Table(_, parts) => Some(Encoding {
+            id: number_at(parts, 0, 0).cast_signed(),
+            index: index_at(parts, 1),
+            ordered: flag_at(parts, 2),
+        }),
+        Tree::Tables(_) => None,
+    }
+}
+
+/// The type of an index in field `index`.
+fn index_at(parts: &[Tree], index: usize) -> IndexType
+    ensures index { result ≡ index_in (nth index (plain_all parts.now)) }
+{
+    match part(parts, index) {
+        Some(tree) => index_in(tree),
+        None => DEFAULT_INDEX,
+    }
+}
+
+/// The type of an index where none is given.
+const DEFAULT_INDEX: IndexType = IndexType {
+    bits: BitWidth::ThirtyTwo,
+    signed: true,
+};
+
+fn index_in(tree: &Tree) -> IndexType
+    ensures index { result ≡ index_in (plain tree.now) }
+{
+    match tree {
+        Tree::Leaf(_) => DEFAULT_INDEX,
+        Tree::Table(_, parts) => IndexType {
+            bits: width_in(parts),
+            signed: flag_at(parts, 1),
+        },
+        Tree::Tables(_) => DEFAULT_INDEX,
+    }
+}
