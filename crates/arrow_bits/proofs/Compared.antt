@@ -1,13 +1,13 @@
 -- Numbers of 32 bits compared lane by lane.
-use Rattle.std.proofs.Common.{◌≡◌, ◌↔◌, ℕ, zero, suc, ◌+◌, ◌-◌, ◌*◌, ◌/◌, ◌%◌, ◌^◌, ◌<◌, ◌≤◌, List, [], ◌∷◌, Bool, true, false, true≢false, cond, leb, nat_eq, length, map, take, drop, get_or, refl, sym, ap, ◌∙◌, subst, IsTrue, arith, w8, w32, Fits, inl, inr, eq-eqb}
+use Rattle.std.proofs.Common.{◌≡◌, ◌↔◌, ℕ, zero, suc, ◌+◌, ◌-◌, ◌*◌, ◌%◌, ◌^◌, ◌<◌, ◌≤◌, List, [], ◌∷◌, Bool, true, false, true≢false, cond, leb, nat_eq, length, map, take, drop, get_or, refl, sym, ap, ◌∙◌, IsTrue, arith, w8, w32, Fits, eq-eqb}
 use Rattle.std.specs.Simd.Lanes.{zip2, mask_l, top, chunk, number_l, digits_l}
 use Rattle.std.proofs.Math.Nat.{pow-suc}
 use Rattle.std.proofs.lemmas.Nat.{pow_pos}
-use Rattle.std.proofs.lemmas.Bool.{cases_lt, eqb-true, leb-true, le-leb}
+use Rattle.std.proofs.lemmas.Bool.{eqb-true, leb-true, le-leb}
 use Rattle.std.proofs.lemmas.Simd.{tops_compared, mask_l-mod, get_or-zip2, length-zip2, get_or_wider, chunk-fits, below_from_Fits}
 use Rattle.arrow_bits.specs.Numbers.{number_of, number_at}
 use Rattle.arrow_bits.specs.Offsets.{NeverFall}
-use Rattle.arrow_bits.proofs.Places.{number_at-take}
+use Rattle.arrow_bits.proofs.Places.{number_in_part}
 
 -- std's word for the number of some bytes
 number_l-number_of : (bytes : List ℕ) → number_l 256 bytes ≡ number_of bytes
@@ -70,30 +70,19 @@ lane_number bytes at n fits k h =
     let below = below_from_Fits w8 part (chunk-fits w8 at (4 * n) bytes fits) in
     get_or_wider 256 4 4294967296 n part k refl below h
     ∙ number_at_chunk part k
-    ∙ number_at-take bytes at (4 * n) (4 * k) 4 (omega (arith, h))
+    ∙ number_in_part bytes at (4 * n) (4 * k) 4 (omega (arith, h))
 
--- what a step over n numbers from number i on says
-block_of : (bytes : List ℕ) (i n len : ℕ) → i + n ≤ len → NeverFall bytes 0 len
-    → (k : ℕ) → k < n → number_at bytes (4 * i + 4 * k) 4 ≤ number_at bytes (4 * i + 4 + 4 * k) 4
-block_of bytes i n len room all k h =
-    let low : 4 * i + 4 * k ≡ 4 * (i + k) = omega arith in
-    let high : 4 * i + 4 + 4 * k ≡ 4 * (i + k + 1) = omega arith in
-    rw (low, high) (all (i + k) (omega arith) (omega (arith, room, h)))
-
--- a step over n numbers goes n further
-pub block_more : (bytes : List ℕ) (i n : ℕ) → NeverFall bytes 0 i
-    → ((k : ℕ) → k < n → number_at bytes (4 * i + 4 * k) 4 ≤ number_at bytes (4 * i + 4 + 4 * k) 4) → NeverFall bytes 0 (i + n)
-block_more bytes i n before step j from h = elim (cases_lt j i) [
-  | inl below ↦ before j from below
-  | inr above ↦
+-- n lanes hold the numbers from number i on and those behind them
+pub block_falls_not : (bytes : List ℕ) (i n : ℕ)
+    → ((k : ℕ) → k < n → number_at bytes (4 * i + 4 * k) 4 ≤ number_at bytes (4 * (i + 1) + 4 * k) 4) ↔ NeverFall bytes i (i + n)
+block_falls_not bytes i n = (
+  (λ lanes j from h.
       let k = j - i in
-      let low : 4 * j ≡ 4 * i + 4 * k = omega (arith, above) in
-      let high : 4 * (j + 1) ≡ 4 * i + 4 + 4 * k = omega (arith, above) in
-      rw (low, high) (step k (omega (arith, above, h)))
-]
-
--- where it does not hold, a number falls
-pub block_fails : (bytes : List ℕ) (i n len : ℕ) (b : Bool) → i + n ≤ len → b ≡ false
-    → IsTrue b ↔ ((k : ℕ) → k < n → number_at bytes (4 * i + 4 * k) 4 ≤ number_at bytes (4 * i + 4 + 4 * k) 4)
-    → NeverFall bytes 0 len → ⊥
-block_fails bytes i n len b room failed step all = true≢false (sym (step.1 (block_of bytes i n len room all)) ∙ failed)
+      let low : 4 * j ≡ 4 * i + 4 * k = omega (arith, from) in
+      let high : 4 * (j + 1) ≡ 4 * (i + 1) + 4 * k = omega (arith, from) in
+      rw (low, high) (lanes k (omega (arith, from, h)))),
+  (λ never k h.
+      let low : 4 * i + 4 * k ≡ 4 * (i + k) = omega arith in
+      let high : 4 * (i + 1) + 4 * k ≡ 4 * (i + k + 1) = omega arith in
+      rw (low, high) (never (i + k) (omega arith) (omega (arith, h)))),
+)

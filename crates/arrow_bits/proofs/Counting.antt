@@ -1,11 +1,11 @@
 -- The set bits of bytes, counted in a byte or in eight at once.
-use Rattle.std.proofs.Common.{◌≡◌, ℕ, zero, suc, ◌+◌, ◌-◌, ◌*◌, ◌/◌, ◌%◌, ◌^◌, ◌<◌, ◌≤◌, Bool, true, false, cond, List, [], ◌∷◌, length, take, drop, get_or, refl, ap, ◌∙◌, sym, subst, arith, add-one, add-zero, drop-cons}
+use Rattle.std.proofs.Common.{◌≡◌, ℕ, zero, suc, ◌+◌, ◌*◌, ◌/◌, ◌%◌, ◌^◌, ◌<◌, ◌≤◌, cond, List, length, take, drop, get_or, refl, ap, ◌∙◌, sym, arith, add-one, add-zero, drop-cons}
 use Rattle.std.specs.Prelude.{count_ones, ◌==◌}
 use Rattle.std.specs.Int.{bit_at}
 use Rattle.std.proofs.lemmas.Nat.{mod-pow-add, one_shl, ones_cat, mod_below, pow_pos}
 use Rattle.std.proofs.lemmas.Nat.Bits.{bit_at-lt}
 use Rattle.arrow_bits.specs.Numbers.{number_of, number_at}
-use Rattle.arrow_bits.specs.Bitmap.{bit_of, bits_of, ones_of}
+use Rattle.arrow_bits.specs.Bitmap.{bit_of, ones_of}
 use Rattle.arrow_bits.proofs.Listed.{more_ones}
 
 -- a digit of 0 or 1 counts as itself

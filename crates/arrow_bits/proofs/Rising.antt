@@ -126,6 +126,7 @@ offsets_from_numbers bytes len top there low le never =
       last = omega (arith, ints, plain len (omega arith), le);
     }
 
+-- the last number has no sign bit and is at most the top, and none falls
 pub record HasNumbers (bytes : List ℕ) (len top : ℕ) : Type 0 where
   pub low : number_at bytes (4 * len) 4 < 2147483648
   pub le : number_at bytes (4 * len) 4 ≤ top

@@ -3,19 +3,20 @@ use Rattle.std.specs.Prelude.{ℕ, ◌/◌, ◌%◌, ◌==◌, ◌≡◌, ◌≤
 use Rattle.std.specs.List.{range_with_len}
 use Rattle.std.specs.Int.{bit_at, div_ceil}
 
--- bit j: bit j mod 8, from the least significant, of byte j div 8 (Columnar Format, "Validity bitmaps")
+-- bit j: bit j mod 8, from the least significant, of byte j div 8 (Columnar Format, "Validity bitmaps"). Past the end of
+-- the bytes it is not set.
 unfoldable pub bit_of : List ℕ → ℕ → Bool
 bit_of bytes j = bit_at (slice_index bytes (j / 8)) (j % 8) == 1
 
--- the first bits
+-- the first `len` bits
 abbrev pub bits_of : ℕ → List ℕ → List Bool
 bits_of len bytes = map (bit_of bytes) (range_with_len 0 len)
 
--- how many of the first bits are set
+-- how many of the first `len` bits are set
 abbrev pub ones_of : ℕ → List ℕ → ℕ
 ones_of len bytes = count_by (λ b. b) (bits_of len bytes)
 
--- the bytes hold these bits and no others: as few bytes as can be, and the bits behind them 0
+-- the bytes hold these bits and nothing else: they are as few as can be, and the bits behind are 0
 pub record IsPacked (bits : List Bool) (bytes : List ℕ) : Type 0 where
   pub few : length bytes ≡ div_ceil (length bits) 8
   pub same : bits_of (length bits) bytes ≡ bits

@@ -6,11 +6,11 @@ abbrev pub number_of : List ℕ → ℕ
 number_of [] = 0
 number_of (byte ∷ bytes) = byte + 256 * number_of bytes
 
--- the number of the `width` bytes at a place
+-- the number of the `width` bytes at a place, or of those of them that are there
 unfoldable pub number_at : List ℕ → ℕ → ℕ → ℕ
 number_at bytes place width = number_of (take width (drop place bytes))
 
--- a number of `width` bytes read by its sign, as two's complement
+-- a number of `width` bytes read by its sign, as two's complement: the upper half of the numbers is negative
 abbrev pub twos_complement : ℕ → ℕ → ℤ
 twos_complement width n = if nat_lt n (2 ^ (8 * width - 1)) then pos n else (pos n -ℤ pos (2 ^ (8 * width)))
 
@@ -40,7 +40,7 @@ abbrev pub number_bytes : ℕ → ℕ → List ℕ
 number_bytes zero n = []
 number_bytes (suc width) n = n % 256 ∷ number_bytes width (n / 256)
 
--- the bytes of a value of this width, a negative one as two's complement
+-- the bytes of a value of this width, a negative one as two's complement (`negsuc n` is -(n + 1))
 abbrev pub int_bytes : ℕ → ℤ → List ℕ
 int_bytes width (pos n) = number_bytes width n
 int_bytes width (negsuc n) = number_bytes width (2 ^ (8 * width) - 1 - n)

@@ -8,14 +8,14 @@ use std::simd::prelude::*;
 /// How many numbers are compared at once.
 pub(crate) const LANES: usize = 16;
 
-// Whether no number of 32 bits is above the one behind it, sixteen at a time and then one at a time.
+// Whether none of the first `len` numbers of 32 bits is above the one behind it: sixteen at a time, then the rest.
 pub(crate) fn never_fall(bytes: &[u8], len: usize) -> bool
     requires { 4 * (len + 1) ≤ length bytes.now }
     ensures { IsTrue result ↔ NeverFall bytes.now 0 len }
 {
     let mut i = 0;
     while i + LANES <= len {
-        if !sixteen_rise(bytes, 4 * i) {
+        if !sixteen_rise(bytes, i) {
             return false;
         }
         i += LANES;
@@ -23,7 +23,7 @@ pub(crate) fn never_fall(bytes: &[u8], len: usize) -> bool
     rest_rises(bytes, i, len)
 }
 
-// The same from number `from` on, one at a time.
+// The same of the numbers from number `from` on, one at a time.
 fn rest_rises(bytes: &[u8], from: usize, len: usize) -> bool
     requires order { from ≤ len }
     requires inside { 4 * (len + 1) ≤ length bytes.now }
@@ -37,14 +37,13 @@ fn rest_rises(bytes: &[u8], from: usize, len: usize) -> bool
     true
 }
 
-// Whether none of the sixteen numbers at a place is above the one behind it.
-fn sixteen_rise(bytes: &[u8], at: usize) -> bool
-    requires { at + 68 ≤ length bytes.now }
-    ensures { IsTrue result ↔ ((k : ℕ) → k < 16 →
-        number_at bytes.now (at + 4 * k) 4 ≤ number_at bytes.now (at + 4 + 4 * k) 4) }
+// Whether none of the sixteen numbers from number `i` on is above the one behind it.
+fn sixteen_rise(bytes: &[u8], i: usize) -> bool
+    requires { 4 * (i + 17) ≤ length bytes.now }
+    ensures { IsTrue result ↔ NeverFall bytes.now i (i + 16) }
 {
-    let low = sixteen_at(bytes, at);
-    let high = sixteen_at(bytes, at + 4);
+    let low = sixteen_at(bytes, 4 * i);
+    let high = sixteen_at(bytes, 4 * (i + 1));
     low.simd_le(high).all()
 }
 

@@ -19,15 +19,14 @@ pub struct Offsets<'a> {
 }
 
 impl<'a> Model for Offsets<'a> {
-    ghost use Rattle.std.specs.Prelude.{◌+◌, ◌*◌, ◌≤◌, ℕ, List, length};
-    ghost use Rattle.std.specs.List.Sorted.{IsNonDecreasing};
-    ghost use Rattle.arrow_bits.specs.Offsets.{offsets_of};
+    ghost use Rattle.std.specs.Prelude.{ℕ, List};
+    ghost use Rattle.arrow_bits.specs.Offsets.{offsets_of, HoldsOffsets};
 
     ghost Value = { List ℕ };
 
     ghost view = { λ o. offsets_of o.len o.bytes.now };
 
-    ghost invariant = { λ o. (4 * (o.len + 1) ≤ length o.bytes.now) × IsNonDecreasing (offsets_of o.len o.bytes.now) };
+    ghost invariant = { λ o. HoldsOffsets o.bytes.now o.len };
 }
 
 #[tactic(auto, using(crate::proofs::Rising::length_offsets, crate::proofs::Rising::offset_found))]

@@ -1,6 +1,4 @@
-use Rattle.std.proofs.Common.{◌≡◌, ◌+◌, ◌*◌, ◌/◌, ◌%◌, ◌^◌, ap, arith, get_or, rules}
-use Rattle.std.specs.Prelude.{count_ones}
-use Rattle.std.proofs.lemmas.Nat.{one_shl}
+use Rattle.std.proofs.Common.{◌≡◌, ◌+◌, ◌*◌, ◌/◌, ap, arith}
 use Rattle.arrow_bits.specs.Bitmap.{ones_of}
 use Rattle.arrow_bits.proofs.Listed.{few_ones}
 use Rattle.arrow_bits.proofs.Counting.{ones_byte, ones_rest}
