@@ -1,0 +1,2 @@
+mod Chars
+mod Indented

@@ -1,0 +1,12 @@
+use Rattle.std.proofs.Common.{◌≡◌, ◌≤◌, ◌+◌, ◌++◌, drop, string_bytes}
+use Rattle.arrow_types.specs.Field.{levels}
+use Rattle.arrow_types.specs.View.{fields_view}
+use Rattle.arrowflow.specs.SchemaText.{fields_text}
+use Rattle.arrowflow.proofs.schema_lines.+lines.Given as goal
+
+-- no field to come is too deep; what stands there, and the text of the fields to come, are the whole
+abbrev pub invariant-push_fields-loop-field : goal.invariant-push_fields-loop-field
+invariant-push_fields-loop-field l =
+    (l.level + levels (fields_view (drop l.field-index l.fields)) ≤ 32)
+    × (string_bytes l.text ++ fields_text l.level (fields_view (drop l.field-index l.fields))
+    ≡ string_bytes l.initial.text ++ fields_text l.level (fields_view l.fields))

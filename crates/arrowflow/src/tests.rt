@@ -1,0 +1,4 @@
+//! What no clause says: that texts are the ones that are meant, and that calls succeed.
+
+mod command_line;
+mod schema_lines;
