@@ -1,4 +1,4 @@
-ghost use Rattle.arrow_bits.specs.Numbers.{IsWidth};
+ghost use Rattle.arrow_bits.specs.Numbers.{FitsWidth, IsWidth};
 
 use crate::{Bits, BitsBuilder, Offsets, int_at, plain, put_int};
 use std::alloc::{AllocError, Global};
@@ -253,22 +253,33 @@ fn integers_of_each_width(rt: HostRuntime) -> Result<(), Fail> {
     Ok(())
 }
 
+// An integer that is refused for want of memory is put again.
+fn put(out: &mut Vec<u8>, width: usize, value: i128) -> Result<(), AllocError>
+    requires width { IsWidth width }
+    requires fits { FitsWidth width value }
+{
+    if put_int(out, width, value).is_err() {
+        put_int(out, width, value)?;
+    }
+    Ok(())
+}
+
 #[test]
 fn integers_are_appended(rt: HostRuntime) -> Result<(), Fail> {
     let mut out = Vec::new(rt.alloc());
-    put_int(&mut out, 2, -1)?;
+    put(&mut out, 2, -1)?;
     assert_eq!(rt; out.as_slice(), [0xff, 0xff].as_slice());
-    put_int(&mut out, 1, 255)?;
-    put_int(&mut out, 1, -128)?;
-    put_int(&mut out, 4, -2147483648)?;
-    put_int(&mut out, 4, 258)?;
+    put(&mut out, 1, 255)?;
+    put(&mut out, 1, -128)?;
+    put(&mut out, 4, -2147483648)?;
+    put(&mut out, 4, 258)?;
     assert_eq!(rt;
         out.as_slice(),
         [255, 255, 255, 128, 0, 0, 0, 128, 2, 1, 0, 0].as_slice()
     );
     let mut wide = Vec::new(rt.alloc());
-    put_int(&mut wide, 8, 18446744073709551615)?;
-    put_int(&mut wide, 8, -2)?;
+    put(&mut wide, 8, 18446744073709551615)?;
+    put(&mut wide, 8, -2)?;
     assert_eq!(rt; wide.len(), 16);
     assert_eq!(rt; int_at(&wide, 8, false, 0), 18446744073709551615);
     assert_eq!(rt; int_at(&wide, 8, true, 1), -2);
