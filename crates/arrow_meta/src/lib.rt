@@ -14,6 +14,10 @@ mod message_tree;
 mod nesting;
 mod parts;
 mod reader;
+#[cfg(test)]
+mod tests;
+#[cfg(test)]
+mod vectors;
 
 pub use fault::{BatchKind, MetaFault};
 pub use judging::{decode, judge};
