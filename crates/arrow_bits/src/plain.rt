@@ -1,7 +1,7 @@
 //! The definitions as loops, one bit or one offset at a time.
 //!
-//! They have the contracts of the calls that work on many at once. Those calls use them for short inputs, and the
-//! tests compare the two at every length.
+//! They have the contracts of `Bits::count_zero` and `Offsets::check`, which work on many at once. The tests compare the
+//! two forms at every length, and `Offsets::check` uses the loop for the shortest inputs.
 ghost use Rattle.std.specs.Prelude.{◌≡◌, ◌*◌, ◌≤◌, ◌↔◌, length, not, count_by, IsTrue};
 ghost use Rattle.arrow_bits.specs.Bitmap.{bits_of};
 ghost use Rattle.arrow_bits.specs.Offsets.{AreOffsets};
