@@ -1,0 +1,5 @@
+pub mod Meanings
+pub mod Firsts
+pub mod Fronts
+pub mod Works
+pub mod Streams

@@ -1,0 +1,5 @@
+use Rattle.arrow_stream.proofs.Fronts.{more_bytes}
+use Rattle.arrow_stream.proofs.laws.front_grows.Goals as goal
+
+pub returns : goal.returns
+returns c = record { grows = λ limits b d es fs e f x y. more_bytes d x y }

@@ -1,0 +1,31 @@
+-- How the logic stores what a reader shows: as trees of numbers, another one for each other value.
+use Rattle.std.specs.Prelude.{ℕ, List, Option, refl}
+use Rattle.std.specs.Coded.{Coded, code_by, coded×, coded_ℕ, coded_list, coded_option}
+use Rattle.arrow_types.specs.Field.{Fields}
+use Rattle.arrow_types.specs.Stored.{fields_code}
+use Rattle.arrow_types.specs.Limits.{LimitNumbers}
+use Rattle.arrow_stream.specs.declared.reader.Verdict.{Verdict}
+use Rattle.arrow_stream.specs.contracts.reader.Verdict.{the_row as verdict_row}
+use Rattle.arrow_stream.specs.State.{StreamState}
+use Rattle.arrow_stream.specs.Front.{Standing}
+use Rattle.arrow_stream.specs.Stream.{Shows}
+
+abbrev limits_code : Coded LimitNumbers
+limits_code = code_by (ℕ × (ℕ × ℕ)) (coded× coded_ℕ (coded× coded_ℕ coded_ℕ))
+    (λ l. (l.max_metadata, (l.max_body, l.max_rows)))
+    (λ p. record { max_metadata = p.0; max_body = p.1.0; max_rows = p.1.1 })
+    (λ _. refl)
+
+abbrev state_code : Coded StreamState
+state_code = code_by (Option Fields) (coded_option fields_code) (λ s. s.schema) (λ p. record { schema = p }) (λ _. refl)
+
+abbrev standing_code : Coded Standing
+standing_code = code_by (StreamState × (ℕ × (List ℕ × Verdict)))
+    (coded× state_code (coded× coded_ℕ (coded× (coded_list coded_ℕ) verdict_row.coded)))
+    (λ e. (e.state, (e.place, (e.rest, e.verdict))))
+    (λ p. record { state = p.0; place = p.1.0; rest = p.1.1.0; verdict = p.1.1.1 })
+    (λ _. refl)
+
+abbrev pub shows_code : Coded Shows
+shows_code = code_by (LimitNumbers × Standing) (coded× limits_code standing_code)
+    (λ r. (r.limits, r.at)) (λ p. record { limits = p.0; at = p.1 }) (λ _. refl)

@@ -1,0 +1,94 @@
+-- What the reader's work is at, and what a step of it does.
+use Rattle.std.specs.Prelude.{◌≡◌, ℕ, ◌+◌, ◌^◌, ◌<◌, ◌≤◌, ◌⊎◌, List, [], ◌++◌, length, take, drop, Result, Ok, Err}
+use Rattle.arrow_types.specs.Limits.{LimitNumbers}
+use Rattle.arrow_stream.specs.declared.kind.Refusal.{Refusal}
+use Rattle.arrow_stream.specs.declared.item.Item.{Item}
+use Rattle.arrow_stream.specs.declared.message.Stop.{Stop}
+use Rattle.arrow_stream.specs.declared.message.Stop.TheVariants.{Refused, Memory}
+use Rattle.arrow_stream.specs.declared.prefix.Prefix.TheVariants as prefixes
+use Rattle.arrow_stream.specs.declared.work.Phase.{Phase}
+use Rattle.arrow_stream.specs.declared.work.Phase.TheVariants as phases
+use Rattle.arrow_stream.specs.declared.work.Step.{Step}
+use Rattle.arrow_stream.specs.declared.work.Step.TheVariants as steps
+use Rattle.arrow_stream.specs.declared.work.Work.{Work}
+use Rattle.arrow_stream.specs.State.{StreamState}
+use Rattle.arrow_stream.specs.Frame.{HasPrefix, HasMetadata, Outcome, First, whole, marker, refused, waits}
+use Rattle.arrow_stream.specs.Views.{plain, given, message_of}
+
+-- n bytes of a piece went behind the old ones, as many as there were up to the number wanted
+pub record Filled (old piece : List ℕ) (want n : ℕ) (new : List ℕ) : Type 0 where
+  pub within : n ≤ length piece
+  pub took : new ≡ old ++ take n piece
+  pub rest : new ++ drop n piece ≡ old ++ piece
+  pub enough : (length new ≡ want) ⊎ ((length new < want) × (new ≡ old ++ piece))
+
+-- the phase is what the bytes held so far have shown
+abbrev pub Shown : LimitNumbers → StreamState → ℕ → List ℕ → Phase → Type 0
+Shown l s p h phases.Prefix = length h ≤ 8
+Shown l s p h (phases.Metadata m) = HasPrefix l s p h (Ok (prefixes.Metadata m)) × (length h ≤ 8 + m)
+Shown l s p h (phases.Body m t) = HasMetadata l s p h m (Ok (message_of t)) × (length h ≤ 8 + m + t.body_len)
+
+pub record IsAt (w : Work) : Type 0 where
+  pub shown : Shown w.limits (plain w.state) w.place w.held.items w.phase
+  pub near : w.place ≤ 2 ^ 62
+
+-- what stands at the front of b, where the work is
+abbrev pub FirstAt : Work → List ℕ → Outcome → Type 0
+FirstAt w b o = First w.limits (plain w.state) w.place b o
+
+-- nothing but the held bytes and the phase changed
+pub record SameBut (old new : Work) : Type 0 where
+  pub limits : new.limits ≡ old.limits
+  pub state : plain new.state ≡ plain old.state
+  pub place : new.place ≡ old.place
+
+-- all the bytes b are held, and are less than a message
+pub record Waited (old : Work) (b : List ℕ) (new : Work) : Type 0 where
+  pub same : SameBut old new
+  pub held : new.held.items ≡ b
+  pub at : IsAt new
+  pub first : FirstAt old b waits
+
+-- a message of so many bytes of b was whole, and gave the item
+pub record Gave (old : Work) (b : List ℕ) (item : Item) (new : Work) : Type 0 where
+  pub size : ℕ
+  pub limits : new.limits ≡ old.limits
+  pub place : new.place ≡ old.place + size
+  pub covers : length old.held.items ≤ size
+  pub held : new.held.items ≡ []
+  pub at : IsAt new
+  pub first : FirstAt old b (whole size (plain new.state) (given item))
+
+-- the end marker was whole
+pub record Marked (old : Work) (b : List ℕ) (new : Work) : Type 0 where
+  pub same : SameBut old new
+  pub covers : length old.held.items ≤ 8
+  pub near : old.place + 8 ≤ 2 ^ 62
+  pub first : FirstAt old b marker
+
+-- what is held is a beginning of b, and has all that was held before
+pub record Stopped (old : Work) (b : List ℕ) (new : Work) : Type 0 where
+  pub same : SameBut old new
+  pub more : List ℕ
+  pub held : b ≡ new.held.items ++ more
+  pub covers : length old.held.items ≤ length new.held.items
+  pub at : IsAt new
+
+-- a refusal
+pub record Failed (old : Work) (b : List ℕ) (k : Refusal) (new : Work) : Type 0 where
+  pub stopped : Stopped old b new
+  pub first : FirstAt old b (refused k)
+
+-- what the work does with b, the bytes held and those of the piece
+abbrev pub Works : Work → List ℕ → Result Step Stop → Work → Type 0
+Works old b (Ok steps.Short) new = Waited old b new
+Works old b (Ok steps.EndMarker) new = Marked old b new
+Works old b (Ok (steps.Whole item)) new = Gave old b item new
+Works old b (Err (Refused k)) new = Failed old b k new
+Works old b (Err Memory) new = Stopped old b new
+
+-- the first bytes held alone
+pub record Rewound (old : Work) (count : ℕ) (new : Work) : Type 0 where
+  pub same : SameBut old new
+  pub held : new.held.items ≡ take count old.held.items
+  pub at : IsAt new

@@ -1,0 +1,19 @@
+//! Laws of the definitions, which no code stands behind. Each is the contract of a function that does nothing.
+
+ghost use Rattle.arrow_stream.specs.Laws.{OneFront, MoreBytes, SameStanding};
+
+/// A list of bytes has one front.
+pub fn one_front()
+    ensures single { OneFront }
+{}
+
+/// The items of a longer list begin with those of a shorter one, and where the shorter one has ended, by a
+/// refusal or by its end marker, so has the longer one, at the same place.
+pub fn front_grows()
+    ensures grows { MoreBytes }
+{}
+
+/// Two readers that stand at the same bytes show the same, in whatever pieces the bytes came.
+pub fn same_standing()
+    ensures same { SameStanding }
+{}

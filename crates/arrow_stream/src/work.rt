@@ -1,0 +1,179 @@
+//! One message at a time, from bytes that come in pieces.
+
+ghost use Rattle.std.specs.Prelude.{◌≡◌, ℕ, ◌+◌, ◌^◌, ◌<◌, ◌≤◌, [], ◌++◌, length, Ok};
+ghost use Rattle.arrow_stream.specs.declared.prefix.Prefix.TheVariants as prefixes;
+ghost use Rattle.arrow_stream.specs.Frame.{HasPrefix, HasMetadata};
+ghost use Rattle.arrow_stream.specs.State.{nothing_yet};
+ghost use Rattle.arrow_stream.specs.Views.{plain, message_of};
+ghost use Rattle.arrow_stream.specs.Work.{IsAt, Works, Rewound};
+
+use crate::held::fill;
+use crate::item::Item;
+use crate::message::{Message, Stop, understand};
+use crate::prefix::{Prefix, read_prefix};
+use crate::state::{State, apply};
+use arrow_types::Limits;
+use std::alloc::Global;
+use std::mem;
+
+/// How far the message in work has come.
+#[derive(Debug, Drop)]
+pub(crate) enum Phase {
+    /// Its first eight bytes are not whole.
+    Prefix,
+    /// Its metadata, of this size, are not whole.
+    Metadata(u64),
+    /// Its metadata have this size and announce this message, whose body is not whole.
+    Body(u64, Message),
+}
+
+/// What a piece brought.
+#[derive(Debug, Drop)]
+pub(crate) enum Step {
+    /// Less than a whole message.
+    Short,
+    /// The end marker.
+    EndMarker,
+    /// A whole message.
+    Whole(Item),
+}
+
+/// The message in work, and what the messages before it left.
+#[derive(Drop)]
+pub(crate) struct Work {
+    pub(crate) alloc: Global,
+    pub(crate) limits: Limits,
+    pub(crate) state: State,
+    /// Where the message in work begins.
+    pub(crate) place: u64,
+    /// The bytes of the message in work.
+    pub(crate) held: Vec<u8>,
+    pub(crate) phase: Phase,
+}
+
+impl Work {
+    /// Goes on with a piece, up to the end of one message.
+    pub(crate) fn step(&mut self, piece: &[u8]) -> Result<Step, Stop>
+        requires at { IsAt self.old }
+        ensures works { Works self.old (self.old.held.items ++ piece.now) result self.new }
+    {
+        match mem::replace(&mut self.phase, Phase::Prefix) {
+            Phase::Prefix => self.read_prefix(piece),
+            Phase::Metadata(size) => self.read_metadata(size, piece),
+            Phase::Body(size, message) => self.read_body(size, message, piece),
+        }
+    }
+
+    /// Goes on where nothing is known of the message.
+    fn read_prefix(&mut self, piece: &[u8]) -> Result<Step, Stop>
+        requires within { length self.old.held.items ≤ 8 }
+        requires near { self.old.place ≤ 2 ^ 62 }
+        ensures works { Works self.old (self.old.held.items ++ piece.now) result self.new }
+    {
+        self.phase = Phase::Prefix;
+        let Ok(taken) = fill(&mut self.held, piece, 8) else {
+            return Err(Stop::Memory);
+        };
+        if self.held.len() < 8 {
+            return Ok(Step::Short);
+        }
+        let has_schema = self.state.schema.is_some();
+        match read_prefix(&self.limits, has_schema, self.place, &self.held) {
+            Ok(Prefix::Metadata(size)) => self.read_metadata(size, &piece[taken..]),
+            Ok(Prefix::EndMarker) => Ok(Step::EndMarker),
+            Err(refusal) => Err(Stop::Refused(refusal)),
+        }
+    }
+
+    /// Goes on where the size of the metadata is known.
+    fn read_metadata(&mut self, size: u64, piece: &[u8]) -> Result<Step, Stop>
+        requires known { HasPrefix self.old.limits (plain self.old.state) self.old.place
+            self.old.held.items (Ok (prefixes.Metadata size)) }
+        requires within { length self.old.held.items ≤ 8 + size }
+        ensures works { Works self.old (self.old.held.items ++ piece.now) result self.new }
+    {
+        self.phase = Phase::Metadata(size);
+        let whole = 8 + size as usize;
+        let Ok(taken) = fill(&mut self.held, piece, whole) else {
+            return Err(Stop::Memory);
+        };
+        if self.held.len() < whole {
+            return Ok(Step::Short);
+        }
+        let has_schema = self.state.schema.is_some();
+        let start = self.place + 8;
+        match understand(self.alloc, &self.limits, has_schema, start, &self.held[8..]) {
+            Ok(message) => self.read_body(size, message, &piece[taken..]),
+            Err(stop) => Err(stop),
+        }
+    }
+
+    /// Goes on where the metadata are known.
+    fn read_body(&mut self, size: u64, message: Message, piece: &[u8]) -> Result<Step, Stop>
+        requires known { HasMetadata self.old.limits (plain self.old.state) self.old.place
+            self.old.held.items size (Ok (message_of message)) }
+        requires within { length self.old.held.items ≤ 8 + size + message.body_len }
+        ensures works { Works self.old (self.old.held.items ++ piece.now) result self.new }
+    {
+        let whole = 8 + size as usize + message.body_len as usize;
+        let Ok(_) = fill(&mut self.held, piece, whole) else {
+            self.phase = Phase::Body(size, message);
+            return Err(Stop::Memory);
+        };
+        if self.held.len() < whole {
+            self.phase = Phase::Body(size, message);
+            return Ok(Step::Short);
+        }
+        self.place += whole as u64;
+        self.held.clear();
+        self.phase = Phase::Prefix;
+        Ok(Step::Whole(apply(&mut self.state, message.content)))
+    }
+
+    /// Goes back to the first bytes held.
+    pub(crate) fn rewind(&mut self, count: usize)
+        requires at { IsAt self.old }
+        requires within { count ≤ length self.old.held.items }
+        ensures rewound { Rewound self.old count self.new }
+    {
+        self.held.truncate(count);
+        if count < 8 {
+            self.phase = Phase::Prefix;
+            return;
+        }
+        if let Phase::Body(size, _) = &self.phase {
+            let size = *size;
+            if count < 8 + size as usize {
+                self.phase = Phase::Metadata(size);
+            }
+        }
+    }
+
+    /// Goes past this many bytes, all that are held among them.
+    pub(crate) fn pass(&mut self, count: u64)
+        requires near { self.old.place + count ≤ 2 ^ 62 }
+        ensures at { IsAt self.new }
+        ensures limits { self.new.limits ≡ self.old.limits }
+        ensures state { plain self.new.state ≡ plain self.old.state }
+        ensures place { self.new.place ≡ self.old.place + count }
+        ensures held { self.new.held.items ≡ [] }
+    {
+        self.place += count;
+        self.held.clear();
+        self.phase = Phase::Prefix;
+    }
+
+    /// Begins a new stream.
+    pub(crate) fn restart(&mut self)
+        ensures at { IsAt self.new }
+        ensures limits { self.new.limits ≡ self.old.limits }
+        ensures state { plain self.new.state ≡ nothing_yet }
+        ensures place { self.new.place ≡ 0 }
+        ensures held { self.new.held.items ≡ [] }
+    {
+        self.state.schema = None;
+        self.place = 0;
+        self.held.clear();
+        self.phase = Phase::Prefix;
+    }
+}
