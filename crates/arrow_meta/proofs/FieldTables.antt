@@ -30,18 +30,3 @@ before (tables xs) ss = refl
 pub shapes_from : (ts : List Built) → fields_of (shapes_in ts) ≡ fields_from (plain_all ts)
 shapes_from [] = refl
 shapes_from (t ∷ ts) = before (plain t) (shapes_in ts) ∙ ap (with_field (plain t)) (shapes_from ts)
-
-pub no_shape : (x : Tree) → is_field x ≡ false → shape_in x ≡ []
-no_shape (leaf x) h = refl
-no_shape (table kinds.Field xs) h = absurd (true≢false h)
-no_shape (table kind xs) h = refl
-no_shape (tables xs) h = refl
-
--- a tree that is no field adds none
-pub skipped : (x : Tree) (done rest all : List FieldShape) → is_field x ≡ false → done ++ (shape_in x ++ rest) ≡ all → done ++ rest ≡ all
-skipped x done rest all h e = ap (λ ss. done ++ (ss ++ rest)) (sym (no_shape x h)) ∙ e
-
--- a Field table adds its field
-pub added : (x : Tree) (xs : Trees) (f : FieldShape) (done rest all : List FieldShape) → x ≡ table kinds.Field xs → f ≡ field_of xs → done ++ (shape_in x ++ rest) ≡ all → (done ++ f ∷ []) ++ rest ≡ all
-added x xs f done rest all h g e =
-    append_assoc done (f ∷ []) rest ∙ ap (λ s. done ++ (s ∷ rest)) g ∙ ap (λ t. done ++ (shape_in t ++ rest)) (sym h) ∙ e

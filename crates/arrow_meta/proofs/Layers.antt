@@ -20,13 +20,7 @@ pub layer_there : (bytes : List ℕ) (shape : Shape) (place : Option ℕ) (p : �
 unfolding layer
 layer_there bytes shape place p e = rw e refl
 
--- What is read where a layer stands is read wherever the bytes are the same.
-pub over : {X : Type 0} (view : X → Tree) (result : Result X MetaFault) (a b : List ℕ) (l : Layer) (most : ℕ) (old new : Room) → a ≡ b → ((s : Spot) → layer a s ≡ Some l → ReadsTree view result a s most old new) → (s : Spot) → layer b s ≡ Some l → ReadsTree view result b s most old new
-over view result a b l most old new e h =
-    let P : List ℕ → Type 0 = λ bytes. (s : Spot) → layer bytes s ≡ Some l → ReadsTree view result bytes s most old new in
-    subst P e h
-
--- Nothing lies where no layer stands.
+-- Nothing stands where no layer does.
 pub none_fits : (bytes : List ℕ) (s : Spot) (most : ℕ) (room : Room) → layer bytes s ≡ None → NoneFits bytes s most room
 none_fits bytes s most room e (leaf a) h fits = cc
 none_fits bytes s most room e (table kind xs) h fits = let f = h.1 in cc

@@ -52,15 +52,14 @@ no_memory false false false false false e m sh true n k h = cc
 no_memory false false false false false e m sh false n k h = cc
 
 -- what is known where no fault holds without regard to shared ids
-record Passed (version schema unsupported misfit shares : Bool) (n : ℕ) (whole : Option MetaFault) : Type 0 where
-  v5 : version ≡ false
+record Passed (schema unsupported misfit shares : Bool) (n : ℕ) (whole : Option MetaFault) : Type 0 where
   supported : schema ≡ true → unsupported ≡ false
   fits : schema ≡ true → misfit ≡ false
   shared : schema ≡ true → shares ≡ true → whole ≡ Some (Schema n)
   unshared : shares ≡ false → whole ≡ None
   no_schema : schema ≡ false → whole ≡ None
 
-passed : (a b c d s e m sh g : Bool) (n : ℕ) (k : BatchKind) → chain a b c d s e m false g n k ≡ None → Passed b s e m sh n (chain a b c d s e m sh g n k)
+passed : (a b c d s e m sh g : Bool) (n : ℕ) (k : BatchKind) → chain a b c d s e m false g n k ≡ None → Passed s e m sh n (chain a b c d s e m sh g n k)
 passed true b c d s e m sh g n k h = absurd (cc)
 passed false true c d s e m sh g n k h = absurd (cc)
 passed false false true d s e m sh g n k h = absurd (cc)
@@ -68,7 +67,6 @@ passed false false false true s e m sh g n k h = absurd (cc)
 passed false false false false true true m sh g n k h = absurd (cc)
 passed false false false false true false true sh g n k h = absurd (cc)
 passed false false false false true false false true g n k h = record {
-  v5 = refl;
   supported = λ p. refl;
   fits = λ p. refl;
   shared = λ p q. refl;
@@ -76,7 +74,6 @@ passed false false false false true false false true g n k h = record {
   no_schema = λ p. absurd (true≢false p);
 }
 passed false false false false true false false false g n k h = record {
-  v5 = refl;
   supported = λ p. refl;
   fits = λ p. refl;
   shared = λ p q. absurd (true≢false (sym q));
@@ -85,7 +82,6 @@ passed false false false false true false false false g n k h = record {
 }
 passed false false false false false e m sh true n k h = absurd (cc)
 passed false false false false false e m sh false n k h = record {
-  v5 = refl;
   supported = λ p. absurd (true≢false (sym p));
   fits = λ p. absurd (true≢false (sym p));
   shared = λ p q. absurd (true≢false (sym p));
@@ -96,7 +92,7 @@ passed false false false false false e m sh false n k h = record {
 -- the same of a message's table
 abbrev PassedBy : ℕ → Trees → Type 0
 PassedBy max xs =
-    Passed (not (version_of xs == 4)) (is_schema xs) (is_unsupported_schema (header_of xs)) (any is_misfit (header_of xs))
+    Passed (is_schema xs) (is_unsupported_schema (header_of xs)) (any is_misfit (header_of xs))
     (shares_an_id (header_of xs)) (body_of xs) (fault_of max xs)
 
 passed_by : (max : ℕ) (xs : Trees) → least (conditions false max xs) ≡ None → PassedBy max xs
@@ -172,9 +168,6 @@ misfit_parts (leaf x) h = absurd (true≢false (sym h))
 misfit_parts (table kind xs) h = or_right (is_misfit kind xs) (any_in is_misfit xs) h
 misfit_parts (tables xs) h = absurd (true≢false (sym h))
 
-is_four : (n : ℕ) → not (n == 4) ≡ false → n ≡ 4
-is_four n h = elim (either (n == 4)) [ inl same ↦ eqb-true n 4 same | inr other ↦ absurd (true≢false (ap not (sym other) ∙ h)) ]
-
 -- the fault of fields that passed the tests before
 fields_fault : (x : Tree) (fault : SchemaFault) → IsShallow x → is_unsupported_schema (header_of (parts x)) ≡ false
     → schema_fault_of (schema_fields (parts (header_of (parts x)))) ≡ Some fault
@@ -210,10 +203,6 @@ built (Err e) max x shallow none_found (inl memory) =
     subst (λ f. Judges (Err f) max x) (sym memory) (only_shared max x (passed_by max (parts x) none_found))
 built (Err e) max x shallow none_found (inr h) =
     late e max x (passed_by max (parts x) none_found) shallow (eq-eqb (code_of (parts x)) 1 h.0) h.1
-
--- the version of a message that is built
-pub version_is : (max : ℕ) (xs : Trees) → least (conditions false max xs) ≡ None → version_of xs ≡ 4
-version_is max xs h = is_four (version_of xs) (passed_by max xs h).v5
 
 -- the body's length that a fault gives
 abbrev tells : MetaFault → ℕ → Type 0

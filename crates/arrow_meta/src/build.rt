@@ -3,7 +3,8 @@ ghost use Rattle.std.specs.Prelude.{◌≡◌, IfOk, Some, map};
 ghost use Rattle.std.specs.Int.{cast_signed, w64};
 ghost use Rattle.arrow_meta.specs.Builds.{BuildsSchema, BuildsHeader, BuildsMessage, meta_fault};
 ghost use Rattle.arrow_meta.specs.Faults.{version_of};
-ghost use Rattle.arrow_meta.specs.Means.{batch_of, batch_view, dictionary, header_view, node_of, buffer_of};
+ghost use Rattle.arrow_meta.specs.Means.{batch_of, batch_view, dictionary, header_view, node_of};
+ghost use Rattle.arrow_meta.specs.Means.{buffer_of};
 ghost use Rattle.arrow_meta.specs.Parts.{nth, number_at, flag_at, parts as parts_of};
 ghost use Rattle.arrow_meta.specs.Views.{plain_all};
 

@@ -1,6 +1,7 @@
 //! The numbers that stand for types, widths and units (`Schema.fbs`).
 ghost use Rattle.std.specs.Prelude.{◌≡◌};
-ghost use Rattle.arrow_meta.specs.Codes.{type_code, bit_width, date_unit, time_unit, has_type_table};
+ghost use Rattle.arrow_meta.specs.Codes.{type_code, bit_width, date_unit, time_unit};
+ghost use Rattle.arrow_meta.specs.Codes.{has_type_table};
 
 use arrow_types::{BitWidth, DateUnit, TimeUnit};
 

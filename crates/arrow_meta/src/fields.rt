@@ -1,11 +1,13 @@
 //! The fields of a schema, built of their tables.
 //!
 //! Names and zones are moved out of the tree, so they are copied only once, where the tree is read.
-ghost use Rattle.std.specs.Prelude.{◌≡◌, ℕ, ◌==◌, false, length, string_bytes, MatchResult, MatchOption, IfOk, OnOk, Some, [], ◌∷◌, ◌++◌};
+ghost use Rattle.std.specs.Prelude.{◌≡◌, ℕ, ◌==◌, false, length, string_bytes, MatchResult};
+ghost use Rattle.std.specs.Prelude.{MatchOption, IfOk, OnOk, Some, [], ◌∷◌, ◌++◌};
 ghost use Rattle.arrow_meta.specs.Builds.{Builds, BuildsAll, BuildsType, leaf_type, field_by};
 ghost use Rattle.arrow_meta.specs.Conditions.{any, any_in, is_misfit};
 ghost use Rattle.arrow_meta.specs.Parts.{nth, flag_at};
-ghost use Rattle.arrow_meta.specs.SchemaMeaning.{encoding_in, index_in, width_in, fields_in, fields_from, is_field, tag_by};
+ghost use Rattle.arrow_meta.specs.SchemaMeaning.{encoding_in, index_in, width_in, fields_in};
+ghost use Rattle.arrow_meta.specs.SchemaMeaning.{fields_from, is_field, tag_by};
 ghost use Rattle.arrow_meta.specs.Trees.{Trees, none, table};
 ghost use Rattle.arrow_meta.specs.Views.{plain, plain_all};
 ghost use Rattle.arrow_meta.specs.declared.kinds.Kind.{Kind as TableKind};
@@ -208,7 +210,8 @@ fn boxed(alloc: Global, item: Field) -> Result<DataType, AllocError>
 }
 
 fn int_type(parts: &[Tree]) -> DataType
-    ensures int { type_view result ≡ leaf_type (tag_by (Some TypeCode.Int) (plain_all parts.now)) }
+    ensures int { type_view result
+        ≡ leaf_type (tag_by (Some TypeCode.Int) (plain_all parts.now)) }
 {
     DataType::Int {
         bits: width_in(parts),
@@ -217,13 +220,15 @@ fn int_type(parts: &[Tree]) -> DataType
 }
 
 fn date_type(parts: &[Tree]) -> DataType
-    ensures date { type_view result ≡ leaf_type (tag_by (Some TypeCode.Date) (plain_all parts.now)) }
+    ensures date { type_view result
+        ≡ leaf_type (tag_by (Some TypeCode.Date) (plain_all parts.now)) }
 {
     DataType::Date(date_unit(number_at(parts, 0, 1)).unwrap_or(DateUnit::Day))
 }
 
 fn time_type(parts: &[Tree]) -> DataType
-    ensures time { type_view result ≡ leaf_type (tag_by (Some TypeCode.Time) (plain_all parts.now)) }
+    ensures time { type_view result
+        ≡ leaf_type (tag_by (Some TypeCode.Time) (plain_all parts.now)) }
 {
     DataType::Time(time_unit(number_at(parts, 0, 1)).unwrap_or(TimeUnit::Second))
 }

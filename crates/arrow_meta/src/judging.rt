@@ -1,7 +1,8 @@
 //! What a tree means, or its least fault.
 ghost use Rattle.std.specs.Prelude.{◌≡◌, ◌||◌, ◌≤◌, ◌^◌, false, IfOk};
 ghost use Rattle.arrow_meta.specs.Conditions.{any, is_misfit};
-ghost use Rattle.arrow_meta.specs.Faults.{least, conditions, has_header, is_bad_length, is_unsupported_schema, batch_parts, batch_kind};
+ghost use Rattle.arrow_meta.specs.Faults.{least, conditions, has_header, is_bad_length};
+ghost use Rattle.arrow_meta.specs.Faults.{is_unsupported_schema, batch_parts, batch_kind};
 ghost use Rattle.arrow_meta.specs.Judges.{Judges, Decodes, LengthFits};
 ghost use Rattle.arrow_meta.specs.Parts.{nth, parts as parts_of, is_there};
 ghost use Rattle.arrow_meta.specs.SchemaMeaning.{fields_in, schema_fields};

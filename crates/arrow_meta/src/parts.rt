@@ -2,7 +2,8 @@
 //!
 //! A slice of trees is the fields of one table, in order of their numbers.
 ghost use Rattle.std.specs.Prelude.{◌≡◌, ◌<◌, ℕ, MatchOption, string_bytes, option_map};
-ghost use Rattle.arrow_meta.specs.Parts.{nth, parts, number_at, number_or, leaf_number_or, flag_at, is_table, is_there, text_in, some_text_in, pairs_in};
+ghost use Rattle.arrow_meta.specs.Parts.{nth, parts, number_at, number_or, leaf_number_or, flag_at};
+ghost use Rattle.arrow_meta.specs.Parts.{is_table, is_there, text_in, some_text_in, pairs_in};
 ghost use Rattle.arrow_meta.specs.Trees.{leaf, absent as nothing};
 ghost use Rattle.arrow_meta.specs.Views.{plain, plain_all, plain_leaf};
 

@@ -1,9 +1,11 @@
 //! Reading of the tree that lies in the bytes of a metadata, within limits.
-ghost use Rattle.std.specs.Prelude.{◌≡◌, ◌<◌, ◌≤◌, ◌+◌, ◌*◌, ◌⊎◌, ℕ, length, Some, None, MatchResult, IfOk, IfErr};
+ghost use Rattle.std.specs.Prelude.{◌≡◌, ◌<◌, ◌≤◌, ◌+◌, ◌*◌, ◌⊎◌, ℕ, length, Some, None};
+ghost use Rattle.std.specs.Prelude.{MatchResult, IfOk, IfErr};
 ghost use Rattle.arrow_flatbuf.specs.Table.{field_place};
 ghost use Rattle.arrow_meta.specs.Kinds.{Spot, code_at, spot, shapes_of, spots_of, opened};
 ghost use Rattle.arrow_meta.specs.Views.{plain, plain_all};
-ghost use Rattle.arrow_meta.specs.Lies.{Stands, LiesAtRoot, elements, layer, table_layer, number_layer, layer_at, pairs_from};
+ghost use Rattle.arrow_meta.specs.Lies.{Stands, LiesAtRoot, elements, layer, table_layer};
+ghost use Rattle.arrow_meta.specs.Lies.{number_layer, layer_at, pairs_from};
 ghost use Rattle.arrow_meta.specs.Trees.{Tree as PlainTree};
 ghost use Rattle.arrow_meta.specs.Within.{IsWithin, visit};
 ghost use Rattle.arrow_meta.specs.declared.kinds.Shape.{Shape as FieldShape};
@@ -66,8 +68,10 @@ impl Reader {
     /// behind this call.
     fn enter(&mut self, kind: Kind, levels: u64) -> Result<u64, MetaFault>
         ensures paid { MatchResult result
-            (λ below. (below + visit kind ≡ levels) × (self.new.visits + visit kind ≡ self.old.visits))
-            (λ e. (e ≡ MetaFault.Metadata) × ((levels < visit kind) ⊎ (self.old.visits < visit kind))) }
+            (λ below. (below + visit kind ≡ levels)
+            × (self.new.visits + visit kind ≡ self.old.visits))
+            (λ e. (e ≡ MetaFault.Metadata)
+            × ((levels < visit kind) ⊎ (self.old.visits < visit kind))) }
         ensures text { self.new.text ≡ self.old.text }
     {
         match kind {
@@ -85,7 +89,8 @@ impl Reader {
     /// Reads the table, with all that belongs to it.
     #[cycle(trees)]
     fn table(&mut self, kind: Kind, table: &Table, levels: u64) -> Result<Tree, MetaFault>
-        ensures read { (s : Spot) → layer table.now.bytes s ≡ Some (table_layer kind (spots_of kind table.now))
+        ensures read { (s : Spot)
+            → layer table.now.bytes s ≡ Some (table_layer kind (spots_of kind table.now))
             → ReadsTree plain result table.now.bytes s levels (room self.old) (room self.new) }
     {
         let below = self.enter(kind, levels)?;
@@ -96,8 +101,8 @@ impl Reader {
     /// Reads the fields of a table.
     #[cycle(trees)]
     fn fields(&mut self, kind: Kind, table: &Table, levels: u64) -> Result<Vec<Tree>, MetaFault>
-        ensures read { ReadsRow (λ v. plain_all v.items) result table.now.bytes (spots_of kind table.now)
-            levels (room self.old) (room self.new) }
+        ensures read { ReadsRow (λ v. plain_all v.items) result table.now.bytes
+            (spots_of kind table.now) levels (room self.old) (room self.new) }
     {
         let shapes = kinds::shapes(kind);
         let mut trees = Vec::new(self.alloc);
@@ -154,8 +159,8 @@ impl Reader {
         field: u16,
         levels: u64,
     ) -> Result<Tree, MetaFault>
-        ensures read { ReadsTree plain result table.now.bytes (opened kind (field_place table.now field))
-            levels (room self.old) (room self.new) }
+        ensures read { ReadsTree plain result table.now.bytes
+            (opened kind (field_place table.now field)) levels (room self.old) (room self.new) }
     {
         match kind {
             None => Ok(Tree::Leaf(Leaf::Absent)),
