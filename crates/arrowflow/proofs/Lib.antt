@@ -1,2 +1,4 @@
 mod Chars
+mod First
+mod Found
 mod Indented

@@ -1,3 +1,5 @@
 pub mod Escapes
+pub mod Faults
+pub mod SchemaCall
 pub mod SchemaText
 pub mod TypeNames

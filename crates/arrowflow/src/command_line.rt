@@ -65,6 +65,7 @@ fn schema_command<'a>(alloc: Global) -> Result<Command<'a>, AllocError> {
 /// The whole command line. Each command is a function of its own, added here.
 fn command<'a>(alloc: Global) -> Result<Command<'a>, AllocError> {
     Command::new(alloc, "arrowflow")
+        .bin_name("arrowflow")?
         .about(ABOUT)
         .after_help(EXAMPLE)
         .subcommand_required(true)
@@ -83,7 +84,7 @@ fn name_of(alloc: Global, matches: &ArgMatches<'_>, argument: &str) -> Result<St
 pub fn plan(alloc: Global, words: &[&str]) -> Result<Plan, ArgFault> {
     let matches = command(alloc)?.try_get_matches_from(words)?;
     match matches.subcommand() {
-        Some((_, given)) => Ok(Plan::Schema(name_of(alloc, given, "FILE")?)),
-        None => Err(ArgFault::Memory),
+        Some(("schema", given)) => Ok(Plan::Schema(name_of(alloc, given, "FILE")?)),
+        _ => Err(ArgFault::Memory),
     }
 }

@@ -1,4 +1,5 @@
 //! What no clause says: that texts are the ones that are meant, and that calls succeed.
 
 mod command_line;
+mod schema_call;
 mod schema_lines;

@@ -65,6 +65,11 @@ fn help_gives_an_example(rt: HostRuntime) -> Result<(), Fail> {
             "  arrowflow schema examples/every_type.arrows",
         ),
         ("arrowflow --help", "Prints the columns of a stream"),
+        ("arrowflow --help", "Usage: arrowflow <COMMAND>"),
+        (
+            "elsewhere/program schema -h",
+            "Usage: arrowflow schema <FILE>",
+        ),
         (
             "arrowflow help schema",
             "  arrowflow schema /dev/stdin < examples/one_column.arrows",

@@ -1,0 +1,50 @@
+-- What the program says of a fault, and its exit status. (Both are this project's own.)
+use Rattle.std.specs.Prelude.{ℕ, List, ◌++◌, codes}
+use Rattle.std.specs.Fmt.{decimal}
+use Rattle.arrow_stream.specs.declared.fault.Fault.{Fault}
+use Rattle.arrow_stream.specs.declared.kind.Kind.{Kind}
+use Rattle.arrow_stream.specs.declared.kind.Kind.TheVariants as kinds
+use Rattle.arrowflow.specs.declared.tool_fault.ToolFault.{ToolFault}
+use Rattle.arrowflow.specs.declared.tool_fault.ToolFault.TheVariants.{Input, Stream, Memory}
+
+-- a kind by its name
+abbrev pub kind_name : Kind → List ℕ
+kind_name kinds.Continuation = codes "Continuation"
+kind_name kinds.MetadataSize = codes "MetadataSize"
+kind_name kinds.Metadata = codes "Metadata"
+kind_name kinds.Version = codes "Version"
+kind_name kinds.Header = codes "Header"
+kind_name kinds.BodyLength = codes "BodyLength"
+kind_name kinds.Order = codes "Order"
+kind_name kinds.Unsupported = codes "Unsupported"
+kind_name kinds.Schema = codes "Schema"
+kind_name kinds.Compressed = codes "Compressed"
+kind_name kinds.UnknownId = codes "UnknownId"
+kind_name kinds.NoBase = codes "NoBase"
+kind_name kinds.Rows = codes "Rows"
+kind_name kinds.Layout = codes "Layout"
+kind_name kinds.Text = codes "Text"
+kind_name kinds.Index = codes "Index"
+kind_name kinds.NoSchema = codes "NoSchema"
+kind_name kinds.Truncated = codes "Truncated"
+kind_name kinds.Memory = codes "Memory"
+
+-- a fault's line, by the name of the input that was read
+abbrev pub fault_line : ToolFault → List ℕ → List ℕ
+fault_line (Input number) read = codes "cannot read " ++ read
+fault_line (Stream fault) read = codes "fault at byte " ++ decimal fault.place ++ codes ": " ++ kind_name fault.kind
+fault_line Memory read = codes "out of memory"
+
+-- 1 where a stream was refused, 2 where the input or the memory failed
+abbrev pub status_of : ToolFault → ℕ
+status_of (Input number) = 2
+status_of (Stream fault) = 1
+status_of Memory = 2
+
+-- a reader's fault as one of the program's: want of memory says nothing of the stream
+abbrev told_as : Kind → Fault → ToolFault
+told_as kinds.Memory fault = Memory
+told_as kind fault = Stream fault
+
+abbrev pub told : Fault → ToolFault
+told fault = told_as fault.kind fault

@@ -1,0 +1,100 @@
+//! Faults of the program's commands, with the line and the exit status of each.
+
+ghost use Rattle.std.specs.Prelude.{◌≡◌, IfOk, string_bytes};
+ghost use Rattle.arrowflow.specs.Faults.{fault_line, kind_name, status_of, told};
+
+use arrow_stream::{Fault, Kind};
+use std::alloc::{AllocError, Global};
+use std::fmt::Write;
+use thiserror::Error;
+
+/// Why a command gives no answer.
+#[derive(Debug, Drop, Error)]
+pub enum ToolFault {
+    /// The input of this number, counted from 0, could not be read. An interrupted read counts as failed.
+    #[error("cannot read input {0}")]
+    Input(u64),
+    /// A stream was refused, or ended too early.
+    #[error("fault at byte {}: {:?}", .0.place, .0.kind)]
+    Stream(Fault),
+    /// A growth was refused.
+    #[error("out of memory")]
+    Memory,
+}
+
+/// A reader's fault: `Memory` where a growth was refused, else `Stream`.
+impl From<Fault> for ToolFault {
+    ghost from_gives = { λ fault tool. tool ≡ told fault };
+
+    fn from(fault: Fault) -> ToolFault {
+        match fault.kind {
+            Kind::Memory => ToolFault::Memory,
+            _ => ToolFault::Stream(fault),
+        }
+    }
+}
+
+impl ToolFault {
+    /// The line that the program prints of the fault to standard error, without its line feed, or `AllocError` where
+    /// a growth was refused. `read` is the name of the input that failed, and the second name that of the output,
+    /// which stands in no line as long as no command writes to one.
+    ///
+    /// `cannot read NAME`, `fault at byte P: KIND` with the place of the message in bytes from the stream's beginning
+    /// and the kind by its name, or `out of memory`.
+    pub fn line(&self, alloc: Global, read: &str, _written: &str) -> Result<String, AllocError>
+        ensures { IfOk result (λ line. string_bytes line ≡ fault_line self.now read.now) }
+    {
+        let mut line = String::new(alloc);
+        match self {
+            ToolFault::Input(_) => {
+                line.push_str("cannot read ")?;
+                line.push_str(read)?;
+            }
+            ToolFault::Stream(fault) => {
+                line.push_str("fault at byte ")?;
+                write!(line, "{}", fault.place)?;
+                line.push_str(": ")?;
+                line.push_str(kind_name(fault.kind))?;
+            }
+            ToolFault::Memory => line.push_str("out of memory")?,
+        }
+        Ok(line)
+    }
+
+    /// The program's exit status: 1 where a stream was refused, 2 where an input or memory failed.
+    pub fn status(&self) -> u8
+        ensures { result ≡ status_of self.now }
+    {
+        match self {
+            ToolFault::Stream(_) => 1,
+            ToolFault::Input(_) | ToolFault::Memory => 2,
+        }
+    }
+}
+
+/// The name of a kind.
+fn kind_name(kind: Kind) -> &'static str
+    ensures { result.now ≡ kind_name kind }
+{
+    match kind {
+        Kind::Continuation => "Continuation",
+        Kind::MetadataSize => "MetadataSize",
+        Kind::Metadata => "Metadata",
+        Kind::Version => "Version",
+        Kind::Header => "Header",
+        Kind::BodyLength => "BodyLength",
+        Kind::Order => "Order",
+        Kind::Unsupported => "Unsupported",
+        Kind::Schema => "Schema",
+        Kind::Compressed => "Compressed",
+        Kind::UnknownId => "UnknownId",
+        Kind::NoBase => "NoBase",
+        Kind::Rows => "Rows",
+        Kind::Layout => "Layout",
+        Kind::Text => "Text",
+        Kind::Index => "Index",
+        Kind::NoSchema => "NoSchema",
+        Kind::Truncated => "Truncated",
+        Kind::Memory => "Memory",
+    }
+}
