@@ -1,9 +1,9 @@
 -- The front of bytes: there is one, and more bytes go on from it.
-use Rattle.std.proofs.Common.{◌≡◌, ℕ, ◌+◌, ◌<◌, ◌≤◌, List, [], ◌∷◌, ◌++◌, length, take, drop, refl, sym, ap, ◌∙◌, subst, arith, length-drop}
+use Rattle.std.proofs.Common.{◌≡◌, ℕ, ◌+◌, List, [], ◌∷◌, ◌++◌, length, drop, refl, sym, ap, ◌∙◌, subst, arith, length-drop}
 use Rattle.std.proofs.lemmas.List.{drop-append-le}
 use Rattle.arrow_types.specs.Limits.{LimitNumbers}
 use Rattle.arrow_stream.specs.declared.reader.Verdict.TheVariants.{Open, Done, Bad}
-use Rattle.arrow_stream.specs.State.{StreamState, Given, ended}
+use Rattle.arrow_stream.specs.State.{StreamState, ended}
 use Rattle.arrow_stream.specs.Frame.{Outcome, whole, marker, refused, waits, First}
 use Rattle.arrow_stream.specs.Front.{Entry, Standing, Front, rests, fails, closes, goes_on}
 use Rattle.arrow_stream.proofs.Firsts.{First-append, one_first, First-within, marker-within}

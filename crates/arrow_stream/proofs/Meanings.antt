@@ -2,19 +2,18 @@
 use Rattle.std.proofs.Common.{◌≡◌, ℕ, ◌≤◌, Bool, true, false, cond, List, ◌+◌, length, refl, sym, ap, ◌∙◌, subst, arith, Option, Some, None, Result, Ok, Err}
 use Rattle.std.specs.Prelude.{◌||◌, ◌&&◌, ◌==◌, not, nat_lt}
 use Rattle.std.proofs.lemmas.Bool.{ltb-false}
-use Rattle.arrow_types.specs.Field.{Fields}
 use Rattle.arrow_types.specs.Limits.{LimitNumbers}
 use Rattle.arrow_meta.specs.declared.fault.BatchKind.{BatchKind}
 use Rattle.arrow_meta.specs.declared.fault.MetaFault.{MetaFault}
 use Rattle.arrow_meta.specs.declared.fault.MetaFault.TheVariants as faults
 use Rattle.arrow_meta.specs.declared.kinds.Kind.TheVariants as tables
 use Rattle.arrow_meta.specs.Conditions.{any, any_in, lacks_table, is_misfit}
-use Rattle.arrow_meta.specs.Faults.{fault_of, is_schema, is_dictionary, header_of, body_of, version_of, has_header, is_bad_length, is_unsupported_schema, shares_an_id, batch_kind, batch_parts}
+use Rattle.arrow_meta.specs.Faults.{fault_of, is_schema, header_of, body_of, version_of, has_header, is_bad_length, is_unsupported_schema, shares_an_id, batch_kind, batch_parts}
 use Rattle.arrow_meta.specs.Judges.{Judges, IsTreeOf}
 use Rattle.arrow_meta.specs.Lies.{Lies, LiesAtRoot}
 use Rattle.arrow_meta.specs.Means.{Means as Sound, message_view, header_view, PlainHeader, PlainMessage, schema, dictionary, batch, meaning_of}
 use Rattle.arrow_meta.specs.Parts.{nth, parts, is_there}
-use Rattle.arrow_meta.specs.Trees.{Tree, Trees}
+use Rattle.arrow_meta.specs.Trees.{Tree}
 use Rattle.arrow_meta.proofs.OneTree.{one_table}
 use Rattle.arrow_stream.specs.Message as Announced
 use Rattle.arrow_stream.specs.Message.{Message}

@@ -1,9 +1,9 @@
 -- How a step of the work moves a reader along its stream.
-use Rattle.std.proofs.Common.{false, ◌≡◌, ℕ, ◌+◌, ◌-◌, ◌<◌, ◌≤◌, List, [], ◌∷◌, ◌++◌, length, take, drop, refl, sym, ap, ◌∙◌, subst, arith, append_assoc, length-append, length-take, length-drop, inl, inr}
+use Rattle.std.proofs.Common.{◌≡◌, ℕ, ◌+◌, ◌-◌, ◌<◌, ◌≤◌, List, [], ◌∷◌, ◌++◌, length, take, drop, refl, sym, ap, ◌∙◌, subst, arith, length-append, length-take, inl, inr}
 use Rattle.std.proofs.Math.Seq.{take-append-add, take-append_seam}
 use Rattle.std.proofs.lemmas.Bool.{cases_lt}
 use Rattle.std.proofs.Math.ListN.{drop_of_length-le}
-use Rattle.std.proofs.lemmas.List.{take_all, append-nil, take-append-le}
+use Rattle.std.proofs.lemmas.List.{append-nil, take-append-le}
 use Rattle.arrow_types.specs.Limits.{LimitNumbers}
 use Rattle.arrow_stream.specs.declared.kind.Refusal.{Refusal}
 use Rattle.arrow_stream.specs.declared.item.Item.{Item}
@@ -13,12 +13,12 @@ use Rattle.arrow_stream.specs.declared.reader.Verdict.TheVariants.{Open, Done, B
 use Rattle.arrow_stream.specs.declared.work.Work.{Work}
 use Rattle.arrow_stream.specs.State.{StreamState, ended, nothing_yet}
 use Rattle.arrow_stream.specs.Frame.{Outcome, First, whole, marker, refused, waits, short_prefix}
-use Rattle.arrow_stream.specs.Front.{Entry, Standing, FrontOf, Front, rests, fails, closes, goes_on}
+use Rattle.arrow_stream.specs.Front.{Entry, Standing, FrontOf, rests, fails, closes, goes_on}
 use Rattle.arrow_stream.specs.Views.{plain, given}
-use Rattle.arrow_stream.specs.Work.{Waited, Gave, Marked, FirstAt, Rewound, Stopped}
+use Rattle.arrow_stream.specs.Work.{Waited, Gave, Marked, FirstAt}
 use Rattle.arrow_stream.specs.Stream.{Shows, Stands, fresh}
 use Rattle.arrow_stream.proofs.Firsts.{First-take, marker-take, First-within, marker-within, one_first}
-use Rattle.arrow_stream.proofs.Fronts.{front_then, front_ended, front_place, front_waits, at_bytes}
+use Rattle.arrow_stream.proofs.Fronts.{front_then, front_ended, front_place, at_bytes}
 
 -- what a reader shows, by its work and its verdict
 abbrev pub shown_by : Work → Verdict → Shows

@@ -13,6 +13,8 @@
 #![tactic(auto)]
 
 mod fault;
+#[cfg(test)]
+mod frames;
 mod held;
 mod item;
 mod kind;
@@ -21,6 +23,8 @@ mod message;
 mod prefix;
 mod reader;
 mod state;
+#[cfg(test)]
+mod tests;
 mod work;
 
 pub use fault::Fault;

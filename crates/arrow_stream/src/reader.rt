@@ -158,23 +158,17 @@ impl StreamReader {
     pub fn end(&self) -> Result<(), Fault>
         ensures ended { result ≡ ended_so self.now.at }
     {
-        let place = self.work.place;
-        match self.verdict {
-            Verdict::Bad(refusal) => Err(Fault {
-                kind: refusal.kind(),
-                place,
-            }),
-            Verdict::Done => Ok(()),
-            Verdict::Open if self.work.state.schema.is_none() => Err(Fault {
-                kind: Kind::NoSchema,
-                place,
-            }),
-            Verdict::Open if self.work.held.is_empty() => Ok(()),
-            Verdict::Open => Err(Fault {
-                kind: Kind::Truncated,
-                place,
-            }),
-        }
+        let kind = match self.verdict {
+            Verdict::Bad(refusal) => refusal.kind(),
+            Verdict::Done => return Ok(()),
+            Verdict::Open if self.work.state.schema.is_none() => Kind::NoSchema,
+            Verdict::Open if self.work.held.is_empty() => return Ok(()),
+            Verdict::Open => Kind::Truncated,
+        };
+        Err(Fault {
+            kind,
+            place: self.place(),
+        })
     }
 
     /// Begins a new stream, with the same limits: nothing of the old one is left. It takes no memory.

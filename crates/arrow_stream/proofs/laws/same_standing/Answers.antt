@@ -1,6 +1,5 @@
-use Rattle.std.proofs.Common.{◌≡◌, List, sym, ap, ◌∙◌, subst}
+use Rattle.std.proofs.Common.{sym, ap, ◌∙◌, subst}
 use Rattle.arrow_stream.specs.Front.{Standing, FrontOf}
-use Rattle.arrow_stream.specs.Stream.{Shows, Stands}
 use Rattle.arrow_stream.proofs.Fronts.{one_front}
 use Rattle.arrow_stream.proofs.laws.same_standing.Goals as goal
 

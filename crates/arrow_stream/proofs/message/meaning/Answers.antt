@@ -1,4 +1,4 @@
-use Rattle.std.proofs.Common.{◌≡◌, refl, sym, ap, ◌∙◌, Ok, Err, subst, true, false}
+use Rattle.std.proofs.Common.{sym, ◌∙◌, Err, subst, true, false}
 use Rattle.arrow_stream.specs.Views.{Reads}
 use Rattle.arrow_stream.specs.Meaning.{readable}
 use Rattle.arrow_stream.proofs.Meanings.{means_reads, message_means, fault_reads}

@@ -1,4 +1,4 @@
-use Rattle.std.proofs.Common.{◌≡◌, Ok}
+use Rattle.std.proofs.Common.{Ok}
 use Rattle.arrow_stream.specs.Views.{message_of}
 use Rattle.arrow_stream.proofs.Meanings.{fault_understood}
 use Rattle.arrow_stream.proofs.message.understand.Goals as goal

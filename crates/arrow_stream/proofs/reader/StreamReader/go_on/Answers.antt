@@ -1,11 +1,8 @@
-use Rattle.std.proofs.Common.{◌≡◌, ℕ, ◌-◌, ◌<◌, ◌≤◌, List, [], ◌++◌, ◌∷◌, ◌+◌, length, take, ap, sym, refl, ◌∙◌, subst, arith, length-append, add-zero, inl, inr}
+use Rattle.std.proofs.Common.{◌≡◌, ◌-◌, [], ◌++◌, ◌∷◌, ◌+◌, length, take, ap, sym, refl, ◌∙◌, subst, arith, add-zero, inl, inr}
 use Rattle.std.proofs.lemmas.List.{take_all}
-use Rattle.arrow_stream.specs.declared.reader.Verdict.TheVariants.{Open, Done, Bad}
+use Rattle.arrow_stream.specs.declared.reader.Verdict.TheVariants.{Open, Done}
 use Rattle.arrow_stream.specs.declared.kind.Kind.TheVariants.{Memory}
 use Rattle.arrow_stream.specs.declared.item.Item.TheVariants.{End}
-use Rattle.arrow_stream.specs.Frame.{refused, waits}
-use Rattle.arrow_stream.specs.Front.{Entry}
-use Rattle.arrow_stream.specs.Work.{FirstAt}
 use Rattle.arrow_stream.specs.Views.{plain, given}
 use Rattle.arrow_stream.specs.Stream.{Stands}
 use Rattle.arrow_stream.proofs.Firsts.{First-within, marker-within}

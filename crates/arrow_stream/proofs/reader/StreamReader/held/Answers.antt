@@ -1,4 +1,4 @@
-use Rattle.std.proofs.Common.{◌≡◌, ◌≤◌, ◌+◌, length, subst, arith}
+use Rattle.std.proofs.Common.{◌≤◌, ◌+◌, subst, arith}
 use Rattle.arrow_stream.specs.Views.{plain}
 use Rattle.arrow_stream.specs.Stream.{Shows}
 use Rattle.arrow_stream.proofs.Works.{held_small}

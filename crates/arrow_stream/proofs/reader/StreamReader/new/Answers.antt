@@ -1,4 +1,4 @@
-use Rattle.std.proofs.Common.{◌≡◌, refl, ap, length, arith}
+use Rattle.std.proofs.Common.{refl, ap, length, arith}
 use Rattle.arrow_stream.specs.Frame.{short_prefix}
 use Rattle.arrow_stream.specs.State.{nothing_yet}
 use Rattle.arrow_stream.proofs.Streams.{anew_stands}

@@ -1,6 +1,5 @@
-use Rattle.std.proofs.Common.{◌≡◌, ap, sym, ◌∙◌, subst, arith, inr, refl}
-use Rattle.arrow_stream.specs.declared.reader.Verdict.TheVariants.{Open, Done, Bad}
-use Rattle.arrow_stream.specs.Stream.{Stands}
+use Rattle.std.proofs.Common.{◌≡◌, ap, sym, ◌∙◌, inr}
+use Rattle.arrow_stream.specs.declared.reader.Verdict.TheVariants.{Bad}
 use Rattle.arrow_stream.proofs.Streams.{ended_stands}
 use Rattle.arrow_stream.proofs.reader.StreamReader.read.Goals as goal
 

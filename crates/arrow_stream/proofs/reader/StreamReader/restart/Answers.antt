@@ -1,4 +1,4 @@
-use Rattle.std.proofs.Common.{◌≡◌, refl}
+use Rattle.std.proofs.Common.{refl}
 use Rattle.arrow_stream.specs.Views.{plain}
 use Rattle.arrow_stream.proofs.Streams.{anew_stands, waits_at_nothing}
 use Rattle.arrow_stream.proofs.reader.StreamReader.restart.Goals as goal

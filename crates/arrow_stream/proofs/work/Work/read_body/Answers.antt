@@ -1,6 +1,5 @@
-use Rattle.std.proofs.Common.{◌≡◌, ℕ, ◌+◌, ◌<◌, ◌≤◌, ◌++◌, length, drop, take, refl, sym, ap, ◌∙◌, subst, arith, Result, Ok, Err, length-append}
-use Rattle.arrow_stream.specs.Frame.{HasBody, short_body, message_comes}
-use Rattle.arrow_stream.specs.Views.{plain, given}
+use Rattle.std.proofs.Common.{◌≡◌, ◌+◌, ◌<◌, length, drop, refl, ap, arith}
+use Rattle.arrow_stream.specs.Frame.{short_body, message_comes}
 use Rattle.arrow_stream.proofs.Firsts.{HasMetadata-append, metadata_held, body_held}
 use Rattle.arrow_stream.proofs.Works.{frame_small, body_read, body_comes, all_taken, filled}
 use Rattle.arrow_stream.proofs.work.Work.read_body.Goals as goal

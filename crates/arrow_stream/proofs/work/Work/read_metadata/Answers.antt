@@ -1,4 +1,4 @@
-use Rattle.std.proofs.Common.{◌≡◌, ℕ, ◌+◌, ◌<◌, ◌≤◌, ◌++◌, length, drop, take, refl, sym, ap, ◌∙◌, subst, arith, Result, Ok, Err}
+use Rattle.std.proofs.Common.{◌≡◌, ◌+◌, ◌<◌, length, drop, refl, sym, arith}
 use Rattle.arrow_stream.specs.Frame.{short_metadata}
 use Rattle.arrow_stream.proofs.Firsts.{HasPrefix-append, prefix_held}
 use Rattle.arrow_stream.proofs.Works.{size_small, metadata_read, metadata_stops, all_taken, filled}

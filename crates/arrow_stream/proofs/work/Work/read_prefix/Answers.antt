@@ -1,4 +1,4 @@
-use Rattle.std.proofs.Common.{◌≡◌, ℕ, ◌+◌, ◌<◌, ◌≤◌, ◌++◌, length, drop, take, refl, sym, ap, ◌∙◌, subst, arith, Result, Ok, Err}
+use Rattle.std.proofs.Common.{◌≡◌, ◌<◌, length, drop, refl, sym, ap, ◌∙◌, arith, Ok}
 use Rattle.arrow_stream.specs.Frame.{short_prefix, bad_prefix, end_marker}
 use Rattle.arrow_stream.proofs.Firsts.{prefix_held}
 use Rattle.arrow_stream.proofs.Works.{prefix_read, marker_small, all_taken, filled}

@@ -1,5 +1,4 @@
-use Rattle.std.proofs.Common.{◌≡◌, ℕ, ◌+◌, ◌≤◌, length, take, refl, sym, ap, subst, arith, Ok, length-take}
-use Rattle.arrow_stream.specs.Frame.{HasMetadata}
+use Rattle.std.proofs.Common.{◌+◌, ◌≤◌, length, take, refl, sym, subst, arith, length-take}
 use Rattle.arrow_stream.specs.Views.{plain}
 use Rattle.arrow_stream.specs.Work.{Shown}
 use Rattle.arrow_stream.proofs.Firsts.{HasPrefix-take, HasMetadata-take}
