@@ -1,0 +1,45 @@
+-- The slots of ranges.
+use Rattle.std.proofs.Common.{◌≡◌, ℕ, ◌+◌, ◌*◌, ◌<◌, ◌≤◌, Bool, true, false, List, [], ◌∷◌, length, map, refl, sym, inl, inr, ap, ◌∙◌, subst, arith, if◌then◌else◌}
+use Rattle.std.proofs.lemmas.List.FromFn.{get_or-map-range_with_len, length-map-range_with_len}
+use Rattle.arrow_bits.specs.Numbers.{IsWidth}
+use Rattle.arrow_types.specs.Field.{TypeShape}
+use Rattle.arrow_array.specs.PlainValue.{PlainValue, value_at, null_value, struct_value, values_of}
+use Rattle.arrow_array.specs.Column.{Column, HasParts, row_of}
+use Rattle.arrow_array.specs.Slots.{slots, struct_slot, is_valid_at}
+use Rattle.arrow_array.specs.Node.{bytes_of, AreStructs}
+use Rattle.arrow_array.specs.declared.byte_range.ByteRange.{ByteRange}
+
+-- there are as many values as slots
+pub length_slots : (n : ℕ) (f : ℕ → PlainValue) → length (slots n f) ≡ n
+length_slots n f = length-map-range_with_len f 0 n
+
+-- the value of a slot
+pub at_slots : (n : ℕ) (f : ℕ → PlainValue) (i : ℕ) → i < n → value_at (slots n f) i ≡ f i
+at_slots n f i h = get_or-map-range_with_len f 0 n i i null_value h (omega arith)
+
+-- the bytes of a slot of fixed width
+pub slot_inside : (width i n m : ℕ) → IsWidth width → i < n → width * n ≤ m → width * i + width ≤ m
+slot_inside width i n m (inl e) h long = subst (λ w. w * i + w ≤ m) (sym e) (omega (arith, subst (λ w. w * n ≤ m) e long))
+slot_inside width i n m (inr (inl e)) h long = subst (λ w. w * i + w ≤ m) (sym e) (omega (arith, subst (λ w. w * n ≤ m) e long))
+slot_inside width i n m (inr (inr (inl e))) h long = subst (λ w. w * i + w ≤ m) (sym e) (omega (arith, subst (λ w. w * n ≤ m) e long))
+slot_inside width i n m (inr (inr (inr e))) h long = subst (λ w. w * i + w ≤ m) (sym e) (omega (arith, subst (λ w. w * n ≤ m) e long))
+
+pub ruleset shown = (length_slots, at_slots, slot_inside)
+
+-- the values at a slot of the columns' values are those of the columns
+pub row_same : (cs : List Column) (i : ℕ) → map (λ values. value_at values i) (map (λ (x : Column). x.raw) cs) ≡ row_of cs i
+row_same [] i = refl
+row_same (c ∷ cs) i = ap (λ vs. value_at c.raw i ∷ vs) (row_same cs i)
+
+-- what a valid slot of a struct shows
+pub parts_shown : (c : Column) (n i : ℕ) (t : TypeShape) (body : List ℕ) (v : ByteRange) (cs : List Column)
+    → c.raw ≡ slots n (λ j. struct_slot (bytes_of body v) (map (λ (x : Column). x.raw) cs) j) → c.data_type ≡ t → AreStructs n t body v cs
+    → i < n → is_valid_at (bytes_of body v) i ≡ true → HasParts c i cs
+parts_shown c n i t body v cs raw shape ok within valid =
+    let slot = struct_slot (bytes_of body v) (map (λ (x : Column). x.raw) cs) in
+    let long : length c.raw ≡ n = ap length raw ∙ length_slots n (λ j. slot j) in
+    record {
+      typed = rw shape ok.typed;
+      longer = rw long ok.longer;
+      same = rw raw (at_slots n (λ j. slot j) i within ∙ ap (λ b. if b then struct_value (values_of (map (λ values. value_at values i) (map (λ (x : Column). x.raw) cs))) else null_value) valid ∙ ap (λ vs. struct_value (values_of vs)) (row_same cs i));
+    }

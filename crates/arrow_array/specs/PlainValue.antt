@@ -1,0 +1,65 @@
+-- The values of slots as plain data, without where they lie in memory (Columnar Format, "Terminology").
+use Rattle.std.specs.Prelude.{ℕ, zero, suc, ℤ, Bool, true, false, List, [], ◌∷◌, Option, Some, None, slice_index_or}
+
+mutual
+  -- A value of any type. Dates, times and timestamps are their numbers, a text is its bytes.
+  pub data PlainValue : Type 0 where
+    null_value : PlainValue
+    bool_value : Bool → PlainValue
+    int_value : ℤ → PlainValue
+    binary_value : List ℕ → PlainValue
+    utf8_value : List ℕ → PlainValue
+    list_value : PlainValues → PlainValue
+    struct_value : PlainValues → PlainValue
+
+  -- values one after another: the items of a list, or one of each field of a struct
+  pub data PlainValues : Type 0 where
+    no_values : PlainValues
+    more_values : PlainValue → PlainValues → PlainValues
+
+abbrev pub values_of : List PlainValue → PlainValues
+values_of [] = no_values
+values_of (value ∷ values) = more_values value (values_of values)
+
+-- the value of a slot, of those that there are
+abbrev pub value_at : List PlainValue → ℕ → PlainValue
+value_at values j = slice_index_or values j null_value
+
+abbrev pub is_null_value : PlainValue → Bool
+is_null_value null_value = true
+is_null_value _ = false
+
+-- the truth value, if it is one
+abbrev pub bool_in : PlainValue → Option Bool
+bool_in (bool_value b) = Some b
+bool_in _ = None
+
+-- the number, if it is one
+abbrev pub int_in : PlainValue → Option ℤ
+int_in (int_value z) = Some z
+int_in _ = None
+
+-- the bytes, if it is a byte string
+abbrev pub binary_in : PlainValue → Option (List ℕ)
+binary_in (binary_value bytes) = Some bytes
+binary_in _ = None
+
+-- the bytes of the text, if it is one
+abbrev pub utf8_in : PlainValue → Option (List ℕ)
+utf8_in (utf8_value bytes) = Some bytes
+utf8_in _ = None
+
+-- the items, if it is a list
+abbrev pub items_in : PlainValue → Option PlainValues
+items_in (list_value values) = Some values
+items_in _ = None
+
+abbrev pub nth_value : ℕ → PlainValues → PlainValue
+nth_value k no_values = null_value
+nth_value zero (more_values value _) = value
+nth_value (suc k) (more_values _ rest) = nth_value k rest
+
+-- the value of field k of a struct's value
+abbrev pub field_value : ℕ → PlainValue → PlainValue
+field_value k (struct_value values) = nth_value k values
+field_value k _ = null_value

@@ -1,0 +1,76 @@
+-- What the buffers of a node hold at each slot, by index (Columnar Format, "Physical Memory Layout"). A buffer is given by
+-- its bytes.
+use Rattle.std.specs.Prelude.{◌≡◌, ◌≤◌, ◌<◌, ◌+◌, ◌*◌, ◌/◌, ◌||◌, ℕ, Bool, true, false, nat_eq, List, length, map, slice_range, if◌then◌else◌, IsUtf8}
+use Rattle.std.specs.List.{range_with_len}
+use Rattle.arrow_bits.specs.Bitmap.{bit_of}
+use Rattle.arrow_bits.specs.Numbers.{number_at, int_of}
+use Rattle.arrow_bits.specs.Offsets.{AreOffsets}
+use Rattle.arrow_types.specs.DataType.{Tag, int, date, time, timestamp, bits_of, date_width_of, time_width_of}
+use Rattle.arrow_array.specs.PlainValue.{PlainValue, null_value, bool_value, int_value, binary_value, utf8_value, list_value, struct_value, values_of, value_at}
+
+-- slot j is valid: its bit is set, or there is no bitmap (Columnar Format, "Validity bitmaps")
+abbrev pub is_valid_at : List ℕ → ℕ → Bool
+is_valid_at validity j = nat_eq (length validity) 0 || bit_of validity j
+
+-- the value where slot j is valid
+abbrev pub or_null : List ℕ → ℕ → PlainValue → PlainValue
+or_null validity j value = if is_valid_at validity j then value else null_value
+
+abbrev pub bool_slot : List ℕ → List ℕ → ℕ → PlainValue
+bool_slot validity values j = or_null validity j (bool_value (bit_of values j))
+
+-- (Columnar Format, "Fixed-size Primitive Layout")
+abbrev pub int_slot : ℕ → Bool → List ℕ → List ℕ → ℕ → PlainValue
+int_slot width signed validity values j = or_null validity j (int_value (int_of values (width * j) width signed))
+
+-- offset j, which is never negative where offsets are as they should (Columnar Format, "Variable-size Binary Layout")
+abbrev pub place_of : List ℕ → ℕ → ℕ
+place_of offsets j = number_at offsets (4 * j) 4
+
+-- what stands from offset j up to the next one
+abbrev pub range_of : {A : Type 0} → List ℕ → List A → ℕ → List A
+range_of offsets xs j = slice_range xs (place_of offsets j) (place_of offsets (j + 1))
+
+abbrev pub binary_slot : List ℕ → List ℕ → List ℕ → ℕ → PlainValue
+binary_slot validity offsets bytes j = or_null validity j (binary_value (range_of offsets bytes j))
+
+abbrev pub utf8_slot : List ℕ → List ℕ → List ℕ → ℕ → PlainValue
+utf8_slot validity offsets bytes j = or_null validity j (utf8_value (range_of offsets bytes j))
+
+-- the items out of the values of the child (Columnar Format, "Variable-size List Layout")
+abbrev pub list_slot : List ℕ → List ℕ → List PlainValue → ℕ → PlainValue
+list_slot validity offsets child j = or_null validity j (list_value (values_of (range_of offsets child j)))
+
+-- slot j of the values of each child (Columnar Format, "Struct Layout")
+abbrev pub struct_slot : List ℕ → List (List PlainValue) → ℕ → PlainValue
+struct_slot validity children j = or_null validity j (struct_value (values_of (map (λ values. value_at values j) children)))
+
+-- the values of the first `len` slots
+abbrev pub slots : ℕ → (ℕ → PlainValue) → List PlainValue
+slots len slot = map slot (range_with_len 0 len)
+
+-- there is no bitmap, or it has `len` bits
+abbrev pub HasBits : ℕ → List ℕ → Type 0
+HasBits len bits = 0 < length bits → len ≤ 8 * length bits
+
+-- `len` ranges that end at `top` or before; for no slots the offsets may be left out
+abbrev pub HasOffsets : ℕ → ℕ → List ℕ → Type 0
+HasOffsets len top offsets = 0 < len + length offsets → AreOffsets offsets len top
+
+-- each valid slot is a text in UTF-8
+abbrev pub AreTexts : ℕ → List ℕ → List ℕ → List ℕ → Type 0
+AreTexts len validity offsets bytes = (j : ℕ) → j < len → is_valid_at validity j ≡ true → IsUtf8 (range_of offsets bytes j)
+
+-- how many bytes one number of the type takes, 0 of a type that has no numbers (Schema.fbs, "Int", "Date", "Time",
+-- "Timestamp")
+abbrev pub width_of : Tag → ℕ
+width_of (int bits signed) = bits_of bits / 8
+width_of (date unit) = bits_of (date_width_of unit) / 8
+width_of (time unit) = bits_of (time_width_of unit) / 8
+width_of (timestamp unit _) = 8
+width_of _ = 0
+
+-- whether the type's numbers have a sign: all but those of an unsigned Int
+abbrev pub is_signed : Tag → Bool
+is_signed (int bits signed) = signed
+is_signed _ = true

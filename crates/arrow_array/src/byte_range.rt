@@ -1,0 +1,19 @@
+//! Ranges of a message body.
+
+ghost use Rattle.std.specs.Prelude.{◌≡◌};
+ghost use Rattle.arrow_array.specs.Node.{bytes_of, IsInside};
+
+/// The bytes of a body from `start` up to `end`, counted from its first byte.
+#[derive(Clone, Copy, Debug)]
+pub struct ByteRange {
+    pub start: usize,
+    pub end: usize,
+}
+
+// The bytes of a range.
+pub(crate) fn bytes_in(body: &[u8], range: ByteRange) -> &[u8]
+    requires { IsInside body.now range }
+    ensures { result.now ≡ bytes_of body.now range }
+{
+    &body[range.start..range.end]
+}

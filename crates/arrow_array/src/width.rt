@@ -1,0 +1,31 @@
+//! The width and the sign of a type's numbers.
+
+ghost use Rattle.std.specs.Prelude.{◌≡◌};
+ghost use Rattle.arrow_types.specs.View.{type_view};
+ghost use Rattle.arrow_array.specs.Slots.{width_of, is_signed};
+
+use arrow_types::DataType;
+
+// How many bytes a number of the type takes, 0 of a type that has no numbers.
+pub(crate) fn width(data_type: &DataType) -> usize
+    ensures { result ≡ width_of (type_view data_type.now).tag }
+{
+    let bits = match data_type {
+        DataType::Int { bits, .. } => bits.bits(),
+        DataType::Date(unit) => unit.width().bits(),
+        DataType::Time(unit) => unit.time_width().bits(),
+        DataType::Timestamp(..) => 64,
+        _ => 0,
+    };
+    (bits / 8) as usize
+}
+
+// Whether the type's numbers have a sign.
+pub(crate) fn signed(data_type: &DataType) -> bool
+    ensures { result ≡ is_signed (type_view data_type.now).tag }
+{
+    match data_type {
+        DataType::Int { signed, .. } => *signed,
+        _ => true,
+    }
+}
