@@ -5,3 +5,4 @@ pub mod Slots
 pub mod Node
 pub mod Falls
 pub mod Shown
+pub mod Same

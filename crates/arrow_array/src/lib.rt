@@ -14,6 +14,7 @@
 mod array;
 mod byte_range;
 mod node;
+mod same;
 mod slot;
 mod width;
 

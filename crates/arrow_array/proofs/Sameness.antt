@@ -1,0 +1,79 @@
+-- When two slots are the same.
+use Rattle.std.proofs.Common.{◌≡◌, ◌↔◌, ℕ, zero, suc, ◌+◌, ◌-◌, ◌*◌, ◌<◌, ◌≤◌, List, [], ◌∷◌, length, map, take, drop, get_or, refl, sym, ap, ◌∙◌, subst, arith, min, length-drop, Bool, true, false, IsTrue}
+use Rattle.std.proofs.lemmas.List.{ext_get_or, get_or-take, get_or-drop, length-take}
+use Rattle.std.specs.List.{AllByRecursion}
+use denote.Param.Weighed.{most}
+use Rattle.arrow_types.specs.Field.{levels}
+use Rattle.arrow_array.specs.PlainValue.{PlainValue, PlainValues, value_at, null_value, list_value, struct_value, values_of}
+use Rattle.arrow_array.specs.Column.{Column, AreOf, HasItems, HasParts, column_size, values_from, row_of}
+use Rattle.arrow_array.specs.Falls.{most_le-levels}
+use Rattle.arrow_array.specs.Same.{HaveSlot, slot_measure, items_measure, parts_measure}
+
+pub values_same : (xs ys : List PlainValue) → values_of xs ≡ values_of ys → xs ≡ ys
+values_same [] [] e = refl
+values_same (x ∷ xs) (y ∷ ys) e = let tail : values_of xs ≡ values_of ys = cc in let rest = values_same xs ys tail in let head : x ≡ y = cc in cc
+values_same [] (y ∷ ys) e = cc
+values_same (x ∷ xs) [] e = cc
+
+pub child_smaller : (c child : Column) → AreOf c.data_type.children (child ∷ []) → items_measure child < slot_measure c
+child_smaller c child h = omega (arith, most_le-levels c.data_type.children (child ∷ []) h)
+
+pub parts_smaller : (c : Column) (cs : List Column) → AreOf c.data_type.children cs → parts_measure cs < slot_measure c
+parts_smaller c cs h = omega (arith, most_le-levels c.data_type.children cs h)
+
+pub part_smaller : (cs : List Column) (k : ℕ) (d : Column) → k < length cs → slot_measure (get_or cs k d) < parts_measure cs
+part_smaller [] k d h = absurd (omega arith)
+part_smaller (c ∷ cs) zero d h = omega arith
+part_smaller (c ∷ cs) (suc k) d h = omega (arith, part_smaller cs k d (omega arith))
+
+pub items_agree : (c d : Column) (i j start end from to : ℕ) (a b : Column) (r : Bool) → HasItems c i start end a → HasItems d j from to b
+    → (IsTrue r ↔ (values_from a start end ≡ values_from b from to)) → IsTrue r ↔ (value_at c.raw i ≡ value_at d.raw j)
+items_agree c d i j start end from to a b r h g s = (
+  λ t. let e = s.0 t in h.same ∙ ap (λ vs. list_value (values_of vs)) e ∙ sym g.same,
+  λ e. let inner : values_of (values_from a start end) ≡ values_of (values_from b from to) = cc in s.1 (values_same _ _ inner),
+)
+
+pub parts_agree : (c d : Column) (i j : ℕ) (cs ds : List Column) (r : Bool) → HasParts c i cs → HasParts d j ds
+    → (IsTrue r ↔ (row_of cs i ≡ row_of ds j)) → IsTrue r ↔ (value_at c.raw i ≡ value_at d.raw j)
+parts_agree c d i j cs ds r h g s = (
+  λ t. let e = s.0 t in h.same ∙ ap (λ vs. struct_value (values_of vs)) e ∙ sym g.same,
+  λ e. let inner : values_of (row_of cs i) ≡ values_of (row_of ds j) = cc in s.1 (values_same _ _ inner),
+)
+
+pub length-values_from : (c : Column) (start end : ℕ) → end ≤ length c.raw → length (values_from c start end) ≡ end - start
+length-values_from c start end h = omega (arith, length-take (end - start) (drop start c.raw), length-drop start c.raw)
+
+pub at_values_from : (c : Column) (start end k : ℕ) → k < end - start → get_or (values_from c start end) k null_value ≡ value_at c.raw (start + k)
+at_values_from c start end k h = get_or-take (end - start) (drop start c.raw) k null_value h ∙ get_or-drop start c.raw k null_value
+
+pub items_same : (a b : Column) (start end from to : ℕ) → end ≤ length a.raw → to ≤ length b.raw → end - start ≡ to - from
+    → ((k : ℕ) → k < end - start → value_at a.raw (start + k) ≡ value_at b.raw (from + k)) → values_from a start end ≡ values_from b from to
+items_same a b start end from to p q n f =
+    ext_get_or null_value (values_from a start end) (values_from b from to) (length-values_from a start end p ∙ n ∙ sym (length-values_from b from to q))
+    (λ k h. let l : k < end - start = omega (arith, length-values_from a start end p) in
+    at_values_from a start end k l ∙ f k l ∙ sym (at_values_from b from to k (omega arith)))
+
+pub length-row_of : (cs : List Column) (i : ℕ) → length (row_of cs i) ≡ length cs
+length-row_of [] i = refl
+length-row_of (c ∷ cs) i = ap suc (length-row_of cs i)
+
+pub at_row_of : (cs : List Column) (i k : ℕ) (d : Column) → k < length cs → get_or (row_of cs i) k null_value ≡ value_at (get_or cs k d).raw i
+at_row_of [] i k d h = absurd (omega arith)
+at_row_of (c ∷ cs) i zero d h = refl
+at_row_of (c ∷ cs) i (suc k) d h = at_row_of cs i k d (omega arith)
+
+pub longer_at : (n : ℕ) (cs : List Column) (k : ℕ) (d : Column) → HaveSlot n cs → k < length cs → n < length (get_or cs k d).raw
+longer_at n [] k d h l = absurd (omega arith)
+longer_at n (c ∷ cs) zero d h l = omega (arith, h.0)
+longer_at n (c ∷ cs) (suc k) d h l = longer_at n cs k d h.1 (omega arith)
+
+pub longer : (n i : ℕ) (cs : List Column) → i < n → AllByRecursion (λ (d : Column). n ≤ length d.raw) cs → HaveSlot i cs
+longer n i [] l h = tt
+longer n i (c ∷ cs) l h = (omega (arith, h.0), longer n i cs l h.1)
+
+pub rows_same : (cs ds : List Column) (i j : ℕ) → length cs ≡ length ds → ((k : ℕ) → k < length cs → get_or (row_of cs i) k null_value ≡ get_or (row_of ds j) k null_value) → row_of cs i ≡ row_of ds j
+rows_same cs ds i j n f =
+    ext_get_or null_value (row_of cs i) (row_of ds j) (length-row_of cs i ∙ n ∙ sym (length-row_of ds j)) (λ k h. f k (omega (arith, length-row_of cs i)))
+
+pub read_row : (cs : List Column) (i k : ℕ) (x : Column) → k < length cs → x ≡ get_or cs k x → get_or (row_of cs i) k null_value ≡ value_at x.raw i
+read_row cs i k x h e = at_row_of cs i k x h ∙ ap (λ (d : Column). value_at d.raw i) (sym e)
