@@ -1,12 +1,10 @@
 -- The fields of a row of trees, one by one: only a Field table is a field.
-use Rattle.std.proofs.Common.{◌≡◌, ℕ, Bool, true, false, List, [], ◌∷◌, ◌++◌, refl, sym, ap, ◌∙◌, subst, true≢false, append_assoc, map}
-use Rattle.arrow_types.specs.Field.{Fields, FieldShape, fields_of}
-use Rattle.arrow_types.specs.View.{field_view}
-use Rattle.arrow_types.specs.declared.field.Field.{Field}
+use Rattle.std.proofs.Common.{◌≡◌, List, [], ◌∷◌, ◌++◌, refl, ap, ◌∙◌}
+use Rattle.arrow_types.specs.Field.{FieldShape, fields_of}
 use Rattle.arrow_meta.specs.declared.kinds.Kind.TheVariants as kinds
 use Rattle.arrow_meta.specs.declared.message_tree.Tree.{Tree as Built}
-use Rattle.arrow_meta.specs.SchemaMeaning.{is_field, with_field, fields_from, field_of}
-use Rattle.arrow_meta.specs.Trees.{Tree, leaf, table, tables, Trees, none, more}
+use Rattle.arrow_meta.specs.SchemaMeaning.{with_field, fields_from, field_of}
+use Rattle.arrow_meta.specs.Trees.{Tree, leaf, table, tables}
 use Rattle.arrow_meta.specs.Views.{plain, plain_all}
 
 -- the field of a Field table, none of anything else

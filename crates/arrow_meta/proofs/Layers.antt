@@ -1,5 +1,5 @@
 -- What a layer says of the trees that lie there.
-use Rattle.std.proofs.Common.{◌≡◌, ℕ, ◌+◌, ◌<◌, ◌⊎◌, inl, inr, List, Option, Some, None, Result, option_map, refl, sym, ap, subst, ◌∙◌, arith}
+use Rattle.std.proofs.Common.{◌≡◌, ℕ, ◌+◌, ◌<◌, ◌⊎◌, inl, inr, List, Option, Some, None, option_map, refl, sym, ap, subst, ◌∙◌, arith}
 use Rattle.arrow_meta.specs.declared.kinds.Kind.{Kind}
 use Rattle.arrow_meta.specs.declared.kinds.Shape.{Shape}
 use Rattle.arrow_meta.specs.declared.kinds.Shape.TheVariants as shapes
@@ -8,11 +8,10 @@ use Rattle.arrow_flatbuf.specs.Table.{table_at, TableAt}
 use Rattle.arrow_flatbuf.specs.Vector.{vector_at, VectorAt}
 use Rattle.arrow_meta.specs.Kinds.{spots_of, opened}
 use Rattle.arrow_meta.specs.Kinds.{Spot}
-use Rattle.arrow_meta.specs.declared.fault.MetaFault.{MetaFault}
-use Rattle.arrow_meta.specs.Lies.{AllStand, layer, layer_at, Layer, leaf_layer, table_layer, tables_layer, elements}
-use Rattle.arrow_meta.specs.Trees.{Leaf, Tree, leaf, table, tables}
+use Rattle.arrow_meta.specs.Lies.{AllStand, layer, layer_at, leaf_layer, table_layer, tables_layer, elements}
+use Rattle.arrow_meta.specs.Trees.{Leaf, leaf, table, tables}
 use Rattle.arrow_meta.specs.Within.{visit, text_bytes, text_length, Room}
-use Rattle.arrow_meta.specs.Reads.{NoneFits, NoRowFits, ReadsTree}
+use Rattle.arrow_meta.specs.Reads.{NoneFits, NoRowFits}
 use Rattle.arrow_meta.proofs.OneTree.{one}
 
 -- the layer of a field that is there

@@ -1,7 +1,7 @@
 -- From the tests before a message is built, and from its building, to the least fault.
-use Rattle.std.proofs.Common.{◌≡◌, ℕ, ◌==◌, ◌≤◌, Bool, true, false, ◌||◌, ◌&&◌, not, if◌then◌else◌, nat_lt, List, [], ◌∷◌, Option, Some, None, Result, Ok, Err, ◌⊎◌, inl, inr, refl, sym, ap, ◌∙◌, subst, true≢false, arith}
+use Rattle.std.proofs.Common.{◌≡◌, ℕ, ◌==◌, ◌≤◌, Bool, true, false, ◌||◌, ◌&&◌, not, if◌then◌else◌, nat_lt, [], ◌∷◌, Option, Some, None, Result, Ok, Err, ◌⊎◌, inl, inr, refl, sym, ap, ◌∙◌, subst, true≢false, arith}
 use Rattle.std.proofs.lemmas.Bool.{le-ltb, ltb-false, eqb-true, eq-eqb}
-use Rattle.arrow_types.specs.Field.{Fields, levels, count}
+use Rattle.arrow_types.specs.Field.{levels, count}
 use Rattle.arrow_types.specs.Schema.{fault_of as schema_fault_of, is_nested, types_differ, dictionary_fields}
 use Rattle.arrow_types.specs.declared.schema.SchemaFault.{SchemaFault}
 use Rattle.arrow_types.specs.declared.schema.SchemaFault.TheVariants as schema_faults
@@ -16,7 +16,7 @@ use Rattle.arrow_meta.specs.Judges.{Judges, LengthFits}
 use Rattle.arrow_meta.specs.Means.{PlainMessage}
 use Rattle.arrow_meta.specs.Parts.{nth, parts, is_there}
 use Rattle.arrow_meta.specs.SchemaMeaning.{schema_fields}
-use Rattle.arrow_meta.specs.Trees.{Tree, leaf, table, tables, Trees, none}
+use Rattle.arrow_meta.specs.Trees.{Tree, leaf, table, tables, Trees}
 use Rattle.arrow_meta.specs.Within.{IsShallow}
 use Rattle.arrow_meta.proofs.Misfits.{or_right}
 use Rattle.arrow_meta.proofs.Shallow.{schema_levels, schema_count}

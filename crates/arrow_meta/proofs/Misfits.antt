@@ -1,5 +1,5 @@
 -- A misfit below is a misfit, and what is built is smaller than what it is built of.
-use Rattle.std.proofs.Common.{◌≡◌, ℕ, zero, suc, Bool, true, false, ◌||◌, not, refl, sym, ap, ◌∙◌, subst, true≢false, List, [], ◌∷◌, length, Option, ◌+◌, ◌<◌, ◌≤◌, arith}
+use Rattle.std.proofs.Common.{◌≡◌, ℕ, zero, suc, Bool, true, false, ◌||◌, not, refl, sym, true≢false, List, [], ◌∷◌, length, Option, ◌≤◌, arith}
 use Rattle.arrow_types.specs.Field.{width, TypeShape}
 use Rattle.arrow_types.specs.declared.field.Encoding.{Encoding}
 use Rattle.arrow_meta.specs.declared.kinds.Kind.{Kind}
@@ -11,7 +11,7 @@ use Rattle.arrow_meta.specs.Codes.{type_code}
 use Rattle.arrow_meta.specs.Conditions.{any, any_in, is_misfit, children_fit}
 use Rattle.arrow_meta.specs.Parts.{nth, number_at}
 use Rattle.arrow_meta.specs.SchemaMeaning.{fields_in}
-use Rattle.arrow_meta.specs.Trees.{Tree, leaf, table, tables, Trees, none, more}
+use Rattle.arrow_meta.specs.Trees.{table, Trees, none, more}
 
 pub or_left : (a b : Bool) → a ≡ true → (a || b) ≡ true
 or_left true b h = refl

@@ -1,6 +1,6 @@
 -- At most one tree stands at a spot, and one lies at a place.
-use Rattle.std.proofs.Common.{◌≡◌, ℕ, List, [], ◌∷◌, Some, refl, sym, ap, subst, ◌∙◌}
-use Rattle.arrow_flatbuf.specs.Table.{TableAt, table_at}
+use Rattle.std.proofs.Common.{◌≡◌, ℕ, List, [], ◌∷◌, refl, sym, subst, ◌∙◌}
+use Rattle.arrow_flatbuf.specs.Table.{TableAt}
 use Rattle.arrow_meta.specs.declared.kinds.Kind.{Kind}
 use Rattle.arrow_meta.specs.Kinds.{Spot, spots_of}
 use Rattle.arrow_meta.specs.Lies.{Stands, AllStand, Lies}

@@ -1,5 +1,5 @@
 -- The fields that a tree says are no deeper and no more than its Field tables.
-use Rattle.std.proofs.Common.{ℕ, zero, suc, ◌+◌, ◌≤◌, max, refl, arith}
+use Rattle.std.proofs.Common.{ℕ, zero, suc, ◌+◌, ◌≤◌, max, arith}
 use Rattle.arrow_types.specs.Field as columns
 use Rattle.arrow_types.specs.Field.{Fields, count}
 use Rattle.arrow_meta.specs.declared.kinds.Kind.TheVariants as kinds

@@ -1,5 +1,5 @@
 -- The fields of a table, as the program has them.
-use Rattle.std.proofs.Common.{◌≡◌, ℕ, zero, suc, ◌+◌, ◌≤◌, ◌<◌, List, [], ◌∷◌, length, refl, sym, ap, ◌∙◌, arith, map, slice_index_or, Option, Some, None, Bor}
+use Rattle.std.proofs.Common.{◌≡◌, ℕ, zero, suc, ◌≤◌, ◌<◌, List, [], ◌∷◌, length, refl, sym, ap, ◌∙◌, arith, slice_index_or, Option, Some, None, Bor}
 use Rattle.std.specs.Prelude.{slice_get, get_or, MatchOption, IfSome, is_some}
 use Rattle.std.specs.List.{HoldsAt, remove}
 use Rattle.std.proofs.lemmas.Option.{slice_get_read}

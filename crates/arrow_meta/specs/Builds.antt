@@ -1,5 +1,5 @@
 -- What the building of fields, schemas and messages answers.
-use Rattle.std.specs.Prelude.{◌≡◌, ℕ, ◌+◌, Bool, true, false, not, Result, Ok, Err, Option, None, Some, List, length, ◌⊎◌, Vec}
+use Rattle.std.specs.Prelude.{◌≡◌, ℕ, ◌+◌, Bool, true, not, Result, Ok, Err, Option, None, Some, List, length, ◌⊎◌, Vec}
 use Rattle.std.specs.declared.alloc.Global.{Global}
 use Rattle.arrow_types.specs.DataType.{Tag}
 use Rattle.arrow_types.specs.Field as columns

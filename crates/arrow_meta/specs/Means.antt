@@ -1,5 +1,5 @@
 -- What a message is, without where it lies in memory, and which message a tree means.
-use Rattle.std.specs.Prelude.{◌≡◌, ℕ, ℤ, Bool, List, map, Option, None, ◌==◌, if◌then◌else◌}
+use Rattle.std.specs.Prelude.{◌≡◌, ℕ, ℤ, Bool, List, map, None, ◌==◌, if◌then◌else◌}
 use Rattle.std.specs.Int.{cast_signed, w16, w64}
 use Rattle.arrow_types.specs.Field.{Fields}
 use Rattle.arrow_meta.specs.declared.message.FieldNode.{FieldNode}

@@ -1,6 +1,6 @@
 -- Which fields a Schema table says, with the defaults filled in (Schema.fbs). Where a condition of a fault holds the
 -- reading goes on with some value or other, and means nothing.
-use Rattle.std.specs.Prelude.{ℕ, zero, suc, List, Bool, true, false, Option, Some, None}
+use Rattle.std.specs.Prelude.{ℕ, zero, suc, Bool, true, false, Option, Some, None}
 use Rattle.std.specs.Option.{unwrap_or}
 use Rattle.std.specs.Int.{cast_signed, w64}
 use Rattle.arrow_types.specs.DataType as tags

@@ -1,5 +1,5 @@
 //! Messages, built of the fields of their tables.
-ghost use Rattle.std.specs.Prelude.{◌≡◌, IfOk, Some, map};
+ghost use Rattle.std.specs.Prelude.{◌≡◌, IfOk, map};
 ghost use Rattle.std.specs.Int.{cast_signed, w64};
 ghost use Rattle.arrow_meta.specs.Builds.{BuildsSchema, BuildsHeader, BuildsMessage, meta_fault};
 ghost use Rattle.arrow_meta.specs.Faults.{version_of};

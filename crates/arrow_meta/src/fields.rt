@@ -1,14 +1,14 @@
 //! The fields of a schema, built of their tables.
 //!
 //! Names and zones are moved out of the tree, so they are copied only once, where the tree is read.
-ghost use Rattle.std.specs.Prelude.{◌≡◌, ℕ, ◌==◌, false, length, string_bytes, MatchResult};
+ghost use Rattle.std.specs.Prelude.{◌≡◌, ◌==◌, false, length, string_bytes, MatchResult};
 ghost use Rattle.std.specs.Prelude.{MatchOption, IfOk, OnOk, Some, [], ◌∷◌, ◌++◌};
 ghost use Rattle.arrow_meta.specs.Builds.{Builds, BuildsAll, BuildsType, leaf_type, field_by};
 ghost use Rattle.arrow_meta.specs.Conditions.{any, any_in, is_misfit};
-ghost use Rattle.arrow_meta.specs.Parts.{nth, flag_at};
+ghost use Rattle.arrow_meta.specs.Parts.{nth};
 ghost use Rattle.arrow_meta.specs.SchemaMeaning.{encoding_in, index_in, width_in, fields_in};
 ghost use Rattle.arrow_meta.specs.SchemaMeaning.{fields_from, is_field, tag_by};
-ghost use Rattle.arrow_meta.specs.Trees.{Trees, none, table};
+ghost use Rattle.arrow_meta.specs.Trees.{none, table};
 ghost use Rattle.arrow_meta.specs.Views.{plain, plain_all};
 ghost use Rattle.arrow_meta.specs.declared.kinds.Kind.{Kind as TableKind};
 ghost use Rattle.arrow_types.specs.DataType.{int, list};

@@ -1,5 +1,5 @@
 //! What a tree means, or its least fault.
-ghost use Rattle.std.specs.Prelude.{◌≡◌, ◌||◌, ◌≤◌, ◌^◌, false, IfOk};
+ghost use Rattle.std.specs.Prelude.{◌≡◌, false};
 ghost use Rattle.arrow_meta.specs.Conditions.{any, is_misfit};
 ghost use Rattle.arrow_meta.specs.Faults.{least, conditions, has_header, is_bad_length};
 ghost use Rattle.arrow_meta.specs.Faults.{is_unsupported_schema, batch_parts, batch_kind};
@@ -20,9 +20,12 @@ use crate::reader::tree;
 use arrow_types::Limits;
 use std::alloc::Global;
 
-/// The message whose metadata the bytes are, or its least fault: [`crate::tree`], then [`judge`].
+/// The message whose metadata the bytes are, or the fault with the least number of those that hold
+/// (Columnar Format, "Encapsulated message format"): [`crate::tree`], then [`judge`].
 ///
-/// What `Memory` means is that a growth was refused; then nothing is said of the bytes.
+/// The bytes are those between a message's size and its body. The message keeps none of them borrowed:
+/// names and zones are copied, once. After `Memory`, a refused growth, nothing is known of the bytes,
+/// and the call may be made again.
 pub fn decode(alloc: Global, bytes: &[u8], limits: &Limits) -> Result<Message, MetaFault>
     ensures decoded { Decodes result limits.now bytes.now }
     ensures length { LengthFits result limits.now.max_body }
@@ -31,7 +34,13 @@ pub fn decode(alloc: Global, bytes: &[u8], limits: &Limits) -> Result<Message, M
     judge(alloc, tree, limits)
 }
 
-/// The message that the tree means, or the least fault that holds of it.
+/// The message that the tree means, or the fault with the least number of those that hold of it
+/// (`Message.fbs`, `Schema.fbs`).
+///
+/// The tree is taken: its names and zones move into the schema, and with a fault it is dropped. Here
+/// `Metadata` says that a table which must be there is absent, and `BodyLength` looks at `max_body`
+/// alone, since where the body ends in its stream is not known. `Memory` is answered only where no
+/// fault holds, or only that fields of one dictionary id have unequal types or another of `Schema`.
 pub fn judge(alloc: Global, tree: MessageTree, limits: &Limits) -> Result<Message, MetaFault>
     ensures judged { Judges result limits.now.max_body tree }
     ensures length { LengthFits result limits.now.max_body }

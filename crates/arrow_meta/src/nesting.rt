@@ -3,9 +3,9 @@
 //! It is looked for in the tree, before any field is built: this fault comes before those that stop the
 //! building.
 ghost use Rattle.std.specs.Prelude.{◌≡◌, is_some};
-ghost use Rattle.arrow_meta.specs.Parts.{nth, parts as parts_of};
+ghost use Rattle.arrow_meta.specs.Parts.{nth};
 ghost use Rattle.arrow_meta.specs.SchemaMeaning.{encoding_in, fields_in, fields_from, fields_at};
-ghost use Rattle.arrow_meta.specs.SchemaMeaning.{with_field, field_of, schema_fields};
+ghost use Rattle.arrow_meta.specs.SchemaMeaning.{with_field, field_of};
 ghost use Rattle.arrow_meta.specs.Views.{plain, plain_all};
 ghost use Rattle.arrow_types.specs.Field.{none};
 ghost use Rattle.arrow_types.specs.Schema.{has_encoding, is_nested, field_is_nested};

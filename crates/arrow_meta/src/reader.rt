@@ -1,16 +1,16 @@
 //! Reading of the tree that lies in the bytes of a metadata, within limits.
-ghost use Rattle.std.specs.Prelude.{◌≡◌, ◌<◌, ◌≤◌, ◌+◌, ◌*◌, ◌⊎◌, ℕ, length, Some, None};
+ghost use Rattle.std.specs.Prelude.{◌≡◌, ◌<◌, ◌≤◌, ◌+◌, ◌⊎◌, ℕ, Some};
 ghost use Rattle.std.specs.Prelude.{MatchResult, IfOk, IfErr};
 ghost use Rattle.arrow_flatbuf.specs.Table.{field_place};
-ghost use Rattle.arrow_meta.specs.Kinds.{Spot, code_at, spot, shapes_of, spots_of, opened};
+ghost use Rattle.arrow_meta.specs.Kinds.{Spot, code_at, spot, spots_of, opened};
 ghost use Rattle.arrow_meta.specs.Views.{plain, plain_all};
-ghost use Rattle.arrow_meta.specs.Lies.{Stands, LiesAtRoot, elements, layer, table_layer};
+ghost use Rattle.arrow_meta.specs.Lies.{LiesAtRoot, elements, layer, table_layer};
 ghost use Rattle.arrow_meta.specs.Lies.{number_layer, layer_at, pairs_from};
 ghost use Rattle.arrow_meta.specs.Trees.{Tree as PlainTree};
 ghost use Rattle.arrow_meta.specs.Within.{IsWithin, visit};
 ghost use Rattle.arrow_meta.specs.declared.kinds.Shape.{Shape as FieldShape};
 ghost use Rattle.arrow_meta.specs.declared.kinds.Shape.TheVariants as shape;
-ghost use Rattle.arrow_meta.specs.Reads.{ReadsTree, ReadsRow, room, root, Faulty};
+ghost use Rattle.arrow_meta.specs.Reads.{ReadsTree, ReadsRow, room, Faulty};
 
 use crate::fault::MetaFault;
 use crate::kinds;

@@ -44,6 +44,13 @@ fn schema_in(alloc: Global, bytes: &[u8]) -> Option<Schema> {
     }
 }
 
+fn body_len_in(alloc: Global, bytes: &[u8]) -> Option<u64> {
+    match decode(alloc, bytes, &Limits::standard()) {
+        Ok(message) => Some(message.body_len),
+        Err(_) => None,
+    }
+}
+
 const UNSUPPORTED: Option<MetaFault> = Some(MetaFault::Unsupported { body_len: 0 });
 
 const MISFIT: Option<MetaFault> = Some(MetaFault::Schema { body_len: 0 });
@@ -391,6 +398,8 @@ fn a_field_is_what_its_table_says(rt: HostRuntime) -> Result<(), Fail> {
         schema_in(alloc, &bytes).map(|schema| schema.fields().len()),
         Some(0)
     );
+    let bytes = edited(alloc, ONE_FIELD, &[(32, 8)])?;
+    assert_eq!(rt; body_len_in(alloc, &bytes), Some(8));
     laws::one_meaning();
     laws::one_answer();
     Ok(())
@@ -555,4 +564,16 @@ fn each_visit_counts(rt: HostRuntime) -> Result<(), Fail> {
         Some(MetaFault::BodyLength)
     );
     Ok(())
+}
+
+// With one growth refused, whichever it is, the fault is Memory, and the same call succeeds after it.
+#[test]
+fn a_refused_growth_is_memory_alone(rt: HostRuntime) {
+    for (bytes, body_len) in [(FOUR_FIELDS, 0), (LETTERS, 24), (ONE_BATCH, 24)] {
+        let limits = Limits::standard();
+        if let Some(fault) = fault_in(rt.alloc(), bytes, &limits) {
+            assert_eq!(rt; fault, MetaFault::Memory);
+        }
+        assert_eq!(rt; body_len_in(rt.alloc(), bytes), Some(body_len));
+    }
 }

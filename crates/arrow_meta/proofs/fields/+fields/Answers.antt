@@ -1,11 +1,11 @@
-use Rattle.std.proofs.Common.{◌≡◌, ℕ, ◌+◌, ◌<◌, ◌∷◌, ◌++◌, [], Bool, true, not, ap, sym, ◌∙◌, subst, length, rules, arith, map}
+use Rattle.std.proofs.Common.{◌≡◌, ◌+◌, ◌<◌, ◌∷◌, [], not, ap, sym, ◌∙◌, length, rules, arith, map}
 use Rattle.std.specs.Vec.Iter.{into_iter_items}
 use Rattle.arrow_types.specs.Field.{width, fields_of}
 use Rattle.arrow_types.specs.View.{field_view, fields_view, type_view}
 use Rattle.arrow_types.proofs.Fields.{width-fields_view}
 use Rattle.arrow_meta.specs.Builds.{size, size_all}
 use Rattle.arrow_meta.specs.Codes.{type_code}
-use Rattle.arrow_meta.specs.Conditions.{any, any_in, is_misfit, children_fit}
+use Rattle.arrow_meta.specs.Conditions.{any, is_misfit, children_fit}
 use Rattle.arrow_meta.specs.Parts.{nth, parts, number_at, flag_at, text_in}
 use Rattle.arrow_meta.specs.SchemaMeaning.{fields_in, fields_at, tag_by, encoding_in}
 use Rattle.arrow_meta.specs.Views.{plain, plain_all}

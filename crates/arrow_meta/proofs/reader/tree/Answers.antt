@@ -7,7 +7,7 @@ use Rattle.arrow_meta.specs.Lies.{Stands, LiesAtRoot, layer, table_layer}
 use Rattle.arrow_meta.specs.Trees.{Tree}
 use Rattle.arrow_meta.specs.Views.{plain}
 use Rattle.arrow_meta.specs.Within.{levels, visits, text_bytes, Room, Spends, IsWithin}
-use Rattle.arrow_meta.specs.Reads.{NoneFits, ReadsTree, Faulty, room, root}
+use Rattle.arrow_meta.specs.Reads.{NoneFits, Faulty, root}
 use Rattle.arrow_meta.proofs.Layers.{layer_there, none_fits, element_layer}
 use Rattle.arrow_meta.proofs.Roots.{root_lies, root_stands}
 use Rattle.arrow_meta.proofs.Spots.{faulty_so}
