@@ -1,6 +1,7 @@
 -- What stands at the front of bytes: it is one thing, more bytes leave it, and less than a message waits.
-use Rattle.std.proofs.Common.{◌≡◌, ℕ, ◌+◌, ◌<◌, ◌≤◌, List, ◌++◌, length, take, drop, refl, sym, ap, ◌∙◌, subst, arith, Result, Ok, Err, length-drop, length-append, length-take}
+use Rattle.std.proofs.Common.{◌≡◌, ℕ, ◌+◌, ◌<◌, ◌≤◌, List, ◌++◌, length, take, drop, refl, sym, ap, ◌∙◌, subst, arith, inl, inr, Result, Ok, Err, length-drop, length-append, length-take}
 use Rattle.std.specs.Prelude.{is_some}
+use Rattle.std.proofs.lemmas.Bool.{cases_lt}
 use Rattle.std.proofs.lemmas.List.{take-append-le, drop-append-le, take-take, take-append-drop}
 use Rattle.arrow_types.specs.Limits.{LimitNumbers}
 use Rattle.arrow_stream.specs.declared.kind.Refusal.{Refusal}
@@ -234,3 +235,17 @@ First-take k h n (message_comes g) = message_comes (HasBody-take k h n g)
 pub marker-take : {l : LimitNumbers} {s : StreamState} {p : ℕ} {b : List ℕ} (k : ℕ) → 8 ≤ k → k ≤ length b →
     First l s p b marker → First l s p (take k b) marker
 marker-take k h n (end_marker g) = end_marker (HasPrefix-take k h n g)
+
+-- less than a whole message waits
+pub First-short : {l : LimitNumbers} {s : StreamState} {p : ℕ} {b : List ℕ} {n : ℕ} {s' : StreamState} {g : Given} (k : ℕ) →
+    k < n → First l s p b (whole n s' g) → First l s p (take k b) waits
+First-short {l} {s} {p} {b} k h (message_comes {m = m} {message = t} x) =
+    let size : length (take k b) ≤ k = simp length-take (omega arith) in
+    let all : k ≤ length b = omega (arith, x.within) in
+    elim (cases_lt k 8) [
+      | inl short ↦ short_prefix (omega arith)
+      | inr some ↦ elim (cases_lt k (8 + m)) [
+        | inl short ↦ short_metadata (HasPrefix-take k some all x.metadata.prefix) (omega arith)
+        | inr most ↦ short_body (HasMetadata-take k most all x.metadata) (omega arith)
+      ]
+    ]

@@ -1,7 +1,9 @@
 -- The laws of the definitions.
-use Rattle.std.specs.Prelude.{◌≡◌, ℕ, List, ◌++◌}
+use Rattle.std.specs.Prelude.{◌≡◌, ℕ, ◌<◌, List, ◌++◌, take}
 use Rattle.arrow_types.specs.Limits.{LimitNumbers}
 use Rattle.arrow_stream.specs.declared.reader.Verdict.TheVariants.{Open}
+use Rattle.arrow_stream.specs.State.{StreamState, Given}
+use Rattle.arrow_stream.specs.Frame.{First, whole, waits}
 use Rattle.arrow_stream.specs.Front.{Entry, Standing, FrontOf}
 use Rattle.arrow_stream.specs.Stream.{Shows, Stands}
 
@@ -27,3 +29,9 @@ SameStanding =
     Stands r t es → Stands q t fs → r.limits ≡ q.limits →
     (es ≡ fs) × (r.at.state ≡ q.at.state) × (r.at.place ≡ q.at.place) × (r.at.verdict ≡ q.at.verdict)
     × (r.at.verdict ≡ Open → r.at.rest ≡ q.at.rest)
+
+-- Less than a whole message waits: no part of a frame is judged, applied or handed out before it is whole.
+abbrev pub LessWaits : Type 0
+LessWaits =
+    (limits : LimitNumbers) (s s' : StreamState) (place n k : ℕ) (g : Given) (b : List ℕ) →
+    First limits s place b (whole n s' g) → k < n → First limits s place (take k b) waits

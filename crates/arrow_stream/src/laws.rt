@@ -1,6 +1,6 @@
 //! Laws of the definitions, which no code stands behind. Each is the contract of a function that does nothing.
 
-ghost use Rattle.arrow_stream.specs.Laws.{OneFront, MoreBytes, SameStanding};
+ghost use Rattle.arrow_stream.specs.Laws.{OneFront, MoreBytes, SameStanding, LessWaits};
 
 /// A list of bytes has one front.
 pub fn one_front()
@@ -16,4 +16,9 @@ pub fn front_grows()
 /// Two readers that stand at the same bytes show the same, in whatever pieces the bytes came.
 pub fn same_standing()
     ensures same { SameStanding }
+{}
+
+/// Less than a whole message waits for more bytes: no part of it is judged, applied or handed out before.
+pub fn less_waits()
+    ensures waits { LessWaits }
 {}

@@ -484,5 +484,6 @@ fn each_call_answers(rt: HostRuntime) -> Result<(), Fail> {
     laws::one_front();
     laws::front_grows();
     laws::same_standing();
+    laws::less_waits();
     Ok(())
 }
