@@ -1,3 +1,4 @@
+pub mod CommandLine
 pub mod Escapes
 pub mod Faults
 pub mod SchemaCall

@@ -1,5 +1,8 @@
 //! The program's command line: one word for the command, then its names and options.
 
+ghost use Rattle.std.specs.Prelude.{IfOk};
+ghost use Rattle.arrowflow.specs.CommandLine.{HasNoGlobals, NeedsSubcommand};
+
 use crate::plans::Plan;
 use clap::{Arg, ArgMatches, Command};
 use std::alloc::{AllocError, AllocFailed, Global};
@@ -52,7 +55,9 @@ impl<T: Drop> From<AllocFailed<T>> for ArgFault {
 }
 
 /// The command `schema FILE`.
-fn schema_command<'a>(alloc: Global) -> Result<Command<'a>, AllocError> {
+fn schema_command<'a>(alloc: Global) -> Result<Command<'a>, AllocError>
+    ensures { IfOk result HasNoGlobals }
+{
     let file = Arg::new(alloc, "FILE").required(true).help(
         "A file with an Arrow IPC stream; /dev/stdin is standard input",
     );
@@ -63,13 +68,16 @@ fn schema_command<'a>(alloc: Global) -> Result<Command<'a>, AllocError> {
 }
 
 /// The whole command line. Each command is a function of its own, added here.
-fn command<'a>(alloc: Global) -> Result<Command<'a>, AllocError> {
-    Command::new(alloc, "arrowflow")
+fn command<'a>(alloc: Global) -> Result<Command<'a>, AllocError>
+    ensures globals { IfOk result HasNoGlobals }
+    ensures needs { IfOk result NeedsSubcommand }
+{
+    let whole = Command::new(alloc, "arrowflow")
         .bin_name("arrowflow")?
         .about(ABOUT)
         .after_help(EXAMPLE)
-        .subcommand_required(true)
-        .subcommand(schema_command(alloc)?)
+        .subcommand(schema_command(alloc)?)?;
+    Ok(whole.subcommand_required(true))
 }
 
 /// The name that an argument was given.
@@ -83,8 +91,8 @@ fn name_of(alloc: Global, matches: &ArgMatches<'_>, argument: &str) -> Result<St
 /// growth was refused.
 pub fn plan(alloc: Global, words: &[&str]) -> Result<Plan, ArgFault> {
     let matches = command(alloc)?.try_get_matches_from(words)?;
-    match matches.subcommand() {
-        Some(("schema", given)) => Ok(Plan::Schema(name_of(alloc, given, "FILE")?)),
-        _ => Err(ArgFault::Memory),
-    }
+    let Some((_, given)) = matches.subcommand() else {
+        unreachable!();
+    };
+    Ok(Plan::Schema(name_of(alloc, given, "FILE")?))
 }

@@ -5,11 +5,11 @@
 use arrow_types::Limits;
 use arrowflow::{ArgFault, Plan, ToolFault, plan, schema_text};
 use std::alloc::Global;
-use std::env;
 use std::fs::File;
-use std::io::ErrorKind;
+use std::io::{ErrorKind, Write};
 use std::process::ExitCode;
 use std::rt::{Env, Files};
+use std::{env, io};
 
 /// All went well.
 const FINE: u8 = 0;
@@ -71,7 +71,7 @@ where
         return FAILED;
     };
     match schema_text(alloc, &mut file, &Limits::standard()) {
-        Ok(text) => match print!(rt; "{text}") {
+        Ok(text) => match io::writer(rt).write_all(text.as_bytes()) {
             Ok(()) => FINE,
             Err(_) => {
                 let _ = eprintln!(rt; "cannot write standard output");
