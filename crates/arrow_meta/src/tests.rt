@@ -570,10 +570,12 @@ fn each_visit_counts(rt: HostRuntime) -> Result<(), Fail> {
 #[test]
 fn a_refused_growth_is_memory_alone(rt: HostRuntime) {
     for (bytes, body_len) in [(FOUR_FIELDS, 0), (LETTERS, 24), (ONE_BATCH, 24)] {
-        let limits = Limits::standard();
-        if let Some(fault) = fault_in(rt.alloc(), bytes, &limits) {
-            assert_eq!(rt; fault, MetaFault::Memory);
+        match decode(rt.alloc(), bytes, &Limits::standard()) {
+            Ok(message) => assert_eq!(rt; message.body_len, body_len),
+            Err(fault) => {
+                assert_eq!(rt; fault, MetaFault::Memory);
+                assert_eq!(rt; body_len_in(rt.alloc(), bytes), Some(body_len));
+            }
         }
-        assert_eq!(rt; body_len_in(rt.alloc(), bytes), Some(body_len));
     }
 }
