@@ -3,7 +3,7 @@ use Rattle.std.proofs.Common.{◌≡◌, ℕ, zero, suc, ◌+◌, ◌<◌, ◌�
 use Rattle.std.specs.List.{AllByRecursion, HoldsAt}
 use Rattle.std.specs.Prelude.{IfSome}
 use Rattle.std.proofs.lemmas.Option.{slice_get_read}
-use Rattle.arrow_types.specs.DataType.{Tag, list, struct}
+use Rattle.arrow_types.specs.DataType.{list, struct}
 use Rattle.arrow_types.specs.Field.{Fields, none, more, TypeShape}
 use Rattle.arrow_array.specs.PlainValue.{PlainValue, value_at, null_value, is_null_value, list_value, struct_value, values_of, field_value, nth_value}
 use Rattle.arrow_array.specs.Column.{Column, AreOf, HasChild, HasField, type_of_field, struct_fields, struct_fields_of, row_of}

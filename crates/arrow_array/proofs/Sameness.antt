@@ -1,11 +1,9 @@
 -- When two slots are the same.
-use Rattle.std.proofs.Common.{◌≡◌, ◌↔◌, ℕ, zero, suc, ◌+◌, ◌-◌, ◌*◌, ◌<◌, ◌≤◌, List, [], ◌∷◌, length, map, take, drop, get_or, refl, sym, ap, ◌∙◌, subst, arith, min, length-drop, Bool, true, false, IsTrue}
+use Rattle.std.proofs.Common.{◌≡◌, ◌↔◌, ℕ, zero, suc, ◌+◌, ◌-◌, ◌<◌, ◌≤◌, List, [], ◌∷◌, length, drop, get_or, refl, sym, ap, ◌∙◌, arith, length-drop, Bool, IsTrue}
 use Rattle.std.proofs.lemmas.List.{ext_get_or, get_or-take, get_or-drop, length-take}
 use Rattle.std.specs.List.{AllByRecursion}
-use denote.Param.Weighed.{most}
-use Rattle.arrow_types.specs.Field.{levels}
-use Rattle.arrow_array.specs.PlainValue.{PlainValue, PlainValues, value_at, null_value, list_value, struct_value, values_of}
-use Rattle.arrow_array.specs.Column.{Column, AreOf, HasItems, HasParts, column_size, values_from, row_of}
+use Rattle.arrow_array.specs.PlainValue.{PlainValue, value_at, null_value, list_value, struct_value, values_of}
+use Rattle.arrow_array.specs.Column.{Column, AreOf, HasItems, HasParts, values_from, row_of}
 use Rattle.arrow_array.specs.Falls.{most_le-levels}
 use Rattle.arrow_array.specs.Same.{HaveSlot, slot_measure, items_measure, parts_measure}
 

@@ -1,5 +1,5 @@
 -- What an array is, without how it is kept (Columnar Format, "Terminology").
-use Rattle.std.specs.Prelude.{◌≡◌, ◌≤◌, ◌<◌, ◌-◌, ℕ, zero, suc, Bool, false, List, [], ◌∷◌, length, map, take, drop, ⊤, Option, None, Some, refl}
+use Rattle.std.specs.Prelude.{◌≡◌, ◌≤◌, ◌<◌, ◌-◌, ℕ, zero, suc, false, List, [], ◌∷◌, length, map, take, drop, ⊤, Option, None, Some, refl}
 use Rattle.std.specs.Coded.{Coded, code_by, coded×, coded_list}
 use Rattle.std.specs.List.{AllByRecursion}
 use Rattle.arrow_types.specs.DataType.{Tag, list, struct}

@@ -1,8 +1,8 @@
 -- What the ranges of a node stand for, and what is known of them in every array.
-use Rattle.std.specs.Prelude.{◌≡◌, ◌≤◌, ◌*◌, ℕ, Bool, List, [], ◌∷◌, map, length, slice_range}
+use Rattle.std.specs.Prelude.{◌≡◌, ◌≤◌, ◌*◌, ℕ, List, [], ◌∷◌, map, length, slice_range}
 use Rattle.std.specs.List.{AllByRecursion}
 use Rattle.arrow_bits.specs.Numbers.{IsWidth}
-use Rattle.arrow_types.specs.DataType.{Tag, null, boolean, binary, utf8, list, struct}
+use Rattle.arrow_types.specs.DataType.{null, boolean, binary, utf8, list, struct}
 use Rattle.arrow_types.specs.Field.{TypeShape}
 use Rattle.arrow_types.specs.View.{type_view}
 use Rattle.arrow_array.specs.PlainValue.{PlainValue, null_value}

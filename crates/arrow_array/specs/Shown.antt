@@ -1,5 +1,5 @@
 -- What a slot shows.
-use Rattle.std.specs.Prelude.{◌≡◌, ℕ, List}
+use Rattle.std.specs.Prelude.{◌≡◌, ℕ}
 use Rattle.arrow_array.specs.PlainValue.{value_at, null_value, bool_value, int_value, binary_value, utf8_value}
 use Rattle.arrow_array.specs.Column.{Column, HasItems, HasParts}
 use Rattle.arrow_array.specs.declared.array.Seen.{Seen}

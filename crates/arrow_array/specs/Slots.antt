@@ -1,6 +1,6 @@
 -- What the buffers of a node hold at each slot, by index (Columnar Format, "Physical Memory Layout"). A buffer is given by
 -- its bytes.
-use Rattle.std.specs.Prelude.{◌≡◌, ◌≤◌, ◌<◌, ◌+◌, ◌*◌, ◌/◌, ◌||◌, ℕ, Bool, true, false, nat_eq, List, length, map, slice_range, if◌then◌else◌, IsUtf8}
+use Rattle.std.specs.Prelude.{◌≡◌, ◌≤◌, ◌<◌, ◌+◌, ◌*◌, ◌/◌, ◌||◌, ℕ, Bool, true, nat_eq, List, length, map, slice_range, if◌then◌else◌, IsUtf8}
 use Rattle.std.specs.List.{range_with_len}
 use Rattle.arrow_bits.specs.Bitmap.{bit_of}
 use Rattle.arrow_bits.specs.Numbers.{number_at, int_of}

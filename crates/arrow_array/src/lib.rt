@@ -16,6 +16,8 @@ mod byte_range;
 mod node;
 mod same;
 mod slot;
+#[cfg(test)]
+mod tests;
 mod width;
 
 pub use array::Array;

@@ -1,11 +1,8 @@
-use Rattle.std.proofs.Common.{rules, ◌≡◌, ℕ, ◌+◌, ◌<◌, ◌≤◌, ◌-◌, length, ap, sym, ◌∙◌, arith, subst, get_or, refl}
+use Rattle.std.proofs.Common.{rules, ◌≡◌, ◌≤◌, ◌-◌, length, ap, sym, ◌∙◌, arith, get_or, refl}
 use Rattle.std.proofs.lemmas.Bool.{false≢true}
-use Rattle.std.proofs.lemmas.List.{get_or_read}
-use Rattle.arrow_array.specs.PlainValue.{PlainValue, value_at, null_value}
-use Rattle.arrow_array.specs.Column.{Column}
-use Rattle.arrow_array.specs.Column.{values_from, row_of}
-use Rattle.arrow_array.specs.Same.{HaveSlot}
-use Rattle.arrow_array.proofs.Sameness.{child_smaller, parts_smaller, part_smaller, items_agree, parts_agree, items_same, rows_same, at_row_of, longer, read_row, length-values_from, length-row_of}
+use Rattle.arrow_array.specs.PlainValue.{null_value}
+use Rattle.arrow_array.specs.Column.{row_of}
+use Rattle.arrow_array.proofs.Sameness.{child_smaller, parts_smaller, items_agree, parts_agree, items_same, rows_same, longer, read_row, length-values_from}
 use borrow.Author.Count.{below_more}
 use Rattle.arrow_array.proofs.+same.Goals as goal
 

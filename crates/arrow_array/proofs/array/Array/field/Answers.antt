@@ -1,4 +1,4 @@
-use Rattle.std.proofs.Common.{◌≡◌, ap, sym, ◌∙◌, subst}
+use Rattle.std.proofs.Common.{ap, sym, ◌∙◌, subst}
 use Rattle.arrow_types.specs.View.{type_view}
 use Rattle.arrow_array.specs.Column.{Column}
 use Rattle.arrow_array.specs.Node.{AreRanges, raw_slot}

@@ -1,7 +1,7 @@
-use Rattle.std.proofs.Common.{◌≡◌, ap, sym, ◌∙◌, subst}
+use Rattle.std.proofs.Common.{ap, sym, ◌∙◌, subst}
 use Rattle.arrow_types.specs.View.{type_view}
 use Rattle.arrow_array.specs.Column.{Column, HasChild}
-use Rattle.arrow_array.specs.Node.{AreRanges, raw_slot, bytes_of}
+use Rattle.arrow_array.specs.Node.{AreRanges, raw_slot}
 use Rattle.arrow_array.specs.Slots.{slots}
 use Rattle.arrow_array.proofs.Children.{child_shown}
 use Rattle.arrow_array.proofs.array.Array.items.Goals as goal
