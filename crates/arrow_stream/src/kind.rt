@@ -23,8 +23,8 @@ pub(crate) enum Refusal {
     NoSchema,
 }
 
-/// Why a call of a reader answers no item, in the order of the kinds' numbers, 1 to 19. Of several kinds that hold of a
-/// message the one with the least number is answered, among those that are decided by then.
+/// Why a call of a reader answers no item, in the order of the kinds' numbers, 1 to 19. Of several kinds that
+/// hold of a message the one with the least number is answered, among those that are decided by then.
 ///
 /// Kinds 10 to 16 speak of dictionary and record batches, and come with them.
 #[derive(Clone, Copy, Debug, PartialEq, Eq)]

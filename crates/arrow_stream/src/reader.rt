@@ -1,6 +1,6 @@
 //! The reader of a stream that comes in pieces.
 
-ghost use Rattle.std.specs.Prelude.{◌≡◌, ℕ, ◌+◌, ◌≤◌, [], ◌++◌, length, option_map, Ok, Err, None, IfOk, IfErr};
+ghost use Rattle.std.specs.Prelude.{◌≡◌, ◌+◌, ◌≤◌, [], length, option_map, Ok, Err, None, IfOk, IfErr};
 ghost use Rattle.arrow_stream.specs.declared.reader.Verdict.TheVariants.{Open, Done, Bad};
 ghost use Rattle.arrow_stream.specs.declared.kind.Refusal.{Refusal as Refused};
 ghost use Rattle.arrow_stream.specs.Kind.{kind_of};
@@ -95,7 +95,8 @@ impl StreamReader {
         ensures memory { IfErr result (MemoryAlone self.old self.new) }
         ensures limits { self.new.limits ≡ self.old.limits }
         ensures failed { (k : Refused) → self.old.at.verdict ≡ Bad k
-            → (result ≡ Err (record { kind = kind_of k; place = self.old.at.place })) × (self.new ≡ self.old) }
+            → (result ≡ Err (record { kind = kind_of k; place = self.old.at.place }))
+            × (self.new ≡ self.old) }
         ensures done { self.old.at.verdict ≡ Done → (result ≡ Ok (0, None)) × (self.new ≡ self.old) }
         ensures empty { self.old.at.verdict ≡ Open → piece.now ≡ []
             → (result ≡ Ok (0, None)) × (self.new ≡ self.old) }
