@@ -267,7 +267,8 @@ impl Array {
 
     /// The child array that the items of all lists stand in. None where the type is another than List.
     pub fn items(&self) -> Option<&Array>
-        ensures { MatchOption result (self.now.data_type.tag ≡ list → ⊥) (λ child. HasChild self.now child.now) }
+        ensures { MatchOption result (self.now.data_type.tag ≡ list → ⊥)
+            (λ child. HasChild self.now child.now) }
     {
         match &self.ranges {
             Ranges::Lists { child, .. } => Some(child),

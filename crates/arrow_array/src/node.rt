@@ -6,7 +6,8 @@ ghost use Rattle.arrow_types.specs.View.{type_view};
 ghost use Rattle.arrow_array.specs.Column.{Column, column};
 ghost use Rattle.arrow_array.specs.Node.{bytes_of, AreBools, AreInts, AreBinaries, AreLists, AreStructs};
 ghost use Rattle.arrow_array.specs.PlainValue.{null_value};
-ghost use Rattle.arrow_array.specs.Slots.{slots, width_of, is_signed, bool_slot, int_slot, binary_slot, utf8_slot, list_slot, struct_slot, AreTexts};
+ghost use Rattle.arrow_array.specs.Slots.{slots, width_of, is_signed, AreTexts};
+ghost use Rattle.arrow_array.specs.Slots.{bool_slot, int_slot, binary_slot, utf8_slot, list_slot, struct_slot};
 
 use crate::array::{Array, Ranges};
 use crate::byte_range::ByteRange;
@@ -121,7 +122,8 @@ impl Array {
         requires typed { (type_view data_type).tag ≡ utf8 }
         requires small { len ≤ 2147483647 }
         requires lies { AreBinaries len body validity offsets values }
-        requires texts { AreTexts len (bytes_of body validity) (bytes_of body offsets) (bytes_of body values) }
+        requires texts { AreTexts len (bytes_of body validity)
+            (bytes_of body offsets) (bytes_of body values) }
         ensures { result ≡ column (type_view data_type)
             (slots len (utf8_slot (bytes_of body validity) (bytes_of body offsets) (bytes_of body values))) }
     {

@@ -45,7 +45,8 @@ fn same_items(
     requires inside { end ≤ length items.now.raw }
     requires other_order { from ≤ to }
     requires other_inside { to ≤ length others.now.raw }
-    ensures { IsTrue result ↔ (values_from items.now start end ≡ values_from others.now from to) }
+    ensures { IsTrue result
+        ↔ (values_from items.now start end ≡ values_from others.now from to) }
 {
     if end - start != to - from {
         return false;

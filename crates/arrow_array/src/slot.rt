@@ -1,11 +1,9 @@
 //! One slot of the buffers of a node.
 
-ghost use Rattle.std.specs.Prelude.{◌≡◌, ℕ, ◌+◌, ◌*◌, ◌<◌, ◌≤◌, length, slice_range, IsUtf8, MatchOption, true, false};
-ghost use Rattle.arrow_bits.specs.Bitmap.{bit_of};
-ghost use Rattle.arrow_bits.specs.Numbers.{int_of, IsWidth};
-ghost use Rattle.arrow_bits.specs.Offsets.{AreOffsets};
-ghost use Rattle.arrow_array.specs.PlainValue.{null_value, bool_value, int_value, binary_value, utf8_value};
-ghost use Rattle.arrow_array.specs.Slots.{is_valid_at, place_of, range_of, HasBits, HasOffsets, AreTexts, bool_slot, int_slot, binary_slot, utf8_slot};
+ghost use Rattle.std.specs.Prelude.{◌≡◌, ◌+◌, ◌*◌, ◌<◌, ◌≤◌, length, MatchOption, true, false};
+ghost use Rattle.arrow_bits.specs.Numbers.{IsWidth};
+ghost use Rattle.arrow_array.specs.PlainValue.{null_value, bool_value, int_value};
+ghost use Rattle.arrow_array.specs.Slots.{is_valid_at, place_of, range_of, HasBits, HasOffsets, AreTexts, bool_slot, int_slot};
 
 use arrow_bits::{Offsets, bit, int_at};
 

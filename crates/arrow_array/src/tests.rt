@@ -52,7 +52,8 @@ fn has_ints(
     validity: ByteRange,
     values: ByteRange,
 ) -> bool
-    ensures { IsTrue result → AreInts len (width_of (type_view data_type.now).tag) body.now validity values }
+    ensures { IsTrue result
+        → AreInts len (width_of (type_view data_type.now).tag) body.now validity values }
 {
     if !has_marks(body, len, validity) || !lies(body, values) {
         return false;
@@ -96,7 +97,8 @@ fn has_texts(
     values: ByteRange,
 ) -> bool
     requires { AreBinaries len body.now validity offsets values }
-    ensures { IsTrue result → AreTexts len (bytes_of body.now validity) (bytes_of body.now offsets) (bytes_of body.now values) }
+    ensures { IsTrue result → AreTexts len (bytes_of body.now validity)
+        (bytes_of body.now offsets) (bytes_of body.now values) }
 {
     let (marks, places, bytes) = (
         bytes_in(body, validity),
