@@ -222,7 +222,8 @@ impl Reader {
         requires high { width ≤ 8 }
         ensures read { (form : FieldShape) (most : ℕ)
             → ((p : ℕ) → layer_at table.now.bytes form p ≡ number_layer width table.now.bytes p)
-            → ReadsTree plain result table.now.bytes (record { shape = form; place = field_place table.now field })
+            → ReadsTree plain result table.now.bytes
+            (record { shape = form; place = field_place table.now field })
             most (room self.old) (room self.new) }
     {
         match table.scalar(field, width) {

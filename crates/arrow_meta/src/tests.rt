@@ -388,6 +388,12 @@ fn a_field_is_what_its_table_says(rt: HostRuntime) -> Result<(), Fail> {
         let held = has_column(alloc, edits, "n", true, data_type)?;
         assert!(rt; held, "{edits:?}");
     }
+    Ok(())
+}
+
+#[test]
+fn absent_parts_have_their_defaults(rt: HostRuntime) -> Result<(), Fail> {
+    let alloc = rt.alloc();
     assert!(rt; has_column(alloc, &[(96, 0)], "n", false, INT32)?);
     assert!(rt; has_column(alloc, &[(74, 0)], "n", false, INT32)?);
     assert!(rt; has_column(alloc, &[(112, 10)], "\n", true, INT32)?);
@@ -472,7 +478,7 @@ fn children_and_dictionaries_are_read(rt: HostRuntime) -> Result<(), Fail> {
 }
 
 #[test]
-fn batches_are_read(rt: HostRuntime) -> Result<(), Fail> {
+fn record_batches_are_read(rt: HostRuntime) -> Result<(), Fail> {
     let alloc = rt.alloc();
     let limits = Limits::standard();
     let tree = tree(alloc, ONE_BATCH, &limits).map_err(|_| "a record batch has no tree")?;
@@ -499,6 +505,13 @@ fn batches_are_read(rt: HostRuntime) -> Result<(), Fail> {
         },
     ];
     assert_eq!(rt; batch.buffers.as_slice(), buffers.as_slice());
+    Ok(())
+}
+
+#[test]
+fn dictionary_batches_are_read(rt: HostRuntime) -> Result<(), Fail> {
+    let alloc = rt.alloc();
+    let limits = Limits::standard();
     for (edits, id, delta) in [
         (&[][..], 0, false),
         (&[(76, 1)], 0, true),
