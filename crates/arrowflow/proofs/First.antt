@@ -1,10 +1,10 @@
 -- What a stream's front says of its first message.
-use Rattle.std.proofs.Common.{◌≡◌, ℕ, ◌+◌, ◌^◌, ◌==◌, nat_lt, not, Bool, true, false, cond, List, [], ◌∷◌, Some, Result, Ok, Err, refl, sym, ap, subst, ◌∙◌, is_some, take, ◌⊎◌, inl, inr}
+use Rattle.std.proofs.Common.{◌≡◌, ℕ, ◌+◌, ◌^◌, ◌==◌, nat_lt, not, Bool, true, false, cond, List, [], ◌∷◌, Some, Result, Ok, refl, sym, ap, subst, ◌∙◌, is_some, take, ◌⊎◌, inl, inr}
 use Rattle.arrow_types.specs.Field.{Fields}
 use Rattle.arrow_types.specs.Limits.{LimitNumbers}
 use Rattle.arrow_stream.specs.declared.kind.Refusal.{Refusal}
 use Rattle.arrow_stream.specs.declared.reader.Verdict.TheVariants.{Open, Bad}
-use Rattle.arrow_stream.specs.Frame.{number_at, has_continuation, HasPrefix, HasBody, prefix_says, BodySays, schema_comes, Outcome, First, whole, marker, refused, waits, short_prefix, short_metadata, short_body, bad_prefix, bad_metadata, bad_body, end_marker, message_comes}
+use Rattle.arrow_stream.specs.Frame.{number_at, has_continuation, prefix_says, BodySays, schema_comes, Outcome, First, whole, marker, refused, waits, short_prefix, short_metadata, short_body, bad_prefix, bad_metadata, bad_body, end_marker, message_comes}
 use Rattle.arrow_stream.specs.Front.{Entry, Standing, Front, rests, fails, closes, goes_on}
 use Rattle.arrow_stream.specs.Message.{Content}
 use Rattle.arrow_stream.specs.State.{StreamState, Given, nothing_yet, schema_given}

@@ -1,24 +1,22 @@
 -- What the reader's answers say of the input that it was given.
-use Rattle.std.proofs.Common.{◌≡◌, ℕ, List, [], ◌∷◌, ◌++◌, take, drop, Option, Some, Result, Ok, Err, ◌⊎◌, inl, inr, refl, sym, ap, ◌∙◌, subst, append_assoc, take-append-drop, is_some, length, arith}
+use Rattle.std.proofs.Common.{◌≡◌, ℕ, List, [], ◌++◌, take, drop, Option, Some, Ok, Err, ◌⊎◌, inl, inr, refl, sym, ap, ◌∙◌, subst, append_assoc, take-append-drop, is_some, length, arith}
 use Rattle.std.specs.Prelude.{MatchResult, ⊤}
 use Rattle.std.proofs.lemmas.List.{take_all}
 use Rattle.std.specs.Io.KnownBytes.{IsAtEnd}
 use Rattle.arrow_types.specs.Field.{Fields}
-use Rattle.arrow_types.specs.Limits.{LimitNumbers}
 use Rattle.arrow_stream.specs.declared.fault.Fault.{Fault}
 use Rattle.arrow_stream.specs.declared.item.Item.{Item}
 use Rattle.arrow_stream.specs.declared.kind.Kind.TheVariants.{NoSchema}
 use Rattle.arrow_stream.specs.declared.kind.Refusal.{Refusal}
 use Rattle.arrow_stream.specs.declared.kind.Refusal.TheVariants as refusals
-use Rattle.arrow_stream.specs.declared.reader.Verdict.TheVariants.{Open, Bad}
-use Rattle.arrow_stream.specs.Frame.{First, whole, refused, waits}
+use Rattle.arrow_stream.specs.declared.reader.Verdict.TheVariants.{Open}
+use Rattle.arrow_stream.specs.Frame.{First, waits}
 use Rattle.arrow_stream.specs.Kind.{kind_of}
-use Rattle.arrow_stream.specs.State.{nothing_yet, schema_given}
+use Rattle.arrow_stream.specs.State.{nothing_yet}
 use Rattle.arrow_stream.specs.Stream.{Shows, Stands, TakesOn, GivesNext, Refuses, WantsMemory, ended_by, ended_so}
 use Rattle.arrowflow.specs.Faults.{told}
-use Rattle.arrowflow.specs.SchemaCall.{BeginWithSchema, AreRefused, EndEarly, Finds}
-use Rattle.arrowflow.specs.declared.tool_fault.ToolFault.{ToolFault}
-use Rattle.arrowflow.specs.declared.tool_fault.ToolFault.TheVariants.{Stream, Memory}
+use Rattle.arrowflow.specs.SchemaCall.{BeginWithSchema, Finds}
+use Rattle.arrowflow.specs.declared.tool_fault.ToolFault.TheVariants.{Stream}
 use Rattle.arrowflow.proofs.First.{open_waits, bad_refused, one_entry}
 
 -- a refusal is told as it is

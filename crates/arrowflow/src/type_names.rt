@@ -3,7 +3,7 @@
 ghost use Rattle.std.specs.Prelude.{◌≡◌, ◌++◌, OnOk, string_bytes, option_map};
 ghost use Rattle.arrow_types.specs.DataType.{time, timestamp};
 ghost use Rattle.arrow_types.specs.View.{type_view};
-ghost use Rattle.arrowflow.specs.TypeNames.{int_name, date_name, unit_name, zone_text, type_name, index_text, id_text, column_type};
+ghost use Rattle.arrowflow.specs.TypeNames.{int_name, date_name, unit_name, type_name, index_text, id_text, column_type};
 
 use crate::escapes::push_escaped;
 use arrow_types::{BitWidth, DataType, DateUnit, Encoding, TimeUnit};

@@ -1,9 +1,8 @@
-use Rattle.std.proofs.Common.{◌≡◌, ◌<◌, ◌≤◌, ℕ, List, [], ◌++◌, take, length, Ok, Err, Some, refl, sym, ap, ◌∙◌, subst, append-nil, arith}
-use Rattle.std.specs.Io.KnownBytes.{Consumes, IsAtEnd}
-use Rattle.std.proofs.KnownBytes.{Consumes-trans, Consumes-nil, Consumes-kept}
-use Rattle.arrow_types.specs.Field.{Fields}
+use Rattle.std.proofs.Common.{◌≡◌, ◌<◌, [], ◌++◌, take, length, Err, sym, ap, ◌∙◌, subst, append-nil, arith}
+use Rattle.std.specs.Io.KnownBytes.{Consumes}
+use Rattle.std.proofs.KnownBytes.{Consumes-trans}
 use Rattle.arrowflow.specs.SchemaCall.{BeginWithSchema, Finds}
-use Rattle.arrowflow.proofs.Found.{end_found, end_not_ok, item_found, fault_found, still_waits, taken_whole}
+use Rattle.arrowflow.proofs.Found.{end_found, end_not_ok, item_found, fault_found, taken_whole}
 use Rattle.arrowflow.proofs.schema_call.read_first.Goals as goal
 
 pub returns-in-Ok-end : goal.returns-in-Ok-end
