@@ -1,0 +1,294 @@
+"""What `arrowflow schema` has to print of an input, by a model of its own: written from docs/FORMAT.md, in another
+language, with no code and no definition of the crates. It reads a whole list of bytes at once and keeps no state.
+
+`answer(bytes)` gives standard output, standard error and the exit status. Limits are the defaults.
+"""
+
+MAX_METADATA = 67_108_864
+MAX_BODY = 2 ** 36
+LAST_PLACE = 2 ** 62
+MAX_LEVELS = 32
+MAX_FIELDS = 65_536
+INT, DATE, TIME, TIMESTAMP, LIST, STRUCT = 2, 8, 9, 10, 12, 13
+WITH_TABLE = (INT, DATE, TIME, TIMESTAMP)
+NAMES = {1: "null", INT: "int", 4: "binary", 5: "utf8", 6: "bool", DATE: "date", TIME: "time",
+         TIMESTAMP: "timestamp", LIST: "list", STRUCT: "struct"}
+UNITS = ("s", "ms", "us", "ns")
+WIDTHS = (8, 16, 32, 64)
+
+
+class Unreadable(Exception):
+    """Nothing readable stands at a place that is looked at, or a limit of the tree is passed."""
+
+
+class Refused(Exception):
+    """The kind by which a message is refused."""
+
+
+def signed(number, width):
+    return number - (1 << 8 * width) if number >> (8 * width - 1) else number
+
+
+class Metadata:
+    """A FlatBuffer, read by places."""
+
+    def __init__(self, held):
+        self.held = held
+        self.fields_seen = 0
+        self.text_bytes = 0
+
+    def number(self, place, width):
+        if place < 0 or place + width > len(self.held):
+            raise Unreadable
+        return int.from_bytes(self.held[place:place + width], "little")
+
+    def target(self, place):
+        offset = self.number(place, 4)
+        if offset == 0:
+            raise Unreadable
+        return place + offset
+
+    def table(self, place):
+        vtable = place - signed(self.number(place, 4), 4)
+        size = self.number(vtable, 2)
+        if size < 4 or vtable + size > len(self.held):
+            raise Unreadable
+        return place, vtable, size
+
+    def place_of(self, table, field):
+        place, vtable, size = table
+        if 4 + 2 * field + 2 > size:
+            return None
+        entry = self.number(vtable + 4 + 2 * field, 2)
+        return place + entry if entry else None
+
+    def scalar(self, table, field, width, default):
+        place = self.place_of(table, field)
+        return default if place is None else self.number(place, width)
+
+    def text(self, table, field):
+        place = self.place_of(table, field)
+        if place is None:
+            return None
+        start = self.target(place)
+        count = self.number(start, 4)
+        text = self.held[start + 4:start + 4 + count]
+        if len(text) < count:
+            raise Unreadable
+        try:
+            text.decode("utf-8")
+        except UnicodeDecodeError:
+            raise Unreadable from None
+        self.text_bytes += count
+        if self.text_bytes > MAX_METADATA:
+            raise Unreadable
+        return text
+
+    def child(self, table, field):
+        place = self.place_of(table, field)
+        return None if place is None else self.table(self.target(place))
+
+    def vector(self, table, field, size):
+        """The place of the first element, and how many there are."""
+        place = self.place_of(table, field)
+        if place is None:
+            return 0, 0
+        start = self.target(place)
+        count = self.number(start, 4)
+        if start + 4 + count * size > len(self.held):
+            raise Unreadable
+        return start + 4, count
+
+
+def type_of(metadata, table, code):
+    """What the table of a type says, None where it is absent or not opened."""
+    if code not in WITH_TABLE:
+        return None
+    opened = metadata.child(table, 3)
+    if opened is None:
+        return None
+    if code == INT:
+        return signed(metadata.scalar(opened, 0, 4, 0), 4), metadata.scalar(opened, 1, 1, 0) != 0
+    if code == DATE:
+        return (signed(metadata.scalar(opened, 0, 2, 1), 2),)
+    if code == TIME:
+        return signed(metadata.scalar(opened, 0, 2, 1), 2), signed(metadata.scalar(opened, 1, 4, 32), 4)
+    return signed(metadata.scalar(opened, 0, 2, 0), 2), metadata.text(opened, 1)
+
+
+def encoding_of(metadata, table):
+    """A dictionary's id, its indices' width and sign, whether it is ordered, and its kind."""
+    encoding = metadata.child(table, 4)
+    if encoding is None:
+        return None
+    index = metadata.child(encoding, 1)
+    index_type = (32, True)
+    if index is not None:
+        index_type = signed(metadata.scalar(index, 0, 4, 0), 4), metadata.scalar(index, 1, 1, 0) != 0
+    return (signed(metadata.scalar(encoding, 0, 8, 0), 8), index_type,
+            metadata.scalar(encoding, 2, 1, 0) != 0, metadata.scalar(encoding, 3, 2, 0))
+
+
+def field_of(metadata, table, level):
+    metadata.fields_seen += 1
+    if metadata.fields_seen > MAX_FIELDS or level > MAX_LEVELS:
+        raise Unreadable
+    code = metadata.scalar(table, 2, 1, 0)
+    return {
+        "name": metadata.text(table, 0) or b"",
+        "nullable": metadata.scalar(table, 1, 1, 0) != 0,
+        "code": code,
+        "type": type_of(metadata, table, code),
+        "encoding": encoding_of(metadata, table),
+        "children": fields_of(metadata, table, 5, level + 1),
+    }
+
+
+def fields_of(metadata, table, field, level):
+    first, count = metadata.vector(table, field, 4)
+    return [field_of(metadata, metadata.table(metadata.target(first + 4 * k)), level) for k in range(count)]
+
+
+def all_fields(fields):
+    for field in fields:
+        yield field
+        yield from all_fields(field["children"])
+
+
+def batch_is_whole(metadata, batch):
+    metadata.scalar(batch, 0, 8, 0)
+    metadata.vector(batch, 1, 16)
+    metadata.vector(batch, 2, 16)
+
+
+def read_message(held):
+    """Version, header code, whether the header is there, bodyLength, endianness and fields of a metadata."""
+    metadata = Metadata(held)
+    root = metadata.table(metadata.target(0))
+    version = metadata.scalar(root, 0, 2, 0)
+    code = metadata.scalar(root, 1, 1, 0)
+    body = signed(metadata.scalar(root, 3, 8, 0), 8)
+    header = metadata.child(root, 2) if code in (1, 2, 3) else None
+    endianness, fields = 0, []
+    if header is not None and code == 1:
+        endianness = metadata.scalar(header, 0, 2, 0)
+        fields = fields_of(metadata, header, 1, 1)
+    elif header is not None and code == 2:
+        metadata.scalar(header, 0, 8, 0)
+        metadata.scalar(header, 2, 1, 0)
+        values = metadata.child(header, 1)
+        if values is None:
+            raise Unreadable
+        batch_is_whole(metadata, values)
+    elif header is not None:
+        batch_is_whole(metadata, header)
+    if any(field["code"] in WITH_TABLE and field["type"] is None for field in all_fields(fields)):
+        raise Unreadable
+    return version, code, header is not None, body, endianness, fields
+
+
+def is_unsupported(endianness, fields):
+    every = list(all_fields(fields))
+    nested = any(field["encoding"] and any(below["encoding"] for below in all_fields(field["children"])) for field in every)
+    return (endianness != 0 or nested or any(field["code"] not in NAMES for field in every)
+            or any(field["encoding"] and field["encoding"][3] != 0 for field in every))
+
+
+def fits(field):
+    """Whether widths, units and the number of children are those of the type."""
+    code, kind = field["code"], field["type"]
+    if field["encoding"] and field["encoding"][1][0] not in WIDTHS:
+        return False
+    if code == INT and kind[0] not in WIDTHS or code == DATE and kind[0] not in (0, 1):
+        return False
+    if code in (TIME, TIMESTAMP) and kind[0] not in range(4):
+        return False
+    if code == TIME and kind[1] != (32 if kind[0] < 2 else 64):
+        return False
+    count = len(field["children"])
+    return count == 1 if code == LIST else code == STRUCT or count == 0
+
+
+def value_type(field):
+    return field["code"], field["type"], tuple(
+        (below["name"], below["nullable"], below["encoding"], value_type(below)) for below in field["children"])
+
+
+def has_one_type_an_id(fields):
+    types = {}
+    return all(types.setdefault(field["encoding"][0], value_type(field)) == value_type(field)
+               for field in all_fields(fields) if field["encoding"])
+
+
+def first_schema(stream):
+    """The fields of the schema at the front, None where the bytes are less than a message."""
+    if len(stream) < 8:
+        return None
+    if stream[:4] != b"\xff" * 4:
+        raise Refused("Continuation")
+    size = int.from_bytes(stream[4:8], "little")
+    if size > MAX_METADATA:
+        raise Refused("MetadataSize")
+    if size == 0:
+        raise Refused("NoSchema")
+    if len(stream) < 8 + size:
+        return None
+    try:
+        version, code, there, body, endianness, fields = read_message(stream[8:8 + size])
+    except Unreadable:
+        raise Refused("Metadata") from None
+    if version != 4:
+        raise Refused("Version")
+    if code != 1 or not there:
+        raise Refused("Header")
+    if body < 0 or body > MAX_BODY or 8 + size + body > LAST_PLACE:
+        raise Refused("BodyLength")
+    if is_unsupported(endianness, fields):
+        raise Refused("Unsupported")
+    if not all(map(fits, all_fields(fields))) or not has_one_type_an_id(fields):
+        raise Refused("Schema")
+    return fields if len(stream) >= 8 + size + body else None
+
+
+def escaped(text):
+    return b"".join(b"\\x%02x" % byte if byte < 32 or byte in (92, 127) else bytes([byte]) for byte in text)
+
+
+def int_name(width, is_signed):
+    return (b"int" if is_signed else b"uint") + str(width).encode()
+
+
+def type_name(field):
+    code, kind = field["code"], field["type"]
+    if code == INT:
+        return int_name(*kind)
+    if code == DATE:
+        return b"date[ms]" if kind[0] else b"date[day]"
+    if code == TIME:
+        return b"time[" + UNITS[kind[0]].encode() + b"]"
+    if code == TIMESTAMP:
+        zone = b"" if kind[1] is None else b", " + escaped(kind[1])
+        return b"timestamp[" + UNITS[kind[0]].encode() + zone + b"]"
+    return NAMES[code].encode()
+
+
+def lines(fields, level=0):
+    text = b""
+    for field in fields:
+        column = type_name(field)
+        if field["encoding"]:
+            number, index, ordered, _ = field["encoding"]
+            column = b"dictionary<%s, %s> id %d" % (int_name(*index), column, number) + (b" ordered" if ordered else b"")
+        text += b"  " * level + escaped(field["name"]) + b": " + column
+        text += (b"" if field["nullable"] else b" not null") + b"\n" + lines(field["children"], level + 1)
+    return text
+
+
+def answer(stream):
+    try:
+        fields = first_schema(stream)
+    except Refused as refused:
+        return b"", b"fault at byte 0: %s\n" % str(refused).encode(), 1
+    if fields is None:
+        return b"", b"fault at byte 0: NoSchema\n", 1
+    return lines(fields), b"", 0
