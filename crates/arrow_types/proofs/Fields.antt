@@ -1,5 +1,5 @@
 -- Lists of fields, and the plain fields that they stand for.
-use Rattle.std.proofs.Common.{◌≡◌, ℕ, ◌+◌, List, [], ◌∷◌, length, refl, ap, arith}
+use Rattle.std.proofs.Common.{◌≡◌, List, [], ◌∷◌, length, refl, ap, arith}
 use Rattle.arrow_types.specs.Field.{width}
 use Rattle.arrow_types.specs.View.{fields_view}
 use Rattle.arrow_types.specs.declared.field.Field.{Field}

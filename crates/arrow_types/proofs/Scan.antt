@@ -1,11 +1,11 @@
 -- What the look over the encoded fields knows, as one more field comes.
-use Rattle.std.proofs.Common.{◌≡◌, ◌≢◌, ℕ, ℤ, Bool, true, false, cond, List, [], ◌∷◌, ◌++◌, length, map, Option, Some, None, slice_get, ap, ◌∙◌, sym, refl}
+use Rattle.std.proofs.Common.{◌≡◌, ◌≢◌, ℕ, ℤ, true, false, cond, List, [], ◌∷◌, ◌++◌, length, Option, Some, None, slice_get, ap, ◌∙◌, sym, refl}
 use Rattle.std.specs.Ordering.{int_eq}
 use Rattle.std.proofs.lemmas.Bool.{or_from, or_right}
 use Rattle.std.proofs.lemmas.List.{map-append}
 use Rattle.arrow_types.proofs.Clashes.{differ_append, differ_longer, no_clash, no_clash_new, clash_at, any_from}
 use Rattle.arrow_types.proofs.Ids.{each_once_new, each_once_old}
-use Rattle.arrow_types.proofs.Places.{ids_of, place_of, place_new, place_old, place_none, placed, Placed}
+use Rattle.arrow_types.proofs.Places.{ids_of, place_of, place_new, place_old, place_none, placed}
 use Rattle.arrow_types.specs.Schema.{DictionaryField, clash, each_once, types_differ}
 
 -- of the fields so far: their ids, the first place of each id, and that no two differ

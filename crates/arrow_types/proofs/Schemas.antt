@@ -1,8 +1,8 @@
 -- Fields to which no fault applies make a schema, and the other way round.
-use Rattle.std.proofs.Common.{◌≡◌, ◌≤◌, ℕ, ℤ, false, List}
+use Rattle.std.proofs.Common.{ℤ, List}
 use Rattle.arrow_types.proofs.Clashes.{one_type}
-use Rattle.arrow_types.specs.Field.{Fields, levels, count}
-use Rattle.arrow_types.specs.Schema.{dictionary_fields, is_nested, AreIdsOfOneType, IsBounded, IsKept}
+use Rattle.arrow_types.specs.Field.{Fields}
+use Rattle.arrow_types.specs.Schema.{dictionary_fields, AreIdsOfOneType, IsBounded, IsKept}
 
 -- fields that pass all four tests are kept with their ids
 pub schema_kept : (s : Fields) (ids : List ℤ) → IsBounded s → AreIdsOfOneType ids (dictionary_fields s) → IsKept ids s

@@ -1,12 +1,10 @@
-use Rattle.std.proofs.Common.{◌≡◌, ℕ, ◌<◌, ◌≤◌, ℤ, Option, length, sym, ◌∙◌, take_all, ap, subst, rules, arith}
+use Rattle.std.proofs.Common.{◌<◌, length, sym, ◌∙◌, rules, arith}
 use Rattle.std.specs.BTreeMap.{get}
 use Rattle.std.proofs.lemmas.Int.{to_z-of_z}
 use mir.Val.{SFits}
 use mir.Syntax.{w64}
 use Rattle.std.specs.Ordering.{int_cmp}
-use Rattle.arrow_types.specs.Dictionaries.{encoded_views}
-use Rattle.arrow_types.proofs.Look.{so_far, known_below, look_same, look_other, look_new, look_done}
-use Rattle.arrow_types.proofs.Scan.{Scanned}
+use Rattle.arrow_types.proofs.Look.{known_below, look_same, look_other, look_new, look_done}
 use Rattle.arrow_types.proofs.dictionaries.ids_of_one_type.Goals as goal
 use Rattle.arrow_types.proofs.dictionaries.ids_of_one_type.Goals.{in-Some+else-ne, in-None+in_ok-insert-in-None+in_ok-push-in-None}
 

@@ -1,4 +1,3 @@
-use Rattle.std.proofs.Common.{◌≡◌}
 use Rattle.arrow_types.specs.Equality.{is_equal_by}
 use Rattle.arrow_types.specs.Stored.{fields_code}
 use Rattle.arrow_types.proofs.schema.SchemaPartialEq.eq.Goals as goal
