@@ -176,7 +176,11 @@ fn offsets_of_each_length(rt: HostRuntime) -> Result<(), Fail> {
 // Eight bytes, whether they are read by their sign, and the integer that their first bytes are.
 type Row = ([u8; 8], bool, i128);
 
-// The rows hold of integers of this width, in the first slot and in the second.
+const LOW: [u8; 8] = [0; 8];
+
+const HIGH: [u8; 8] = [255; 8];
+
+// The rows hold of integers of this width, in the first slot.
 fn assert_rows(rt: &impl Abort, width: usize, rows: &[Row])
     requires { IsWidth width }
 {
@@ -186,71 +190,55 @@ fn assert_rows(rt: &impl Abort, width: usize, rows: &[Row])
 }
 
 #[test]
-fn integers_of_each_width(rt: HostRuntime) -> Result<(), Fail> {
-    let low = [0u8; 8];
-    let high = [255u8; 8];
-    let middle = [0x7f, 0xff, 0xff, 0xff, 0xff, 0xff, 0xff, 0xff];
-    assert_rows(
-        &rt,
-        1,
-        &[
-            (low, true, 0),
-            (low, false, 0),
-            (high, true, -1),
-            (high, false, 255),
-        ],
-    );
-    assert_rows(
-        &rt,
-        1,
-        &[
-            (middle, true, 127),
-            ([0x80, 0, 0, 0, 0, 0, 0, 0], true, -128),
-        ],
-    );
-    assert_rows(
-        &rt,
-        2,
-        &[(low, true, 0), (high, true, -1), (high, false, 65535)],
-    );
-    assert_rows(&rt, 2, &[([0xff, 0x7f, 0, 0, 0, 0, 0, 0], true, 32767)]);
-    assert_rows(&rt, 2, &[([0, 0x80, 0, 0, 0, 0, 0, 0], true, -32768)]);
-    assert_rows(
-        &rt,
-        4,
-        &[(low, true, 0), (high, true, -1), (high, false, 4294967295)],
-    );
-    assert_rows(
-        &rt,
-        4,
-        &[([0xff, 0xff, 0xff, 0x7f, 0, 0, 0, 0], true, 2147483647)],
-    );
-    assert_rows(&rt, 4, &[([0, 0, 0, 0x80, 0, 0, 0, 0], true, -2147483648)]);
-    assert_rows(
-        &rt,
-        8,
-        &[
-            (low, true, 0),
-            (high, true, -1),
-            (high, false, 18446744073709551615),
-        ],
-    );
-    assert_rows(
-        &rt,
-        8,
-        &[(
-            [0xff, 0xff, 0xff, 0xff, 0xff, 0xff, 0xff, 0x7f],
-            true,
-            9223372036854775807,
-        )],
-    );
-    assert_rows(
-        &rt,
-        8,
-        &[([0, 0, 0, 0, 0, 0, 0, 0x80], true, -9223372036854775808)],
-    );
+fn integers_of_one_byte(rt: HostRuntime) {
+    let rows: [Row; 6] = [
+        (LOW, true, 0),
+        (LOW, false, 0),
+        (HIGH, true, -1),
+        (HIGH, false, 255),
+        ([0x7f, 255, 255, 255, 255, 255, 255, 255], true, 127),
+        ([0x80, 0, 0, 0, 0, 0, 0, 0], true, -128),
+    ];
+    assert_rows(&rt, 1, &rows);
+}
+
+#[test]
+fn integers_of_two_bytes(rt: HostRuntime) {
+    let rows: [Row; 5] = [
+        (LOW, true, 0),
+        (HIGH, true, -1),
+        (HIGH, false, 65535),
+        ([0xff, 0x7f, 0, 0, 0, 0, 0, 0], true, 32767),
+        ([0, 0x80, 0, 0, 0, 0, 0, 0], true, -32768),
+    ];
+    assert_rows(&rt, 2, &rows);
     assert_eq!(rt; int_at(&[1, 0, 2, 0, 3, 1], 2, true, 2), 259);
-    Ok(())
+}
+
+#[test]
+fn integers_of_four_bytes(rt: HostRuntime) {
+    let rows: [Row; 5] = [
+        (LOW, true, 0),
+        (HIGH, true, -1),
+        (HIGH, false, 4294967295),
+        ([255, 255, 255, 0x7f, 0, 0, 0, 0], true, 2147483647),
+        ([0, 0, 0, 0x80, 0, 0, 0, 0], true, -2147483648),
+    ];
+    assert_rows(&rt, 4, &rows);
+}
+
+#[test]
+fn integers_of_eight_bytes(rt: HostRuntime) {
+    let greatest = [255, 255, 255, 255, 255, 255, 255, 0x7f];
+    let least = [0, 0, 0, 0, 0, 0, 0, 0x80];
+    let rows: [Row; 5] = [
+        (LOW, true, 0),
+        (HIGH, true, -1),
+        (HIGH, false, 18446744073709551615),
+        (greatest, true, 9223372036854775807),
+        (least, true, -9223372036854775808),
+    ];
+    assert_rows(&rt, 8, &rows);
 }
 
 // An integer that is refused for want of memory is put again.

@@ -345,9 +345,9 @@ const UINT32: DataType = DataType::Int {
 };
 
 #[test]
-fn a_field_is_what_its_table_says(rt: HostRuntime) -> Result<(), Fail> {
+fn a_type_without_a_unit_is_read(rt: HostRuntime) -> Result<(), Fail> {
     let alloc = rt.alloc();
-    let rows: [(Edits, DataType); 20] = [
+    let rows: [(Edits, DataType); 12] = [
         (&[], INT32),
         (&[(136, 7)], INT32),
         (&[(136, 0)], UINT32),
@@ -360,6 +360,18 @@ fn a_field_is_what_its_table_says(rt: HostRuntime) -> Result<(), Fail> {
         (&[(97, 6)], DataType::Bool),
         (&[(97, 4)], DataType::Binary),
         (&[(97, 13)], DataType::Struct(Vec::new(alloc))),
+    ];
+    for (edits, data_type) in rows {
+        let held = has_column(alloc, edits, "n", true, data_type)?;
+        assert!(rt; held, "{edits:?}");
+    }
+    Ok(())
+}
+
+#[test]
+fn a_type_with_a_unit_is_read(rt: HostRuntime) -> Result<(), Fail> {
+    let alloc = rt.alloc();
+    let rows: [(Edits, DataType); 8] = [
         (&[(97, 8), (118, 0)], DataType::Date(DateUnit::Millisecond)),
         (&[(97, 8), (132, 0)], DataType::Date(DateUnit::Day)),
         (&[(97, 9), (114, 4)], DataType::Time(TimeUnit::Millisecond)),

@@ -9,6 +9,9 @@ use std::alloc::{AllocError, Global};
 use std::process::Abort;
 use std::test::Fail;
 
+/// The bytes of a stream that are changed, by their places.
+type Edits = &'static [(usize, u8)];
+
 #[derive(Clone, Copy, Debug, PartialEq, Eq)]
 enum Type {
     Null,
@@ -177,222 +180,174 @@ fn behind(kind: Kind, held: u64) -> Told {
     }
 }
 
+/// That the schema with some bytes changed is answered so.
+fn is_schema_told(
+    rt: &impl Abort,
+    alloc: Global,
+    what: &str,
+    edits: &[(usize, u8)],
+    want: Told,
+) -> Result<(), AllocError> {
+    let bytes = stream(alloc, &[&SCHEMA], edits)?;
+    is_told(rt, alloc, what, Limits::standard(), &bytes, want);
+    Ok(())
+}
+
 #[test]
-fn a_schema_is_read_or_refused(rt: HostRuntime) -> Result<(), Fail> {
-    let alloc = rt.alloc();
-    let int32 = |place: u64| read_to(place, b'n', true, Type::Int32);
-    let rows: [(&str, &[(usize, u8)], &[u8], Told); 21] = [
-        ("nothing changed", &[], &[], int32(152)),
-        (
-            "nullable is 0",
-            &[(104, 0)],
-            &[],
-            read_to(152, b'n', false, Type::Int32),
-        ),
-        (
-            "is_signed is 0",
-            &[(144, 0)],
-            &[],
-            read_to(152, b'n', true, Type::UnsignedInt32),
-        ),
+fn a_type_is_read(rt: HostRuntime) -> Result<(), Fail> {
+    let rows: [(&str, Edits, Type); 7] = [
+        ("nothing changed", &[], Type::Int32),
+        ("is_signed is 0", &[(144, 0)], Type::UnsignedInt32),
         (
             "the vtable ends before is_signed",
             &[(122, 6)],
-            &[],
-            read_to(152, b'n', true, Type::UnsignedInt32),
+            Type::UnsignedInt32,
         ),
-        (
-            "the vtable of another table",
-            &[(136, 0x58)],
-            &[],
-            int32(152),
-        ),
-        (
-            "type code Null",
-            &[(105, 1)],
-            &[],
-            read_to(152, b'n', true, Type::Null),
-        ),
-        (
-            "type code Utf8",
-            &[(105, 5)],
-            &[],
-            read_to(152, b'n', true, Type::Utf8),
-        ),
-        (
-            "type code Bool",
-            &[(105, 6)],
-            &[],
-            read_to(152, b'n', true, Type::Bool),
-        ),
-        (
-            "a line feed in the name",
-            &[(120, 0x0a)],
-            &[],
-            read_to(152, 0x0a, true, Type::Int32),
-        ),
-        (
-            "a name that is not UTF-8",
-            &[(120, 0xff)],
-            &[],
-            nothing(Kind::Metadata),
-        ),
-        ("version V4", &[(28, 3)], &[], nothing(Kind::Version)),
-        (
-            "version before type",
-            &[(28, 3), (105, 3)],
-            &[],
-            nothing(Kind::Version),
-        ),
-        ("header code Tensor", &[(30, 4)], &[], nothing(Kind::Header)),
-        (
-            "header before body",
-            &[(30, 4), (47, 0x80)],
-            &[],
-            nothing(Kind::Header),
-        ),
-        (
-            "a negative body",
-            &[(47, 0x80)],
-            &[],
-            nothing(Kind::BodyLength),
-        ),
-        (
-            "body before type",
-            &[(47, 0x80), (105, 3)],
-            &[],
-            nothing(Kind::BodyLength),
-        ),
-        ("big-endian", &[(60, 1)], &[], nothing(Kind::Unsupported)),
-        (
-            "type code FloatingPoint",
-            &[(105, 3)],
-            &[],
-            nothing(Kind::Unsupported),
-        ),
-        ("24 bits", &[(140, 0x18)], &[], nothing(Kind::Schema)),
-        ("a body that is skipped", &[(40, 8)], &[0xff; 8], int32(160)),
-        (
-            "a body that is not whole",
-            &[(40, 8)],
-            &[0; 7],
-            Told {
-                held: 159,
-                ..nothing(Kind::NoSchema)
-            },
-        ),
+        ("the vtable of another table", &[(136, 0x58)], Type::Int32),
+        ("type code Null", &[(105, 1)], Type::Null),
+        ("type code Utf8", &[(105, 5)], Type::Utf8),
+        ("type code Bool", &[(105, 6)], Type::Bool),
     ];
-    for (what, edits, body, want) in rows {
-        let bytes = stream(alloc, &[&SCHEMA, body], edits)?;
-        is_told(&rt, alloc, what, Limits::standard(), &bytes, want);
+    for (what, edits, data_type) in rows {
+        let want = read_to(152, b'n', true, data_type);
+        is_schema_told(&rt, rt.alloc(), what, edits, want)?;
     }
     Ok(())
 }
 
 #[test]
-fn a_stream_is_read_message_by_message(rt: HostRuntime) -> Result<(), Fail> {
+fn a_name_and_nullable_are_read(rt: HostRuntime) -> Result<(), Fail> {
     let alloc = rt.alloc();
+    let line_feed = read_to(152, 0x0a, true, Type::Int32);
+    is_schema_told(&rt, alloc, "a line feed", &[(120, 0x0a)], line_feed)?;
+    let required = read_to(152, b'n', false, Type::Int32);
+    is_schema_told(&rt, alloc, "nullable is 0", &[(104, 0)], required)?;
+    Ok(())
+}
+
+#[test]
+fn a_schema_is_refused(rt: HostRuntime) -> Result<(), Fail> {
+    let rows: [(&str, Edits, Kind); 11] = [
+        (
+            "a byte of the continuation",
+            &[(3, 0xfe)],
+            Kind::Continuation,
+        ),
+        ("a name that is not UTF-8", &[(120, 0xff)], Kind::Metadata),
+        ("version V4", &[(28, 3)], Kind::Version),
+        ("version before type", &[(28, 3), (105, 3)], Kind::Version),
+        ("header code Tensor", &[(30, 4)], Kind::Header),
+        ("header before body", &[(30, 4), (47, 0x80)], Kind::Header),
+        ("a negative body", &[(47, 0x80)], Kind::BodyLength),
+        (
+            "body before type",
+            &[(47, 0x80), (105, 3)],
+            Kind::BodyLength,
+        ),
+        ("big-endian", &[(60, 1)], Kind::Unsupported),
+        ("type code FloatingPoint", &[(105, 3)], Kind::Unsupported),
+        ("24 bits", &[(140, 0x18)], Kind::Schema),
+    ];
+    for (what, edits, kind) in rows {
+        is_schema_told(&rt, rt.alloc(), what, edits, nothing(kind))?;
+    }
+    Ok(())
+}
+
+#[test]
+fn a_body_is_skipped(rt: HostRuntime) -> Result<(), Fail> {
+    let alloc = rt.alloc();
+    let limits = Limits::standard();
+    let whole = stream(alloc, &[&SCHEMA, &[0xff; 8]], &[(40, 8)])?;
+    let read = read_to(160, b'n', true, Type::Int32);
+    is_told(&rt, alloc, "a whole body", limits, &whole, read);
+    let part = stream(alloc, &[&SCHEMA, &[0; 7]], &[(40, 8)])?;
+    let waiting = Told {
+        held: 159,
+        ..nothing(Kind::NoSchema)
+    };
+    is_told(&rt, alloc, "a part of a body", limits, &part, waiting);
+    Ok(())
+}
+
+#[test]
+fn a_stream_without_a_schema_is_refused(rt: HostRuntime) -> Result<(), Fail> {
+    let alloc = rt.alloc();
+    let rows: [(&str, &[u8], Edits, Kind); 6] = [
+        ("nothing", &[], &[], Kind::NoSchema),
+        ("eight bytes FF", &[0xff; 8], &[], Kind::MetadataSize),
+        ("no continuation", &SCHEMA[4..], &[], Kind::Continuation),
+        ("an end marker", &END_MARKER, &[], Kind::NoSchema),
+        ("a batch", &BATCH, &[], Kind::Header),
+        ("header before body", &BATCH, &[(47, 0x80)], Kind::Header),
+    ];
+    for (what, message, edits, kind) in rows {
+        let bytes = stream(alloc, &[message], edits)?;
+        is_told(&rt, alloc, what, Limits::standard(), &bytes, nothing(kind));
+    }
+    Ok(())
+}
+
+#[test]
+fn a_second_message_is_refused(rt: HostRuntime) -> Result<(), Fail> {
+    let alloc = rt.alloc();
+    let rows: [(&str, &[u8], Edits, Kind); 5] = [
+        ("a second schema", &SCHEMA, &[], Kind::Order),
+        ("order before type", &SCHEMA, &[(257, 3)], Kind::Order),
+        ("order before width", &SCHEMA, &[(292, 0x18)], Kind::Order),
+        (
+            "body before order",
+            &SCHEMA,
+            &[(199, 0x80)],
+            Kind::BodyLength,
+        ),
+        ("header before order", &BATCH, &[], Kind::Header),
+    ];
+    for (what, message, edits, kind) in rows {
+        let bytes = stream(alloc, &[&SCHEMA, message], edits)?;
+        is_told(
+            &rt,
+            alloc,
+            what,
+            Limits::standard(),
+            &bytes,
+            behind(kind, 0),
+        );
+    }
+    Ok(())
+}
+
+#[test]
+fn the_front_of_a_message_waits(rt: HostRuntime) -> Result<(), Fail> {
+    let alloc = rt.alloc();
+    let limits = Limits::standard();
+    let first = Told {
+        held: 100,
+        ..nothing(Kind::NoSchema)
+    };
+    is_told(&rt, alloc, "a schema", limits, &SCHEMA[..100], first);
+    let marker = stream(alloc, &[&SCHEMA, &END_MARKER[..7]], &[])?;
+    let want = behind(Kind::Truncated, 7);
+    is_told(&rt, alloc, "an end marker", limits, &marker, want);
+    let second = stream(alloc, &[&SCHEMA, &SCHEMA[..151]], &[])?;
+    let want = behind(Kind::Truncated, 151);
+    is_told(&rt, alloc, "a second schema", limits, &second, want);
+    Ok(())
+}
+
+#[test]
+fn the_end_marker_ends_a_stream(rt: HostRuntime) -> Result<(), Fail> {
+    let alloc = rt.alloc();
+    let limits = Limits::standard();
     let ended = Told {
         end_markers: 1,
         place: 160,
         ..read_to(152, b'n', true, Type::Int32)
     };
-    let rows: [(&str, &[&[u8]], &[(usize, u8)], Told); 17] = [
-        ("nothing", &[], &[], nothing(Kind::NoSchema)),
-        (
-            "the front of a schema",
-            &[&SCHEMA[..100]],
-            &[],
-            Told {
-                held: 100,
-                ..nothing(Kind::NoSchema)
-            },
-        ),
-        (
-            "eight bytes FF",
-            &[&[0xff; 8]],
-            &[],
-            nothing(Kind::MetadataSize),
-        ),
-        (
-            "no continuation",
-            &[&SCHEMA[4..]],
-            &[],
-            nothing(Kind::Continuation),
-        ),
-        (
-            "one byte of the continuation",
-            &[&SCHEMA],
-            &[(3, 0xfe)],
-            nothing(Kind::Continuation),
-        ),
-        (
-            "the end marker alone",
-            &[&END_MARKER],
-            &[],
-            nothing(Kind::NoSchema),
-        ),
-        ("a batch alone", &[&BATCH], &[], nothing(Kind::Header)),
-        (
-            "a batch with a negative body",
-            &[&BATCH],
-            &[(47, 0x80)],
-            nothing(Kind::Header),
-        ),
-        ("the end marker", &[&SCHEMA, &END_MARKER], &[], ended),
-        (
-            "bytes behind the end marker",
-            &[&SCHEMA, &END_MARKER, &[1, 2, 3]],
-            &[],
-            ended,
-        ),
-        (
-            "the front of an end marker",
-            &[&SCHEMA, &END_MARKER[..7]],
-            &[],
-            behind(Kind::Truncated, 7),
-        ),
-        (
-            "a second schema",
-            &[&SCHEMA, &SCHEMA],
-            &[],
-            behind(Kind::Order, 0),
-        ),
-        (
-            "order before type",
-            &[&SCHEMA, &SCHEMA],
-            &[(257, 3)],
-            behind(Kind::Order, 0),
-        ),
-        (
-            "order before width",
-            &[&SCHEMA, &SCHEMA],
-            &[(292, 0x18)],
-            behind(Kind::Order, 0),
-        ),
-        (
-            "body before order",
-            &[&SCHEMA, &SCHEMA],
-            &[(199, 0x80)],
-            behind(Kind::BodyLength, 0),
-        ),
-        (
-            "header before order",
-            &[&SCHEMA, &BATCH],
-            &[],
-            behind(Kind::Header, 0),
-        ),
-        (
-            "the front of a second schema",
-            &[&SCHEMA, &SCHEMA[..151]],
-            &[],
-            behind(Kind::Truncated, 151),
-        ),
-    ];
-    for (what, parts, edits, want) in rows {
-        let bytes = stream(alloc, parts, edits)?;
-        is_told(&rt, alloc, what, Limits::standard(), &bytes, want);
-    }
+    let whole = stream(alloc, &[&SCHEMA, &END_MARKER], &[])?;
+    is_told(&rt, alloc, "nothing behind it", limits, &whole, ended);
+    let more = stream(alloc, &[&SCHEMA, &END_MARKER, &[1, 2, 3]], &[])?;
+    is_told(&rt, alloc, "bytes behind it", limits, &more, ended);
     Ok(())
 }
 
@@ -459,6 +414,12 @@ fn each_call_answers(rt: HostRuntime) -> Result<(), Fail> {
             place: 0
         })
     );
+    Ok(())
+}
+
+#[test]
+fn a_refusal_lasts_until_restart(rt: HostRuntime) -> Result<(), Fail> {
+    let mut reader = StreamReader::new(rt.alloc(), Limits::standard());
     let refused = Fault {
         kind: Kind::Header,
         place: 0,
@@ -469,6 +430,11 @@ fn each_call_answers(rt: HostRuntime) -> Result<(), Fail> {
     assert_eq!(rt; reader.held(), 0);
     reader.restart();
     assert_eq!(rt; reader.read(&SCHEMA), Ok((152, Some(Item::Schema))));
+    Ok(())
+}
+
+#[test]
+fn kinds_have_their_numbers(rt: HostRuntime) {
     let numbers = [
         (Kind::Continuation, 1),
         (Kind::MetadataSize, 2),
@@ -481,9 +447,12 @@ fn each_call_answers(rt: HostRuntime) -> Result<(), Fail> {
     for (kind, number) in numbers {
         assert_eq!(rt; kind.number(), number, "{kind:?}");
     }
+}
+
+#[test]
+fn the_laws_can_be_called() {
     laws::one_front();
     laws::front_grows();
     laws::same_standing();
     laws::less_waits();
-    Ok(())
 }
