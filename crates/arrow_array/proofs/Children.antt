@@ -6,42 +6,67 @@ use Rattle.std.proofs.lemmas.Option.{slice_get_read}
 use Rattle.arrow_types.specs.DataType.{list, struct}
 use Rattle.arrow_types.specs.Field.{Fields, none, more, TypeShape}
 use Rattle.arrow_array.specs.PlainValue.{PlainValue, value_at, null_value, is_null_value, list_value, struct_value, values_of, field_value, nth_value}
-use Rattle.arrow_array.specs.Column.{Column, AreOf, HasChild, HasField, type_of_field, struct_fields, struct_fields_of, row_of}
+use Rattle.arrow_array.specs.Column.{Column, AreOf, HasChild, HasField, listed_of, type_of_field, struct_fields, struct_fields_of}
 use Rattle.arrow_array.specs.Slots.{slots, list_slot, struct_slot, is_valid_at, place_of, range_of}
-use Rattle.arrow_array.specs.Node.{bytes_of, AreLists, AreStructs}
-use Rattle.arrow_array.specs.declared.byte_range.ByteRange.{ByteRange}
 use Rattle.arrow_array.proofs.Shown.{length_slots, at_slots, row_same}
 
 -- a slot that is not null is valid
-value_of_valid : (b : Bool) (x : PlainValue) → is_null_value (if b then x else null_value) ≡ false → (if b then x else null_value) ≡ x
+valid_from_value : (b : Bool) (x : PlainValue) → is_null_value (if b then x else null_value) ≡ false → b ≡ true
+valid_from_value true x h = refl
+valid_from_value false x h = absurd (true≢false h)
+
+-- what stands in a valid slot
+value_of_valid : (b : Bool) (x : PlainValue) → b ≡ true → (if b then x else null_value) ≡ x
 value_of_valid true x h = refl
-value_of_valid false x h = absurd (true≢false h)
+value_of_valid false x h = absurd (true≢false (sym h))
+
+-- the column of a node of lists, and that of a node of structs
+abbrev lists : TypeShape → ℕ → List ℕ → List ℕ → Column → Column
+lists t n v o child = record {
+  data_type = t;
+  encoding = None;
+  raw = slots n (list_slot v o child.raw);
+  resolved = slots n (list_slot v o child.resolved);
+  dictionaries = child.dictionaries;
+}
+
+abbrev structs : TypeShape → ℕ → List ℕ → List Column → Column
+structs t n v cs = record {
+  data_type = t;
+  encoding = None;
+  raw = slots n (struct_slot v (map (λ (x : Column). x.raw) cs));
+  resolved = slots n (struct_slot v (map (λ (x : Column). x.resolved) cs));
+  dictionaries = listed_of cs;
+}
 
 -- what a column of lists says of its child
-pub child_shown : (c : Column) (n : ℕ) (t : TypeShape) (body : List ℕ) (v o : ByteRange) (child : Column)
-    → c.raw ≡ slots n (λ j. list_slot (bytes_of body v) (bytes_of body o) child.raw j) → c.data_type ≡ t → t.tag ≡ list → AreLists n t body v o child
-    → HasChild c child
-child_shown c n t body v o child raw shape tag ok =
-    let slot = list_slot (bytes_of body v) (bytes_of body o) child.raw in
-    let long : length c.raw ≡ n = ap length raw ∙ length_slots n (λ j. slot j) in
-    record {
-      is_list = ap (λ (x : TypeShape). x.tag) shape ∙ tag;
-      typed = rw shape ok.typed;
+pub child_shown : (c : Column) (t : TypeShape) (n : ℕ) (v o : List ℕ) (child : Column) → c ≡ lists t n v o child → t.tag ≡ list → AreOf t.children (child ∷ []) → HasChild c child
+child_shown c t n v o child is tag typed =
+    let raw = list_slot v o child.raw in
+    let resolved = list_slot v o child.resolved in
+    let shown : HasChild (lists t n v o child) child = record {
+      is_list = (refl, tag);
+      typed = typed;
+      listed = refl;
       same = λ i h full.
-          let here = ap (λ vs. value_at vs i) raw ∙ at_slots n (λ j. slot j) i (omega (arith, h, long)) in
+          let inside : i < n = omega (arith, length_slots n (λ j. raw j)) in
+          let here = at_slots n (λ j. raw j) i inside in
+          let valid = valid_from_value (is_valid_at v i) (list_value (values_of (range_of o child.raw i))) (ap is_null_value (sym here) ∙ full) in
           record {
-            start = place_of (bytes_of body o) i;
-            stop = place_of (bytes_of body o) (i + 1);
-            same = here ∙ value_of_valid (is_valid_at (bytes_of body v) i) (list_value (values_of (range_of (bytes_of body o) child.raw i))) (ap is_null_value (sym here) ∙ full);
+            start = place_of o i;
+            stop = place_of o (i + 1);
+            same = here ∙ value_of_valid (is_valid_at v i) (list_value (values_of (range_of o child.raw i))) valid;
+            same_resolved = at_slots n (λ j. resolved j) i inside ∙ value_of_valid (is_valid_at v i) (list_value (values_of (range_of o child.resolved i))) valid;
           };
-    }
+    } in
+    subst (λ x. HasChild x child) (sym is) shown
 
-nth_row : (cs : List Column) (k i : ℕ) (a : Column) → slice_get cs k ≡ Some a → nth_value k (values_of (row_of cs i)) ≡ value_at a.raw i
-nth_row [] k i a e = cc
-nth_row (c ∷ cs) zero i a e =
+nth_row : (of : Column → List PlainValue) (cs : List Column) (k i : ℕ) (a : Column) → slice_get cs k ≡ Some a → nth_value k (values_of (map (λ (c : Column). value_at (of c) i) cs)) ≡ value_at (of a) i
+nth_row of [] k i a e = cc
+nth_row of (c ∷ cs) zero i a e =
     let same : c ≡ a = cc in
-    ap (λ (x : Column). value_at x.raw i) same
-nth_row (c ∷ cs) (suc k) i a e = nth_row cs k i a e
+    ap (λ (x : Column). value_at (of x) i) same
+nth_row of (c ∷ cs) (suc k) i a e = nth_row of cs k i a e
 
 all_at : (P : Column → Type 0) (cs : List Column) (k : ℕ) (a : Column) → AllByRecursion P cs → slice_get cs k ≡ Some a → P a
 all_at P [] k a h e = absurd cc
@@ -51,13 +76,13 @@ all_at P (c ∷ cs) zero a h e =
 all_at P (c ∷ cs) (suc k) a h e = all_at P cs k a h.1 e
 
 -- the type of the column of field k
-type_found : (fields : Fields) (cs : List Column) (k : ℕ) (a : Column) → AreOf fields cs → slice_get cs k ≡ Some a → type_of_field fields k ≡ Some a.data_type
+type_found : (fields : Fields) (cs : List Column) (k : ℕ) (a : Column) → AreOf fields cs → slice_get cs k ≡ Some a → type_of_field fields k ≡ Some (a.data_type, a.encoding)
 type_found none [] k a h e = absurd cc
 type_found none (c ∷ cs) k a h e = absurd h
 type_found (more x b rest) [] k a h e = absurd h
 type_found (more x b rest) (c ∷ cs) zero a h e =
     let same : c ≡ a = cc in
-    sym (ap (λ t. Some t) h.0) ∙ ap (λ (y : Column). Some y.data_type) same
+    (λ i. Some (sym h.0 i, sym h.1 i)) ∙ ap (λ (y : Column). Some (y.data_type, y.encoding)) same
 type_found (more x b rest) (c ∷ cs) (suc k) a h e = type_found rest cs k a h.2 e
 
 type_past : (fields : Fields) (cs : List Column) (k : ℕ) → AreOf fields cs → length cs ≤ k → type_of_field fields k ≡ None
@@ -73,22 +98,35 @@ found_from_lookup cs n None h g = g
 found_from_lookup cs n (Some a) h g = slice_get_read cs (length cs) n a.now refl g.0 h
 
 -- what a struct says of the child of field k
-pub field_shown : (c : Column) (n : ℕ) (t : TypeShape) (body : List ℕ) (v : ByteRange) (cs : List Column) (k : ℕ) (r : Option (Bor Column))
-    → c.raw ≡ slots n (λ j. struct_slot (bytes_of body v) (map (λ (x : Column). x.raw) cs) j) → c.data_type ≡ t → t.tag ≡ struct → AreStructs n t body v cs
+field_shown : (t : TypeShape) (n : ℕ) (v : List ℕ) (cs : List Column) (k : ℕ) (r : Option (Bor Column))
+    → t.tag ≡ struct → AreOf t.children cs → AllByRecursion (λ (d : Column). n ≤ length d.raw) cs
     → MatchOption r (length cs ≤ k) (λ b. slice_get cs k ≡ Some b.now)
-    → MatchOption r (type_of_field (struct_fields c.data_type) k ≡ None) (λ a. HasField c k a.now)
-field_shown c n t body v cs k None raw shape tag ok is =
-    let fields : struct_fields c.data_type ≡ t.children = ap struct_fields shape ∙ ap (λ g. struct_fields_of g t.children) tag in
-    ap (λ f. type_of_field f k) fields ∙ type_past t.children cs k ok.typed is
-field_shown c n t body v cs k (Some a) raw shape tag ok is =
-    let fields : struct_fields c.data_type ≡ t.children = ap struct_fields shape ∙ ap (λ g. struct_fields_of g t.children) tag in
-    let slot = struct_slot (bytes_of body v) (map (λ (x : Column). x.raw) cs) in
-    let long : length c.raw ≡ n = ap length raw ∙ length_slots n (λ j. slot j) in
+    → MatchOption r (type_of_field (struct_fields (structs t n v cs)) k ≡ None) (λ a. HasField (structs t n v cs) k a.now)
+field_shown t n v cs k None tag typed longer is =
+    let fields : struct_fields (structs t n v cs) ≡ t.children = ap (λ g. struct_fields_of g None t.children) tag in
+    ap (λ f. type_of_field f k) fields ∙ type_past t.children cs k typed is
+field_shown t n v cs k (Some a) tag typed longer is =
+    let fields : struct_fields (structs t n v cs) ≡ t.children = ap (λ g. struct_fields_of g None t.children) tag in
+    let raw = struct_slot v (map (λ (x : Column). x.raw) cs) in
+    let resolved = struct_slot v (map (λ (x : Column). x.resolved) cs) in
+    let long : length (slots n (λ j. raw j)) ≡ n = length_slots n (λ j. raw j) in
     record {
-      typed = ap (λ f. type_of_field f k) fields ∙ type_found t.children cs k a.now ok.typed is;
-      longer = omega (arith, long, all_at (λ (x : Column). n ≤ length x.raw) cs k a.now ok.longer is);
+      typed = ap (λ f. type_of_field f k) fields ∙ type_found t.children cs k a.now typed is;
+      longer = omega (arith, long, all_at (λ (x : Column). n ≤ length x.raw) cs k a.now longer is);
       same = λ i h full.
-          let here = ap (λ vs. value_at vs i) raw ∙ at_slots n (λ j. slot j) i (omega (arith, h, long)) in
-          let valid = here ∙ value_of_valid (is_valid_at (bytes_of body v) i) (struct_value (values_of (map (λ values. value_at values i) (map (λ (x : Column). x.raw) cs)))) (ap is_null_value (sym here) ∙ full) in
-          ap (field_value k) valid ∙ ap (λ vs. nth_value k (values_of vs)) (row_same cs i) ∙ nth_row cs k i a.now is;
+          let inside : i < n = omega (arith, h, long) in
+          let here = at_slots n (λ j. raw j) i inside in
+          let parts = struct_value (values_of (map (λ values. value_at values i) (map (λ (x : Column). x.raw) cs))) in
+          let valid = valid_from_value (is_valid_at v i) parts (ap is_null_value (sym here) ∙ full) in (
+            ap (field_value k) (here ∙ value_of_valid (is_valid_at v i) parts valid) ∙ ap (λ vs. nth_value k (values_of vs)) (row_same (λ (x : Column). x.raw) cs i) ∙ nth_row (λ (x : Column). x.raw) cs k i a.now is,
+            ap (field_value k) (at_slots n (λ j. resolved j) i inside ∙ value_of_valid (is_valid_at v i) (struct_value (values_of (map (λ values. value_at values i) (map (λ (x : Column). x.resolved) cs)))) valid)
+                ∙ ap (λ vs. nth_value k (values_of vs)) (row_same (λ (x : Column). x.resolved) cs i) ∙ nth_row (λ (x : Column). x.resolved) cs k i a.now is,
+          );
     }
+
+pub field_of_column : (c : Column) (t : TypeShape) (n : ℕ) (v : List ℕ) (cs : List Column) (k : ℕ) (r : Option (Bor Column))
+    → c ≡ structs t n v cs → t.tag ≡ struct → AreOf t.children cs → AllByRecursion (λ (d : Column). n ≤ length d.raw) cs
+    → MatchOption r (length cs ≤ k) (λ b. slice_get cs k ≡ Some b.now)
+    → MatchOption r (type_of_field (struct_fields c) k ≡ None) (λ a. HasField c k a.now)
+field_of_column c t n v cs k r is tag typed longer found =
+    subst (λ x. MatchOption r (type_of_field (struct_fields x) k ≡ None) (λ a. HasField x k a.now)) (sym is) (field_shown t n v cs k r tag typed longer found)

@@ -1,3 +1,9 @@
 pub mod Shown
 pub mod Children
 pub mod Sameness
+pub mod Segments
+pub mod Entries
+pub mod Resolving
+pub mod NodeParts
+pub mod Batches
+pub mod Values

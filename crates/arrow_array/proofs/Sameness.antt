@@ -25,10 +25,10 @@ part_smaller (c ∷ cs) zero d h = omega arith
 part_smaller (c ∷ cs) (suc k) d h = omega (arith, part_smaller cs k d (omega arith))
 
 pub items_agree : (c d : Column) (i j start end from to : ℕ) (a b : Column) (r : Bool) → HasItems c i start end a → HasItems d j from to b
-    → (IsTrue r ↔ (values_from a start end ≡ values_from b from to)) → IsTrue r ↔ (value_at c.raw i ≡ value_at d.raw j)
+    → (IsTrue r ↔ (values_from a.raw start end ≡ values_from b.raw from to)) → IsTrue r ↔ (value_at c.raw i ≡ value_at d.raw j)
 items_agree c d i j start end from to a b r h g s = (
   λ t. let e = s.0 t in h.same ∙ ap (λ vs. list_value (values_of vs)) e ∙ sym g.same,
-  λ e. let inner : values_of (values_from a start end) ≡ values_of (values_from b from to) = cc in s.1 (values_same _ _ inner),
+  λ e. let inner : values_of (values_from a.raw start end) ≡ values_of (values_from b.raw from to) = cc in s.1 (values_same _ _ inner),
 )
 
 pub parts_agree : (c d : Column) (i j : ℕ) (cs ds : List Column) (r : Bool) → HasParts c i cs → HasParts d j ds
@@ -38,18 +38,18 @@ parts_agree c d i j cs ds r h g s = (
   λ e. let inner : values_of (row_of cs i) ≡ values_of (row_of ds j) = cc in s.1 (values_same _ _ inner),
 )
 
-pub length-values_from : (c : Column) (start end : ℕ) → end ≤ length c.raw → length (values_from c start end) ≡ end - start
-length-values_from c start end h = omega (arith, length-take (end - start) (drop start c.raw), length-drop start c.raw)
+pub length-values_from : (values : List PlainValue) (start end : ℕ) → end ≤ length values → length (values_from values start end) ≡ end - start
+length-values_from values start end h = omega (arith, length-take (end - start) (drop start values), length-drop start values)
 
-pub at_values_from : (c : Column) (start end k : ℕ) → k < end - start → get_or (values_from c start end) k null_value ≡ value_at c.raw (start + k)
-at_values_from c start end k h = get_or-take (end - start) (drop start c.raw) k null_value h ∙ get_or-drop start c.raw k null_value
+pub at_values_from : (values : List PlainValue) (start end k : ℕ) → k < end - start → get_or (values_from values start end) k null_value ≡ value_at values (start + k)
+at_values_from values start end k h = get_or-take (end - start) (drop start values) k null_value h ∙ get_or-drop start values k null_value
 
 pub items_same : (a b : Column) (start end from to : ℕ) → end ≤ length a.raw → to ≤ length b.raw → end - start ≡ to - from
-    → ((k : ℕ) → k < end - start → value_at a.raw (start + k) ≡ value_at b.raw (from + k)) → values_from a start end ≡ values_from b from to
+    → ((k : ℕ) → k < end - start → value_at a.raw (start + k) ≡ value_at b.raw (from + k)) → values_from a.raw start end ≡ values_from b.raw from to
 items_same a b start end from to p q n f =
-    ext_get_or null_value (values_from a start end) (values_from b from to) (length-values_from a start end p ∙ n ∙ sym (length-values_from b from to q))
-    (λ k h. let l : k < end - start = omega (arith, length-values_from a start end p) in
-    at_values_from a start end k l ∙ f k l ∙ sym (at_values_from b from to k (omega arith)))
+    ext_get_or null_value (values_from a.raw start end) (values_from b.raw from to) (length-values_from a.raw start end p ∙ n ∙ sym (length-values_from b.raw from to q))
+    (λ k h. let l : k < end - start = omega (arith, length-values_from a.raw start end p) in
+    at_values_from a.raw start end k l ∙ f k l ∙ sym (at_values_from b.raw from to k (omega arith)))
 
 pub length-row_of : (cs : List Column) (i : ℕ) → length (row_of cs i) ≡ length cs
 length-row_of [] i = refl

@@ -1,10 +1,11 @@
 -- The slots of ranges.
 use Rattle.std.proofs.Common.{◌≡◌, ℕ, ◌+◌, ◌*◌, ◌<◌, ◌≤◌, true, List, [], ◌∷◌, length, map, refl, sym, inl, inr, ap, ◌∙◌, subst, arith, if◌then◌else◌}
 use Rattle.std.proofs.lemmas.List.FromFn.{get_or-map-range_with_len, length-map-range_with_len}
+use Rattle.std.specs.List.{AllByRecursion}
 use Rattle.arrow_bits.specs.Numbers.{IsWidth}
 use Rattle.arrow_types.specs.Field.{TypeShape}
 use Rattle.arrow_array.specs.PlainValue.{PlainValue, value_at, null_value, struct_value, values_of}
-use Rattle.arrow_array.specs.Column.{Column, HasParts, row_of}
+use Rattle.arrow_array.specs.Column.{Column, HasParts, counts_of}
 use Rattle.arrow_array.specs.Slots.{slots, struct_slot, is_valid_at}
 use Rattle.arrow_array.specs.Node.{bytes_of, AreStructs}
 use Rattle.arrow_array.specs.declared.byte_range.ByteRange.{ByteRange}
@@ -27,9 +28,14 @@ slot_inside width i n m (inr (inr (inr e))) h long = subst (λ w. w * i + w ≤ 
 pub ruleset shown = (length_slots, at_slots, slot_inside)
 
 -- the values at a slot of the columns' values are those of the columns
-pub row_same : (cs : List Column) (i : ℕ) → map (λ values. value_at values i) (map (λ (x : Column). x.raw) cs) ≡ row_of cs i
-row_same [] i = refl
-row_same (c ∷ cs) i = ap (λ vs. value_at c.raw i ∷ vs) (row_same cs i)
+pub row_same : (of : Column → List PlainValue) (cs : List Column) (i : ℕ) → map (λ values. value_at values i) (map of cs) ≡ map (λ (c : Column). value_at (of c) i) cs
+row_same of [] i = refl
+row_same of (c ∷ cs) i = ap (λ vs. value_at (of c) i ∷ vs) (row_same of cs i)
+
+-- each child has the slots
+pub longer_of_counts : (n : ℕ) (cs : List Column) → AllByRecursion (λ count. n ≤ count) (counts_of cs) → AllByRecursion (λ (c : Column). n ≤ length c.raw) cs
+longer_of_counts n [] h = tt
+longer_of_counts n (c ∷ cs) h = (h.0, longer_of_counts n cs h.1)
 
 -- what a valid slot of a struct shows
 pub parts_shown : (c : Column) (n i : ℕ) (t : TypeShape) (body : List ℕ) (v : ByteRange) (cs : List Column)
@@ -40,6 +46,6 @@ parts_shown c n i t body v cs raw shape ok within valid =
     let long : length c.raw ≡ n = ap length raw ∙ length_slots n (λ j. slot j) in
     record {
       typed = rw shape ok.typed;
-      longer = rw long ok.longer;
-      same = rw raw (at_slots n (λ j. slot j) i within ∙ ap (λ b. if b then struct_value (values_of (map (λ values. value_at values i) (map (λ (x : Column). x.raw) cs))) else null_value) valid ∙ ap (λ vs. struct_value (values_of vs)) (row_same cs i));
+      longer = rw long (longer_of_counts n cs ok.laid.longer);
+      same = rw raw (at_slots n (λ j. slot j) i within ∙ ap (λ b. if b then struct_value (values_of (map (λ values. value_at values i) (map (λ (x : Column). x.raw) cs))) else null_value) valid ∙ ap (λ vs. struct_value (values_of vs)) (row_same (λ (x : Column). x.raw) cs i));
     }

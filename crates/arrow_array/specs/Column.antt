@@ -1,50 +1,111 @@
--- What an array is, without how it is kept (Columnar Format, "Terminology").
-use Rattle.std.specs.Prelude.{◌≡◌, ◌≤◌, ◌<◌, ◌-◌, ℕ, zero, suc, false, List, [], ◌∷◌, length, map, take, drop, ⊤, Option, None, Some, refl}
-use Rattle.std.specs.Coded.{Coded, code_by, coded×, coded_list}
+-- What an array and a dictionary are, without how they are kept (Columnar Format, "Terminology").
+use Rattle.std.specs.Prelude.{◌≡◌, ◌≤◌, ◌<◌, ◌+◌, ◌*◌, ◌-◌, ◌^◌, ℕ, zero, suc, ℤ, false, List, [], ◌∷◌, ◌++◌, length, map, take, drop, ⊤, Option, None, Some, IsTrue, is_some, refl}
+use Rattle.std.specs.Coded.{Coded, code_by, coded×, coded_ℤ, coded_list, coded_option}
 use Rattle.std.specs.List.{AllByRecursion}
 use Rattle.arrow_types.specs.DataType.{Tag, list, struct}
 use Rattle.arrow_types.specs.Field.{Fields, none, more, TypeShape, levels}
+use Rattle.arrow_types.specs.Schema.{has_encoding}
 use Rattle.arrow_types.specs.Stored.{type_code}
-use Rattle.arrow_array.specs.PlainValue.{PlainValue, value_at, list_value, struct_value, values_of, is_null_value, field_value}
+use Rattle.arrow_types.specs.contracts.field.Encoding.{the_row as encoding_row}
+use Rattle.arrow_types.specs.declared.field.Encoding.{Encoding}
+use Rattle.arrow_array.specs.PlainValue.{PlainValue, value_at, null_value, list_value, struct_value, values_of, is_null_value, field_value}
+use Rattle.arrow_array.specs.Resolve.{resolve}
 use Rattle.arrow_array.specs.Stored.{value_code}
 
--- a type, and the raw value of each slot
+-- An array: its type, its encoding, and the value of each slot, raw (where it is dictionary-encoded, the index) and
+-- resolved. Beside these, for each dictionary-encoded field of it in pre-order, the id and the values of the dictionary.
 pub record Column : Type 0 where
   pub data_type : TypeShape
+  pub encoding : Option Encoding
   pub raw : List PlainValue
-
-abbrev pub column : TypeShape → List PlainValue → Column
-column data_type raw = record { data_type = data_type; raw = raw }
+  pub resolved : List PlainValue
+  pub dictionaries : List (ℤ × List PlainValue)
 
 abbrev pub column_code : Coded Column
-column_code = code_by (TypeShape × List PlainValue) (coded× type_code (coded_list value_code))
-    (λ c. (c.data_type, c.raw)) (λ p. record { data_type = p.0; raw = p.1 }) (λ _. refl)
+column_code =
+    code_by (TypeShape × (Option Encoding × (List PlainValue × (List PlainValue × List (ℤ × List PlainValue)))))
+    (coded× type_code (coded× (coded_option encoding_row.coded) (coded× (coded_list value_code) (coded× (coded_list value_code) (coded_list (coded× coded_ℤ (coded_list value_code)))))))
+    (λ c. (c.data_type, (c.encoding, (c.raw, (c.resolved, c.dictionaries)))))
+    (λ p. record { data_type = p.0; encoding = p.1.0; raw = p.1.1.0; resolved = p.1.1.1.0; dictionaries = p.1.1.1.1 })
+    (λ _. refl)
 
--- how many levels of arrays can stand below
+-- a column without an encoding on any level
+abbrev pub plain_column : TypeShape → List PlainValue → Column
+plain_column data_type values = record { data_type = data_type; encoding = None; raw = values; resolved = values; dictionaries = [] }
+
+-- A dictionary: the type of its values, and the values.
+pub record ValueList : Type 0 where
+  pub data_type : TypeShape
+  pub values : List PlainValue
+
+abbrev pub value_list_code : Coded ValueList
+value_list_code = code_by (TypeShape × List PlainValue) (coded× type_code (coded_list value_code))
+    (λ d. (d.data_type, d.values)) (λ p. record { data_type = p.0; values = p.1 }) (λ _. refl)
+
+-- An array stands above its dictionary, which stands above the arrays of its values, and these above their children.
+abbrev pub index_levels : Option Encoding → ℕ
+index_levels None = 0
+index_levels (Some e) = 2
+
 abbrev pub column_size : Column → ℕ
-column_size c = levels c.data_type.children
+column_size c = 3 * levels c.data_type.children + index_levels c.encoding
 
--- the columns have the types of the fields, of which none is dictionary-encoded
+abbrev pub value_list_size : ValueList → ℕ
+value_list_size d = 3 * levels d.data_type.children + 1
+
+-- the columns have the types and the encodings of the fields
 abbrev pub AreOf : Fields → List Column → Type 0
 AreOf none [] = ⊤
 AreOf none (c ∷ cs) = ⊥
 AreOf (more head children rest) [] = ⊥
-AreOf (more head children rest) (c ∷ cs) = (c.data_type ≡ record { tag = head.tag; children = children }) × (head.encoding ≡ None) × AreOf rest cs
+AreOf (more head children rest) (c ∷ cs) = (c.data_type ≡ record { tag = head.tag; children = children }) × (c.encoding ≡ head.encoding) × AreOf rest cs
 
--- the values from slot `start` up to slot `stop`
-abbrev pub values_from : Column → ℕ → ℕ → List PlainValue
-values_from c start stop = take (stop - start) (drop start c.raw)
+-- how many slots each column has
+abbrev pub counts_of : List Column → List ℕ
+counts_of cs = map (λ (c : Column). length c.raw) cs
 
--- the values of the columns at one slot
+-- the dictionaries of columns side by side
+abbrev pub listed_of : List Column → List (ℤ × List PlainValue)
+listed_of [] = []
+listed_of (c ∷ cs) = c.dictionaries ++ listed_of cs
+
+-- each id has the values that are listed for it
+abbrev pub Agree : List (ℤ × List PlainValue) → (ℤ → List PlainValue) → Type 0
+Agree listed dictionaries = AllByRecursion (λ (d : ℤ × List PlainValue). dictionaries d.0 ≡ d.1) listed
+
+-- What is known of every array. The resolved values are what the raw ones stand for, by all dictionaries that have the
+-- listed values.
+pub record IsColumn (c : Column) : Type 0 where
+  pub few : length c.raw ≤ 2147483647
+  pub long : length c.resolved ≡ length c.raw
+  pub flat : IsTrue (is_some c.encoding) → has_encoding c.data_type.children ≡ false
+  pub resolves : (dictionaries : ℤ → List PlainValue) → Agree c.dictionaries dictionaries
+      → map (resolve c.encoding c.data_type.children dictionaries) c.raw ≡ map Some c.resolved
+
+-- what is known of every dictionary
+pub record IsValueList (d : ValueList) : Type 0 where
+  pub flat : has_encoding d.data_type.children ≡ false
+  pub few : length d.values ≤ 2 ^ 62
+
+-- the values from place `start` up to place `stop`
+abbrev pub values_from : List PlainValue → ℕ → ℕ → List PlainValue
+values_from values start stop = take (stop - start) (drop start values)
+
+-- the raw values of the columns at one slot
 abbrev pub row_of : List Column → ℕ → List PlainValue
 row_of cs i = map (λ (c : Column). value_at c.raw i) cs
+
+-- the resolved values of the columns at one slot
+abbrev pub resolved_row_of : List Column → ℕ → List PlainValue
+resolved_row_of cs i = map (λ (c : Column). value_at c.resolved i) cs
 
 -- the items of slot i are the child's values from `start` up to `stop`
 pub record HasItems (c : Column) (i start stop : ℕ) (child : Column) : Type 0 where
   pub typed : AreOf c.data_type.children (child ∷ [])
   pub ordered : start ≤ stop
   pub inside : stop ≤ length child.raw
-  pub same : value_at c.raw i ≡ list_value (values_of (values_from child start stop))
+  pub same : value_at c.raw i ≡ list_value (values_of (values_from child.raw start stop))
+  pub same_resolved : value_at c.resolved i ≡ list_value (values_of (values_from child.resolved start stop))
 
 -- slot i of a struct is slot i of each child
 pub record HasParts (c : Column) (i : ℕ) (children : List Column) : Type 0 where
@@ -52,34 +113,67 @@ pub record HasParts (c : Column) (i : ℕ) (children : List Column) : Type 0 whe
   pub longer : AllByRecursion (λ (d : Column). length c.raw ≤ length d.raw) children
   pub same : value_at c.raw i ≡ struct_value (values_of (row_of children i))
 
--- the type of field k
-abbrev pub type_of_field : Fields → ℕ → Option TypeShape
+-- the type and the encoding of field k
+abbrev pub type_of_field : Fields → ℕ → Option (TypeShape × Option Encoding)
 type_of_field none k = None
-type_of_field (more head children rest) zero = Some (record { tag = head.tag; children = children })
+type_of_field (more head children rest) zero = Some (record { tag = head.tag; children = children }, head.encoding)
 type_of_field (more head children rest) (suc k) = type_of_field rest k
 
--- the fields of a struct, none of any other type
-abbrev pub struct_fields_of : Tag → Fields → Fields
-struct_fields_of struct children = children
-struct_fields_of _ children = none
+-- the fields of a struct that is not dictionary-encoded, none of any other column
+abbrev pub struct_fields_of : Tag → Option Encoding → Fields → Fields
+struct_fields_of struct None children = children
+struct_fields_of _ _ children = none
 
-abbrev pub struct_fields : TypeShape → Fields
-struct_fields t = struct_fields_of t.tag t.children
+abbrev pub struct_fields : Column → Fields
+struct_fields c = struct_fields_of c.data_type.tag c.encoding c.data_type.children
 
 -- the child has the type of field k, and its value in each slot that is not null
 pub record HasField (c : Column) (k : ℕ) (child : Column) : Type 0 where
-  pub typed : type_of_field (struct_fields c.data_type) k ≡ Some child.data_type
+  pub typed : type_of_field (struct_fields c) k ≡ Some (child.data_type, child.encoding)
   pub longer : length c.raw ≤ length child.raw
-  pub same : (i : ℕ) → i < length c.raw → is_null_value (value_at c.raw i) ≡ false → field_value k (value_at c.raw i) ≡ value_at child.raw i
+  pub same : (i : ℕ) → i < length c.raw → is_null_value (value_at c.raw i) ≡ false
+      → (field_value k (value_at c.raw i) ≡ value_at child.raw i) × (field_value k (value_at c.resolved i) ≡ value_at child.resolved i)
+
+-- slots hold lists of items
+abbrev pub IsList : Column → Type 0
+IsList c = (c.encoding ≡ None) × (c.data_type.tag ≡ list)
 
 -- some range of the child's values are the items of slot i
 pub record HasSomeItems (c : Column) (i : ℕ) (child : Column) : Type 0 where
   pub start : ℕ
   pub stop : ℕ
-  pub same : value_at c.raw i ≡ list_value (values_of (values_from child start stop))
+  pub same : value_at c.raw i ≡ list_value (values_of (values_from child.raw start stop))
+  pub same_resolved : value_at c.resolved i ≡ list_value (values_of (values_from child.resolved start stop))
 
 -- the child is the one that the lists of the column have their items in
 pub record HasChild (c : Column) (child : Column) : Type 0 where
-  pub is_list : c.data_type.tag ≡ list
+  pub is_list : IsList c
   pub typed : AreOf c.data_type.children (child ∷ [])
+  pub listed : child.dictionaries ≡ c.dictionaries
   pub same : (i : ℕ) → i < length c.raw → is_null_value (value_at c.raw i) ≡ false → HasSomeItems c i child
+
+-- slot i holds no index: the column is not dictionary-encoded, or the slot is null
+abbrev pub HasNoIndex : Column → ℕ → Type 0
+HasNoIndex c i = IsTrue (is_some c.encoding) → value_at c.raw i ≡ null_value
+
+-- the resolved value of slot i stands at a place of another column, of the same type and without an encoding
+pub record HasEntry (c : Column) (i : ℕ) (values : Column) (place : ℕ) : Type 0 where
+  pub encoded : IsTrue (is_some c.encoding)
+  pub full : is_null_value (value_at c.raw i) ≡ false
+  pub inside : place < length values.raw
+  pub typed : values.data_type ≡ c.data_type
+  pub plain : values.encoding ≡ None
+  pub same : value_at c.resolved i ≡ value_at values.raw place
+
+-- the column's indices refer to the values of the dictionary
+pub record HasDictionary (c : Column) (d : ValueList) : Type 0 where
+  pub typed : d.data_type ≡ c.data_type
+  pub known : IsValueList d
+  pub listed : (e : Encoding) × (c.encoding ≡ Some e) × (c.dictionaries ≡ (e.id, d.values) ∷ [])
+
+-- the value of a dictionary stands at a place of a column of its type and without an encoding
+pub record HasValue (d : ValueList) (i : ℕ) (values : Column) (place : ℕ) : Type 0 where
+  pub inside : place < length values.raw
+  pub typed : values.data_type ≡ d.data_type
+  pub plain : values.encoding ≡ None
+  pub same : value_at d.values i ≡ value_at values.raw place

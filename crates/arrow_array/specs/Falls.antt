@@ -1,25 +1,39 @@
--- Each array inside another is smaller.
-use Rattle.std.specs.Prelude.{◌≤◌, ◌+◌, ℕ, List, [], ◌∷◌, max}
+-- Each array inside another, and each dictionary of an array, is smaller.
+use Rattle.std.specs.Prelude.{◌≤◌, ◌+◌, ◌*◌, ℕ, List, [], ◌∷◌, max, Option, None, Some}
 use Rattle.std.proofs.Common.{arith, ap}
+use Rattle.std.specs.List.{AllByRecursion}
 use denote.Param.Weighed.{most}
 use Rattle.arrow_types.specs.Field.{Fields, none, more, TypeShape, levels}
-use Rattle.arrow_array.specs.Column.{Column, AreOf, column_size}
+use Rattle.arrow_types.specs.declared.field.Encoding.{Encoding}
+use Rattle.arrow_array.specs.Column.{Column, AreOf, column_size, index_levels}
 use Rattle.arrow_array.specs.Node.{AreRanges}
+use Rattle.arrow_array.specs.Segments.{columns_of, IsSegment}
 use Rattle.arrow_array.specs.declared.array.Ranges.{Ranges}
-use Rattle.arrow_array.specs.declared.array.Ranges.TheVariants.{Nulls, Bools, Ints, Binaries, Texts, Lists, Structs}
-use Rattle.arrow_array.specs.declared.array.Array.TheDeep.{deep-Ranges}
+use Rattle.arrow_array.specs.declared.array.Ranges.TheVariants as ranges
+use Rattle.arrow_array.specs.declared.array.Array.TheDeep.{deep-Ranges, deep-Segment}
+use Rattle.arrow_array.specs.declared.dictionary.Segment.{Segment}
 
-pub most_le-levels : (fields : Fields) (cs : List Column) → AreOf fields cs → most (λ c. column_size c + 1) cs ≤ levels fields
+index_levels-le : (e : Option Encoding) → index_levels e ≤ 2
+index_levels-le None = omega arith
+index_levels-le (Some e) = omega arith
+
+pub most_le-levels : (fields : Fields) (cs : List Column) → AreOf fields cs → most (λ c. column_size c + 1) cs ≤ 3 * levels fields
 most_le-levels none [] h = omega arith
 most_le-levels none (c ∷ cs) h = absurd h
 most_le-levels (more x b rest) [] h = absurd h
-most_le-levels (more x b rest) (c ∷ cs) h = omega (arith, ap (λ (t : TypeShape). levels t.children) h.0, most_le-levels rest cs h.2)
+most_le-levels (more x b rest) (c ∷ cs) h = omega (arith, ap (λ (t : TypeShape). levels t.children) h.0, most_le-levels rest cs h.2, index_levels-le c.encoding)
 
-pub depth_le-levels : (len : ℕ) (t : TypeShape) (body : List ℕ) (r : Ranges) → AreRanges len t body r → max (deep-Ranges r) 0 ≤ levels t.children
-depth_le-levels len t body Nulls h = omega arith
-depth_le-levels len t body (Bools v w) h = omega arith
-depth_le-levels len t body (Ints width signed v w) h = omega arith
-depth_le-levels len t body (Binaries v o d) h = omega arith
-depth_le-levels len t body (Texts v o d) h = omega arith
-depth_le-levels len t body (Lists v o child) h = omega (arith, most_le-levels t.children (child.value ∷ []) h.1.typed)
-depth_le-levels len t body (Structs v children) h = omega (arith, most_le-levels t.children children.items h.1.typed)
+pub depth_le-levels : (len : ℕ) (t : TypeShape) (e : Option Encoding) (body : List ℕ) (r : Ranges) → AreRanges len t e body r → max (deep-Ranges r) 0 ≤ 3 * levels t.children + index_levels e
+depth_le-levels len t e body ranges.Nulls h = omega arith
+depth_le-levels len t e body (ranges.Bools b) h = omega arith
+depth_le-levels len t e body (ranges.Ints n) h = omega arith
+depth_le-levels len t e body (ranges.Binaries s) h = omega arith
+depth_le-levels len t e body (ranges.Texts s) h = omega arith
+depth_le-levels len t e body (ranges.Lists v o child) h = omega (arith, most_le-levels t.children (child.value ∷ []) h.2.typed)
+depth_le-levels len t e body (ranges.Structs v children) h = omega (arith, most_le-levels t.children children.items h.2.typed)
+depth_le-levels len t None body (ranges.Indices n d) h = absurd h
+depth_le-levels len t (Some e) body (ranges.Indices n d) h = omega (arith, ap (λ (x : TypeShape). levels x.children) h.typed)
+
+pub most_segments : (t : TypeShape) (segments : List Segment) → AllByRecursion (IsSegment t) (columns_of segments) → most deep-Segment segments ≤ 3 * levels t.children + 1
+most_segments t [] h = omega arith
+most_segments t (s ∷ ss) h = omega (arith, ap (λ (x : TypeShape). levels x.children) h.0.0, ap index_levels h.0.1, most_segments t ss h.1)

@@ -1,8 +1,14 @@
 pub mod PlainValue
 pub mod Stored
+pub mod Resolve
 pub mod Column
 pub mod Slots
+pub mod Layout
+pub mod Parts
 pub mod Node
+pub mod Segments
 pub mod Falls
 pub mod Shown
 pub mod Same
+pub mod Value
+pub mod Batch

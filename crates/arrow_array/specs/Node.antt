@@ -1,16 +1,21 @@
 -- What the ranges of a node stand for, and what is known of them in every array.
-use Rattle.std.specs.Prelude.{◌≡◌, ◌≤◌, ◌*◌, ℕ, List, [], ◌∷◌, map, length, slice_range}
+use Rattle.std.specs.Prelude.{◌≡◌, ◌≤◌, ℕ, ℤ, Bool, List, [], ◌∷◌, map, length, slice_range, Option, None, Some}
 use Rattle.std.specs.List.{AllByRecursion}
 use Rattle.arrow_bits.specs.Numbers.{IsWidth}
 use Rattle.arrow_types.specs.DataType.{null, boolean, binary, utf8, list, struct}
 use Rattle.arrow_types.specs.Field.{TypeShape}
 use Rattle.arrow_types.specs.View.{type_view}
+use Rattle.arrow_types.specs.declared.field.Encoding.{Encoding}
 use Rattle.arrow_array.specs.PlainValue.{PlainValue, null_value}
-use Rattle.arrow_array.specs.Column.{Column, AreOf}
-use Rattle.arrow_array.specs.Slots.{slots, bool_slot, int_slot, binary_slot, utf8_slot, list_slot, struct_slot, HasBits, HasOffsets, AreTexts, width_of, is_signed}
+use Rattle.arrow_array.specs.Column.{Column, ValueList, AreOf, IsColumn, IsValueList, listed_of, counts_of}
+use Rattle.arrow_array.specs.Slots.{slots, bool_slot, int_slot, binary_slot, utf8_slot, list_slot, struct_slot, entry_slot, AreTexts, AreIndices, width_of, is_signed, index_width}
+use Rattle.arrow_array.specs.Layout.{HasBools, HasInts, HasStrings, HasLists, HasStructs}
 use Rattle.arrow_array.specs.declared.byte_range.ByteRange.{ByteRange}
+use Rattle.arrow_array.specs.declared.buffers.Bools.{Bools}
+use Rattle.arrow_array.specs.declared.buffers.Ints.{Ints}
+use Rattle.arrow_array.specs.declared.buffers.Strings.{Strings}
 use Rattle.arrow_array.specs.declared.array.Ranges.{Ranges}
-use Rattle.arrow_array.specs.declared.array.Ranges.TheVariants.{Nulls, Bools, Ints, Binaries, Texts, Lists, Structs}
+use Rattle.arrow_array.specs.declared.array.Ranges.TheVariants as ranges
 use Rattle.arrow_array.specs.declared.array.Array.TheInside.{Inside}
 
 -- the bytes of a range of the body
@@ -21,62 +26,124 @@ bytes_of body r = slice_range body r.start r.end
 abbrev pub IsInside : List ℕ → ByteRange → Type 0
 IsInside body r = (r.start ≤ r.end) × (r.end ≤ length body)
 
+abbrev pub bool_at : List ℕ → Bools → ℕ → PlainValue
+bool_at body b j = bool_slot (bytes_of body b.validity) (bytes_of body b.values) j
+
+abbrev pub int_at : List ℕ → Ints → ℕ → PlainValue
+int_at body n j = int_slot n.width n.signed (bytes_of body n.validity) (bytes_of body n.values) j
+
+abbrev pub binary_at : List ℕ → Strings → ℕ → PlainValue
+binary_at body s j = binary_slot (bytes_of body s.validity) (bytes_of body s.offsets) (bytes_of body s.bytes) j
+
+abbrev pub utf8_at : List ℕ → Strings → ℕ → PlainValue
+utf8_at body s j = utf8_slot (bytes_of body s.validity) (bytes_of body s.offsets) (bytes_of body s.bytes) j
+
+abbrev pub entry_in : List ℕ → Ints → List PlainValue → ℕ → PlainValue
+entry_in body n values j = entry_slot n.width n.signed (bytes_of body n.validity) (bytes_of body n.values) values j
+
 -- the raw value of a slot
 abbrev pub raw_slot : List ℕ → Ranges → ℕ → PlainValue
-raw_slot body Nulls j = null_value
-raw_slot body (Bools v w) j = bool_slot (bytes_of body v) (bytes_of body w) j
-raw_slot body (Ints width signed v w) j = int_slot width signed (bytes_of body v) (bytes_of body w) j
-raw_slot body (Binaries v o d) j = binary_slot (bytes_of body v) (bytes_of body o) (bytes_of body d) j
-raw_slot body (Texts v o d) j = utf8_slot (bytes_of body v) (bytes_of body o) (bytes_of body d) j
-raw_slot body (Lists v o child) j = list_slot (bytes_of body v) (bytes_of body o) child.value.raw j
-raw_slot body (Structs v children) j = struct_slot (bytes_of body v) (map (λ (c : Column). c.raw) children.items) j
+raw_slot body ranges.Nulls j = null_value
+raw_slot body (ranges.Bools b) j = bool_at body b j
+raw_slot body (ranges.Ints n) j = int_at body n j
+raw_slot body (ranges.Binaries s) j = binary_at body s j
+raw_slot body (ranges.Texts s) j = utf8_at body s j
+raw_slot body (ranges.Lists v o child) j = list_slot (bytes_of body v) (bytes_of body o) child.value.raw j
+raw_slot body (ranges.Structs v children) j = struct_slot (bytes_of body v) (map (λ (c : Column). c.raw) children.items) j
+raw_slot body (ranges.Indices n d) j = int_at body n j
 
--- a validity bitmap for `len` slots
-pub record IsValidity (len : ℕ) (body : List ℕ) (v : ByteRange) : Type 0 where
-  pub inside : IsInside body v
-  pub bits : HasBits len (bytes_of body v)
+-- the resolved value of a slot
+abbrev pub resolved_slot : List ℕ → Ranges → ℕ → PlainValue
+resolved_slot body ranges.Nulls j = null_value
+resolved_slot body (ranges.Bools b) j = bool_at body b j
+resolved_slot body (ranges.Ints n) j = int_at body n j
+resolved_slot body (ranges.Binaries s) j = binary_at body s j
+resolved_slot body (ranges.Texts s) j = utf8_at body s j
+resolved_slot body (ranges.Lists v o child) j = list_slot (bytes_of body v) (bytes_of body o) child.value.resolved j
+resolved_slot body (ranges.Structs v children) j = struct_slot (bytes_of body v) (map (λ (c : Column). c.resolved) children.items) j
+resolved_slot body (ranges.Indices n d) j = entry_in body n d.value.values j
 
-pub record AreBools (len : ℕ) (body : List ℕ) (v w : ByteRange) : Type 0 where
-  pub validity : IsValidity len body v
-  pub inside : IsInside body w
-  pub long : len ≤ 8 * length (bytes_of body w)
+-- the dictionary of a column with this encoding
+abbrev pub listed_by : Option Encoding → List PlainValue → List (ℤ × List PlainValue)
+listed_by None values = []
+listed_by (Some e) values = (e.id, values) ∷ []
 
-pub record AreInts (len width : ℕ) (body : List ℕ) (v w : ByteRange) : Type 0 where
-  pub validity : IsValidity len body v
-  pub inside : IsInside body w
-  pub whole : IsWidth width
-  pub long : width * len ≤ length (bytes_of body w)
+abbrev pub dictionaries_of : Option Encoding → Ranges → List (ℤ × List PlainValue)
+dictionaries_of e (ranges.Lists v o child) = child.value.dictionaries
+dictionaries_of e (ranges.Structs v children) = listed_of children.items
+dictionaries_of e (ranges.Indices n d) = listed_by e d.value.values
+dictionaries_of e _ = []
 
-pub record AreBinaries (len : ℕ) (body : List ℕ) (v o d : ByteRange) : Type 0 where
-  pub validity : IsValidity len body v
-  pub inside_offsets : IsInside body o
-  pub inside_values : IsInside body d
-  pub offsets : HasOffsets len (length (bytes_of body d)) (bytes_of body o)
+pub record AreBools (len : ℕ) (body : List ℕ) (b : Bools) : Type 0 where
+  pub validity : IsInside body b.validity
+  pub values : IsInside body b.values
+  pub laid : HasBools len (bytes_of body b.validity) (bytes_of body b.values)
+
+pub record AreInts (len : ℕ) (body : List ℕ) (n : Ints) : Type 0 where
+  pub whole : IsWidth n.width
+  pub validity : IsInside body n.validity
+  pub values : IsInside body n.values
+  pub laid : HasInts len n.width (bytes_of body n.validity) (bytes_of body n.values)
+
+pub record AreStrings (len : ℕ) (body : List ℕ) (s : Strings) : Type 0 where
+  pub validity : IsInside body s.validity
+  pub offsets : IsInside body s.offsets
+  pub bytes : IsInside body s.bytes
+  pub laid : HasStrings len (bytes_of body s.validity) (bytes_of body s.offsets) (bytes_of body s.bytes)
 
 pub record AreLists (len : ℕ) (t : TypeShape) (body : List ℕ) (v o : ByteRange) (child : Column) : Type 0 where
-  pub validity : IsValidity len body v
-  pub inside_offsets : IsInside body o
-  pub offsets : HasOffsets len (length child.raw) (bytes_of body o)
+  pub validity : IsInside body v
+  pub offsets : IsInside body o
+  pub laid : HasLists len (bytes_of body v) (bytes_of body o) (length child.raw)
   pub typed : AreOf t.children (child ∷ [])
+  pub known : IsColumn child
 
 pub record AreStructs (len : ℕ) (t : TypeShape) (body : List ℕ) (v : ByteRange) (children : List Column) : Type 0 where
-  pub validity : IsValidity len body v
+  pub validity : IsInside body v
+  pub laid : HasStructs len (bytes_of body v) (counts_of children)
   pub typed : AreOf t.children children
-  pub longer : AllByRecursion (λ (c : Column). len ≤ length c.raw) children
+  pub known : AllByRecursion IsColumn children
 
--- the ranges are those of a node of this type
-abbrev pub AreRanges : ℕ → TypeShape → List ℕ → Ranges → Type 0
-AreRanges len t body Nulls = t.tag ≡ null
-AreRanges len t body (Bools v w) = (t.tag ≡ boolean) × AreBools len body v w
-AreRanges len t body (Ints width signed v w) = (width ≡ width_of t.tag) × (signed ≡ is_signed t.tag) × AreInts len width body v w
-AreRanges len t body (Binaries v o d) = (t.tag ≡ binary) × AreBinaries len body v o d
-AreRanges len t body (Texts v o d) = (t.tag ≡ utf8) × AreBinaries len body v o d × AreTexts len (bytes_of body v) (bytes_of body o) (bytes_of body d)
-AreRanges len t body (Lists v o child) = (t.tag ≡ list) × AreLists len t body v o child.value
-AreRanges len t body (Structs v children) = (t.tag ≡ struct) × AreStructs len t body v children.items
+-- the numbers are of the width and the sign
+abbrev pub IsFormat : ℕ → Bool → Ints → Type 0
+IsFormat width signed n = (n.width ≡ width) × (n.signed ≡ signed)
+
+pub record AreEntries (len : ℕ) (t : TypeShape) (e : Encoding) (body : List ℕ) (n : Ints) (d : ValueList) : Type 0 where
+  pub format : IsFormat (index_width e.index) e.index.signed n
+  pub ints : AreInts len body n
+  pub indices : AreIndices len n.width n.signed (bytes_of body n.validity) (bytes_of body n.values) (length d.values)
+  pub typed : d.data_type ≡ t
+  pub known : IsValueList d
+
+-- indices into a dictionary, where the column has an encoding
+abbrev pub AreEntriesBy : Option Encoding → ℕ → TypeShape → List ℕ → Ints → ValueList → Type 0
+AreEntriesBy None len t body n d = ⊥
+AreEntriesBy (Some e) len t body n d = AreEntries len t e body n d
+
+-- the ranges are those of a node of this type and encoding
+abbrev pub AreRanges : ℕ → TypeShape → Option Encoding → List ℕ → Ranges → Type 0
+AreRanges len t e body ranges.Nulls = (e ≡ None) × (t.tag ≡ null)
+AreRanges len t e body (ranges.Bools b) = (e ≡ None) × (t.tag ≡ boolean) × AreBools len body b
+AreRanges len t e body (ranges.Ints n) = (e ≡ None) × IsFormat (width_of t.tag) (is_signed t.tag) n × AreInts len body n
+AreRanges len t e body (ranges.Binaries s) = (e ≡ None) × (t.tag ≡ binary) × AreStrings len body s
+AreRanges len t e body (ranges.Texts s) = (e ≡ None) × (t.tag ≡ utf8) × AreStrings len body s × AreTexts len (bytes_of body s.validity) (bytes_of body s.offsets) (bytes_of body s.bytes)
+AreRanges len t e body (ranges.Lists v o child) = (e ≡ None) × (t.tag ≡ list) × AreLists len t body v o child.value
+AreRanges len t e body (ranges.Structs v children) = (e ≡ None) × (t.tag ≡ struct) × AreStructs len t body v children.items
+AreRanges len t e body (ranges.Indices n d) = AreEntriesBy e len t body n d.value
+
+-- the column of a node with these ranges
+abbrev pub column_by : TypeShape → Option Encoding → ℕ → List ℕ → Ranges → Column
+column_by t e len body r = record {
+  data_type = t;
+  encoding = e;
+  raw = slots len (raw_slot body r);
+  resolved = slots len (resolved_slot body r);
+  dictionaries = dictionaries_of e r;
+}
 
 abbrev pub column_of : Inside → Column
-column_of a = record { data_type = type_view a.data_type; raw = slots a.len (raw_slot a.body a.ranges) }
+column_of a = column_by (type_view a.data_type) a.encoding a.len a.body a.ranges
 
 -- what is known of every array: its slots can be counted by a signed 32-bit number, and its ranges are of its type
 abbrev pub IsArray : Inside → Type 0
-IsArray a = (a.len ≤ 2147483647) × AreRanges a.len (type_view a.data_type) a.body a.ranges
+IsArray a = (a.len ≤ 2147483647) × AreRanges a.len (type_view a.data_type) a.encoding a.body a.ranges

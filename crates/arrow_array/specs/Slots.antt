@@ -1,11 +1,12 @@
 -- What the buffers of a node hold at each slot, by index (Columnar Format, "Physical Memory Layout"). A buffer is given by
 -- its bytes.
-use Rattle.std.specs.Prelude.{◌≡◌, ◌≤◌, ◌<◌, ◌+◌, ◌*◌, ◌/◌, ◌||◌, ℕ, Bool, true, nat_eq, List, length, map, slice_range, if◌then◌else◌, IsUtf8}
+use Rattle.std.specs.Prelude.{◌≡◌, ◌≤◌, ◌<◌, ◌+◌, ◌*◌, ◌/◌, ◌||◌, ℕ, ℤ, pos, negsuc, Bool, true, nat_eq, List, length, map, slice_range, if◌then◌else◌, IsUtf8}
 use Rattle.std.specs.List.{range_with_len}
 use Rattle.arrow_bits.specs.Bitmap.{bit_of}
 use Rattle.arrow_bits.specs.Numbers.{number_at, int_of}
 use Rattle.arrow_bits.specs.Offsets.{AreOffsets}
 use Rattle.arrow_types.specs.DataType.{Tag, int, date, time, timestamp, bits_of, date_width_of, time_width_of}
+use Rattle.arrow_types.specs.declared.field.IndexType.{IndexType}
 use Rattle.arrow_array.specs.PlainValue.{PlainValue, null_value, bool_value, int_value, binary_value, utf8_value, list_value, struct_value, values_of, value_at}
 
 -- slot j is valid: its bit is set, or there is no bitmap (Columnar Format, "Validity bitmaps")
@@ -45,6 +46,15 @@ list_slot validity offsets child j = or_null validity j (list_value (values_of (
 abbrev pub struct_slot : List ℕ → List (List PlainValue) → ℕ → PlainValue
 struct_slot validity children j = or_null validity j (struct_value (values_of (map (λ values. value_at values j) children)))
 
+-- the value that an index refers to, of those that there are
+abbrev pub entry_at : List PlainValue → ℤ → PlainValue
+entry_at values (pos n) = value_at values n
+entry_at values (negsuc n) = null_value
+
+-- the value of a dictionary that index j refers to (Columnar Format, "Dictionary-encoded Layout")
+abbrev pub entry_slot : ℕ → Bool → List ℕ → List ℕ → List PlainValue → ℕ → PlainValue
+entry_slot width signed validity indices values j = or_null validity j (entry_at values (int_of indices (width * j) width signed))
+
 -- the values of the first `len` slots
 abbrev pub slots : ℕ → (ℕ → PlainValue) → List PlainValue
 slots len slot = map slot (range_with_len 0 len)
@@ -61,6 +71,16 @@ HasOffsets len top offsets = 0 < len + length offsets → AreOffsets offsets len
 abbrev pub AreTexts : ℕ → List ℕ → List ℕ → List ℕ → Type 0
 AreTexts len validity offsets bytes = (j : ℕ) → j < len → is_valid_at validity j ≡ true → IsUtf8 (range_of offsets bytes j)
 
+-- the index refers to one of `count` values
+abbrev pub IsIndex : ℕ → ℤ → Type 0
+IsIndex count (pos n) = n < count
+IsIndex count (negsuc n) = ⊥
+
+-- each valid slot has an index to one of `count` values
+abbrev pub AreIndices : ℕ → ℕ → Bool → List ℕ → List ℕ → ℕ → Type 0
+AreIndices len width signed validity indices count =
+    (j : ℕ) → j < len → is_valid_at validity j ≡ true → IsIndex count (int_of indices (width * j) width signed)
+
 -- how many bytes one number of the type takes, 0 of a type that has no numbers (Schema.fbs, "Int", "Date", "Time",
 -- "Timestamp")
 abbrev pub width_of : Tag → ℕ
@@ -74,3 +94,7 @@ width_of _ = 0
 abbrev pub is_signed : Tag → Bool
 is_signed (int bits signed) = signed
 is_signed _ = true
+
+-- how many bytes one index takes (Schema.fbs, "DictionaryEncoding")
+abbrev pub index_width : IndexType → ℕ
+index_width index = bits_of index.bits / 8

@@ -1,43 +1,28 @@
 //! Arrays, and what stands in their slots.
 
 ghost use Rattle.std.specs.Prelude.{◌≡◌, ◌<◌, length, option_map, MatchOption, None};
-ghost use Rattle.arrow_types.specs.DataType.{list};
 ghost use Rattle.arrow_types.specs.View.{type_view};
-ghost use Rattle.arrow_array.specs.Column.{HasItems, HasChild, HasField, struct_fields, type_of_field};
+ghost use Rattle.arrow_array.specs.Column.{HasItems, HasChild, HasField, HasEntry, HasNoIndex, HasDictionary, IsColumn, IsList, struct_fields, type_of_field};
 ghost use Rattle.arrow_array.specs.PlainValue.{value_at, is_null_value, bool_in, int_in, binary_in, utf8_in, items_in};
 ghost use Rattle.arrow_array.specs.Shown.{Shows};
 
+use crate::buffers::{Bools, Ints, Strings};
 use crate::byte_range::{ByteRange, bytes_in};
-use crate::slot::{binary_at, bool_at, is_valid, number_at, range_at, text_at};
-use arrow_types::DataType;
+use crate::dictionary::Dictionary;
+use crate::slot::{is_valid, range_at};
+use arrow_types::{DataType, Encoding};
 use bytes::Bytes;
 use std::marker::Model;
 
-// Where the buffers of a node lie in the body, and the arrays of its children.
+// Where the buffers of a node lie in the body, and the arrays of its children or its dictionary.
 #[cycle(arrays)]
 #[derive(Drop)]
 pub(crate) enum Ranges {
     Nulls,
-    Bools {
-        validity: ByteRange,
-        values: ByteRange,
-    },
-    Ints {
-        width: usize,
-        signed: bool,
-        validity: ByteRange,
-        values: ByteRange,
-    },
-    Binaries {
-        validity: ByteRange,
-        offsets: ByteRange,
-        values: ByteRange,
-    },
-    Texts {
-        validity: ByteRange,
-        offsets: ByteRange,
-        values: ByteRange,
-    },
+    Bools(Bools),
+    Ints(Ints),
+    Binaries(Strings),
+    Texts(Strings),
     Lists {
         validity: ByteRange,
         offsets: ByteRange,
@@ -47,15 +32,18 @@ pub(crate) enum Ranges {
         validity: ByteRange,
         children: Vec<Array>,
     },
+    Indices(Ints, Box<Dictionary>),
 }
 
 /// A column: its type, and a value in each slot (Columnar Format, "Physical Memory Layout").
 ///
-/// The values stay in the body of the message that brought them, which arrays share. Slots count from 0.
+/// The values stay in the body of the message that brought them, which arrays share. Slots count from 0. In a
+/// dictionary-encoded column a slot holds an index, and the value is the one of that number in the column's dictionary.
 #[cycle(arrays)]
 #[derive(Drop)]
 pub struct Array {
     pub(crate) data_type: DataType,
+    pub(crate) encoding: Option<Encoding>,
     pub(crate) len: usize,
     pub(crate) body: Bytes,
     pub(crate) ranges: Ranges,
@@ -79,7 +67,7 @@ impl Model for Array {
     ghost use Rattle.arrow_types.specs.View.{type_view};
     ghost use Rattle.arrow_array.specs.Falls.{depth_le-levels};
 
-    ghost size_decreases = { λ a h. depth_le-levels a.len (type_view a.data_type) a.body a.ranges h.1 };
+    ghost size_decreases = { λ a h. depth_le-levels a.len (type_view a.data_type) a.encoding a.body a.ranges h.1 };
 }
 
 // What stands in a slot: the one place that looks at the ranges.
@@ -96,110 +84,70 @@ pub(crate) enum Seen<'a> {
 
 #[tactic(auto, using(crate::proofs::Shown::shown))]
 impl Array {
-    /// How many slots there are, null or not.
+    /// How many slots there are, null or not: at most 2,147,483,647.
     pub fn len(&self) -> usize
-        ensures { result ≡ length self.now.raw }
+        ensures count { result ≡ length self.now.raw }
+        ensures known { IsColumn self.now }
     {
         self.len
     }
 
-    /// The type of the values.
+    /// The type of the values. In a dictionary-encoded column it is the type of the dictionary's values.
     pub fn data_type(&self) -> &DataType
         ensures { type_view result.now ≡ self.now.data_type }
     {
         &self.data_type
     }
 
-    // What stands in slot `i`.
+    /// How the column refers to its dictionary. None where its slots hold the values themselves.
+    pub fn encoding(&self) -> Option<&Encoding>
+        ensures { option_map (λ e. e.now) result ≡ self.now.encoding }
+    {
+        self.encoding.as_ref()
+    }
+
+    // What stands in slot `i`, where a dictionary-encoded column holds numbers.
     pub(crate) fn seen(&self, i: usize) -> Seen<'_>
         requires { i < length self.now.raw }
         ensures { Shows self.now i result }
     {
         let body = self.body.as_slice();
         match &self.ranges {
-            Ranges::Nulls => Seen::Nothing,
-            Ranges::Bools { validity, values } => {
-                match bool_at(bytes_in(body, *validity), bytes_in(body, *values), i) {
-                    Some(truth) => Seen::Truth(truth),
-                    None => Seen::Nothing,
-                }
-            }
-            Ranges::Ints {
-                width,
-                signed,
-                validity,
-                values,
-            } => {
-                match number_at(
-                    bytes_in(body, *validity),
-                    bytes_in(body, *values),
-                    *width,
-                    *signed,
-                    i,
-                ) {
-                    Some(number) => Seen::Number(number),
-                    None => Seen::Nothing,
-                }
-            }
-            Ranges::Binaries {
-                validity,
-                offsets,
-                values,
-            } => {
-                match binary_at(
-                    bytes_in(body, *validity),
-                    bytes_in(body, *offsets),
-                    bytes_in(body, *values),
-                    self.len,
-                    i,
-                ) {
-                    Some(bytes) => Seen::Binary(bytes),
-                    None => Seen::Nothing,
-                }
-            }
-            Ranges::Texts {
-                validity,
-                offsets,
-                values,
-            } => {
-                match text_at(
-                    bytes_in(body, *validity),
-                    bytes_in(body, *offsets),
-                    bytes_in(body, *values),
-                    self.len,
-                    i,
-                ) {
-                    Some(text) => Seen::Text(text),
-                    None => Seen::Nothing,
-                }
-            }
+            Ranges::Bools(bools) => match bools.at(body, self.len, i) {
+                Some(truth) => Seen::Truth(truth),
+                None => Seen::Nothing,
+            },
+            Ranges::Ints(ints) | Ranges::Indices(ints, _) => match ints.at(body, self.len, i) {
+                Some(number) => Seen::Number(number),
+                None => Seen::Nothing,
+            },
+            Ranges::Binaries(strings) => match strings.binary_at(body, self.len, i) {
+                Some(bytes) => Seen::Binary(bytes),
+                None => Seen::Nothing,
+            },
+            Ranges::Texts(strings) => match strings.text_at(body, self.len, i) {
+                Some(text) => Seen::Text(text),
+                None => Seen::Nothing,
+            },
             Ranges::Lists {
                 validity,
                 offsets,
                 child,
             } => {
-                match range_at(
-                    bytes_in(body, *validity),
-                    bytes_in(body, *offsets),
-                    self.len,
-                    child.len(),
-                    i,
-                ) {
+                let (marks, places) = (bytes_in(body, *validity), bytes_in(body, *offsets));
+                match range_at(marks, places, self.len, child.len(), i) {
                     Some((start, end)) => Seen::Items(start, end, child),
                     None => Seen::Nothing,
                 }
             }
-            Ranges::Structs { validity, children } => {
-                if is_valid(bytes_in(body, *validity), i) {
-                    Seen::Parts(children)
-                } else {
-                    Seen::Nothing
-                }
+            Ranges::Structs { validity, children } if is_valid(bytes_in(body, *validity), i) => {
+                Seen::Parts(children)
             }
+            Ranges::Nulls | Ranges::Structs { .. } => Seen::Nothing,
         }
     }
 
-    /// Whether slot `i` is null.
+    /// Whether slot `i` is null. An index is not, also where the value that it refers to is null.
     pub fn is_null(&self, i: usize) -> bool
         requires { i < length self.now.raw }
         ensures { result ≡ is_null_value (value_at self.now.raw i) }
@@ -207,7 +155,7 @@ impl Array {
         matches!(self.seen(i), Seen::Nothing)
     }
 
-    /// The truth value in slot `i`. None where the slot is null or the type is another than Bool.
+    /// The truth value in slot `i`. None where the slot is null or holds something else.
     pub fn bool_at(&self, i: usize) -> Option<bool>
         requires { i < length self.now.raw }
         ensures { result ≡ bool_in (value_at self.now.raw i) }
@@ -218,8 +166,8 @@ impl Array {
         }
     }
 
-    /// The number in slot `i` of a column of type Int, Date, Time or Timestamp. None where the slot is null or the
-    /// type is another.
+    /// The number in slot `i` of a column of type Int, Date, Time or Timestamp, or the index in slot `i` of a
+    /// dictionary-encoded column of any type. None where the slot is null or holds something else.
     pub fn int_at(&self, i: usize) -> Option<i128>
         requires { i < length self.now.raw }
         ensures { result ≡ int_in (value_at self.now.raw i) }
@@ -230,7 +178,7 @@ impl Array {
         }
     }
 
-    /// The byte string in slot `i`. None where the slot is null or the type is another than Binary.
+    /// The byte string in slot `i`. None where the slot is null or holds something else.
     pub fn bytes_at(&self, i: usize) -> Option<&[u8]>
         requires { i < length self.now.raw }
         ensures { option_map (λ b. b.now) result ≡ binary_in (value_at self.now.raw i) }
@@ -241,7 +189,7 @@ impl Array {
         }
     }
 
-    /// The text in slot `i`. None where the slot is null or the type is another than Utf8.
+    /// The text in slot `i`. None where the slot is null or holds something else.
     pub fn text_at(&self, i: usize) -> Option<&str>
         requires { i < length self.now.raw }
         ensures { option_map (λ t. t.now) result ≡ utf8_in (value_at self.now.raw i) }
@@ -253,7 +201,7 @@ impl Array {
     }
 
     /// The items in slot `i`: the first and the end of their slots in the child array, and the child array. None where
-    /// the slot is null or the type is another than List.
+    /// the slot is null or holds something else.
     pub fn list_at(&self, i: usize) -> Option<(usize, usize, &Array)>
         requires { i < length self.now.raw }
         ensures { MatchOption result (items_in (value_at self.now.raw i) ≡ None)
@@ -265,10 +213,9 @@ impl Array {
         }
     }
 
-    /// The child array that the items of all lists stand in. None where the type is another than List.
+    /// The child array that the items of all lists stand in. None where slots do not hold lists.
     pub fn items(&self) -> Option<&Array>
-        ensures { MatchOption result (self.now.data_type.tag ≡ list → ⊥)
-            (λ child. HasChild self.now child.now) }
+        ensures { MatchOption result (IsList self.now → ⊥) (λ child. HasChild self.now child.now) }
     {
         match &self.ranges {
             Ranges::Lists { child, .. } => Some(child),
@@ -277,13 +224,40 @@ impl Array {
     }
 
     /// The array of field `k` of a struct: slot i of the struct is slot i of this array. It may have more slots. None
-    /// where the type is another than Struct, or has no field `k`.
+    /// where slots do not hold structs, or these have no field `k`.
     pub fn field(&self, k: usize) -> Option<&Array>
-        ensures { MatchOption result (type_of_field (struct_fields self.now.data_type) k ≡ None)
+        ensures { MatchOption result (type_of_field (struct_fields self.now) k ≡ None)
             (λ child. HasField self.now k child.now) }
     {
         match &self.ranges {
             Ranges::Structs { children, .. } => children.get(k),
+            _ => None,
+        }
+    }
+
+    /// The dictionary that the indices of the column refer to. None where the column is not dictionary-encoded.
+    pub fn dictionary(&self) -> Option<&Dictionary>
+        ensures { MatchOption result (self.now.encoding ≡ None)
+            (λ dictionary. HasDictionary self.now dictionary.now) }
+    {
+        match &self.ranges {
+            Ranges::Indices(_, dictionary) => Some(dictionary),
+            _ => None,
+        }
+    }
+
+    /// Where the value that slot `i` refers to stands: an array and a place there. None where the slot is null, or the
+    /// column is not dictionary-encoded.
+    pub fn resolved(&self, i: usize) -> Option<(&Array, usize)>
+        requires { i < length self.now.raw }
+        ensures { MatchOption result (HasNoIndex self.now i)
+            (λ r. HasEntry self.now i r.0.now r.1) }
+    {
+        match &self.ranges {
+            Ranges::Indices(ints, dictionary) => {
+                let index = ints.at(self.body.as_slice(), self.len, i)?;
+                Some(dictionary.value(index as usize))
+            }
             _ => None,
         }
     }

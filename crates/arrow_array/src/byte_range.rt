@@ -10,6 +10,11 @@ pub struct ByteRange {
     pub end: usize,
 }
 
+impl ByteRange {
+    /// No bytes: an absent validity bitmap, or the offsets of no slots.
+    pub const EMPTY: ByteRange = ByteRange { start: 0, end: 0 };
+}
+
 // The bytes of a range.
 pub(crate) fn bytes_in(body: &[u8], range: ByteRange) -> &[u8]
     requires { IsInside body.now range }

@@ -12,13 +12,21 @@
 #![tactic(auto)]
 
 mod array;
+mod batch;
+mod buffers;
 mod byte_range;
-mod node;
+mod dictionary;
+pub mod layout;
+mod parts;
 mod same;
 mod slot;
 #[cfg(test)]
 mod tests;
+mod value;
 mod width;
 
 pub use array::Array;
+pub use batch::{Batch, BatchFault};
 pub use byte_range::ByteRange;
+pub use dictionary::Dictionary;
+pub use value::Value;

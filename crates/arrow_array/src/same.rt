@@ -46,7 +46,7 @@ fn same_items(
     requires other_order { from ≤ to }
     requires other_inside { to ≤ length others.now.raw }
     ensures { IsTrue result
-        ↔ (values_from items.now start end ≡ values_from others.now from to) }
+        ↔ (values_from items.now.raw start end ≡ values_from others.now.raw from to) }
 {
     if end - start != to - from {
         return false;

@@ -1,10 +1,11 @@
 //! The width and the sign of a type's numbers.
 
 ghost use Rattle.std.specs.Prelude.{◌≡◌};
+ghost use Rattle.arrow_bits.specs.Numbers.{IsWidth};
 ghost use Rattle.arrow_types.specs.View.{type_view};
-ghost use Rattle.arrow_array.specs.Slots.{width_of, is_signed};
+ghost use Rattle.arrow_array.specs.Slots.{width_of, is_signed, index_width};
 
-use arrow_types::DataType;
+use arrow_types::{DataType, IndexType};
 
 // How many bytes a number of the type takes, 0 of a type that has no numbers.
 pub(crate) fn width(data_type: &DataType) -> usize
@@ -28,4 +29,12 @@ pub(crate) fn signed(data_type: &DataType) -> bool
         DataType::Int { signed, .. } => *signed,
         _ => true,
     }
+}
+
+// How many bytes an index takes.
+pub(crate) fn index_width(index: IndexType) -> usize
+    ensures same { result ≡ index_width index }
+    ensures whole { IsWidth result }
+{
+    (index.bits.bits() / 8) as usize
 }

@@ -31,7 +31,7 @@ array::Array::same_slot-returns-in-Parts-Parts t c =
 pub same::same_items-returns-then-end-start : goal.same::same_items-returns-then-end-start
 same::same_items-returns-then-end-start t c = (
   λ h. absurd (false≢true h),
-  λ e. absurd (c.if-end-start.true (sym (length-values_from c.args.items.now c.args.start c.args.end c.requires.inside) ∙ ap length e ∙ length-values_from c.args.others.now c.args.from c.args.to c.requires.other_inside)),
+  λ e. absurd (c.if-end-start.true (sym (length-values_from c.args.items.now.raw c.args.start c.args.end c.requires.inside) ∙ ap length e ∙ length-values_from c.args.others.now.raw c.args.from c.args.to c.requires.other_inside)),
 )
 
 pub same::same_items-returns : goal.same::same_items-returns

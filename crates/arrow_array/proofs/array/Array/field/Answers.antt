@@ -1,16 +1,18 @@
 use Rattle.std.proofs.Common.{ap, sym, ◌∙◌, subst}
 use Rattle.arrow_types.specs.View.{type_view}
-use Rattle.arrow_array.specs.Column.{Column}
-use Rattle.arrow_array.specs.Node.{AreRanges, raw_slot}
-use Rattle.arrow_array.specs.Slots.{slots}
-use Rattle.arrow_array.proofs.Children.{field_shown, found_from_lookup}
+use Rattle.arrow_array.specs.Node.{AreRanges, bytes_of, column_by}
+use Rattle.arrow_array.specs.declared.array.Ranges.TheVariants.{Structs}
+use Rattle.arrow_array.proofs.Shown.{longer_of_counts}
+use Rattle.arrow_array.proofs.Children.{field_of_column, found_from_lookup}
 use Rattle.arrow_array.proofs.array.Array.field.Goals as goal
 
 pub returns-in-Structs : goal.returns-in-Structs
 returns-in-Structs c =
     let a = c.self.inside in
-    let ok = subst (AreRanges a.len (type_view a.data_type) a.body) c.in-Structs.is c.self.invariant.1 in
-    let raw = ap (λ (x : Column). x.raw) (sym c.self.view_is) ∙ ap (λ r. slots a.len (raw_slot a.body r)) c.in-Structs.is in
-    let shape = ap (λ (x : Column). x.data_type) (sym c.self.view_is) in
+    let t = type_view a.data_type in
+    let v = c.in-Structs.validity in
+    let cs = c.in-Structs.children.items in
+    let ok = subst (AreRanges a.len t a.encoding a.body) c.in-Structs.is c.self.invariant.1 in
+    let is = sym c.self.view_is ∙ ap (λ r. column_by t a.encoding a.len a.body r) c.in-Structs.is ∙ ap (λ e. column_by t e a.len a.body (Structs v c.in-Structs.children)) ok.0 in
     let found = found_from_lookup c.deref.result.now c.args.k c.get.result c.get.ensures.lookup.1 c.get.ensures.lookup.3 in
-    field_shown c.args.self.now a.len (type_view a.data_type) a.body c.in-Structs.validity c.in-Structs.children.items c.args.k c.get.result raw shape ok.0 ok.1 (rw c.deref.ensures.value at found)
+    field_of_column c.args.self.now t a.len (bytes_of a.body v) cs c.args.k c.get.result is ok.1 ok.2.typed (longer_of_counts a.len cs ok.2.laid.longer) (rw c.deref.ensures.value at found)

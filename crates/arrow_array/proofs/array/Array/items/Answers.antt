@@ -1,15 +1,17 @@
 use Rattle.std.proofs.Common.{ap, sym, ◌∙◌, subst}
 use Rattle.arrow_types.specs.View.{type_view}
-use Rattle.arrow_array.specs.Column.{Column, HasChild}
-use Rattle.arrow_array.specs.Node.{AreRanges, raw_slot}
-use Rattle.arrow_array.specs.Slots.{slots}
+use Rattle.arrow_array.specs.Column.{HasChild}
+use Rattle.arrow_array.specs.Node.{AreRanges, bytes_of, column_by}
+use Rattle.arrow_array.specs.declared.array.Ranges.TheVariants.{Lists}
 use Rattle.arrow_array.proofs.Children.{child_shown}
 use Rattle.arrow_array.proofs.array.Array.items.Goals as goal
 
 pub returns-in-Lists : goal.returns-in-Lists
 returns-in-Lists c =
     let a = c.self.inside in
-    let ok = subst (AreRanges a.len (type_view a.data_type) a.body) c.in-Lists.is c.self.invariant.1 in
-    let raw = ap (λ (x : Column). x.raw) (sym c.self.view_is) ∙ ap (λ r. slots a.len (raw_slot a.body r)) c.in-Lists.is in
-    let shape = ap (λ (x : Column). x.data_type) (sym c.self.view_is) in
-    subst (HasChild c.args.self.now) (sym c.deref.ensures) (child_shown c.args.self.now a.len (type_view a.data_type) a.body c.in-Lists.validity c.in-Lists.offsets c.in-Lists.child.value raw shape ok.0 ok.1)
+    let t = type_view a.data_type in
+    let v = c.in-Lists.validity in
+    let o = c.in-Lists.offsets in
+    let ok = subst (AreRanges a.len t a.encoding a.body) c.in-Lists.is c.self.invariant.1 in
+    let is = sym c.self.view_is ∙ ap (λ r. column_by t a.encoding a.len a.body r) c.in-Lists.is ∙ ap (λ e. column_by t e a.len a.body (Lists v o c.in-Lists.child)) ok.0 in
+    subst (HasChild c.args.self.now) (sym c.deref.ensures) (child_shown c.args.self.now t a.len (bytes_of a.body v) (bytes_of a.body o) c.in-Lists.child.value is ok.1 ok.2.typed)

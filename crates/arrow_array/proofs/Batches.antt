@@ -1,0 +1,4 @@
+-- The number of fields of a schema.
+use Rattle.arrow_types.proofs.Fields.{width-fields_view}
+
+pub ruleset batches = (width-fields_view)

@@ -1,0 +1,259 @@
+-- The ranges of a node stand for its buffers.
+use Rattle.std.proofs.Common.{◌≡◌, ◌≤◌, ◌<◌, ◌-◌, ℕ, zero, suc, List, [], ◌∷◌, ◌++◌, length, map, get_or, Option, Some, None, refl, sym, ap, ◌∙◌, subst, arith, rules, inl, inr, Bool}
+use Rattle.std.proofs.lemmas.List.{append-nil}
+use Rattle.std.specs.Global.{Box}
+use Rattle.std.specs.List.{AllByRecursion}
+use Rattle.std.specs.Prelude.{slice_index_or, ⊤, ◌/◌, option_map, String, string_bytes}
+use Rattle.std.specs.declared.alloc.Global.{Global}
+use Rattle.std.specs.declared.vec.Vec.{Vec}
+use Rattle.arrow_bits.specs.Numbers.{IsWidth}
+use Rattle.arrow_types.specs.DataType.{Tag, int, date, time, timestamp, null, boolean, binary, utf8, list, struct, bits_of, date_width_of, time_width_of}
+use Rattle.arrow_types.specs.Field.{Fields, none, more, TypeShape, Head, fields_of}
+use Rattle.arrow_types.specs.declared.data_type.BitWidth.{BitWidth}
+use Rattle.arrow_types.specs.declared.data_type.BitWidth.TheVariants.{Eight, Sixteen, ThirtyTwo, SixtyFour}
+use Rattle.arrow_types.specs.declared.data_type.TimeUnit.{TimeUnit}
+use Rattle.arrow_types.specs.declared.field.Encoding.{Encoding}
+use Rattle.arrow_array.specs.Column.{Column, AreOf, IsColumn, counts_of, listed_of, plain_column}
+use Rattle.arrow_array.specs.Layout.{buffer, buffer_count, IsLaid, HasInts}
+use Rattle.arrow_array.specs.Node.{column_by, AreLists, AreStructs, AreInts, bytes_of, IsInside, IsFormat}
+use Rattle.arrow_array.specs.Parts.{node_column, value_slot}
+use Rattle.arrow_array.specs.PlainValue.{PlainValue}
+use Rattle.arrow_array.specs.Slots.{slots, index_width, entry_slot, int_slot, list_slot, struct_slot, width_of, is_signed}
+use Rattle.arrow_types.specs.View.{type_view, field_view, fields_view}
+use Rattle.arrow_types.specs.declared.data_type.DataType.{DataType, the_lemmas}
+use Rattle.arrow_types.specs.declared.data_type.DataType as types
+use Rattle.arrow_types.specs.declared.data_type.DateUnit.{DateUnit}
+use Rattle.arrow_types.specs.declared.field.Field.{Field}
+use Rattle.arrow_array.specs.declared.buffers.Ints.{Ints}
+use Rattle.arrow_array.specs.declared.array.Array.{Array}
+use Rattle.arrow_array.specs.declared.array.Ranges.TheVariants as ranges
+use Rattle.arrow_array.specs.declared.dictionary.Dictionary.{Dictionary}
+use Rattle.arrow_array.specs.declared.byte_range.ByteRange.{ByteRange}
+
+-- the bytes of a buffer that was read
+pub buffer_read : (body : List ℕ) (bs : List ByteRange) (k : ℕ) (d : ByteRange) → k < length bs → buffer (map (bytes_of body) bs) k ≡ bytes_of body (slice_index_or bs k d)
+buffer_read body [] k d h = absurd (omega arith)
+buffer_read body (b ∷ bs) zero d h = refl
+buffer_read body (b ∷ bs) (suc k) d h = buffer_read body bs k d (omega arith)
+
+-- it lies inside the body
+pub inside_read : (body : List ℕ) (bs : List ByteRange) (k : ℕ) (d : ByteRange) → AllByRecursion (IsInside body) bs → k < length bs → IsInside body (slice_index_or bs k d)
+inside_read body [] k d all h = absurd (omega arith)
+inside_read body (b ∷ bs) zero d all h = all.0
+inside_read body (b ∷ bs) (suc k) d all h = inside_read body bs k d all.1 (omega arith)
+
+-- the one child of a list, which is the last
+one_child : (head : Head) (children : Fields) (cs : List Column) (d child : Column) → AreOf (more head children none) cs → get_or cs (length cs - 1) d ≡ child → cs ≡ child ∷ []
+one_child head children [] d child h last = absurd h
+one_child head children (a ∷ []) d child h last = ap (λ x. x ∷ []) last
+one_child head children (a ∷ b ∷ cs) d child h last = absurd h.2
+
+pub only_child : (t : TypeShape) (head : Head) (children : Fields) (cs : List Column) (d child : Column) → t.children ≡ more head children none → AreOf t.children cs → get_or cs (length cs - 1) d ≡ child → cs ≡ child ∷ []
+only_child t head children cs d child is typed last = one_child head children cs d child (subst (λ f. AreOf f cs) is typed) last
+
+pub some_child : (t : TypeShape) (head : Head) (children : Fields) (cs : List Column) → t.children ≡ more head children none → AreOf t.children cs → 0 < length cs
+some_child t head children [] is typed = absurd (subst (λ f. AreOf f []) is typed)
+some_child t head children (c ∷ cs) is typed = omega arith
+
+-- a node of a list
+pub list_lies : (t : TypeShape) (len : ℕ) (body : List ℕ) (bs : List ByteRange) (d : ByteRange) (cs : List Column) (child : Column) → t.tag ≡ list → cs ≡ child ∷ [] → AreOf t.children cs → AllByRecursion IsColumn cs
+    → 2 ≤ length bs → AllByRecursion (IsInside body) bs → IsLaid t.tag None len (map (bytes_of body) bs) (counts_of cs) → AreLists len t body (slice_index_or bs 0 d) (slice_index_or bs 1 d) child
+list_lies t len body bs d cs child tag one typed known two inside laid =
+    let here = subst (λ x. IsLaid x None len (map (bytes_of body) bs) (counts_of cs)) tag laid in
+    let hers = subst (λ x. IsLaid list None len (map (bytes_of body) bs) (counts_of x)) one here in
+    record {
+      validity = inside_read body bs 0 d inside (omega arith);
+      offsets = inside_read body bs 1 d inside (omega arith);
+      laid = rw (← buffer_read body bs 0 d (omega arith), ← buffer_read body bs 1 d (omega arith)) hers;
+      typed = subst (AreOf t.children) one typed;
+      known = (subst (AllByRecursion IsColumn) one known).0;
+    }
+
+-- the column of a node of values, by its tag
+abbrev values_by : TypeShape → Tag → ℕ → List (List ℕ) → List Column → Column
+values_by t tag len b cs = record {
+  data_type = t;
+  encoding = None;
+  raw = slots len (value_slot tag b (map (λ (c : Column). c.raw) cs));
+  resolved = slots len (value_slot tag b (map (λ (c : Column). c.resolved) cs));
+  dictionaries = listed_of cs;
+}
+
+abbrev lists_of : TypeShape → ℕ → List (List ℕ) → List Column → Column
+lists_of t len b cs = values_by t list len b cs
+
+pub list_same : (t : TypeShape) (len : ℕ) (body : List ℕ) (bs : List ByteRange) (d : ByteRange) (cs : List Column) (child : Box Array) → t.tag ≡ list → cs ≡ child.value ∷ [] → 2 ≤ length bs
+    → column_by t None len body (ranges.Lists (slice_index_or bs 0 d) (slice_index_or bs 1 d) child) ≡ node_column t None len (map (bytes_of body) bs) cs []
+list_same t len body bs d cs child tag one two =
+    let v = buffer_read body bs 0 d (omega arith) in
+    let o = buffer_read body bs 1 d (omega arith) in
+    let whole : child.value.dictionaries ≡ child.value.dictionaries ++ [] = sym (append-nil child.value.dictionaries) in
+    let literal : column_by t None len body (ranges.Lists (slice_index_or bs 0 d) (slice_index_or bs 1 d) child) ≡ lists_of t len (map (bytes_of body) bs) (child.value ∷ []) = λ i. record {
+      data_type = t;
+      encoding = None;
+      raw = slots len (list_slot (sym v i) (sym o i) child.value.raw);
+      resolved = slots len (list_slot (sym v i) (sym o i) child.value.resolved);
+      dictionaries = whole i;
+    } in
+    literal ∙ ap (lists_of t len (map (bytes_of body) bs)) (sym one) ∙ ap (λ x. values_by t x len (map (bytes_of body) bs) cs) (sym tag)
+
+-- a node of a struct
+pub struct_lies : (t : TypeShape) (len : ℕ) (body : List ℕ) (bs : List ByteRange) (d : ByteRange) (cs : List Column) → t.tag ≡ struct → AreOf t.children cs → AllByRecursion IsColumn cs
+    → 1 ≤ length bs → AllByRecursion (IsInside body) bs → IsLaid t.tag None len (map (bytes_of body) bs) (counts_of cs) → AreStructs len t body (slice_index_or bs 0 d) cs
+struct_lies t len body bs d cs tag typed known one inside laid =
+    let here = subst (λ x. IsLaid x None len (map (bytes_of body) bs) (counts_of cs)) tag laid in
+    record {
+      validity = inside_read body bs 0 d inside (omega arith);
+      laid = rw (← buffer_read body bs 0 d (omega arith)) here;
+      typed = typed;
+      known = known;
+    }
+
+pub struct_same : (t : TypeShape) (len : ℕ) (body : List ℕ) (bs : List ByteRange) (d : ByteRange) (children : Vec Array Global) → t.tag ≡ struct → 1 ≤ length bs
+    → column_by t None len body (ranges.Structs (slice_index_or bs 0 d) children) ≡ node_column t None len (map (bytes_of body) bs) children.items []
+struct_same t len body bs d children tag one =
+    let v = buffer_read body bs 0 d (omega arith) in
+    let literal : column_by t None len body (ranges.Structs (slice_index_or bs 0 d) children) ≡ values_by t struct len (map (bytes_of body) bs) children.items = λ i. record {
+      data_type = t;
+      encoding = None;
+      raw = slots len (struct_slot (sym v i) (map (λ (c : Column). c.raw) children.items));
+      resolved = slots len (struct_slot (sym v i) (map (λ (c : Column). c.resolved) children.items));
+      dictionaries = listed_of children.items;
+    } in
+    literal ∙ ap (λ x. values_by t x len (map (bytes_of body) bs) children.items) (sym tag)
+
+-- the types of numbers
+abbrev pub IsNumber : Tag → Type 0
+IsNumber (int bits signed) = ⊤
+IsNumber (date unit) = ⊤
+IsNumber (time unit) = ⊤
+IsNumber (timestamp unit tz) = ⊤
+IsNumber _ = ⊥
+
+bits_width : (b : BitWidth) → IsWidth (bits_of b / 8)
+bits_width Eight = inl refl
+bits_width Sixteen = inr (inl refl)
+bits_width ThirtyTwo = inr (inr (inl refl))
+bits_width SixtyFour = inr (inr (inr refl))
+
+number_width : (tag : Tag) → IsNumber tag → IsWidth (width_of tag)
+number_width (int bits signed) h = bits_width bits
+number_width (date unit) h = bits_width (date_width_of unit)
+number_width (time unit) h = bits_width (time_width_of unit)
+number_width (timestamp unit tz) h = bits_width SixtyFour
+number_width null h = absurd h
+number_width boolean h = absurd h
+number_width binary h = absurd h
+number_width utf8 h = absurd h
+number_width list h = absurd h
+number_width struct h = absurd h
+
+number_laid : (tag : Tag) (len : ℕ) (b : List (List ℕ)) (cs : List ℕ) → IsNumber tag → IsLaid tag None len b cs → HasInts len (width_of tag) (buffer b 0) (buffer b 1)
+number_laid (int bits signed) len b cs h laid = laid
+number_laid (date unit) len b cs h laid = laid
+number_laid (time unit) len b cs h laid = laid
+number_laid (timestamp unit tz) len b cs h laid = laid
+number_laid null len b cs h laid = absurd h
+number_laid boolean len b cs h laid = absurd h
+number_laid binary len b cs h laid = absurd h
+number_laid utf8 len b cs h laid = absurd h
+number_laid list len b cs h laid = absurd h
+number_laid struct len b cs h laid = absurd h
+
+number_count : (tag : Tag) → IsNumber tag → buffer_count tag None ≡ 2
+number_count (int bits signed) h = refl
+number_count (date unit) h = refl
+number_count (time unit) h = refl
+number_count (timestamp unit tz) h = refl
+number_count null h = absurd h
+number_count boolean h = absurd h
+number_count binary h = absurd h
+number_count utf8 h = absurd h
+number_count list h = absurd h
+number_count struct h = absurd h
+
+number_slot : (tag : Tag) (b : List (List ℕ)) (values : List (List PlainValue)) → IsNumber tag → value_slot tag b values ≡ int_slot (width_of tag) (is_signed tag) (buffer b 0) (buffer b 1)
+number_slot (int bits signed) b values h = refl
+number_slot (date unit) b values h = refl
+number_slot (time unit) b values h = refl
+number_slot (timestamp unit tz) b values h = refl
+number_slot null b values h = absurd h
+number_slot boolean b values h = absurd h
+number_slot binary b values h = absurd h
+number_slot utf8 b values h = absurd h
+number_slot list b values h = absurd h
+number_slot struct b values h = absurd h
+
+no_children : (cs : List Column) → AreOf none cs → listed_of cs ≡ []
+no_children [] h = refl
+no_children (c ∷ cs) h = absurd h
+
+-- a node of numbers
+pub number_lies : (t : TypeShape) (len : ℕ) (body : List ℕ) (bs : List ByteRange) (d : ByteRange) (cs : List Column) (n : Ints) → IsNumber t.tag → buffer_count t.tag None ≤ length bs
+    → AllByRecursion (IsInside body) bs → IsLaid t.tag None len (map (bytes_of body) bs) (counts_of cs) → n.width ≡ width_of t.tag → n.validity ≡ slice_index_or bs 0 d → n.values ≡ slice_index_or bs 1 d → AreInts len body n
+number_lies t len body bs d cs n is count inside laid width v w =
+    let two : 2 ≤ length bs = omega (arith, number_count t.tag is) in
+    let here = number_laid t.tag len (map (bytes_of body) bs) (counts_of cs) is laid in
+    let there : HasInts len (width_of t.tag) (bytes_of body (slice_index_or bs 0 d)) (bytes_of body (slice_index_or bs 1 d)) = rw (← buffer_read body bs 0 d (omega arith), ← buffer_read body bs 1 d (omega arith)) here in
+    record {
+      whole = rw width (number_width t.tag is);
+      validity = rw v (inside_read body bs 0 d inside (omega arith));
+      values = rw w (inside_read body bs 1 d inside (omega arith));
+      laid = rw (width, v, w) there;
+    }
+
+pub number_same : (t : TypeShape) (len : ℕ) (body : List ℕ) (bs : List ByteRange) (d : ByteRange) (cs : List Column) (n : Ints) → IsNumber t.tag → t.children ≡ none → AreOf t.children cs → buffer_count t.tag None ≤ length bs
+    → n.width ≡ width_of t.tag → n.signed ≡ is_signed t.tag → n.validity ≡ slice_index_or bs 0 d → n.values ≡ slice_index_or bs 1 d
+    → column_by t None len body (ranges.Ints n) ≡ node_column t None len (map (bytes_of body) bs) cs []
+number_same t len body bs d cs n is leaf typed count width signed v w =
+    let two : 2 ≤ length bs = omega (arith, number_count t.tag is) in
+    let b = map (bytes_of body) bs in
+    let first : bytes_of body n.validity ≡ buffer b 0 = ap (bytes_of body) v ∙ sym (buffer_read body bs 0 d (omega arith)) in
+    let second : bytes_of body n.values ≡ buffer b 1 = ap (bytes_of body) w ∙ sym (buffer_read body bs 1 d (omega arith)) in
+    let raw = number_slot t.tag b (map (λ (c : Column). c.raw) cs) is in
+    let resolved = number_slot t.tag b (map (λ (c : Column). c.resolved) cs) is in
+    let listed : listed_of cs ≡ [] = no_children cs (subst (λ f. AreOf f cs) leaf typed) in
+    let numbers : column_by t None len body (ranges.Ints n) ≡ plain_column t (slots len (int_slot (width_of t.tag) (is_signed t.tag) (buffer b 0) (buffer b 1))) =
+    λ i. plain_column t (slots len (int_slot (width i) (signed i) (first i) (second i))) in
+    numbers ∙ (λ i. record {
+      data_type = t;
+      encoding = None;
+      raw = slots len (sym raw i);
+      resolved = slots len (sym resolved i);
+      dictionaries = sym listed i;
+    })
+
+-- the types that are left are those of numbers, and have no children
+pub int_tag : (b : BitWidth) (s : Bool) → type_view (types.Int b s) ≡ record { tag = int b s; children = none }
+int_tag b s = search (rules, the_lemmas)
+
+pub date_tag : (u : DateUnit) → type_view (types.Date u) ≡ record { tag = date u; children = none }
+date_tag u = search (rules, the_lemmas)
+
+pub time_tag : (u : TimeUnit) → type_view (types.Time u) ≡ record { tag = time u; children = none }
+time_tag u = search (rules, the_lemmas)
+
+pub timestamp_tag : (u : TimeUnit) (z : Option (String Global)) → type_view (types.Timestamp u z) ≡ record { tag = timestamp u (option_map string_bytes z); children = none }
+timestamp_tag u z = search (rules, the_lemmas)
+
+pub list_tag : (f : Box Field) → type_view (types.List f) ≡ record { tag = list; children = fields_of (field_view f.value ∷ []) }
+list_tag f = search (rules, the_lemmas)
+
+pub struct_tag : (fs : Vec Field Global) → type_view (types.Struct fs) ≡ record { tag = struct; children = fields_view fs.items }
+struct_tag fs = search (rules, the_lemmas)
+
+-- a node of indices
+pub index_same : (t : TypeShape) (e : Encoding) (len : ℕ) (body : List ℕ) (bs : List ByteRange) (cs : List Column) (n : Ints) (d : Box Dictionary) (values : List PlainValue)
+    → IsFormat (index_width e.index) e.index.signed n → n.validity ≡ slice_index_or bs 0 n.validity → n.values ≡ slice_index_or bs 1 n.values → d.value.values ≡ values → 2 ≤ length bs
+    → column_by t (Some e) len body (ranges.Indices n d) ≡ node_column t (Some e) len (map (bytes_of body) bs) cs values
+index_same t e len body bs cs n d values format v w is two =
+    let b = map (bytes_of body) bs in
+    let first : bytes_of body n.validity ≡ buffer b 0 = ap (bytes_of body) v ∙ sym (buffer_read body bs 0 n.validity (omega arith)) in
+    let second : bytes_of body n.values ≡ buffer b 1 = ap (bytes_of body) w ∙ sym (buffer_read body bs 1 n.values (omega arith)) in
+    λ i. record {
+      data_type = t;
+      encoding = Some e;
+      raw = slots len (int_slot (format.0 i) (format.1 i) (first i) (second i));
+      resolved = slots len (entry_slot (format.0 i) (format.1 i) (first i) (second i) (is i));
+      dictionaries = (e.id, is i) ∷ [];
+    }

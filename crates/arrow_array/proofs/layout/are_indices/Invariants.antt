@@ -1,0 +1,6 @@
+use Rattle.arrow_array.specs.Slots.{AreIndices}
+use Rattle.arrow_array.proofs.layout.are_indices.Given as goal
+
+-- the indices so far have their values
+abbrev pub invariant-loop-j : goal.invariant-loop-j
+invariant-loop-j l = AreIndices l.j l.width l.signed l.validity l.indices l.count

@@ -1,0 +1,54 @@
+-- Batches: columns of a schema (Message.fbs, table "RecordBatch").
+use Rattle.std.specs.Prelude.{◌≡◌, ℕ, List, map, length, Result, Ok, Err, refl}
+use Rattle.std.specs.Coded.{Coded, code_by, coded×, coded_ℕ, coded_list}
+use Rattle.std.specs.List.{AllByRecursion, range_with_len}
+use Rattle.arrow_types.specs.Field.{Fields, width}
+use Rattle.arrow_types.specs.Schema.{IsSchema}
+use Rattle.arrow_types.specs.Stored.{fields_code}
+use Rattle.arrow_array.specs.Column.{Column, AreOf, column_code, resolved_row_of}
+use Rattle.arrow_array.specs.PlainValue.{PlainValue}
+use Rattle.arrow_array.specs.declared.batch.BatchFault.{BatchFault}
+use Rattle.arrow_array.specs.declared.batch.BatchFault.TheVariants.{ColumnCount, ColumnType, ColumnLength, IndexRange, Memory}
+
+-- the fields of a schema, a column of each, and the number of rows
+pub record Table : Type 0 where
+  pub schema : Fields
+  pub columns : List Column
+  pub rows : ℕ
+
+abbrev pub table_code : Coded Table
+table_code = code_by (Fields × (List Column × ℕ)) (coded× fields_code (coded× (coded_list column_code) coded_ℕ))
+    (λ t. (t.schema, (t.columns, t.rows))) (λ p. record { schema = p.0; columns = p.1.0; rows = p.1.1 }) (λ _. refl)
+
+-- each column has a slot for each row
+abbrev pub HaveRows : ℕ → List Column → Type 0
+HaveRows rows columns = AllByRecursion (λ (c : Column). length c.raw ≡ rows) columns
+
+-- what is known of every batch
+pub record IsTable (t : Table) : Type 0 where
+  pub schema : IsSchema t.schema
+  pub typed : AreOf t.schema t.columns
+  pub long : HaveRows t.rows t.columns
+
+-- the rows: of each column the resolved value. Without columns a row has no values.
+abbrev pub rows_of : Table → List (List PlainValue)
+rows_of t = map (λ i. resolved_row_of t.columns i) (range_with_len 0 t.rows)
+
+-- An answer to a schema, columns and a number of rows: the batch of just these where no fault applies, else the first
+-- fault that does. The last two faults apply to no columns at all: an array with an index that has no value is never
+-- made, and nothing grows.
+abbrev pub Judges : Result Table BatchFault → Fields → List Column → ℕ → Type 0
+Judges (Ok batch) schema columns rows = AreOf schema columns × HaveRows rows columns × (batch ≡ record { schema = schema; columns = columns; rows = rows })
+Judges (Err ColumnCount) schema columns rows = length columns ≡ width schema → ⊥
+Judges (Err ColumnType) schema columns rows = (length columns ≡ width schema) × (AreOf schema columns → ⊥)
+Judges (Err ColumnLength) schema columns rows = AreOf schema columns × (HaveRows rows columns → ⊥)
+Judges (Err IndexRange) schema columns rows = ⊥
+Judges (Err Memory) schema columns rows = ⊥
+
+-- the number of a fault
+abbrev pub number_of : BatchFault → ℕ
+number_of ColumnCount = 1
+number_of ColumnType = 2
+number_of ColumnLength = 3
+number_of IndexRange = 4
+number_of Memory = 5

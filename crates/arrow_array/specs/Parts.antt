@@ -1,0 +1,64 @@
+-- The column of a node, by its buffers, its children and its dictionary (Columnar Format, "Physical Memory Layout").
+use Rattle.std.specs.Prelude.{◌≡◌, ℕ, List, [], ◌∷◌, map, ⊤, get_or, false, Option, None, Some}
+use Rattle.arrow_types.specs.DataType.{Tag, null, boolean, binary, utf8, list, struct}
+use Rattle.arrow_types.specs.Field.{FieldShape, TypeShape}
+use Rattle.arrow_types.specs.Schema.{has_encoding}
+use Rattle.arrow_types.specs.declared.field.Encoding.{Encoding}
+use Rattle.arrow_array.specs.PlainValue.{PlainValue, null_value}
+use Rattle.arrow_array.specs.Column.{Column, ValueList, AreOf, listed_of}
+use Rattle.arrow_array.specs.Layout.{buffer}
+use Rattle.arrow_array.specs.Slots.{slots, bool_slot, int_slot, binary_slot, utf8_slot, list_slot, struct_slot, entry_slot, width_of, is_signed, index_width}
+
+-- the type of a field's values
+abbrev pub type_of : FieldShape → TypeShape
+type_of f = record { tag = f.head.tag; children = f.children }
+
+-- the value of a slot of a node without an encoding, by the values of its children
+abbrev pub value_slot : Tag → List (List ℕ) → List (List PlainValue) → ℕ → PlainValue
+value_slot null b children j = null_value
+value_slot boolean b children j = bool_slot (buffer b 0) (buffer b 1) j
+value_slot binary b children j = binary_slot (buffer b 0) (buffer b 1) (buffer b 2) j
+value_slot utf8 b children j = utf8_slot (buffer b 0) (buffer b 1) (buffer b 2) j
+value_slot list b children j = list_slot (buffer b 0) (buffer b 1) (get_or children 0 []) j
+value_slot struct b children j = struct_slot (buffer b 0) children j
+value_slot tag b children j = int_slot (width_of tag) (is_signed tag) (buffer b 0) (buffer b 1) j
+
+-- the index in a slot, and the value that it refers to
+abbrev pub index_slot : Encoding → List (List ℕ) → ℕ → PlainValue
+index_slot e b j = int_slot (index_width e.index) e.index.signed (buffer b 0) (buffer b 1) j
+
+abbrev pub entry_of_slot : Encoding → List (List ℕ) → List PlainValue → ℕ → PlainValue
+entry_of_slot e b values j = entry_slot (index_width e.index) e.index.signed (buffer b 0) (buffer b 1) values j
+
+-- The column of a node of `len` slots: with an encoding its slots are indices into the values, without one they are
+-- values, which its buffers and its children give.
+abbrev pub node_column : TypeShape → Option Encoding → ℕ → List (List ℕ) → List Column → List PlainValue → Column
+node_column t None len b children values = record {
+  data_type = t;
+  encoding = None;
+  raw = slots len (value_slot t.tag b (map (λ (c : Column). c.raw) children));
+  resolved = slots len (value_slot t.tag b (map (λ (c : Column). c.resolved) children));
+  dictionaries = listed_of children;
+}
+node_column t (Some e) len b children values = record {
+  data_type = t;
+  encoding = Some e;
+  raw = slots len (index_slot e b);
+  resolved = slots len (entry_of_slot e b values);
+  dictionaries = (e.id, values) ∷ [];
+}
+
+-- the children are those of the type; a dictionary-encoded node has none of its own
+abbrev pub AreChildren : TypeShape → Option Encoding → List Column → Type 0
+AreChildren t None children = AreOf t.children children
+AreChildren t (Some e) children = has_encoding t.children ≡ false
+
+-- the values of a dictionary, none where there is no dictionary
+abbrev pub values_in : Option ValueList → List PlainValue
+values_in None = []
+values_in (Some d) = d.values
+
+-- a dictionary has the type
+abbrev pub IsOfType : TypeShape → Option ValueList → Type 0
+IsOfType t None = ⊤
+IsOfType t (Some d) = d.data_type ≡ t

@@ -1,0 +1,104 @@
+//! The buffers of the layouts without children, each as its range of the body.
+
+ghost use Rattle.std.specs.Prelude.{◌≡◌, ◌<◌, MatchOption, option_map};
+ghost use Rattle.arrow_array.specs.Node.{AreBools, AreInts, AreStrings, bool_at, int_at, binary_at, utf8_at, bytes_of};
+ghost use Rattle.arrow_array.specs.PlainValue.{null_value, bool_value, int_value, binary_value, utf8_value};
+ghost use Rattle.arrow_array.specs.Slots.{AreTexts};
+
+use crate::byte_range::{ByteRange, bytes_in};
+use crate::slot;
+
+// Truth values: bit j is that of slot j.
+#[derive(Clone, Copy)]
+pub(crate) struct Bools {
+    pub(crate) validity: ByteRange,
+    pub(crate) values: ByteRange,
+}
+
+impl Bools {
+    // The truth value of slot `i` of `len`, where it is valid.
+    pub(crate) fn at(self, body: &[u8], len: usize, i: usize) -> Option<bool>
+        requires slot { i < len }
+        requires lies { AreBools len body.now self }
+        ensures { MatchOption result (bool_at body.now self i ≡ null_value)
+            (λ b. bool_at body.now self i ≡ bool_value b) }
+    {
+        slot::bool_at(
+            bytes_in(body, self.validity),
+            bytes_in(body, self.values),
+            i,
+        )
+    }
+}
+
+// Numbers of `width` bytes: those of a column of numbers, or of indices into a dictionary.
+#[derive(Clone, Copy)]
+pub(crate) struct Ints {
+    pub(crate) width: usize,
+    pub(crate) signed: bool,
+    pub(crate) validity: ByteRange,
+    pub(crate) values: ByteRange,
+}
+
+#[tactic(auto, using(crate::proofs::Shown::shown))]
+impl Ints {
+    // The number of slot `i` of `len`, where it is valid.
+    pub(crate) fn at(self, body: &[u8], len: usize, i: usize) -> Option<i128>
+        requires slot { i < len }
+        requires lies { AreInts len body.now self }
+        ensures { MatchOption result (int_at body.now self i ≡ null_value)
+            (λ z. int_at body.now self i ≡ int_value z) }
+    {
+        slot::number_at(
+            bytes_in(body, self.validity),
+            bytes_in(body, self.values),
+            self.width,
+            self.signed,
+            i,
+        )
+    }
+}
+
+// Byte strings or texts: slot j is `bytes` from offset j up to offset j + 1.
+#[derive(Clone, Copy)]
+pub(crate) struct Strings {
+    pub(crate) validity: ByteRange,
+    pub(crate) offsets: ByteRange,
+    pub(crate) bytes: ByteRange,
+}
+
+impl Strings {
+    // The byte string of slot `i` of `len`, where it is valid.
+    pub(crate) fn binary_at(self, body: &[u8], len: usize, i: usize) -> Option<&[u8]>
+        requires slot { i < len }
+        requires lies { AreStrings len body.now self }
+        ensures { MatchOption result (binary_at body.now self i ≡ null_value)
+            (λ b. binary_at body.now self i ≡ binary_value b.now) }
+    {
+        slot::binary_at(
+            bytes_in(body, self.validity),
+            bytes_in(body, self.offsets),
+            bytes_in(body, self.bytes),
+            len,
+            i,
+        )
+    }
+
+    // The text of slot `i` of `len`, where it is valid.
+    pub(crate) fn text_at(self, body: &[u8], len: usize, i: usize) -> Option<&str>
+        requires slot { i < len }
+        requires lies { AreStrings len body.now self }
+        requires texts { AreTexts len (bytes_of body.now self.validity)
+            (bytes_of body.now self.offsets) (bytes_of body.now self.bytes) }
+        ensures { MatchOption result (utf8_at body.now self i ≡ null_value)
+            (λ t. utf8_at body.now self i ≡ utf8_value t.now) }
+    {
+        slot::text_at(
+            bytes_in(body, self.validity),
+            bytes_in(body, self.offsets),
+            bytes_in(body, self.bytes),
+            len,
+            i,
+        )
+    }
+}

@@ -1,0 +1,209 @@
+//! Dictionaries: values of one type that columns refer to by number.
+
+ghost use Rattle.std.specs.Prelude.{◌≡◌, ◌≤◌, ◌<◌, ◌+◌, ◌^◌, ◌++◌, ◌↔◌, length, IfOk, IsTrue, None, false, OnOk, OnErr, [], ◌∷◌};
+ghost use Rattle.arrow_types.specs.Schema.{has_encoding};
+ghost use Rattle.arrow_types.specs.View.{type_view};
+ghost use Rattle.arrow_array.specs.Column.{HasValue, IsValueList};
+ghost use Rattle.arrow_array.specs.Segments.{columns_of, starts_of};
+
+use crate::array::Array;
+use arrow_types::DataType;
+use std::alloc::{AllocError, Global};
+use std::marker::Model;
+use std::rc::Rc;
+
+// Values that came together, and the number of the first of them in the dictionary.
+#[cycle(arrays)]
+#[derive(Drop)]
+pub(crate) struct Segment {
+    pub(crate) start: usize,
+    pub(crate) array: Rc<Array>,
+}
+
+/// A list of values of one type (Columnar Format, "Dictionary-encoded Layout"). A value may be null.
+///
+/// It is kept as the arrays that brought its values, one after another. Copies share these arrays, so that a copy, and
+/// a dictionary that grows, cost nothing for the values that are there.
+#[cycle(arrays)]
+#[derive(Drop)]
+pub struct Dictionary {
+    pub(crate) data_type: DataType,
+    pub(crate) segments: Vec<Segment>,
+    pub(crate) len: usize,
+}
+
+impl Model for Dictionary {
+    ghost use Rattle.arrow_array.specs.Column.{ValueList, value_list_code, value_list_size};
+
+    ghost Value = { ValueList };
+
+    ghost coded = { value_list_code };
+
+    ghost use Rattle.arrow_array.specs.Segments.{value_list_of, IsDictionary};
+
+    ghost view = { value_list_of };
+
+    ghost invariant = { IsDictionary };
+
+    ghost size = { value_list_size };
+
+    ghost use Rattle.std.proofs.Common.{arith};
+    ghost use Rattle.arrow_types.specs.View.{type_view};
+    ghost use Rattle.arrow_array.specs.Falls.{most_segments};
+
+    ghost size_decreases = { λ d h. omega (arith, most_segments (type_view d.data_type) d.segments.items h.typed) };
+}
+
+#[tactic(auto, using(crate::proofs::Segments::segments))]
+impl Dictionary {
+    /// The dictionary without values, of values of this type, on no level of which is an encoding.
+    pub fn empty(alloc: Global, data_type: DataType) -> Dictionary
+        requires { has_encoding (type_view data_type).children ≡ false }
+        ensures { result ≡ record { data_type = type_view data_type; values = [] } }
+    {
+        Dictionary {
+            data_type,
+            segments: Vec::new(alloc),
+            len: 0,
+        }
+    }
+
+    /// The dictionary of the values of an array, which has an encoding on no level. No value is copied.
+    pub fn from_array(alloc: Global, values: Array) -> Result<Dictionary, AllocError>
+        requires plain { values.encoding ≡ None }
+        requires flat { has_encoding values.data_type.children ≡ false }
+        ensures { IfOk result (λ d. d ≡ record { data_type = values.data_type; values = values.raw }) }
+    {
+        let len = values.len();
+        let data_type = values.data_type().copy(alloc)?;
+        let mut segments = Vec::with_capacity(alloc, 1)?;
+        segments.push(Segment {
+            start: 0,
+            array: Rc::new(alloc, values)?,
+        })?;
+        Ok(Dictionary {
+            data_type,
+            segments,
+            len,
+        })
+    }
+
+    /// The type of the values.
+    pub fn data_type(&self) -> &DataType
+        ensures same { type_view result.now ≡ self.now.data_type }
+        ensures known { IsValueList self.now }
+    {
+        &self.data_type
+    }
+
+    /// How many values there are: at most 2^62.
+    pub fn len(&self) -> usize
+        ensures { result ≡ length self.now.values }
+    {
+        self.len
+    }
+
+    /// Whether there are no values.
+    pub fn is_empty(&self) -> bool
+        ensures { IsTrue result ↔ (self.now.values ≡ []) }
+    {
+        self.len == 0
+    }
+
+    /// Where value `i` stands: an array and a place there. The array is found by binary search.
+    pub fn value(&self, i: usize) -> (&Array, usize)
+        requires { i < length self.now.values }
+        ensures { HasValue self.now i result.0.now result.1 }
+    {
+        let mut low = 0;
+        let mut high = self.segments.len();
+        while low + 1 < high {
+            let middle = low + (high - low) / 2;
+            if self.segments[middle].start <= i {
+                low = middle;
+            } else {
+                high = middle;
+            }
+        }
+        let segment = &self.segments[low];
+        (&segment.array, i - segment.start)
+    }
+
+    /// Puts the values of the array behind those that are there, of which none is copied. Where a growth is refused
+    /// nothing changes.
+    pub fn append(&mut self, alloc: Global, values: Array) -> Result<(), AllocError>
+        requires typed { values.data_type ≡ self.now.data_type }
+        requires plain { values.encoding ≡ None }
+        requires few { length self.now.values + length values.raw ≤ 2 ^ 62 }
+        ensures ok { OnOk result (self.new ≡ record self.old { values = self.old.values ++ values.raw }) }
+        ensures err { OnErr result (self.new ≡ self.old) }
+    {
+        let len = self.len + values.len();
+        let segment = Segment {
+            start: self.len,
+            array: Rc::new(alloc, values)?,
+        };
+        self.segments.push(segment)?;
+        self.len = len;
+        Ok(())
+    }
+
+    /// An equal dictionary of the same type, which shares the values, or `AllocError` where a growth was refused.
+    pub fn copy(&self, alloc: Global) -> Result<Dictionary, AllocError>
+        ensures { IfOk result (λ d. d ≡ self.now) }
+    {
+        Ok(Dictionary {
+            data_type: self.data_type.copy(alloc)?,
+            segments: shared(alloc, &self.segments)?,
+            len: self.len,
+        })
+    }
+}
+
+/// Dictionaries are equal where their values are, one by one, whatever their types and segments. No memory is taken.
+impl PartialEq for Dictionary {
+    ghost use Rattle.arrow_array.specs.Same.{same_values, same_values_laws};
+
+    ghost eq = { same_values };
+
+    ghost laws = { same_values_laws };
+
+    fn eq(&self, other: &Dictionary) -> bool
+        ensures gives { result ≡ same_values self.now other.now }
+        ensures same { IsTrue result ↔ (self.now.values ≡ other.now.values) }
+    {
+        have_same_values(self, other)
+    }
+}
+
+// Whether the values are equal, one by one.
+fn have_same_values(one: &Dictionary, other: &Dictionary) -> bool
+    ensures { IsTrue result ↔ (one.now.values ≡ other.now.values) }
+{
+    if one.len() != other.len() {
+        return false;
+    }
+    for i in 0..one.len() {
+        let (values, place) = one.value(i);
+        let (others, other_place) = other.value(i);
+        if !values.same_slot(place, others, other_place) {
+            return false;
+        }
+    }
+    true
+}
+
+// The same arrays once more.
+fn shared(alloc: Global, segments: &[Segment]) -> Result<Vec<Segment>, AllocError>
+    ensures arrays { IfOk result (λ v. columns_of v.items ≡ columns_of segments.now) }
+    ensures starts { IfOk result (λ v. starts_of v.items ≡ starts_of segments.now) }
+{
+    let mut copies = Vec::with_capacity(alloc, segments.len())?;
+    for segment in segments {
+        copies.push(Segment {
+            start: segment.start,
+            array: segment.array.clone()?,
+        })?;
+    }
+    Ok(copies)
+}

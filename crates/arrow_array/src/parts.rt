@@ -1,0 +1,199 @@
+//! Arrays out of the parts of a node: its buffers in a body, its children, its dictionary.
+
+ghost use Rattle.std.specs.Prelude.{◌≡◌, ◌≤◌, IfOk, None, Some, length, map, false, [], slice_index_or};
+ghost use Rattle.std.specs.List.{AllByRecursion};
+ghost use Rattle.arrow_types.specs.Schema.{has_encoding};
+ghost use Rattle.arrow_types.specs.View.{type_view};
+ghost use Rattle.arrow_array.specs.Column.{AreOf, IsColumn, IsValueList, counts_of};
+ghost use Rattle.arrow_array.specs.Layout.{buffer_count, IsLaid, IsText, IsIndexed};
+ghost use Rattle.arrow_array.specs.Node.{bytes_of, column_by, AreRanges, IsFormat, IsInside};
+ghost use Rattle.arrow_array.specs.Slots.{index_width};
+ghost use Rattle.arrow_array.specs.Parts.{node_column, values_in, AreChildren, IsOfType};
+
+use crate::array::{Array, Ranges};
+use crate::buffers::{Bools, Ints, Strings};
+use crate::byte_range::ByteRange;
+use crate::dictionary::Dictionary;
+use crate::width::{index_width, signed, width};
+use arrow_types::{DataType, Encoding, Field};
+use bytes::Bytes;
+use std::alloc::{AllocError, Global};
+
+impl Array {
+    /// The array of one node: `len` slots of the field's type, out of its buffers, in the order of the format, its
+    /// children, and for a dictionary-encoded field its dictionary (without one, the empty dictionary).
+    ///
+    /// The body is shared and nothing of it is copied; `AllocError` where another growth was refused. An empty range
+    /// stands for an absent validity bitmap, and for the offsets of no slots. That the buffers hold `len` slots, that
+    /// texts are UTF-8 and indices have their values, is known by the caller, and not tested.
+    pub fn from_parts(
+        alloc: Global,
+        field: &Field,
+        len: usize,
+        body: &Bytes,
+        buffers: &[ByteRange],
+        children: Vec<Array>,
+        dictionary: Option<Dictionary>,
+    ) -> Result<Array, AllocError>
+        requires few { len ≤ 2147483647 }
+        requires children { AreChildren (type_view field.now.data_type) field.now.dictionary children.items }
+        requires dictionary { IsOfType (type_view field.now.data_type) dictionary }
+        requires count { buffer_count (type_view field.now.data_type).tag field.now.dictionary ≤ length buffers.now }
+        requires inside { AllByRecursion (IsInside body.now) buffers.now }
+        requires layout { IsLaid (type_view field.now.data_type).tag field.now.dictionary
+            len (map (bytes_of body.now) buffers.now) (counts_of children.items) }
+        requires text { IsText (type_view field.now.data_type).tag field.now.dictionary
+            len (map (bytes_of body.now) buffers.now) }
+        requires index { IsIndexed field.now.dictionary
+            len (map (bytes_of body.now) buffers.now) (values_in dictionary) }
+        ensures { IfOk result (λ a. a ≡ node_column (type_view field.now.data_type) field.now.dictionary
+            len (map (bytes_of body.now) buffers.now) children.items (values_in dictionary)) }
+    {
+        match field.dictionary {
+            Some(encoding) => {
+                let dictionary = or_empty(alloc, &field.data_type, dictionary)?;
+                let ranges = Ranges::Indices(
+                    indices(encoding, buffers),
+                    Box::new(alloc, dictionary)?,
+                );
+                of_ranges(alloc, &field.data_type, Some(encoding), len, body, ranges)
+            }
+            None => {
+                let ranges = value_ranges(
+                    alloc,
+                    &field.data_type,
+                    len,
+                    body.as_slice(),
+                    buffers,
+                    children,
+                )?;
+                of_ranges(alloc, &field.data_type, None, len, body, ranges)
+            }
+        }
+    }
+}
+
+// The array of these ranges.
+fn of_ranges(
+    alloc: Global,
+    data_type: &DataType,
+    encoding: Option<Encoding>,
+    len: usize,
+    body: &Bytes,
+    ranges: Ranges,
+) -> Result<Array, AllocError>
+    requires few { len ≤ 2147483647 }
+    requires lies { AreRanges len (type_view data_type.now) encoding body.now ranges }
+    ensures { IfOk result (λ a. a ≡ column_by (type_view data_type.now) encoding len body.now ranges) }
+{
+    Ok(Array {
+        data_type: data_type.copy(alloc)?,
+        encoding,
+        len,
+        body: body.clone()?,
+        ranges,
+    })
+}
+
+// The dictionary, or the empty one where there is none.
+fn or_empty(
+    alloc: Global,
+    data_type: &DataType,
+    dictionary: Option<Dictionary>,
+) -> Result<Dictionary, AllocError>
+    requires flat { has_encoding (type_view data_type.now).children ≡ false }
+    requires typed { IsOfType (type_view data_type.now) dictionary }
+    ensures same { IfOk result (λ d. d ≡ record { data_type = type_view data_type.now; values = values_in dictionary }) }
+    ensures known { IfOk result IsValueList }
+{
+    let dictionary = match dictionary {
+        Some(dictionary) => dictionary,
+        None => Dictionary::empty(alloc, data_type.copy(alloc)?),
+    };
+    dictionary.data_type();
+    Ok(dictionary)
+}
+
+// The buffers of indices.
+fn indices(encoding: Encoding, buffers: &[ByteRange]) -> Ints
+    requires { 2 ≤ length buffers.now }
+    ensures format { IsFormat (index_width encoding.index) encoding.index.signed result }
+    ensures validity { result.validity ≡ slice_index_or buffers.now 0 result.validity }
+    ensures values { result.values ≡ slice_index_or buffers.now 1 result.values }
+{
+    Ints {
+        width: index_width(encoding.index),
+        signed: encoding.index.signed,
+        validity: buffers[0],
+        values: buffers[1],
+    }
+}
+
+// The ranges of a node of values.
+fn value_ranges(
+    alloc: Global,
+    data_type: &DataType,
+    len: usize,
+    body: &[u8],
+    buffers: &[ByteRange],
+    children: Vec<Array>,
+) -> Result<Ranges, AllocError>
+    requires children { AreOf (type_view data_type.now).children children.items }
+    requires count { buffer_count (type_view data_type.now).tag None ≤ length buffers.now }
+    requires inside { AllByRecursion (IsInside body.now) buffers.now }
+    requires layout { IsLaid (type_view data_type.now).tag None len (map (bytes_of body.now) buffers.now) (counts_of children.items) }
+    requires text { IsText (type_view data_type.now).tag None len (map (bytes_of body.now) buffers.now) }
+    ensures lies { IfOk result (λ r. AreRanges len (type_view data_type.now) None body.now r) }
+    ensures same { IfOk result (λ r. column_by (type_view data_type.now) None len body.now r
+        ≡ node_column (type_view data_type.now) None len (map (bytes_of body.now) buffers.now) children.items []) }
+{
+    opened(&children);
+    match data_type {
+        DataType::Null => Ok(Ranges::Nulls),
+        DataType::Bool => Ok(Ranges::Bools(Bools {
+            validity: buffers[0],
+            values: buffers[1],
+        })),
+        DataType::Binary => Ok(Ranges::Binaries(Strings {
+            validity: buffers[0],
+            offsets: buffers[1],
+            bytes: buffers[2],
+        })),
+        DataType::Utf8 => Ok(Ranges::Texts(Strings {
+            validity: buffers[0],
+            offsets: buffers[1],
+            bytes: buffers[2],
+        })),
+        DataType::List(_) => {
+            let mut children = children;
+            let Some(child) = children.pop() else {
+                return Err(AllocError);
+            };
+            Ok(Ranges::Lists {
+                validity: buffers[0],
+                offsets: buffers[1],
+                child: Box::new(alloc, child)?,
+            })
+        }
+        DataType::Struct(_) => Ok(Ranges::Structs {
+            validity: buffers[0],
+            children,
+        }),
+        DataType::Int { .. } | DataType::Date(_) | DataType::Time(_) | DataType::Timestamp(..) =>
+            Ok(Ranges::Ints(Ints {
+                width: width(data_type),
+                signed: signed(data_type),
+                validity: buffers[0],
+                values: buffers[1],
+            })),
+    }
+}
+
+// Goes over the arrays, so that what is known of each is known of all.
+fn opened(arrays: &[Array])
+    ensures { AllByRecursion IsColumn arrays.now }
+{
+    for array in arrays {
+        array.len();
+    }
+}

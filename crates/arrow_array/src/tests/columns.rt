@@ -1,0 +1,248 @@
+// Columns of every type, without dictionaries.
+
+use super::making::{column, field, int32, range};
+use crate::{Array, ByteRange};
+use arrow_types::{BitWidth, DataType, DateUnit, TimeUnit};
+use bytes::Bytes;
+use std::alloc::{AllocError, Global};
+use std::test::Fail;
+
+const NO_COLUMN: &str = "the parts are as they should be";
+
+// A column of a type without children, if its parts are as they should be.
+fn leaf(
+    alloc: Global,
+    data_type: DataType,
+    len: usize,
+    body: &[u8],
+    buffers: &[ByteRange],
+) -> Result<Option<Array>, AllocError> {
+    let body = Bytes::copy_from_slice(alloc, body)?;
+    column(
+        alloc,
+        &field(alloc, "x", data_type)?,
+        len,
+        &body,
+        buffers,
+        Vec::new(alloc),
+        None,
+    )
+}
+
+// The numbers 1, none and 3.
+#[test]
+fn numbers_of_32_bits(rt: HostRuntime) -> Result<(), Fail> {
+    let body = [
+        5, 0, 0, 0, 0, 0, 0, 0, 1, 0, 0, 0, 0, 0, 0, 0, 3, 0, 0, 0, 0, 0, 0, 0,
+    ];
+    let column = leaf(rt.alloc(), int32(), 3, &body, &[range(0, 1), range(8, 20)])?.ok_or(
+        NO_COLUMN,
+    )?;
+    assert_eq!(rt; column.len(), 3);
+    for (j, want) in [(0, Some(1)), (1, None), (2, Some(3))] {
+        assert!(rt; j < column.len());
+        assert_eq!(rt; column.int_at(j), want, "slot {j}");
+        assert_eq!(rt; column.is_null(j), want.is_none(), "slot {j}");
+        assert!(rt;
+            column.bool_at(j).is_none() && column.resolved(j).is_none(),
+            "slot {j}"
+        );
+    }
+    assert!(rt; column.encoding().is_none() && column.dictionary().is_none());
+    Ok(())
+}
+
+// The number in the one slot of the bytes FE FF FF FF FF FF FF FF.
+fn number_in(alloc: Global, data_type: DataType) -> Result<Option<i128>, AllocError> {
+    let body = [0xfe, 0xff, 0xff, 0xff, 0xff, 0xff, 0xff, 0xff];
+    match leaf(alloc, data_type, 1, &body, &[ByteRange::EMPTY, range(0, 8)])? {
+        Some(column) if 0 < column.len() => Ok(column.int_at(0)),
+        _ => Ok(None),
+    }
+}
+
+#[test]
+fn integers_of_each_width(rt: HostRuntime) -> Result<(), Fail> {
+    for (bits, want) in [
+        (BitWidth::Eight, 254),
+        (BitWidth::Sixteen, 65534),
+        (BitWidth::ThirtyTwo, 4294967294),
+        (BitWidth::SixtyFour, 18446744073709551614),
+    ] {
+        let number = number_in(rt.alloc(), DataType::Int { bits, signed: true })?;
+        assert_eq!(rt; number, Some(-2));
+        let signed = false;
+        let number = number_in(rt.alloc(), DataType::Int { bits, signed })?;
+        assert_eq!(rt; number, Some(want));
+    }
+    Ok(())
+}
+
+#[test]
+fn dates_and_times(rt: HostRuntime) -> Result<(), Fail> {
+    for unit in [DateUnit::Day, DateUnit::Millisecond] {
+        assert_eq!(rt; number_in(rt.alloc(), DataType::Date(unit))?, Some(-2));
+    }
+    for unit in [
+        TimeUnit::Second,
+        TimeUnit::Millisecond,
+        TimeUnit::Microsecond,
+        TimeUnit::Nanosecond,
+    ] {
+        assert_eq!(rt; number_in(rt.alloc(), DataType::Time(unit))?, Some(-2));
+        assert_eq!(rt;
+            number_in(rt.alloc(), DataType::Timestamp(unit, None))?,
+            Some(-2)
+        );
+    }
+    Ok(())
+}
+
+// The texts "a", none and "bc".
+#[test]
+fn texts_of_three_slots(rt: HostRuntime) -> Result<(), Fail> {
+    let body = [
+        5, 0, 0, 0, 0, 0, 0, 0, 1, 0, 0, 0, 1, 0, 0, 0, 3, 0, 0, 0, 0x61, 0x62, 0x63,
+    ];
+    let buffers = [range(0, 1), range(4, 20), range(20, 23)];
+    let column = leaf(rt.alloc(), DataType::Utf8, 3, &body, &buffers)?.ok_or(NO_COLUMN)?;
+    for (j, want) in [(0, Some("a")), (1, None), (2, Some("bc"))] {
+        assert!(rt; j < column.len());
+        assert_eq!(rt; column.text_at(j), want, "slot {j}");
+        assert!(rt; column.bytes_at(j).is_none(), "slot {j}");
+        for k in 0..column.len() {
+            assert_eq!(rt;
+                column.same_slot(j, &column, k),
+                j == k,
+                "slots {j} and {k}"
+            );
+        }
+    }
+    Ok(())
+}
+
+// The byte strings FF and the empty one. No text is asked for.
+#[test]
+fn byte_strings_of_two_slots(rt: HostRuntime) -> Result<(), Fail> {
+    let body = [0, 0, 0, 0, 1, 0, 0, 0, 1, 0, 0, 0, 0xff];
+    let buffers = [ByteRange::EMPTY, range(0, 12), range(12, 13)];
+    assert!(rt; leaf(rt.alloc(), DataType::Utf8, 2, &body, &buffers)?.is_none());
+    let column = leaf(rt.alloc(), DataType::Binary, 2, &body, &buffers)?.ok_or(NO_COLUMN)?;
+    for (j, want) in [(0, [0xff].as_slice()), (1, [].as_slice())] {
+        assert!(rt; j < column.len());
+        assert_eq!(rt; column.bytes_at(j), Some(want), "slot {j}");
+        assert!(rt; column.text_at(j).is_none(), "slot {j}");
+    }
+    Ok(())
+}
+
+// The truth values true, false, none and true, with all spare bits set; and as many nulls of type Null.
+#[test]
+fn truth_values_and_nulls(rt: HostRuntime) -> Result<(), Fail> {
+    let buffers = [range(0, 1), range(1, 2)];
+    let column = leaf(rt.alloc(), DataType::Bool, 4, &[0xfb, 0xf9], &buffers)?.ok_or(NO_COLUMN)?;
+    let nulls = leaf(rt.alloc(), DataType::Null, 4, &[], &[])?.ok_or(NO_COLUMN)?;
+    assert_eq!(rt; nulls.len(), 4);
+    for (j, want) in [
+        (0, Some(true)),
+        (1, Some(false)),
+        (2, None),
+        (3, Some(true)),
+    ] {
+        assert!(rt; j < column.len() && j < nulls.len());
+        assert_eq!(rt; column.bool_at(j), want, "slot {j}");
+        assert!(rt; nulls.is_null(j), "slot {j}");
+        assert_eq!(rt; nulls.same_slot(j, &column, j), want.is_none(), "slot {j}");
+    }
+    Ok(())
+}
+
+#[test]
+fn columns_without_slots(rt: HostRuntime) -> Result<(), Fail> {
+    let buffers = [ByteRange::EMPTY, ByteRange::EMPTY, ByteRange::EMPTY];
+    for data_type in [
+        DataType::Null,
+        DataType::Bool,
+        int32(),
+        DataType::Binary,
+        DataType::Utf8,
+        DataType::Date(DateUnit::Day),
+    ] {
+        let column = leaf(rt.alloc(), data_type, 0, &[], &buffers)?.ok_or(NO_COLUMN)?;
+        assert_eq!(rt; column.len(), 0);
+    }
+    let short = [range(0, 0), range(0, 2), range(0, 0)];
+    assert!(rt; leaf(rt.alloc(), DataType::Utf8, 0, &[0, 0], &short)?.is_none());
+    Ok(())
+}
+
+// The lists of 1 and 2, none, and the empty list.
+#[test]
+fn lists_of_three_slots(rt: HostRuntime) -> Result<(), Fail> {
+    let body = Bytes::copy_from_slice(
+        rt.alloc(),
+        &[
+            5, 0, 0, 0, 0, 0, 0, 0, 0, 0, 0, 0, 2, 0, 0, 0, 2, 0, 0, 0, 2, 0, 0, 0, 1, 0, 0, 0, 2,
+            0, 0, 0,
+        ],
+    )?;
+    let alloc = rt.alloc();
+    let item = field(alloc, "item", int32())?;
+    let buffers = [ByteRange::EMPTY, range(24, 32)];
+    let items = column(alloc, &item, 2, &body, &buffers, Vec::new(alloc), None)?.ok_or(NO_COLUMN)?;
+    let list = field(alloc, "l", DataType::List(Box::new(alloc, item)?))?;
+    let mut children = Vec::new(alloc);
+    children.push(items)?;
+    let buffers = [range(0, 1), range(8, 24)];
+    let lists = column(alloc, &list, 3, &body, &buffers, children, None)?.ok_or(NO_COLUMN)?;
+    for (j, want) in [(0, Some((0, 2))), (1, None), (2, Some((2, 2)))] {
+        assert!(rt; j < lists.len());
+        let range = lists.list_at(j).map(|(start, end, _)| (start, end));
+        assert_eq!(rt; range, want, "slot {j}");
+        for k in 0..lists.len() {
+            assert_eq!(rt; lists.same_slot(j, &lists, k), j == k, "slots {j} and {k}");
+        }
+    }
+    let items = lists.items().ok_or("lists have items")?;
+    for (k, want) in [(0, 1), (1, 2)] {
+        assert!(rt; k < items.len());
+        assert_eq!(rt; items.int_at(k), Some(want), "item {k}");
+    }
+    assert!(rt; lists.field(0).is_none());
+    Ok(())
+}
+
+// The struct with 5 in its one field, and none.
+#[test]
+fn structs_of_two_slots(rt: HostRuntime) -> Result<(), Fail> {
+    let body = Bytes::copy_from_slice(
+        rt.alloc(),
+        &[
+            1, 0, 0, 0, 0, 0, 0, 0, 1, 0, 0, 0, 0, 0, 0, 0, 5, 0, 0, 0, 0, 0, 0, 0,
+        ],
+    )?;
+    let alloc = rt.alloc();
+    let part = field(alloc, "m", int32())?;
+    let buffers = [range(8, 9), range(16, 24)];
+    let numbers = column(alloc, &part, 2, &body, &buffers, Vec::new(alloc), None)?.ok_or(
+        NO_COLUMN,
+    )?;
+    let mut fields = Vec::new(alloc);
+    fields.push(part)?;
+    let mut children = Vec::new(alloc);
+    children.push(numbers)?;
+    let whole = field(alloc, "s", DataType::Struct(fields))?;
+    let structs = column(alloc, &whole, 2, &body, &[range(0, 1)], children, None)?.ok_or(
+        NO_COLUMN,
+    )?;
+    assert_eq!(rt; structs.len(), 2);
+    assert!(rt; 1 < structs.len());
+    assert!(rt; !structs.is_null(0) && structs.is_null(1));
+    assert!(rt; structs.same_slot(0, &structs, 0) && !structs.same_slot(0, &structs, 1));
+    let numbers = structs.field(0).ok_or("the struct has a field")?;
+    assert!(rt; 1 < numbers.len());
+    assert_eq!(rt; numbers.int_at(0), Some(5));
+    assert_eq!(rt; numbers.int_at(1), None);
+    assert!(rt; structs.field(1).is_none() && structs.items().is_none());
+    Ok(())
+}
