@@ -23,22 +23,22 @@ counted : (n a : ℕ) (f : PlainValue → Option PlainValue) (raw resolved : ℕ
 counted zero a f raw resolved h = refl
 counted (suc n) a f raw resolved h = λ i. h a (omega arith) i ∷ counted n (a + 1) f raw resolved (λ j l. h j (omega arith)) i
 
-slots_resolve : (n : ℕ) (f : PlainValue → Option PlainValue) (raw resolved : ℕ → PlainValue) → ((j : ℕ) → j < n → f (raw j) ≡ Some (resolved j))
+pub slots_resolve : (n : ℕ) (f : PlainValue → Option PlainValue) (raw resolved : ℕ → PlainValue) → ((j : ℕ) → j < n → f (raw j) ≡ Some (resolved j))
     → map f (slots n raw) ≡ map Some (slots n resolved)
 slots_resolve n f raw resolved h = counted n 0 f raw resolved (λ j l. h j (omega arith))
 
-null_resolves : (e : Option Encoding) (fields : Fields) (d : ℤ → List PlainValue) → resolve e fields d null_value ≡ Some null_value
+pub null_resolves : (e : Option Encoding) (fields : Fields) (d : ℤ → List PlainValue) → resolve e fields d null_value ≡ Some null_value
 null_resolves None fields d = refl
 null_resolves (Some e) fields d = refl
 
 -- a slot whose value resolves where it is valid
-shown_resolves : (e : Option Encoding) (fields : Fields) (d : ℤ → List PlainValue) (valid : Bool) (x y : PlainValue) → (valid ≡ true → resolve e fields d x ≡ Some y)
+pub shown_resolves : (e : Option Encoding) (fields : Fields) (d : ℤ → List PlainValue) (valid : Bool) (x y : PlainValue) → (valid ≡ true → resolve e fields d x ≡ Some y)
     → resolve e fields d (if valid then x else null_value) ≡ Some (if valid then y else null_value)
 shown_resolves e fields d true x y h = h refl
 shown_resolves e fields d false x y h = null_resolves e fields d
 
 -- the items of a list
-items_resolve : (fields : Fields) (d : ℤ → List PlainValue) (f : PlainValue → Option PlainValue) (xs ys : List PlainValue)
+pub items_resolve : (fields : Fields) (d : ℤ → List PlainValue) (f : PlainValue → Option PlainValue) (xs ys : List PlainValue)
     → ((value : PlainValue) (others : PlainValues) → resolve_items fields d (more_values value others) ≡ before (f value) (resolve_items fields d others))
     → map f xs ≡ map Some ys → resolve_items fields d (values_of xs) ≡ Some (values_of ys)
 items_resolve fields d f [] [] step p = refl
@@ -49,7 +49,7 @@ items_resolve fields d f (x ∷ xs) (y ∷ ys) step p =
 items_resolve fields d f [] (y ∷ ys) step p = cc
 items_resolve fields d f (x ∷ xs) [] step p = cc
 
-range_resolves : (f : PlainValue → Option PlainValue) (xs ys : List PlainValue) (a b : ℕ) → map f xs ≡ map Some ys → map f (slice_range xs a b) ≡ map Some (slice_range ys a b)
+pub range_resolves : (f : PlainValue → Option PlainValue) (xs ys : List PlainValue) (a b : ℕ) → map f xs ≡ map Some ys → map f (slice_range xs a b) ≡ map Some (slice_range ys a b)
 range_resolves f xs ys a b p =
     sym (ap (take (b - a)) (drop-map f a xs) ∙ take-map f (b - a) (drop a xs)) ∙ ap (λ zs. take (b - a) (drop a zs)) p ∙ ap (take (b - a)) (drop-map Some a ys) ∙ take-map Some (b - a) (drop a ys)
 
@@ -63,7 +63,7 @@ list_resolves (more head children rest) child d a b typed known agree =
     items_resolve (more head children rest) d (resolve head.encoding children d) (slice_range child.raw a b) (slice_range child.resolved a b) (λ value others. refl) (range_resolves (resolve head.encoding children d) child.raw child.resolved a b all)
 
 -- the values of a struct
-at_resolves : (f : PlainValue → Option PlainValue) (xs ys : List PlainValue) (j : ℕ) → f null_value ≡ Some null_value → map f xs ≡ map Some ys → f (value_at xs j) ≡ Some (value_at ys j)
+pub at_resolves : (f : PlainValue → Option PlainValue) (xs ys : List PlainValue) (j : ℕ) → f null_value ≡ Some null_value → map f xs ≡ map Some ys → f (value_at xs j) ≡ Some (value_at ys j)
 at_resolves f [] [] j z p = z
 at_resolves f (x ∷ xs) (y ∷ ys) zero z p = cc
 at_resolves f (x ∷ xs) (y ∷ ys) (suc j) z p = let rest : map f xs ≡ map Some ys = cc in at_resolves f xs ys j z rest
@@ -97,7 +97,7 @@ entry_found [] n h = absurd (omega arith)
 entry_found (v ∷ values) zero h = refl
 entry_found (v ∷ values) (suc n) h = entry_found values n (omega arith)
 
-index_resolves : (values : List PlainValue) (z : ℤ) → IsIndex (length values) z → entry_of values z ≡ Some (entry_at values z)
+pub index_resolves : (values : List PlainValue) (z : ℤ) → IsIndex (length values) z → entry_of values z ≡ Some (entry_at values z)
 index_resolves values (pos n) h = entry_found values n h
 index_resolves values (negsuc n) h = absurd h
 
@@ -113,7 +113,7 @@ values_known t n raw resolved listed few h = record {
 }
 
 -- a slot of a value that holds no other
-plain_resolves : (e : Option Encoding) (fields : Fields) (d : ℤ → List PlainValue) (valid : Bool) (x : PlainValue) → resolve e fields d x ≡ Some x
+pub plain_resolves : (e : Option Encoding) (fields : Fields) (d : ℤ → List PlainValue) (valid : Bool) (x : PlainValue) → resolve e fields d x ≡ Some x
     → resolve e fields d (if valid then x else null_value) ≡ Some (if valid then x else null_value)
 plain_resolves e fields d valid x h = shown_resolves e fields d valid x x (λ _. h)
 

@@ -3,5 +3,8 @@
 mod batches;
 mod columns;
 mod dictionaries;
+mod forms;
+mod hidden;
+mod lists;
 mod making;
 mod values;

@@ -2,8 +2,8 @@
 use Rattle.std.specs.Prelude.{◌≡◌, ℕ, ℤ, Bool, List, map, None, ◌==◌, if◌then◌else◌}
 use Rattle.std.specs.Int.{cast_signed, w16, w64}
 use Rattle.arrow_types.specs.Field.{Fields}
-use Rattle.arrow_meta.specs.declared.message.FieldNode.{FieldNode}
-use Rattle.arrow_meta.specs.declared.message.Buffer.{Buffer}
+use Rattle.arrow_types.specs.declared.node.FieldNode.{FieldNode}
+use Rattle.arrow_types.specs.declared.node.Buffer.{Buffer}
 use Rattle.arrow_meta.specs.declared.message.RecordBatch.{RecordBatch}
 use Rattle.arrow_meta.specs.declared.message.Header.{Header}
 use Rattle.arrow_meta.specs.declared.message.Header.TheVariants as headers

@@ -10,10 +10,10 @@ ghost use Rattle.arrow_meta.specs.Views.{plain_all};
 
 use crate::fault::MetaFault;
 use crate::fields::{Refusal, fields};
-use crate::message::{Buffer, FieldNode, Header, Message, RecordBatch};
+use crate::message::{Header, Message, RecordBatch};
 use crate::message_tree::Tree;
 use crate::parts::{flag_at, into_pairs, into_parts, number_at, take};
-use arrow_types::{Schema, SchemaFault};
+use arrow_types::{Buffer, FieldNode, Schema, SchemaFault};
 use std::alloc::{AllocError, Global};
 
 /// The version that is read: V5 (`Schema.fbs`, enum `MetadataVersion`).

@@ -48,6 +48,6 @@ mod vectors;
 
 pub use fault::{BatchKind, MetaFault};
 pub use judging::{decode, judge};
-pub use message::{Buffer, FieldNode, Header, Message, RecordBatch};
+pub use message::{Header, Message, RecordBatch};
 pub use message_tree::MessageTree;
 pub use reader::tree;

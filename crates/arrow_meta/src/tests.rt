@@ -3,9 +3,10 @@
 //! A row changes bytes of a metadata at places counted from its first byte.
 
 use crate::vectors::{FOUR_FIELDS, LETTERS, NESTED, ONE_BATCH, ONE_FIELD, SHARED_ID};
-use crate::{BatchKind, Buffer, FieldNode, Header, Message, MetaFault, decode, judge, laws, tree};
+use crate::{BatchKind, Header, Message, MetaFault, decode, judge, laws, tree};
 use arrow_types::{
-    BitWidth, DataType, DateUnit, Encoding, Field, IndexType, Limits, Schema, TimeUnit,
+    BitWidth, Buffer, DataType, DateUnit, Encoding, Field, FieldNode, IndexType, Limits, Schema,
+    TimeUnit,
 };
 use std::alloc::{AllocError, Global};
 use std::test::Fail;

@@ -4,7 +4,7 @@ ghost use Rattle.std.specs.Prelude.{◌≡◌, ◌↔◌, IsTrue, IfOk};
 ghost use Rattle.arrow_types.specs.DataType.{bits_of, time_width_of, date_width_of};
 ghost use Rattle.arrow_types.specs.Equality.{is_equal, is_equal_equivalence};
 ghost use Rattle.arrow_types.specs.Stored.{type_code};
-ghost use Rattle.arrow_types.specs.View.{type_view};
+ghost use Rattle.arrow_types.specs.View.{fields_view, type_view};
 ghost use Rattle.std.specs.Cmp.{on_per, on_equiv, partial_equiv_from_equiv};
 ghost use Rattle.std.specs.Ordering.{on};
 
@@ -106,6 +106,24 @@ pub enum DataType {
 }
 
 impl DataType {
+    /// The child fields: those of a struct, the one of a list, none of any other type. Takes no memory.
+    pub fn children(&self) -> &[Field]
+        ensures { fields_view result.now ≡ (type_view self.now).children }
+    {
+        match self {
+            DataType::List(item) => std::slice::from_ref(item),
+            DataType::Struct(fields) => fields,
+            DataType::Null
+            | DataType::Bool
+            | DataType::Binary
+            | DataType::Utf8
+            | DataType::Int { .. }
+            | DataType::Date(_)
+            | DataType::Time(_)
+            | DataType::Timestamp(..) => &[],
+        }
+    }
+
     /// An equal type in memory of its own, or `AllocError` where a growth was refused.
     #[cycle(copy)]
     pub fn copy(&self, alloc: Global) -> Result<DataType, AllocError>

@@ -16,6 +16,7 @@ mod dismantle;
 mod field;
 mod limits;
 mod nesting;
+mod node;
 mod schema;
 mod size;
 #[cfg(test)]
@@ -24,4 +25,5 @@ mod tests;
 pub use data_type::{BitWidth, DataType, DateUnit, TimeUnit};
 pub use field::{Encoding, Field, IndexType};
 pub use limits::Limits;
+pub use node::{Buffer, FieldNode};
 pub use schema::{Schema, SchemaFault};

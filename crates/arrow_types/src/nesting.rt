@@ -35,6 +35,15 @@ fn has_nested(field: &Field) -> bool
     }
 }
 
+impl DataType {
+    /// Whether a child, on any level, is dictionary-encoded. Takes no memory.
+    pub fn has_encoding_below(&self) -> bool
+        ensures { result ≡ has_encoding ((type_view self.now).children) }
+    {
+        has_encoding_below(self)
+    }
+}
+
 /// Whether a child of the type, on any level, is dictionary-encoded.
 #[cycle(encodings)]
 fn has_encoding_below(data_type: &DataType) -> bool

@@ -188,6 +188,24 @@ fn ids_stand_in_pre_order_once(rt: HostRuntime) -> Result<(), Fail> {
 }
 
 #[test]
+fn children_of_lists_and_structs(rt: HostRuntime) -> Result<(), Fail> {
+    let alloc = rt.alloc();
+    let lists = list(alloc, field(alloc, "item", DataType::Bool)?)?;
+    assert_eq!(rt; lists.children().len(), 1);
+    let item = lists.children().first().ok_or("a list has a child")?;
+    assert!(rt; item.name.as_str() == "item" && !lists.has_encoding_below());
+    let mut parts = columns(alloc, 2)?;
+    parts.push(encoded(alloc, 0, DataType::Utf8)?)?;
+    let structs = group(alloc, parts)?.data_type;
+    assert_eq!(rt; structs.children().len(), 3);
+    assert!(rt; structs.has_encoding_below());
+    assert!(rt; DataType::Utf8.children().is_empty() && !DataType::Utf8.has_encoding_below());
+    let deep = list(alloc, field(alloc, "item", structs)?)?;
+    assert!(rt; deep.has_encoding_below());
+    Ok(())
+}
+
+#[test]
 fn copies_are_equal(rt: HostRuntime) -> Result<(), Fail> {
     let alloc = rt.alloc();
     let mut ordered = encoded(alloc, 0, DataType::Utf8)?;

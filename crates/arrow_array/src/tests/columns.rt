@@ -1,33 +1,12 @@
 // Columns of every type, without dictionaries.
 
-use super::making::{column, field, int32, range};
-use crate::{Array, ByteRange};
+use super::forms::leaf;
+use super::making::{NO_COLUMN, column, field, int32, range};
+use crate::ByteRange;
 use arrow_types::{BitWidth, DataType, DateUnit, TimeUnit};
 use bytes::Bytes;
 use std::alloc::{AllocError, Global};
 use std::test::Fail;
-
-const NO_COLUMN: &str = "the parts are as they should be";
-
-// A column of a type without children, if its parts are as they should be.
-fn leaf(
-    alloc: Global,
-    data_type: DataType,
-    len: usize,
-    body: &[u8],
-    buffers: &[ByteRange],
-) -> Result<Option<Array>, AllocError> {
-    let body = Bytes::copy_from_slice(alloc, body)?;
-    column(
-        alloc,
-        &field(alloc, "x", data_type)?,
-        len,
-        &body,
-        buffers,
-        Vec::new(alloc),
-        None,
-    )
-}
 
 // The numbers 1, none and 3.
 #[test]

@@ -1,13 +1,12 @@
 // Dictionaries of one and of several segments, and the columns that refer to them.
 
-use super::making::{column, dictionary, field, grown, indices, int32, range};
+use super::forms::{leaf, referring};
+use super::making::{NO_COLUMN, column, dictionary, field, grown, indices, int32, range};
 use crate::{Array, ByteRange, Dictionary};
-use arrow_types::{DataType, Field};
+use arrow_types::DataType;
 use bytes::Bytes;
 use std::alloc::{AllocError, Global};
 use std::test::Fail;
-
-const NO_COLUMN: &str = "the parts are as they should be";
 
 // The texts of one letter each.
 fn letters(alloc: Global, letters: &str) -> Result<Option<Array>, AllocError> {
@@ -123,6 +122,33 @@ fn empty_dictionaries(rt: HostRuntime) -> Result<(), Fail> {
     Ok(())
 }
 
+// Two columns of the most slots that a column can have. The nulls of type Null lie in no body.
+#[test]
+fn nulls_without_bytes(rt: HostRuntime) -> Result<(), Fail> {
+    let alloc = rt.alloc();
+    let mut parts = Vec::new(alloc);
+    for _ in 0..2 {
+        let nulls = leaf(alloc, DataType::Null, 2147483647, &[], &[])?.ok_or(NO_COLUMN)?;
+        assert_eq!(rt; nulls.len(), 2147483647);
+        parts.push(nulls)?;
+    }
+    let dictionary = dictionary(alloc, parts)?.ok_or(NO_COLUMN)?;
+    assert_eq!(rt; dictionary.len(), 4294967294);
+    for (i, want) in [
+        (0, 0),
+        (2147483646, 2147483646),
+        (2147483647, 0),
+        (4294967293, 2147483646),
+    ] {
+        assert!(rt; i < dictionary.len());
+        let (values, place) = dictionary.value(i);
+        assert_eq!(rt; place, want, "value {i}");
+        assert!(rt; place < values.len());
+        assert!(rt; values.is_null(place), "value {i}");
+    }
+    Ok(())
+}
+
 // What is appended to one of two copies is not in the other.
 #[test]
 fn a_copy_stays_as_it_was(rt: HostRuntime) -> Result<(), Fail> {
@@ -137,29 +163,6 @@ fn a_copy_stays_as_it_was(rt: HostRuntime) -> Result<(), Fail> {
     assert_eq!(rt; letter(&grown, 4), Some("e"));
     assert!(rt; copy != grown);
     Ok(())
-}
-
-// A column of texts by indices of 8 bits.
-fn referring(
-    alloc: Global,
-    validity: &[u8],
-    numbers: &[u8],
-    dictionary: Option<Dictionary>,
-) -> Result<Option<Array>, AllocError> {
-    let mut body = Vec::from_slice(alloc, validity)?;
-    body.extend_from_slice(numbers)?;
-    let (marks, end) = (validity.len(), body.len());
-    let texts: Field = indices(alloc, "k", DataType::Utf8)?;
-    let buffers = [range(0, marks.min(end)), range(marks.min(end), end)];
-    column(
-        alloc,
-        &texts,
-        numbers.len(),
-        &Bytes::from_vec(body)?,
-        &buffers,
-        Vec::new(alloc),
-        dictionary,
-    )
 }
 
 // The text that slot `i` stands for.
@@ -179,7 +182,9 @@ fn text_behind(column: &Array, i: usize) -> Option<&str> {
 fn indices_into_segments(rt: HostRuntime) -> Result<(), Fail> {
     let alloc = rt.alloc();
     let letters = spelled(alloc, &["abc", "de"])?;
-    let column = referring(alloc, &[0xfb], &[4, 0, 9, 2], letters)?.ok_or(NO_COLUMN)?;
+    let column = referring(alloc, DataType::Utf8, &[0xfb], &[4, 0, 9, 2], letters)?.ok_or(
+        NO_COLUMN,
+    )?;
     for (i, number, want) in [
         (0, Some(4), Some("e")),
         (1, Some(0), Some("a")),
@@ -206,21 +211,21 @@ fn indices_without_values(rt: HostRuntime) -> Result<(), Fail> {
     for number in [3, 0xff] {
         let letters = spelled(alloc, &["abc"])?;
         assert!(rt;
-            referring(alloc, &[], &[number], letters)?.is_none(),
+            referring(alloc, DataType::Utf8, &[], &[number], letters)?.is_none(),
             "index {number}"
         );
         let letters = spelled(alloc, &["abc"])?;
         assert!(rt;
-            referring(alloc, &[0xfe], &[number], letters)?.is_some(),
+            referring(alloc, DataType::Utf8, &[0xfe], &[number], letters)?.is_some(),
             "null {number}"
         );
     }
-    let nulls = referring(alloc, &[0], &[7, 8], None)?.ok_or(NO_COLUMN)?;
+    let nulls = referring(alloc, DataType::Utf8, &[0], &[7, 8], None)?.ok_or(NO_COLUMN)?;
     assert!(rt; 1 < nulls.len());
     assert!(rt; nulls.is_null(0) && nulls.is_null(1) && nulls.resolved(0).is_none());
     let dictionary = nulls.dictionary().ok_or("there is a dictionary")?;
     assert!(rt; dictionary.is_empty());
-    assert!(rt; referring(alloc, &[], &[0], None)?.is_none());
+    assert!(rt; referring(alloc, DataType::Utf8, &[], &[0], None)?.is_none());
     Ok(())
 }
 

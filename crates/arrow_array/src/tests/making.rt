@@ -3,6 +3,7 @@
 ghost use Rattle.std.specs.Prelude.{◌≡◌, ◌≤◌, ◌+◌, ◌^◌, IsTrue, IfOk, None, false, length, map};
 ghost use Rattle.std.specs.List.{AllByRecursion};
 ghost use Rattle.arrow_types.specs.Field.{none};
+ghost use Rattle.arrow_types.specs.Schema.{has_encoding};
 ghost use Rattle.arrow_types.specs.View.{type_view};
 ghost use Rattle.arrow_array.specs.Column.{counts_of};
 ghost use Rattle.arrow_array.specs.Layout.{buffer_count, IsLaid, IsText, IsIndexed};
@@ -17,6 +18,8 @@ use crate::{Array, ByteRange, Dictionary};
 use arrow_types::{BitWidth, DataType, Encoding, Field, IndexType};
 use bytes::Bytes;
 use std::alloc::{AllocError, Global};
+
+pub(super) const NO_COLUMN: &str = "the parts are as they should be";
 
 pub(super) fn range(start: usize, end: usize) -> ByteRange {
     ByteRange { start, end }
@@ -108,12 +111,21 @@ fn are_children(field: &Field, children: &[Array]) -> bool
         → AreChildren (type_view field.now.data_type) field.now.dictionary children.now }
 {
     match (field.dictionary.is_some(), &field.data_type) {
-        (true, DataType::List(item)) => item.dictionary.is_none() && is_childless(&item.data_type),
-        (true, data_type) => is_childless(data_type),
+        (true, data_type) => is_flat(data_type),
         (false, DataType::List(item)) => children.len() == 1 && is_of(item, &children[0]),
         (false, DataType::Struct(fields)) => children.len() == fields.len()
             && are_of(fields, children),
         (false, data_type) => is_childless(data_type) && children.is_empty(),
+    }
+}
+
+// Whether the type has no children, or is of lists of such a type without an encoding.
+fn is_flat(data_type: &DataType) -> bool
+    ensures { IsTrue result → has_encoding (type_view data_type.now).children ≡ false }
+{
+    match data_type {
+        DataType::List(item) => item.dictionary.is_none() && is_childless(&item.data_type),
+        _ => is_childless(data_type),
     }
 }
 
@@ -247,12 +259,13 @@ fn may_grow(dictionary: &Dictionary, values: &Array) -> bool
 {
     is_plain(values)
         && *values.data_type() == *dictionary.data_type()
-        && dictionary.len() + values.len() <= 1000
+        && dictionary.len() + values.len() <= 4611686018427387904
 }
 
-// Whether a column has no encoding, and no children.
+// Whether a column has no encoding, and a flat type.
 fn is_plain(column: &Array) -> bool
-    ensures { IsTrue result → (column.now.encoding ≡ None) × (column.now.data_type.children ≡ none) }
+    ensures { IsTrue result
+        → (column.now.encoding ≡ None) × (has_encoding column.now.data_type.children ≡ false) }
 {
-    column.encoding().is_none() && is_childless(column.data_type())
+    column.encoding().is_none() && is_flat(column.data_type())
 }

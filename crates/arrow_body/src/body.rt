@@ -1,0 +1,97 @@
+//! From nodes, buffers and a body to columns.
+
+ghost use Rattle.std.specs.Prelude.{◌≡◌, MatchResult};
+ghost use Rattle.arrow_types.specs.View.{fields_view};
+ghost use Rattle.arrow_body.specs.Sound.{AreFit, Explains, IsSound, columns_of, number_of};
+
+use crate::build::build;
+use crate::indexed::are_indexed;
+use crate::laid::are_laid;
+use crate::taken::{Left, after};
+use crate::text::are_text;
+use arrow_array::{Array, Dictionary};
+use arrow_types::{Buffer, Field, FieldNode};
+use bytes::Bytes;
+use std::alloc::Global;
+use std::error::Error;
+use std::fmt;
+
+/// Why nodes, buffers and a body are no columns of the fields, in the order of the faults' numbers.
+#[derive(Clone, Copy, Debug, PartialEq, Eq)]
+pub enum BodyFault {
+    /// Nodes or buffers are missing, lie outside of the body, are too short for their slots, or contradict one another.
+    Layout,
+    /// A valid slot of a column of texts is not UTF-8.
+    Text,
+    /// A valid slot of a dictionary-encoded column has an index without a value.
+    Index,
+    /// A growth was refused. None of the other faults applies.
+    Memory,
+}
+
+impl BodyFault {
+    /// The fault's number, from 1.
+    pub fn number(self) -> u8
+        ensures { result ≡ number_of self }
+    {
+        match self {
+            BodyFault::Layout => 1,
+            BodyFault::Text => 2,
+            BodyFault::Index => 3,
+            BodyFault::Memory => 4,
+        }
+    }
+}
+
+impl fmt::Display for BodyFault {
+    fn fmt<W: fmt::Write>(&self, f: &mut fmt::Formatter<W>) -> fmt::Result {
+        f.write_str(match self {
+            BodyFault::Layout => "nodes and buffers that do not fit the body",
+            BodyFault::Text => "a text that is not UTF-8",
+            BodyFault::Index => "an index without a value",
+            BodyFault::Memory => "out of memory",
+        })
+    }
+}
+
+impl Error for BodyFault {}
+
+/// The columns of the fields, or the fault with the least number of those that apply to any of them.
+///
+/// Nodes and buffers stand in pre-order, depth first; those behind the last that is taken are not looked at. The three
+/// passes over all columns take no memory, and only the texts, offsets and indices are looked at slot by slot, so that a
+/// length alone costs nothing. The columns share the body: nothing of it is copied, and how often memory is asked for
+/// doesn't depend on how many slots there are.
+///
+/// A dictionary-encoded column refers to the first dictionary that is listed for its id, or to the empty one where none
+/// is; that a listed dictionary has the type of the field's values is known by the caller.
+pub fn load(
+    alloc: Global,
+    fields: &[Field],
+    nodes: &[FieldNode],
+    buffers: &[Buffer],
+    body: &Bytes,
+    dictionaries: &[(i64, Dictionary)],
+) -> Result<Vec<Array>, BodyFault>
+    requires { AreFit dictionaries.now (fields_view fields.now) }
+    ensures { MatchResult result
+        (λ arrays. IsSound body.now dictionaries.now (fields_view fields.now) nodes.now buffers.now
+        × (arrays.items ≡ columns_of body.now dictionaries.now (fields_view fields.now) nodes.now buffers.now))
+        (λ fault. Explains fault body.now dictionaries.now (fields_view fields.now) nodes.now buffers.now) }
+{
+    let left = Left { nodes, buffers };
+    let bytes = body.as_slice();
+    if after(fields, left).is_none() || !are_laid(fields, left, bytes) {
+        return Err(BodyFault::Layout);
+    }
+    if !are_text(fields, left, bytes) {
+        return Err(BodyFault::Text);
+    }
+    if !are_indexed(fields, left, bytes, dictionaries) {
+        return Err(BodyFault::Index);
+    }
+    match build(alloc, fields, left, body, dictionaries) {
+        Ok(arrays) => Ok(arrays),
+        Err(_) => Err(BodyFault::Memory),
+    }
+}
