@@ -125,8 +125,8 @@ values_by ds id = values_in (listed ds id)
 abbrev pub ResolvesBy : List (ℤ × ValueList) → Column → Type 0
 ResolvesBy ds c = map (resolve c.encoding c.data_type.children (values_by ds)) c.raw ≡ map Some c.resolved
 
--- The law `one_reading`: where all is sound, the columns are what the definition says, one for each field, and each raw
--- value of them stands for something.
+-- The law `one_reading`: where all is sound, each raw value of the columns stands for something. That there is one list of
+-- columns is plain, since `columns_of` is a function.
 abbrev pub OneReading : Type 0
 OneReading =
     (body : List ℕ) (ds : List (ℤ × ValueList)) (fields : Fields) (nodes : List FieldNode) (buffers : List Buffer) → IsSound body ds fields nodes buffers
