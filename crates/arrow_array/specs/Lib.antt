@@ -2,6 +2,7 @@ pub mod PlainValue
 pub mod Stored
 pub mod Resolve
 pub mod Column
+pub mod Listed
 pub mod Slots
 pub mod Layout
 pub mod Parts
