@@ -11,7 +11,8 @@ use Rattle.arrow_types.specs.Field.{TypeShape}
 use Rattle.arrow_types.specs.Schema.{DictionaryField}
 use Rattle.arrow_types.specs.View.{field_view}
 use Rattle.arrow_types.specs.declared.field.Field.{Field}
-use Rattle.arrow_dict.specs.ValueFields.{IsValueField, named, type_of}
+use Rattle.arrow_array.specs.Parts.{type_of}
+use Rattle.arrow_dict.specs.ValueFields.{IsValueField, named}
 use Rattle.arrow_dict.specs.ValueTypes.{NameSame, value_field, value_type_of}
 use Rattle.arrow_dict.proofs.Naming.{same_new, same_old}
 

@@ -1,11 +1,12 @@
 -- Which type fields name for an id, as more fields come.
-use Rattle.std.proofs.Common.{◌≡◌, ℤ, Bool, true, false, cond, List, [], ◌∷◌, ◌++◌, Option, Some, None, ⊎_elim, refl, sym, ap, ◌∙◌}
+use Rattle.std.proofs.Common.{◌≡◌, zero, suc, ℤ, Bool, true, false, cond, List, [], ◌∷◌, ◌++◌, Option, Some, None, ⊎_elim, refl, sym, ap, ◌∙◌}
 use Rattle.std.specs.Ordering.{int_eq}
 use Rattle.std.proofs.lemmas.Bool.{cases_Bool, cond-true, cond-false}
 use Rattle.std.proofs.lemmas.Bool.Decides.{Decides-int_eq}
 use Rattle.std.proofs.lemmas.List.{append_assoc}
 use Rattle.arrow_types.specs.Field.{TypeShape}
-use Rattle.arrow_types.specs.Schema.{DictionaryField}
+use Rattle.arrow_types.specs.Schema.{DictionaryField, OneType}
+use Rattle.arrow_dict.specs.Laws.{NamesEach}
 use Rattle.arrow_dict.specs.ValueTypes.{NameSame, value_type_of}
 
 -- the first type that is there
@@ -77,3 +78,22 @@ same_step start found own below rest all after_own after by_own by_below invaria
     ∙ ap (λ ds. value_type_of ds id)
     (append_assoc (found ++ own) below rest ∙ append_assoc found own (below ++ rest) ∙ ap (λ ds. found ++ ds) (sym (append_assoc own below rest)))
     ∙ invariant id
+
+one_type_behind : (d : DictionaryField) (ds : List DictionaryField) → OneType (d ∷ ds) → OneType ds
+one_type_behind d ds one i j e f at_i at_j same = one (suc i) (suc j) e f at_i at_j same
+
+-- each field's type is named for its id, where those of one id have one type
+pub each_named : NamesEach
+each_named [] i d one at = cc
+each_named (e ∷ es) zero d one at =
+    let same : e ≡ d = cc in
+    ap (value_type_of (e ∷ es)) (ap (λ (x : DictionaryField). x.id) (sym same))
+    ∙ cond-true (int_eq e.id e.id) (Some e.value_type) (value_type_of es e.id) ((Decides-int_eq e.id e.id).1 refl)
+    ∙ ap (λ (x : DictionaryField). Some x.value_type) same
+each_named (e ∷ es) (suc i) d one at =
+    ⊎_elim
+    (λ same. cond-true (int_eq e.id d.id) (Some e.value_type) (value_type_of es d.id) same
+    ∙ ap (λ t. Some t) (one 0 (suc i) e d refl at ((Decides-int_eq e.id d.id).0 same)))
+    (λ differs. cond-false (int_eq e.id d.id) (Some e.value_type) (value_type_of es d.id) differs
+    ∙ each_named es i d (one_type_behind e es one) at)
+    (cases_Bool (int_eq e.id d.id))

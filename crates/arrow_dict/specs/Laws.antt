@@ -1,8 +1,10 @@
--- Laws of a finite map.
-use Rattle.std.specs.Prelude.{◌≡◌, ◌≢◌, ℤ, List, Some}
+-- What follows from the definitions.
+use Rattle.std.specs.Prelude.{◌≡◌, ◌≢◌, ℕ, ℤ, List, Some, slice_get}
+use Rattle.arrow_types.specs.Schema.{DictionaryField, OneType}
 use Rattle.arrow_array.specs.Column.{ValueList}
 use Rattle.arrow_array.specs.Listed.{listed}
 use Rattle.arrow_dict.specs.Dictionaries.{IsRising, placed}
+use Rattle.arrow_dict.specs.ValueTypes.{value_type_of}
 
 -- what is placed for an id is what is listed for it
 abbrev pub PlacedHere : Type 0
@@ -15,3 +17,7 @@ PlacedElsewhere = (ds : List (ℤ × ValueList)) (id other : ℤ) (d : ValueList
 -- ids that rise go on rising
 abbrev pub StaysRising : Type 0
 StaysRising = (ds : List (ℤ × ValueList)) (id : ℤ) (d : ValueList) → IsRising ds → IsRising (placed id d ds)
+
+-- where fields that share a dictionary have equal value types, each one's type is what is named for its id
+abbrev pub NamesEach : Type 0
+NamesEach = (ds : List DictionaryField) (i : ℕ) (d : DictionaryField) → OneType ds → slice_get ds i ≡ Some d → value_type_of ds d.id ≡ Some d.value_type

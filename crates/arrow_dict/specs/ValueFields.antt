@@ -1,16 +1,12 @@
 -- What the kept fields say of the types of the values.
 use Rattle.std.specs.Prelude.{◌≡◌, ℤ, List, map}
 use Rattle.std.specs.List.{AllByRecursion}
-use Rattle.arrow_types.specs.Field.{FieldShape, TypeShape}
+use Rattle.arrow_array.specs.Parts.{type_of}
 use Rattle.arrow_types.specs.Schema.{DictionaryField}
 use Rattle.arrow_types.specs.View.{field_view}
 use Rattle.arrow_types.specs.declared.field.Field.{Field}
 use Rattle.arrow_dict.specs.ValueTypes.{value_field}
 use Rattle.arrow_dict.specs.declared.value_fields.ValueFields.TheInside.{Inside}
-
--- the type of a field's values
-abbrev pub type_of : FieldShape → TypeShape
-type_of f = record { tag = f.head.tag; children = f.children }
 
 -- what a kept field says of its id
 abbrev pub named : ℤ × Field → DictionaryField

@@ -14,6 +14,8 @@
 
 pub mod laws;
 mod store;
+#[cfg(test)]
+mod tests;
 mod value_fields;
 
 pub use store::{Store, StoreFault};
