@@ -5,6 +5,7 @@ use Rattle.std.specs.List.{AllByRecursion}
 use Rattle.std.specs.Ordering.{int_cmp, match_ordering}
 use Rattle.arrow_array.specs.Column.{ValueList, value_list_code}
 
+-- how the logic stores dictionaries and their ids
 abbrev pub entries_code : Coded (List (ℤ × ValueList))
 entries_code = coded_list (coded× coded_ℤ value_list_code)
 

@@ -12,6 +12,7 @@ use Rattle.arrow_dict.specs.declared.value_fields.ValueFields.TheInside.{Inside}
 abbrev pub named : ℤ × Field → DictionaryField
 named e = record { id = e.0; value_type = type_of (field_view e.1) }
 
+-- what all of them say, by rising id
 abbrev pub named_types : Inside → List DictionaryField
 named_types v = map named v.fields.entries
 
@@ -19,5 +20,6 @@ named_types v = map named v.fields.entries
 abbrev pub IsValueField : ℤ × Field → Type 0
 IsValueField e = field_view e.1 ≡ value_field (type_of (field_view e.1))
 
+-- all of them are
 abbrev pub AreValueFields : Inside → Type 0
 AreValueFields v = AllByRecursion IsValueField v.fields.entries

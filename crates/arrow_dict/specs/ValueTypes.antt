@@ -6,6 +6,7 @@ use Rattle.arrow_types.specs.Field.{FieldShape, TypeShape}
 use Rattle.arrow_types.specs.Schema.{DictionaryField}
 use Rattle.arrow_types.specs.Stored.{type_code}
 
+-- how the logic stores such fields
 abbrev pub value_types_code : Coded (List DictionaryField)
 value_types_code = coded_list (code_by (ℤ × TypeShape) (coded× coded_ℤ type_code)
     (λ d. (d.id, d.value_type)) (λ p. record { id = p.0; value_type = p.1 }) (λ _. refl))
