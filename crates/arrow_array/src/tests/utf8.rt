@@ -69,6 +69,8 @@ fn letters_cut_by_nulls_and_by_nothing(rt: HostRuntime) -> Result<(), Fail> {
     assert_eq!(rt; right, Some(false));
     let nothing = are_utf8(rt.alloc(), &[0b1001], &[0, 2, 3, 3, 9], &LETTERS)?;
     assert_eq!(rt; nothing, Some(false));
+    let nothing = are_utf8(rt.alloc(), &[0b010], &[0, 3, 3, 9], &LETTERS)?;
+    assert_eq!(rt; nothing, Some(true));
     let nothing = are_utf8(rt.alloc(), &[0b101], &[3, 3, 5, 9], &LETTERS)?;
     assert_eq!(rt; nothing, Some(true));
     Ok(())
