@@ -1,6 +1,6 @@
 // Batches of columns without dictionaries.
 
-use super::telling::{Edits, NOTHING, Told, are_beginnings_told, are_told, read_to, stream};
+use super::telling::{Edits, NOTHING, Told, are_beginnings_told, are_told, cut_off, read_to, stream};
 use crate::frames::columns::{
     BITS, FOUR_BITS, LIST_ROWS, LISTS, MANY, MANY_ROWS, NO_COLUMNS, NO_TEXTS, STRUCT_ROWS, STRUCTS,
     TEXTS, THREE_ROWS, THREE_TEXTS,
@@ -29,6 +29,20 @@ fn each_beginning_of_one_batch(rt: HostRuntime) -> Result<(), Fail> {
         one_batch(336, "n: int32", "3: 1 null 3"),
     ];
     are_beginnings_told(&rt, rt.alloc(), &bytes, &places)?;
+    Ok(())
+}
+
+#[test]
+fn a_batch_without_an_end_marker(rt: HostRuntime) -> Result<(), Fail> {
+    let read = Told {
+        rows: "3: 1 null 3",
+        ..read_to(328, "schema batch", "n: int32")
+    };
+    let parts: [&[u8]; 2] = [&SCHEMA, &BATCH];
+    are_told(&rt, rt.alloc(), "nothing behind it", &parts, &[], read)?;
+    let parts: [&[u8]; 3] = [&SCHEMA, &BATCH, &END_MARKER[..7]];
+    let want = cut_off(7, read);
+    are_told(&rt, rt.alloc(), "a part of one", &parts, &[], want)?;
     Ok(())
 }
 

@@ -73,9 +73,10 @@ fn a_body_is_skipped(rt: HostRuntime) -> Result<(), Fail> {
 
 #[test]
 fn a_stream_without_a_schema_is_refused(rt: HostRuntime) -> Result<(), Fail> {
-    let rows: [(&str, &[u8], Kind); 3] = [
+    let rows: [(&str, &[u8], Kind); 4] = [
         ("eight bytes FF", &[0xff; 8], Kind::MetadataSize),
         ("no continuation", &SCHEMA[4..], Kind::Continuation),
+        ("zeros in its place", &[0, 0, 0, 0, 0x90, 0, 0, 0], Kind::Continuation),
         ("an end marker", &END_MARKER, Kind::NoSchema),
     ];
     for (what, message, kind) in rows {
