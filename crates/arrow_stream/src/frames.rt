@@ -1,4 +1,10 @@
 //! Frames laid out by hand, each byte from the standard's tables (`Message.fbs`, `Schema.fbs`).
+//!
+//! Those of the modules below are written by `examples/make`, which lays out the same bytes for these.
+
+pub(crate) mod columns;
+pub(crate) mod encoded;
+pub(crate) mod letters;
 
 /// The frame of a schema of one nullable field `n` of signed 32-bit integers: 8 bytes, then 144 of metadata.
 pub(crate) const SCHEMA: [u8; 152] = [

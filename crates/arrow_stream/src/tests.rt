@@ -1,0 +1,27 @@
+//! What no clause says: that the definitions say what the format means, and that calls succeed.
+//!
+//! Each stream comes in one piece, in pieces of one byte, and cut in two at every place. A row changes bytes of a stream at
+//! places counted from its first byte.
+
+mod answers;
+mod calls;
+mod columns;
+mod encoded;
+mod growing;
+mod indices;
+mod layouts;
+mod refusals;
+mod schemas;
+mod telling;
+mod updates;
+mod values;
+
+use crate::laws;
+
+#[test]
+fn the_laws_can_be_called() {
+    laws::one_front();
+    laws::front_grows();
+    laws::same_standing();
+    laws::less_waits();
+}

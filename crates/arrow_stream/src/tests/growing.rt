@@ -1,0 +1,152 @@
+// A dictionary that grows between two batches and is replaced before a third.
+
+use super::answers::word_of;
+use super::telling::{NOTHING, Told, are_beginnings_told, first_fault, is_told, read_to, refused, stream};
+use crate::frames::END_MARKER;
+use crate::frames::letters::{ABC, ACDE, DE, FIRST, SCHEMA, SECOND, THIRD};
+use crate::{Fault, Kind, StreamReader};
+use arrow_types::Limits;
+use std::alloc::{AllocError, Global};
+use std::test::Fail;
+
+const A_TO_C: &str = "0: 'a' 'b' 'c'";
+
+const A_TO_E: &str = "0: 'a' 'b' 'c' 'd' 'e'";
+
+const WITHOUT_B: &str = "0: 'a' 'c' 'd' 'e'";
+
+const ONE: &str = "3: 'a' 'b' 'c'";
+
+const TWO: &str = "3: 'a' 'b' 'c'; 2: 'e' 'a'";
+
+const THREE: &str = "3: 'a' 'b' 'c'; 2: 'e' 'a'; 2: 'c' 'e'";
+
+// What the stream is answered with that ends at this place between two frames.
+fn before(
+    place: u64,
+    items: &'static str,
+    rows: &'static str,
+    dictionaries: &'static str,
+) -> Told<'static> {
+    Told {
+        rows,
+        dictionaries,
+        ..read_to(place, items, "k: utf8")
+    }
+}
+
+// The places of the frames, and the end.
+fn places() -> [Told<'static>; 9] {
+    let delta = "schema dictionary:0 batch dictionary:0";
+    let second = "schema dictionary:0 batch dictionary:0 batch";
+    let replaced = "schema dictionary:0 batch dictionary:0 batch dictionary:0";
+    let third = "schema dictionary:0 batch dictionary:0 batch dictionary:0 batch";
+    let end = "schema dictionary:0 batch dictionary:0 batch dictionary:0 batch end";
+    [
+        NOTHING,
+        before(200, "schema", "", ""),
+        before(424, "schema dictionary:0", "", A_TO_C),
+        before(592, "schema dictionary:0 batch", ONE, A_TO_C),
+        before(816, delta, ONE, A_TO_E),
+        before(976, second, TWO, A_TO_E),
+        before(1208, replaced, TWO, WITHOUT_B),
+        before(1368, third, THREE, WITHOUT_B),
+        before(1376, end, THREE, WITHOUT_B),
+    ]
+}
+
+fn growing(alloc: Global) -> Result<Vec<u8>, AllocError> {
+    let parts: [&[u8]; 8] = [
+        &SCHEMA,
+        &ABC,
+        &FIRST,
+        &DE,
+        &SECOND,
+        &ACDE,
+        &THIRD,
+        &END_MARKER,
+    ];
+    stream(alloc, &parts, &[])
+}
+
+#[test]
+fn the_whole_stream(rt: HostRuntime) -> Result<(), Fail> {
+    let alloc = rt.alloc();
+    let bytes = growing(alloc)?;
+    assert_eq!(rt; bytes.len(), 1376);
+    let want = places()[8];
+    is_told(&rt, alloc, "all of it", Limits::standard(), &bytes, want)?;
+    Ok(())
+}
+
+#[test]
+fn each_beginning(rt: HostRuntime) -> Result<(), Fail> {
+    let bytes = growing(rt.alloc())?;
+    are_beginnings_told(&rt, rt.alloc(), &bytes, &places())?;
+    Ok(())
+}
+
+// A dictionary is applied with the last byte of its message, and not before.
+#[test]
+fn around_the_end_of_a_delta(rt: HostRuntime) -> Result<(), Fail> {
+    let alloc = rt.alloc();
+    let bytes = growing(alloc)?;
+    assert!(rt; 816 <= bytes.len());
+    let truncated = Told {
+        end: Err(Fault {
+            kind: Kind::Truncated,
+            place: 592,
+        }),
+        held: 223,
+        ..places()[3]
+    };
+    let limits = Limits::standard();
+    is_told(&rt, alloc, "815 bytes", limits, &bytes[..815], truncated)?;
+    is_told(&rt, alloc, "816 bytes", limits, &bytes[..816], places()[4])?;
+    Ok(())
+}
+
+#[test]
+fn what_each_call_takes(rt: HostRuntime) -> Result<(), Fail> {
+    let bytes = growing(rt.alloc())?;
+    let mut reader = StreamReader::new(rt.alloc(), Limits::standard());
+    let mut rest = bytes.as_slice();
+    for (count, word) in [
+        (200, "schema"),
+        (224, "dictionary"),
+        (168, "batch"),
+        (224, "dictionary"),
+        (160, "batch"),
+        (232, "dictionary"),
+        (160, "batch"),
+        (8, "end"),
+        (0, "nothing"),
+    ] {
+        match reader.read(rest) {
+            Ok((taken, item)) => {
+                assert_eq!(rt; taken, count);
+                assert_eq!(rt; word_of(&item), word);
+                rest = rest.get(taken..).unwrap_or(&[]);
+            }
+            Err(fault) => assert_eq!(rt; Err(fault), Ok(()), "{word}"),
+        }
+    }
+    assert_eq!(rt; rest.len(), 0);
+    Ok(())
+}
+
+// Five values are too many where four rows are allowed, and the metadata say so.
+#[test]
+fn more_values_than_rows_are_allowed(rt: HostRuntime) -> Result<(), Fail> {
+    let alloc = rt.alloc();
+    let bytes = growing(alloc)?;
+    let limits = Limits::new(67_108_864, 1 << 36, 4).ok_or("within the ceilings")?;
+    let want = refused(Kind::Rows, places()[3]);
+    is_told(&rt, alloc, "four rows", limits, &bytes, want)?;
+    let fault = Fault {
+        kind: Kind::Rows,
+        place: 592,
+    };
+    assert_eq!(rt; first_fault(alloc, limits, &bytes), Some((792, fault)));
+    Ok(())
+}

@@ -1,0 +1,171 @@
+#!/usr/bin/env python3
+"""The frames that tests hold, and streams out of them with dictionaries and batches, laid out by frames.py.
+
+    examples/streams.py FOLDER    writes each stream to FOLDER/NAME.arrows
+"""
+import pathlib
+import sys
+
+import frames
+from frames import (BINARY, BOOL, END_MARKER, INT32, LIST, NULL, STRUCT, UTF8, batch, bools, date, dictionary,
+                    dictionary_batch, field, integer, lists, nulls, numbers, schema, strings, structs, time, timestamp)
+
+# The places where the frames of the growing dictionary begin, and its end, at an alignment of 8.
+GROWING_PLACES = [0, 200, 424, 592, 816, 976, 1208, 1368, 1376]
+
+
+def letters_schema(align=8):
+    """One column `k` of texts, by signed 32-bit indices into dictionary 0."""
+    return schema(field("k", UTF8, encoding=dictionary(0)), align=align)
+
+
+def letters(words, delta=False, align=8):
+    return dictionary_batch(0, strings(words), delta, align=align)
+
+
+def growing_dictionary(align=8):
+    """Three batches; the dictionary has three values, then five by a delta, and is then replaced by four others."""
+    return [letters_schema(align), letters("abc", align=align), batch(numbers([0, 1, 2]), align=align),
+            letters("de", True, align), batch(numbers([4, 0]), align=align), letters("acde", align=align),
+            batch(numbers([1, 3]), align=align), END_MARKER]
+
+
+# Modules of frames: their names, what each is, and its bytes.
+LETTERS = {
+    "SCHEMA": ("The schema of one column `k` of texts, by signed 32-bit indices into dictionary 0.", letters_schema()),
+    "ABC": ("Dictionary 0 is a, b and c.", letters("abc")),
+    "FIRST": ("The batch of the indices 0, 1 and 2.", batch(numbers([0, 1, 2]))),
+    "DE": ("Dictionary 0 grows by d and e.", letters("de", delta=True)),
+    "SECOND": ("The batch of the indices 4 and 0.", batch(numbers([4, 0]))),
+    "ACDE": ("Dictionary 0 is a, c, d and e.", letters("acde")),
+    "THIRD": ("The batch of the indices 1 and 3.", batch(numbers([1, 3]))),
+    "WITH_NULL": ("The batch of the indices 0 and 1, and of a null.", batch(numbers([0, 1, None]))),
+    "COMPRESSED": ("Dictionary 0 is a, b and c, in a body that is said to be compressed.",
+                   dictionary_batch(0, strings("abc"), compressed=True)),
+}
+
+COLUMNS = {
+    "TEXTS": ("The schema of one column `t` of texts.", schema(field("t", UTF8))),
+    "THREE_TEXTS": ("The batch of `a`, a null and `bc`.", batch(strings(["a", None, "bc"]))),
+    "NO_TEXTS": ("The batch of no rows, with one offset.", batch(strings([]))),
+    "BITS": ("The schema of one column `b` of truth values.", schema(field("b", BOOL))),
+    "FOUR_BITS": ("The batch of true, false, a null and true.", batch(bools([True, False, None, True]))),
+    "NO_COLUMNS": ("The schema without columns.", schema()),
+    "THREE_ROWS": ("The batch of three rows without columns.", batch(length=3)),
+    "LISTS": ("The schema of `l`, lists of signed 32-bit integers, and `t`, texts.",
+              schema(field("l", LIST, [field("item", INT32)]), field("t", UTF8))),
+    "LIST_ROWS": ("The batch of the list of 1 and 2, a null and the empty list; `a,b`, a null and the empty text.",
+                  batch(lists([[1, 2], None, []], numbers), strings(["a,b", None, ""]))),
+    "STRUCTS": ("The schema of `s`, structs of one signed 32-bit integer `m`.",
+                schema(field("s", STRUCT, [field("m", INT32)]))),
+    "STRUCT_ROWS": ("The batch of the struct of 5, and of a null.", batch(structs([(), None], numbers([5, None])))),
+    "MANY": ("The schema of nulls, integers, byte strings, dates, times and timestamps.",
+             schema(field("a", NULL), field("b", integer(8, False)), field("c", integer(64, True)), field("d", BINARY),
+                    field("e", date(0)), field("f", time(2)), field("g", timestamp(1, "UTC")))),
+    "MANY_ROWS": ("A batch of two rows of them.",
+                  batch(nulls(2), numbers([200, None], "B"), numbers([None, -5], "q"), strings([b"\xff\x00", b""]),
+                        numbers([-1, 20000]), numbers([86399999999, 0], "q"), numbers([None, 1], "q"))),
+    "COMPRESSED": ("The batch of 1, a null and 3, in a body that is said to be compressed.",
+                   batch(numbers([1, None, 3]), compressed=True)),
+}
+
+ENCODED = {
+    "MIXED": ("The schema of `k`, texts by signed 32-bit indices into dictionary 0, and `t`, texts.",
+              schema(field("k", UTF8, encoding=dictionary(0)), field("t", UTF8))),
+    "MIXED_ROWS": ("The batch of the indices 2 and 0, and a null; `x`, a null and `y`.",
+                   batch(numbers([2, 0, None]), strings(["x", None, "y"]))),
+    "SHARED": ("The schema of `k` and `i`, texts by indices of 8 and 16 bits into dictionary 5, and between them `j`, "
+               "into dictionary -2.",
+               schema(field("k", UTF8, encoding=dictionary(5, 8, False)), field("j", UTF8, encoding=dictionary(-2)),
+                      field("i", UTF8, encoding=dictionary(5, 16, True)))),
+    "ANIMALS": ("Dictionary 5 is `cat` and `dog`.", dictionary_batch(5, strings(["cat", "dog"]))),
+    "COLORS": ("Dictionary -2 is `red`.", dictionary_batch(-2, strings(["red"]))),
+    "SHARED_ROWS": ("The batch of the indices 1 and 0; 0 and a null; a null and 1.",
+                    batch(numbers([1, 0], "B"), numbers([0, None]), numbers([None, 1], "h"))),
+    "SIZES": ("The schema of `k`, signed 32-bit integers by signed 8-bit indices into dictionary 0.",
+              schema(field("k", INT32, encoding=dictionary(0, 8, True)))),
+    "THREE_SIZES": ("Dictionary 0 is 7, a null and 900.", dictionary_batch(0, numbers([7, None, 900]))),
+    "SIZE_ROWS": ("The batch of the indices 2, 1 and 0.", batch(numbers([2, 1, 0], "b"))),
+    "GROUPS": ("The schema of `g`, lists of signed 32-bit integers by signed 32-bit indices into dictionary 0.",
+               schema(field("g", LIST, [field("item", INT32)], encoding=dictionary(0)))),
+    "TWO_GROUPS": ("Dictionary 0 is the list of 1 and 2, and the empty list.",
+                   dictionary_batch(0, lists([[1, 2], []], numbers))),
+    "GROUP_ROWS": ("The batch of the indices 1 and 0, and a null.", batch(numbers([1, 0, None]))),
+    "BELOW": ("The schema of `l`, lists, and `s`, structs, of texts by signed 32-bit indices into dictionary 0.",
+              schema(field("l", LIST, [field("item", UTF8, encoding=dictionary(0))]),
+                     field("s", STRUCT, [field("m", UTF8, encoding=dictionary(0))]))),
+    "BELOW_ROWS": ("The batch of the list of the indices 2 and 0, and a null; structs of the index 1 and of a null.",
+                   batch(lists([[2, 0], None], numbers), structs([(), ()], numbers([1, None])))),
+}
+
+# The modules of frames that the tests of arrow_stream hold, and what each is about.
+TESTED = {
+    "letters": ("Frames of a column of letters by their numbers in a dictionary, which grows and is then replaced.",
+                LETTERS),
+    "columns": ("Frames of columns without dictionaries: schemas, and batches of each.", COLUMNS),
+    "encoded": ("Frames of columns with dictionaries of other forms: beside a plain column, of two ids, of numbers, of "
+                "lists, and below lists and structs.", ENCODED),
+}
+
+
+def joined(held, names):
+    """The frames of these names, one behind the other."""
+    return b"".join(END_MARKER if name == "END" else held[name][1] for name in names.split())
+
+
+def changed(stream, place, words):
+    """The stream with these bytes at a place of it."""
+    return stream[:place] + words + stream[place + len(words):]
+
+
+def encoded(names):
+    """A stream of frames of dictionaries of other forms, or of letters."""
+    return b"".join(joined(ENCODED if name in ENCODED else LETTERS, name) for name in names.split())
+
+
+def streams():
+    """Streams by name; a fault is told of those that end without an end marker."""
+    abc = joined(LETTERS, "SCHEMA ABC FIRST")
+    return {
+        "growing_dictionary": b"".join(growing_dictionary()),
+        "growing_dictionary_64": b"".join(growing_dictionary(64)),
+        "one_batch": frames.ONE_COLUMN + frames.ONE_BATCH + END_MARKER,
+        "all_null_indices": letters_schema() + batch(numbers([None, None, None])) + END_MARKER,
+        "index_above": changed(abc, 584, b"\x03"),
+        "index_below": changed(abc, 584, b"\xff\xff\xff\xff"),
+        "null_index_above": changed(joined(LETTERS, "SCHEMA ABC WITH_NULL END"), 592, b"\x03"),
+        "delta_without_base": joined(LETTERS, "SCHEMA DE"),
+        "unknown_id": letters_schema() + dictionary_batch(7, strings("abc")),
+        "no_texts": joined(COLUMNS, "TEXTS NO_TEXTS END"),
+        "texts": joined(COLUMNS, "TEXTS THREE_TEXTS END"),
+        "bits": joined(COLUMNS, "BITS FOUR_BITS END"),
+        "no_columns": joined(COLUMNS, "NO_COLUMNS THREE_ROWS END"),
+        "lists": joined(COLUMNS, "LISTS LIST_ROWS END"),
+        "structs": joined(COLUMNS, "STRUCTS STRUCT_ROWS END"),
+        "many_types": joined(COLUMNS, "MANY MANY_ROWS END"),
+        "mixed": encoded("MIXED ABC MIXED_ROWS END"),
+        "shared": encoded("SHARED ANIMALS COLORS SHARED_ROWS END"),
+        "sizes": encoded("SIZES THREE_SIZES SIZE_ROWS END"),
+        "groups": encoded("GROUPS TWO_GROUPS GROUP_ROWS END"),
+        "below": encoded("BELOW ABC BELOW_ROWS END"),
+        "compressed_batch": frames.ONE_COLUMN + joined(COLUMNS, "COMPRESSED"),
+        "compressed_dictionary": joined(LETTERS, "SCHEMA COMPRESSED"),
+    }
+
+
+def check():
+    """Ends the program where the frames of the growing dictionary stand at other places than they should."""
+    frames.check()
+    places = [0]
+    for part in growing_dictionary():
+        places.append(places[-1] + len(part))
+    if places != GROWING_PLACES:
+        sys.exit(f"the frames of the growing dictionary stand at {places}")
+
+
+if __name__ == "__main__":
+    check()
+    if len(sys.argv) != 2:
+        sys.exit(__doc__)
+    for name, stream in streams().items():
+        (pathlib.Path(sys.argv[1]) / f"{name}.arrows").write_bytes(stream)
