@@ -1,7 +1,7 @@
 //! The types of the values of a schema's dictionaries.
 
 ghost use Rattle.std.specs.Prelude.{◌≡◌, ◌++◌, IfOk, OnOk, [], ◌∷◌, option_map};
-ghost use Rattle.arrow_types.specs.Schema.{dictionary_fields, dictionary_of};
+ghost use Rattle.arrow_types.specs.Schema.{IsSchema, dictionary_fields, dictionary_of};
 ghost use Rattle.arrow_types.specs.View.{field_view, fields_view, type_view};
 ghost use Rattle.arrow_dict.specs.ValueTypes.{NameSame, value_field, value_type_of};
 
@@ -38,7 +38,8 @@ impl ValueFields {
     /// fields share an id, the first one's type is taken, which in a schema is that of all. The time grows as n log n
     /// with the number of fields, and the type of each id is copied once.
     pub fn of(alloc: Global, schema: &Schema) -> Result<ValueFields, AllocError>
-        ensures { IfOk result (λ fields. NameSame fields (dictionary_fields schema.now)) }
+        ensures names { IfOk result (λ fields. NameSame fields (dictionary_fields schema.now)) }
+        ensures known { IfOk result (λ _. IsSchema schema.now) }
     {
         let mut found = ValueFields {
             fields: BTreeMap::new(alloc),

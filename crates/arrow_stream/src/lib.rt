@@ -26,6 +26,8 @@ mod prefix;
 mod reader;
 mod refusals;
 mod state;
+#[cfg(test)]
+mod tests;
 mod work;
 
 pub use fault::Fault;
