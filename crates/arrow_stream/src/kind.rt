@@ -24,9 +24,8 @@ pub(crate) enum Refusal {
 }
 
 /// Why a call of a reader answers no item, in the order of the kinds' numbers, 1 to 19. Of several kinds that
-/// hold of a message the one with the least number is answered, among those that are decided by then.
-///
-/// Kinds 10 to 16 speak of dictionary and record batches, and come with them.
+/// hold of a message the one with the least number is answered, among those that are decided by then: kinds 1, 2
+/// and 17 by the first eight bytes of a message, 3 to 13 by its whole metadata, 14 to 16 by its whole body.
 #[derive(Clone, Copy, Debug, PartialEq, Eq)]
 pub enum Kind {
     /// 1: the first four bytes of a message are not `FF FF FF FF`.
@@ -42,7 +41,7 @@ pub enum Kind {
     Header,
     /// 6: the body's length is negative or over `max_body`, or the body would end past place 2^62.
     BodyLength,
-    /// 7: a second schema.
+    /// 7: a second schema, or a batch before the schema.
     Order,
     /// 8: the schema is big-endian, or has a type that is not read, a dictionary of an unknown kind, or a
     /// dictionary below a dictionary.
@@ -56,13 +55,14 @@ pub enum Kind {
     UnknownId,
     /// 12: a delta for an id without a dictionary.
     NoBase,
-    /// 13: a length is negative or over `max_rows`.
+    /// 13: the batch's length, or that of a node which is taken, is negative or over `max_rows`, or a delta would make
+    /// its dictionary longer than `max_rows`.
     Rows,
     /// 14: the body contradicts its nodes and buffers.
     Layout,
-    /// 15: a text is not UTF-8.
+    /// 15: a valid text is not UTF-8.
     Text,
-    /// 16: an index is not below the length of its dictionary.
+    /// 16: a valid index is negative, or not below the length of its dictionary as it stands at this message.
     Index,
     /// 17: the stream ended, by its end marker or otherwise, and no schema message was whole.
     NoSchema,

@@ -31,8 +31,8 @@ pub(crate) enum Verdict {
 /// Reads a stream whose bytes come in any pieces (Columnar Format, "IPC Streaming Format").
 ///
 /// A reader is given pieces by [`StreamReader::read`], which hands out one item at a time, and is told by
-/// [`StreamReader::end`] that no more will come. It keeps the bytes of one unfinished message, the schema and
-/// its place, and nothing else. Where a stream was cut into pieces changes no answer.
+/// [`StreamReader::end`] that no more will come. It keeps the bytes of one unfinished message, the schema, the
+/// dictionaries as they stand and its place, and nothing else. Where a stream was cut into pieces changes no answer.
 ///
 /// After a refusal the reader has failed: it takes nothing and answers the same fault, until
 /// [`StreamReader::restart`]. After the end marker it takes nothing either. Where a growth was refused nothing has
@@ -81,13 +81,16 @@ impl StreamReader {
     /// message gave; or takes the whole piece, where no message of it is whole, and answers no item. The bytes
     /// behind an item are left for the next call.
     ///
-    /// A schema message gives [`Item::Schema`] once its body is whole too, which is not looked at. The end marker
-    /// gives [`Item::End`]. After it nothing is taken, and the answer is `(0, None)`.
+    /// A schema message gives [`Item::Schema`] once its body is whole too, which is not looked at. A dictionary batch
+    /// is applied once it is whole, and gives [`Item::Dictionary`]. A record batch gives [`Item::Batch`], whose columns
+    /// share one copy of its body and keep the dictionaries as they stand then. The end marker gives [`Item::End`].
+    /// After it nothing is taken, and the answer is `(0, None)`.
     ///
     /// A fault tells the least kind of those decided, and the place of the message's first byte. Kinds 1, 2 and 17
-    /// are decided by the first eight bytes of a message, and kinds 3 to 9 by its whole metadata: `read` answers
-    /// each in the call that brings the last byte that decides it, and none sooner. After such a fault the reader
-    /// holds nothing, takes nothing and answers the same fault. After `Memory` it is unchanged and took nothing.
+    /// are decided by the first eight bytes of a message, kinds 3 to 13 by its whole metadata, and kinds 14 to 16 by
+    /// its whole body: `read` answers each in the call that brings the last byte that decides it, and none sooner.
+    /// After such a fault the reader holds nothing, takes nothing and answers the same fault. After `Memory` it is
+    /// unchanged and took nothing.
     ///
     /// An empty piece, a piece after the end marker and a piece after a refusal take no memory.
     pub fn read(&mut self, piece: &[u8]) -> Result<(usize, Option<Item>), Fault>

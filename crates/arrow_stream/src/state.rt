@@ -89,8 +89,8 @@ impl State {
         ensures begun { plain self.new ≡ record { schema = Some columns; dictionaries = [] } }
         ensures fit { IsFit (plain self.new) }
     {
+        self.clear();
         self.columns = Some(columns);
-        self.dictionaries.clear();
     }
 
     /// The rows of a record batch with this body.
