@@ -239,10 +239,12 @@ def first_schema(stream):
         raise Refused("Metadata") from None
     if version != 4:
         raise Refused("Version")
-    if code != 1 or not there:
+    if code not in (1, 2, 3) or not there:
         raise Refused("Header")
     if body < 0 or body > MAX_BODY or 8 + size + body > LAST_PLACE:
         raise Refused("BodyLength")
+    if code != 1:
+        raise Refused("Order")
     if is_unsupported(endianness, fields):
         raise Refused("Unsupported")
     if not all(map(fits, all_fields(fields))) or not has_one_type_an_id(fields):
