@@ -7,7 +7,8 @@
 //!
 //! What fields take of nodes and buffers stands in `specs/Taken.antt`, where a buffer lies in `specs/Held.antt`, and when
 //! all is sound, and which columns it then is, in `specs/Sound.antt`. The contract of `load` says both ways when it
-//! answers columns and when which fault.
+//! answers columns and when which fault. `nodes_of` and `have_length` answer what a reader asks of nodes before that: which
+//! of them the fields take, and whether all columns have as many slots as the batch has rows.
 #![tactic(auto)]
 
 mod body;
