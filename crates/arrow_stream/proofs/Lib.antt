@@ -5,4 +5,5 @@ pub mod Fitness
 pub mod States
 pub mod Holdings
 pub mod Works
+pub mod Beginnings
 pub mod Streams

@@ -108,6 +108,10 @@ module _ {l : LimitNumbers} {s : StreamState} {p : ℕ} where
       let means = subst (λ r. Means l (take m (drop 8 b)) r) w.meant h.says.means in
       ((size_small h.prefix).0, meaning_small means, omega (arith, w.near))
 
+  -- a message that was judged is in order
+  pub message_in_order : {b : List ℕ} {m : ℕ} {t : Message} → HasMetadata l s p b m (Ok t) → is_out_of_order (is_some s.schema) t.content ≡ false
+  message_in_order h = let w = judged_at h in w.in_order
+
   -- a message that was judged may be applied
   pub is_ready : {b : List ℕ} {m : ℕ} {t : Message} → l.max_rows ≤ 2147483647 → HasMetadata l s p b m (Ok t) → Ready s t.content
   is_ready few h = let w = judged_at h in record { max_rows = l.max_rows; ceiling = few; in_order = w.in_order; none = w.none }

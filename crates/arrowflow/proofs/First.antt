@@ -4,10 +4,10 @@ use Rattle.arrow_types.specs.Field.{Fields}
 use Rattle.arrow_types.specs.Limits.{LimitNumbers}
 use Rattle.arrow_stream.specs.declared.kind.Refusal.{Refusal}
 use Rattle.arrow_stream.specs.declared.reader.Verdict.TheVariants.{Open, Bad}
-use Rattle.arrow_stream.specs.Frame.{number_at, has_continuation, prefix_says, BodySays, schema_comes, Outcome, First, whole, marker, refused, waits, short_prefix, short_metadata, short_body, bad_prefix, bad_metadata, bad_body, end_marker, message_comes}
+use Rattle.arrow_stream.specs.Frame.{number_at, has_continuation, prefix_says, Outcome, First, whole, marker, refused, waits, short_prefix, short_metadata, short_body, bad_prefix, bad_metadata, bad_body, end_marker, message_comes}
 use Rattle.arrow_stream.specs.Front.{Entry, Standing, Front, rests, fails, closes, goes_on}
-use Rattle.arrow_stream.specs.Message.{Content}
-use Rattle.arrow_stream.specs.State.{StreamState, Given, nothing_yet, schema_given}
+use Rattle.arrow_stream.specs.State.{StreamState, nothing_yet, schema_given}
+use Rattle.arrow_stream.proofs.Beginnings.{whole_gives}
 
 -- an open front without entries waits for its first message
 pub open_waits : {l : LimitNumbers} {s : StreamState} {p : ℕ} {b : List ℕ} {es : List Entry} {e : Standing} → Front l s p b es e → es ≡ [] → e.verdict ≡ Open → First l s p b waits × (e.state ≡ s) × (e.place ≡ p)
@@ -38,27 +38,6 @@ one_of false false true z a b c d e q = inr (inl q)
 one_of false false false true a b c d e q = inr (inr (inl q))
 one_of false false false false a b c d e q = inr (inr (inr q))
 
--- a whole first message is a schema
-body_gives : {s : StreamState} {c : Content} {b : List ℕ} {r : Result (StreamState × Given) Refusal} → BodySays s c b r → (s' : StreamState) (g : Given) → r ≡ Ok (s', g) → (fields : Fields) × (s' ≡ record { schema = Some fields }) × (g ≡ schema_given)
-body_gives (schema_comes {fields = fields}) s' g e =
-    let same : ◌≡◌ {A = StreamState × Given} (record { schema = Some fields }, schema_given) (s', g) = cc in
-    (fields, sym (ap (λ r. r.0) same), sym (ap (λ r. r.1) same))
-
--- a whole message at the front of bytes is a schema
-whole_gives : {l : LimitNumbers} {s : StreamState} {p : ℕ} {b : List ℕ} {o : Outcome} → First l s p b o → (n : ℕ) (s' : StreamState) (g : Given) → o ≡ whole n s' g → (fields : Fields) × (s' ≡ record { schema = Some fields }) × (g ≡ schema_given)
-whole_gives (short_prefix h) n s' g e = absurd (cc)
-whole_gives (short_metadata h i) n s' g e = absurd (cc)
-whole_gives (short_body h i) n s' g e = absurd (cc)
-whole_gives (bad_prefix h) n s' g e = absurd (cc)
-whole_gives (bad_metadata h) n s' g e = absurd (cc)
-whole_gives (bad_body h) n s' g e = absurd (cc)
-whole_gives (end_marker h) n s' g e = absurd (cc)
-whole_gives (message_comes {s' = s''} {g = g'} h) n s' g e =
-    let states : s'' ≡ s' = cc in
-    let given : g' ≡ g = cc in
-    let w = body_gives h.says s'' g' refl in
-    (w.0, sym states ∙ w.1, sym given ∙ w.2)
-
 -- no end marker comes before a schema
 not_marker : {l : LimitNumbers} {s : StreamState} {p : ℕ} {b : List ℕ} {o : Outcome} → First l s p b o → s ≡ nothing_yet → o ≡ marker → ⊥
 not_marker (short_prefix h) n e = absurd (cc)
@@ -83,7 +62,7 @@ not_marker (message_comes h) n e = absurd (cc)
 pub record Opens (l : LimitNumbers) (s : StreamState) (p : ℕ) (b : List ℕ) (e : Standing) : Type 0 where
   pub fields : Fields
   pub size : ℕ
-  pub comes : First l s p b (whole size (record { schema = Some fields }) schema_given)
+  pub comes : First l s p b (whole size (record { schema = Some fields; dictionaries = [] }) schema_given)
   pub shown : e.state.schema ≡ Some fields
 
 -- a front with one entry, before which there was none, is a whole schema message
@@ -92,11 +71,11 @@ one_entry (rests f) n x q = absurd (cc)
 one_entry (fails f) n x q = absurd (cc)
 one_entry (closes f) n x q = absurd (not_marker f n refl)
 one_entry {l} {s} {p} {b} {e = e} (goes_on {n = m} {s' = s'} {g = g} {es = fs} f xs) n x q =
-    let w = whole_gives f m s' g refl in
+    let w = whole_gives f n m s' g refl in
     let none : fs ≡ [] = cc in
     record {
-      fields = w.0;
+      fields = w.fields;
       size = m;
-      comes = subst (λ t. First l s p b (whole m t schema_given)) w.1 (subst (λ t. First l s p b (whole m s' t)) w.2 f);
-      shown = ap (λ t. t.schema) (state_stays xs none ∙ w.1);
+      comes = subst (λ t. First l s p b (whole m t schema_given)) w.state (subst (λ t. First l s p b (whole m s' t)) w.given f);
+      shown = ap (λ t. t.schema) (state_stays xs none ∙ w.state);
     }

@@ -1,6 +1,6 @@
 -- Which bytes of an input decide what is printed of its schema (Columnar Format, "IPC Streaming Format": the first
 -- message of a stream is its schema).
-use Rattle.std.specs.Prelude.{◌≡◌, ℕ, List, ◌++◌, Option, Some, Result, Ok, Err, ◌⊎◌, ⊤, string_bytes}
+use Rattle.std.specs.Prelude.{◌≡◌, ℕ, List, [], ◌++◌, Option, Some, Result, Ok, Err, ◌⊎◌, ⊤, string_bytes}
 use Rattle.std.specs.Io.KnownBytes.{Consumes, IsAtEnd}
 use Rattle.std.specs.declared.string.String.{String}
 use Rattle.std.specs.declared.alloc.Global.{Global}
@@ -22,7 +22,7 @@ pub record BeginWithSchema (limits : LimitNumbers) (bytes : List ℕ) (fields : 
   pub behind : List ℕ
   pub joined : bytes ≡ message ++ behind
   pub size : ℕ
-  pub comes : First limits nothing_yet 0 message (whole size (record { schema = Some fields }) schema_given)
+  pub comes : First limits nothing_yet 0 message (whole size (record { schema = Some fields; dictionaries = [] }) schema_given)
 
 -- the bytes begin with a message that is refused
 pub record AreRefused (limits : LimitNumbers) (bytes : List ℕ) (fault : Fault) : Type 0 where
