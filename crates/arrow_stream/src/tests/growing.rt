@@ -1,7 +1,9 @@
 // A dictionary that grows between two batches and is replaced before a third.
 
 use super::answers::word_of;
-use super::telling::{NOTHING, Told, are_beginnings_told, first_fault, is_told, read_to, refused, stream};
+use super::telling::{
+    NOTHING, Told, are_beginnings_told, first_fault, is_told, read_to, refused, stream,
+};
 use crate::frames::END_MARKER;
 use crate::frames::letters::{ABC, ACDE, DE, FIRST, SCHEMA, SECOND, THIRD};
 use crate::{Fault, Kind, StreamReader};
