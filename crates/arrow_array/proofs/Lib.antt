@@ -7,3 +7,4 @@ pub mod Resolving
 pub mod NodeParts
 pub mod Batches
 pub mod Values
+pub mod Cuts

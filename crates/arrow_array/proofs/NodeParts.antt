@@ -3,7 +3,7 @@ use Rattle.std.proofs.Common.{◌≡◌, ◌≤◌, ◌<◌, ◌-◌, ℕ, zero,
 use Rattle.std.proofs.lemmas.List.{append-nil}
 use Rattle.std.specs.Global.{Box}
 use Rattle.std.specs.List.{AllByRecursion}
-use Rattle.std.specs.Prelude.{slice_index_or, ⊤, ◌/◌, option_map, String, string_bytes}
+use Rattle.std.specs.Prelude.{slice_index_or, ⊤, ◌⊎◌, option_map, String, string_bytes}
 use Rattle.std.specs.declared.alloc.Global.{Global}
 use Rattle.std.specs.declared.vec.Vec.{Vec}
 use Rattle.arrow_bits.specs.Numbers.{IsWidth}
@@ -130,36 +130,6 @@ IsNumber (time unit) = ⊤
 IsNumber (timestamp unit tz) = ⊤
 IsNumber _ = ⊥
 
-bits_width : (b : BitWidth) → IsWidth (bits_of b / 8)
-bits_width Eight = inl refl
-bits_width Sixteen = inr (inl refl)
-bits_width ThirtyTwo = inr (inr (inl refl))
-bits_width SixtyFour = inr (inr (inr refl))
-
-number_width : (tag : Tag) → IsNumber tag → IsWidth (width_of tag)
-number_width (int bits signed) h = bits_width bits
-number_width (date unit) h = bits_width (date_width_of unit)
-number_width (time unit) h = bits_width (time_width_of unit)
-number_width (timestamp unit tz) h = bits_width SixtyFour
-number_width null h = absurd h
-number_width boolean h = absurd h
-number_width binary h = absurd h
-number_width utf8 h = absurd h
-number_width list h = absurd h
-number_width struct h = absurd h
-
-number_laid : (tag : Tag) (len : ℕ) (b : List (List ℕ)) (cs : List ℕ) → IsNumber tag → IsLaid tag None len b cs → HasInts len (width_of tag) (buffer b 0) (buffer b 1)
-number_laid (int bits signed) len b cs h laid = laid
-number_laid (date unit) len b cs h laid = laid
-number_laid (time unit) len b cs h laid = laid
-number_laid (timestamp unit tz) len b cs h laid = laid
-number_laid null len b cs h laid = absurd h
-number_laid boolean len b cs h laid = absurd h
-number_laid binary len b cs h laid = absurd h
-number_laid utf8 len b cs h laid = absurd h
-number_laid list len b cs h laid = absurd h
-number_laid struct len b cs h laid = absurd h
-
 number_count : (tag : Tag) → IsNumber tag → buffer_count tag None ≡ 2
 number_count (int bits signed) h = refl
 number_count (date unit) h = refl
@@ -189,27 +159,14 @@ no_children [] h = refl
 no_children (c ∷ cs) h = absurd h
 
 -- a node of numbers
-pub number_lies : (t : TypeShape) (len : ℕ) (body : List ℕ) (bs : List ByteRange) (d : ByteRange) (cs : List Column) (n : Ints) → IsNumber t.tag → buffer_count t.tag None ≤ length bs
-    → AllByRecursion (IsInside body) bs → IsLaid t.tag None len (map (bytes_of body) bs) (counts_of cs) → n.width ≡ width_of t.tag → n.validity ≡ slice_index_or bs 0 d → n.values ≡ slice_index_or bs 1 d → AreInts len body n
-number_lies t len body bs d cs n is count inside laid width v w =
-    let two : 2 ≤ length bs = omega (arith, number_count t.tag is) in
-    let here = number_laid t.tag len (map (bytes_of body) bs) (counts_of cs) is laid in
-    let there : HasInts len (width_of t.tag) (bytes_of body (slice_index_or bs 0 d)) (bytes_of body (slice_index_or bs 1 d)) = rw (← buffer_read body bs 0 d (omega arith), ← buffer_read body bs 1 d (omega arith)) here in
-    record {
-      whole = rw width (number_width t.tag is);
-      validity = rw v (inside_read body bs 0 d inside (omega arith));
-      values = rw w (inside_read body bs 1 d inside (omega arith));
-      laid = rw (width, v, w) there;
-    }
-
-pub number_same : (t : TypeShape) (len : ℕ) (body : List ℕ) (bs : List ByteRange) (d : ByteRange) (cs : List Column) (n : Ints) → IsNumber t.tag → t.children ≡ none → AreOf t.children cs → buffer_count t.tag None ≤ length bs
-    → n.width ≡ width_of t.tag → n.signed ≡ is_signed t.tag → n.validity ≡ slice_index_or bs 0 d → n.values ≡ slice_index_or bs 1 d
+pub number_same : (t : TypeShape) (len : ℕ) (body : List ℕ) (bs : List ByteRange) (cs : List Column) (n : Ints) → IsNumber t.tag → t.children ≡ none → AreOf t.children cs → buffer_count t.tag None ≤ length bs
+    → n.width ≡ width_of t.tag → n.signed ≡ is_signed t.tag → n.validity ≡ slice_index_or bs 0 n.validity → n.values ≡ slice_index_or bs 1 n.values
     → column_by t None len body (ranges.Ints n) ≡ node_column t None len (map (bytes_of body) bs) cs []
-number_same t len body bs d cs n is leaf typed count width signed v w =
+number_same t len body bs cs n is leaf typed count width signed v w =
     let two : 2 ≤ length bs = omega (arith, number_count t.tag is) in
     let b = map (bytes_of body) bs in
-    let first : bytes_of body n.validity ≡ buffer b 0 = ap (bytes_of body) v ∙ sym (buffer_read body bs 0 d (omega arith)) in
-    let second : bytes_of body n.values ≡ buffer b 1 = ap (bytes_of body) w ∙ sym (buffer_read body bs 1 d (omega arith)) in
+    let first : bytes_of body n.validity ≡ buffer b 0 = ap (bytes_of body) v ∙ sym (buffer_read body bs 0 n.validity (omega arith)) in
+    let second : bytes_of body n.values ≡ buffer b 1 = ap (bytes_of body) w ∙ sym (buffer_read body bs 1 n.values (omega arith)) in
     let raw = number_slot t.tag b (map (λ (c : Column). c.raw) cs) is in
     let resolved = number_slot t.tag b (map (λ (c : Column). c.resolved) cs) is in
     let listed : listed_of cs ≡ [] = no_children cs (subst (λ f. AreOf f cs) leaf typed) in
@@ -223,19 +180,31 @@ number_same t len body bs d cs n is leaf typed count width signed v w =
       dictionaries = sym listed i;
     })
 
--- the types that are left are those of numbers, and have no children
-pub int_tag : (b : BitWidth) (s : Bool) → type_view (types.Int b s) ≡ record { tag = int b s; children = none }
+-- the types of numbers have no children
+int_tag : (b : BitWidth) (s : Bool) → type_view (types.Int b s) ≡ record { tag = int b s; children = none }
 int_tag b s = search (rules, the_lemmas)
 
-pub date_tag : (u : DateUnit) → type_view (types.Date u) ≡ record { tag = date u; children = none }
+date_tag : (u : DateUnit) → type_view (types.Date u) ≡ record { tag = date u; children = none }
 date_tag u = search (rules, the_lemmas)
 
-pub time_tag : (u : TimeUnit) → type_view (types.Time u) ≡ record { tag = time u; children = none }
+time_tag : (u : TimeUnit) → type_view (types.Time u) ≡ record { tag = time u; children = none }
 time_tag u = search (rules, the_lemmas)
 
-pub timestamp_tag : (u : TimeUnit) (z : Option (String Global)) → type_view (types.Timestamp u z) ≡ record { tag = timestamp u (option_map string_bytes z); children = none }
+timestamp_tag : (u : TimeUnit) (z : Option (String Global)) → type_view (types.Timestamp u z) ≡ record { tag = timestamp u (option_map string_bytes z); children = none }
 timestamp_tag u z = search (rules, the_lemmas)
 
+leaf_from_shape : (x y : TypeShape) → x ≡ y → IsNumber y.tag → y.children ≡ none → IsNumber x.tag × (x.children ≡ none)
+leaf_from_shape x y same is leaf = (subst (λ (t : TypeShape). IsNumber t.tag) (sym same) is, ap (λ (t : TypeShape). t.children) same ∙ leaf)
+
+pub number_shape : (x : DataType)
+    → ((b : BitWidth) × (s : Bool) × (x ≡ types.Int b s)) ⊎ ((u : DateUnit) × (x ≡ types.Date u)) ⊎ ((u : TimeUnit) × (x ≡ types.Time u)) ⊎ ((u : TimeUnit) × (z : Option (String Global)) × (x ≡ types.Timestamp u z))
+    → IsNumber (type_view x).tag × ((type_view x).children ≡ none)
+number_shape x (inl p) = leaf_from_shape _ _ (ap type_view p.2 ∙ int_tag p.0 p.1) tt refl
+number_shape x (inr (inl p)) = leaf_from_shape _ _ (ap type_view p.1 ∙ date_tag p.0) tt refl
+number_shape x (inr (inr (inl p))) = leaf_from_shape _ _ (ap type_view p.1 ∙ time_tag p.0) tt refl
+number_shape x (inr (inr (inr p))) = leaf_from_shape _ _ (ap type_view p.2 ∙ timestamp_tag p.0 p.1) tt refl
+
+-- the types with children
 pub list_tag : (f : Box Field) → type_view (types.List f) ≡ record { tag = list; children = fields_of (field_view f.value ∷ []) }
 list_tag f = search (rules, the_lemmas)
 

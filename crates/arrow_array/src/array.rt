@@ -107,6 +107,7 @@ impl Array {
     }
 
     // What stands in slot `i`, where a dictionary-encoded column holds numbers.
+    #[inline(always)]
     pub(crate) fn seen(&self, i: usize) -> Seen<'_>
         requires { i < length self.now.raw }
         ensures { Shows self.now i result }
@@ -148,6 +149,7 @@ impl Array {
     }
 
     /// Whether slot `i` is null. An index is not, also where the value that it refers to is null.
+    #[inline(always)]
     pub fn is_null(&self, i: usize) -> bool
         requires { i < length self.now.raw }
         ensures { result ≡ is_null_value (value_at self.now.raw i) }
@@ -156,6 +158,7 @@ impl Array {
     }
 
     /// The truth value in slot `i`. None where the slot is null or holds something else.
+    #[inline(always)]
     pub fn bool_at(&self, i: usize) -> Option<bool>
         requires { i < length self.now.raw }
         ensures { result ≡ bool_in (value_at self.now.raw i) }
@@ -168,6 +171,7 @@ impl Array {
 
     /// The number in slot `i` of a column of type Int, Date, Time or Timestamp, or the index in slot `i` of a
     /// dictionary-encoded column of any type. None where the slot is null or holds something else.
+    #[inline(always)]
     pub fn int_at(&self, i: usize) -> Option<i128>
         requires { i < length self.now.raw }
         ensures { result ≡ int_in (value_at self.now.raw i) }
@@ -179,6 +183,7 @@ impl Array {
     }
 
     /// The byte string in slot `i`. None where the slot is null or holds something else.
+    #[inline(always)]
     pub fn bytes_at(&self, i: usize) -> Option<&[u8]>
         requires { i < length self.now.raw }
         ensures { option_map (λ b. b.now) result ≡ binary_in (value_at self.now.raw i) }
@@ -190,6 +195,7 @@ impl Array {
     }
 
     /// The text in slot `i`. None where the slot is null or holds something else.
+    #[inline(always)]
     pub fn text_at(&self, i: usize) -> Option<&str>
         requires { i < length self.now.raw }
         ensures { option_map (λ t. t.now) result ≡ utf8_in (value_at self.now.raw i) }
@@ -202,6 +208,7 @@ impl Array {
 
     /// The items in slot `i`: the first and the end of their slots in the child array, and the child array. None where
     /// the slot is null or holds something else.
+    #[inline(always)]
     pub fn list_at(&self, i: usize) -> Option<(usize, usize, &Array)>
         requires { i < length self.now.raw }
         ensures { MatchOption result (items_in (value_at self.now.raw i) ≡ None)

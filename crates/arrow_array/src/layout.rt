@@ -12,7 +12,8 @@ ghost use Rattle.arrow_array.specs.Node.{bytes_of, IsInside};
 ghost use Rattle.arrow_array.specs.Slots.{HasBits, HasOffsets, AreIndices, AreTexts};
 
 use crate::byte_range::{ByteRange, bytes_in};
-use crate::slot::{binary_at, number_at};
+use crate::slot::number_at;
+use crate::texts::are_slots_utf8;
 use crate::width::{index_width, width};
 use arrow_bits::Offsets;
 use arrow_types::{DataType, Encoding};
@@ -71,15 +72,7 @@ pub fn are_texts(len: usize, validity: &[u8], offsets: &[u8], bytes: &[u8]) -> b
     requires { HasStrings len validity.now offsets.now bytes.now }
     ensures { IsTrue result ↔ AreTexts len validity.now offsets.now bytes.now }
 {
-    for j in 0..len {
-        let Some(text) = binary_at(validity, offsets, bytes, len, j) else {
-            continue;
-        };
-        if std::str::from_utf8(text).is_err() {
-            return false;
-        }
-    }
-    true
+    are_slots_utf8(len, validity, offsets, bytes)
 }
 
 /// Whether each valid slot of `len` has an index to one of `count` values.

@@ -22,6 +22,7 @@ mod same;
 mod slot;
 #[cfg(test)]
 mod tests;
+mod texts;
 mod value;
 mod width;
 

@@ -7,7 +7,7 @@ ghost use Rattle.arrow_types.specs.View.{type_view};
 ghost use Rattle.arrow_array.specs.Column.{AreOf, IsColumn, IsValueList, counts_of};
 ghost use Rattle.arrow_array.specs.Layout.{buffer_count, IsLaid, IsText, IsIndexed};
 ghost use Rattle.arrow_array.specs.Node.{bytes_of, column_by, AreRanges, IsFormat, IsInside};
-ghost use Rattle.arrow_array.specs.Slots.{index_width};
+ghost use Rattle.arrow_array.specs.Slots.{index_width, is_signed, width_of};
 ghost use Rattle.arrow_array.specs.Parts.{node_column, values_in, AreChildren, IsOfType};
 
 use crate::array::{Array, Ranges};
@@ -129,6 +129,21 @@ fn indices(encoding: Encoding, buffers: &[ByteRange]) -> Ints
     }
 }
 
+// The buffers of numbers of the type.
+fn numbers(data_type: &DataType, buffers: &[ByteRange]) -> Ints
+    requires { 2 ≤ length buffers.now }
+    ensures format { IsFormat (width_of (type_view data_type.now).tag) (is_signed (type_view data_type.now).tag) result }
+    ensures validity { result.validity ≡ slice_index_or buffers.now 0 result.validity }
+    ensures values { result.values ≡ slice_index_or buffers.now 1 result.values }
+{
+    Ints {
+        width: width(data_type),
+        signed: signed(data_type),
+        validity: buffers[0],
+        values: buffers[1],
+    }
+}
+
 // The ranges of a node of values.
 fn value_ranges(
     alloc: Global,
@@ -180,12 +195,7 @@ fn value_ranges(
             children,
         }),
         DataType::Int { .. } | DataType::Date(_) | DataType::Time(_) | DataType::Timestamp(..) =>
-            Ok(Ranges::Ints(Ints {
-                width: width(data_type),
-                signed: signed(data_type),
-                validity: buffers[0],
-                values: buffers[1],
-            })),
+            Ok(Ranges::Ints(numbers(data_type, buffers))),
     }
 }
 

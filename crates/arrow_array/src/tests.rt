@@ -7,4 +7,5 @@ mod forms;
 mod hidden;
 mod lists;
 mod making;
+mod utf8;
 mod values;

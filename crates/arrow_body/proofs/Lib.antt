@@ -1,3 +1,4 @@
 pub mod Taking
 pub mod Columns
 pub mod Readings
+pub mod Ids

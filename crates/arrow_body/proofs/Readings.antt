@@ -10,13 +10,14 @@ use Rattle.arrow_types.specs.declared.node.FieldNode.{FieldNode}
 use Rattle.arrow_types.specs.declared.node.Buffer.{Buffer}
 use Rattle.arrow_array.specs.Column.{Column, ValueList, AreOf}
 use Rattle.arrow_array.specs.Layout.{buffer, IsIndexed}
+use Rattle.arrow_array.specs.Listed.{listed}
 use Rattle.arrow_array.specs.Parts.{node_column, value_slot, index_slot, entry_of_slot, values_in}
 use Rattle.arrow_array.specs.PlainValue.{PlainValue, value_at, list_value, struct_value, values_of}
 use Rattle.arrow_array.specs.Resolve.{resolve, resolve_items, resolve_parts, before}
 use Rattle.arrow_array.specs.Slots.{is_valid_at, place_of, index_width}
 use Rattle.arrow_array.proofs.Resolving.{slots_resolve, null_resolves, shown_resolves, plain_resolves, items_resolve, range_resolves, at_resolves, index_resolves}
 use Rattle.arrow_body.proofs.Columns.{columns_typed}
-use Rattle.arrow_body.specs.Sound.{IsNodeIndexed, ResolvesBy, columns_of, dictionary_for, if_flattened, listed, own_bytes, slots_at, values_by}
+use Rattle.arrow_body.specs.Sound.{IsNodeIndexed, ResolvesBy, columns_of, dictionary_for, if_flattened, own_bytes, slots_at, values_by}
 use Rattle.arrow_body.specs.Taken.{AllNodes, IfFlattened, flattened, own_buffers, taken_buffers, taken_nodes}
 
 take_nothing : (n : ℕ) → take {A = PlainValue} n [] ≡ []

@@ -54,6 +54,10 @@ node_after h c ns rest is = is ∙ drop_twice (taken_nodes (below h.encoding c))
 pub buffer_after : (h : Head) (c : Fields) (bs rest : List Buffer) → rest ≡ drop (taken_buffers (below h.encoding c)) (drop (own_buffers h) bs) → rest ≡ drop (own_buffers h + flattened h.encoding (taken_buffers c)) bs
 buffer_after h c bs rest is = is ∙ drop_twice (taken_buffers (below h.encoding c)) (own_buffers h) bs ∙ ap (λ n. drop (own_buffers h + n) bs) (buffers_below h.encoding c)
 
+-- what is left behind one field and those that follow is what is left behind all
+pub nodes_left : (h : Head) (c rest : Fields) (ns ns' : List FieldNode) → ns' ≡ drop (taken_nodes (below h.encoding c)) (drop 1 ns) → drop (taken_nodes rest) ns' ≡ drop (taken_nodes (more h c rest)) ns
+nodes_left h c rest ns ns' is = ap (drop (taken_nodes rest)) (node_after h c ns ns' is) ∙ drop_twice (taken_nodes rest) (1 + flattened h.encoding (taken_nodes c)) ns
+
 -- the fields that follow have what is left exactly where all have what was there
 pub there_after : (h : Head) (c rest : Fields) (ns ns' : List FieldNode) (bs bs' : List Buffer) → 1 ≤ length ns → own_buffers h ≤ length bs → AreThere (below h.encoding c) (drop 1 ns) (drop (own_buffers h) bs)
     → ns' ≡ drop (taken_nodes (below h.encoding c)) (drop 1 ns) → bs' ≡ drop (taken_buffers (below h.encoding c)) (drop (own_buffers h) bs)

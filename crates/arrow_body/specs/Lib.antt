@@ -1,3 +1,4 @@
 pub mod Taken
 pub mod Held
 pub mod Sound
+pub mod Rising

@@ -8,9 +8,9 @@ use Rattle.arrow_types.specs.Schema.{has_encoding}
 use Rattle.arrow_types.specs.declared.field.Encoding.{Encoding}
 use Rattle.arrow_types.specs.declared.node.FieldNode.{FieldNode}
 use Rattle.arrow_types.specs.declared.node.Buffer.{Buffer}
-use Rattle.std.specs.Ordering.{int_eq}
 use Rattle.arrow_array.specs.Column.{Column, ValueList}
 use Rattle.arrow_array.specs.Layout.{IsLaid, IsText, IsIndexed, buffer}
+use Rattle.arrow_array.specs.Listed.{listed}
 use Rattle.arrow_array.specs.PlainValue.{PlainValue}
 use Rattle.arrow_array.specs.Resolve.{resolve}
 use Rattle.arrow_array.specs.Parts.{node_column, values_in, IsOfType}
@@ -71,11 +71,6 @@ IsNodeText body head children nodes buffers = IsText head.tag head.encoding (slo
 
 abbrev pub AreText : List ℕ → Fields → List FieldNode → List Buffer → Type 0
 AreText body fields nodes buffers = AllNodes (IsNodeText body) fields nodes buffers
-
--- the dictionary that is listed first for an id, if there is one
-abbrev pub listed : List (ℤ × ValueList) → ℤ → Option ValueList
-listed [] id = None
-listed (d ∷ ds) id = if int_eq d.0 id then Some d.1 else listed ds id
 
 -- the dictionary of a field with this encoding
 abbrev pub dictionary_for : List (ℤ × ValueList) → Option Encoding → Option ValueList

@@ -7,6 +7,7 @@ ghost use Rattle.arrow_body.specs.Sound.{AreFit, Explains, IsSound, columns_of, 
 use crate::build::build;
 use crate::indexed::are_indexed;
 use crate::laid::are_laid;
+use crate::listed::Listed;
 use crate::taken::{Left, after};
 use crate::text::are_text;
 use arrow_array::{Array, Dictionary};
@@ -64,7 +65,8 @@ impl Error for BodyFault {}
 /// doesn't depend on how many slots there are.
 ///
 /// A dictionary-encoded column refers to the first dictionary that is listed for its id, or to the empty one where none
-/// is; that a listed dictionary has the type of the field's values is known by the caller.
+/// is; that a listed dictionary has the type of the field's values is known by the caller. They may be listed in any
+/// order; where their ids rise, each is found by halves.
 pub fn load(
     alloc: Global,
     fields: &[Field],
@@ -81,16 +83,17 @@ pub fn load(
 {
     let left = Left { nodes, buffers };
     let bytes = body.as_slice();
+    let listed = Listed::new(dictionaries);
     if after(fields, left).is_none() || !are_laid(fields, left, bytes) {
         return Err(BodyFault::Layout);
     }
     if !are_text(fields, left, bytes) {
         return Err(BodyFault::Text);
     }
-    if !are_indexed(fields, left, bytes, dictionaries) {
+    if !are_indexed(fields, left, bytes, listed) {
         return Err(BodyFault::Index);
     }
-    match build(alloc, fields, left, body, dictionaries) {
+    match build(alloc, fields, left, body, listed) {
         Ok(arrays) => Ok(arrays),
         Err(_) => Err(BodyFault::Memory),
     }

@@ -8,8 +8,8 @@ ghost use Rattle.arrow_body.specs.Sound.{AreFit, IsNodeFit, IsNodeIndexed, IsNod
 ghost use Rattle.arrow_body.specs.Taken.{AreThere, below, own_buffers};
 
 use crate::held::own_ranges;
-use crate::indexed::find;
 use crate::laid::slots;
+use crate::listed::Listed;
 use crate::taken::{Left, after, below, inside, own_buffers};
 use arrow_array::{Array, Dictionary};
 use arrow_types::{Encoding, Field};
@@ -20,14 +20,14 @@ use std::alloc::{AllocError, Global};
 fn dictionary_of(
     alloc: Global,
     encoding: Option<Encoding>,
-    dictionaries: &[(i64, Dictionary)],
+    dictionaries: Listed<'_>,
 ) -> Result<Option<Dictionary>, AllocError>
-    ensures { IfOk result (λ d. d ≡ dictionary_for dictionaries.now encoding) }
+    ensures { IfOk result (λ d. d ≡ dictionary_for dictionaries.entry.entries.now encoding) }
 {
     let Some(encoding) = encoding else {
         return Ok(None);
     };
-    match find(dictionaries, encoding.id) {
+    match dictionaries.find(encoding.id) {
         Some(dictionary) => Ok(Some(dictionary.copy(alloc)?)),
         None => Ok(None),
     }
@@ -40,19 +40,19 @@ fn build_node(
     left: Left<'_>,
     body: &Bytes,
     children: Vec<Array>,
-    dictionaries: &[(i64, Dictionary)],
+    dictionaries: Listed<'_>,
 ) -> Result<Array, AllocError>
     requires there { AreThere (fields_of (field_view field.now ∷ [])) left.nodes.now left.buffers.now }
     requires laid { IsNodeLaid body.now (field_view field.now).head (field_view field.now).children left.nodes.now left.buffers.now }
     requires text { IsNodeText body.now (field_view field.now).head (field_view field.now).children left.nodes.now left.buffers.now }
-    requires indexed { IsNodeIndexed body.now dictionaries.now (field_view field.now).head (field_view field.now).children left.nodes.now left.buffers.now }
-    requires fit { IsNodeFit dictionaries.now (field_view field.now).head (field_view field.now).children }
-    requires children { children.items ≡ columns_of body.now dictionaries.now
+    requires indexed { IsNodeIndexed body.now dictionaries.entries.now (field_view field.now).head (field_view field.now).children left.nodes.now left.buffers.now }
+    requires fit { IsNodeFit dictionaries.entries.now (field_view field.now).head (field_view field.now).children }
+    requires children { children.items ≡ columns_of body.now dictionaries.entries.now
         (below (field_view field.now).head.encoding (field_view field.now).children)
         (drop 1 left.nodes.now) (drop (own_buffers (field_view field.now).head) left.buffers.now) }
     ensures { IfOk result (λ a. a ≡ node_column (type_view field.now.data_type) field.now.dictionary
         (slots_at left.entry.nodes.now) (own_bytes body.now (field_view field.now).head left.entry.buffers.now)
-        children.items (values_in (dictionary_for dictionaries.now field.now.dictionary))) }
+        children.items (values_in (dictionary_for dictionaries.entry.entries.now field.now.dictionary))) }
 {
     let own = own_buffers(field);
     match own_ranges(body.as_slice(), left.buffers, own) {
@@ -80,11 +80,11 @@ pub(crate) fn build(
     fields: &[Field],
     left: Left<'_>,
     body: &Bytes,
-    dictionaries: &[(i64, Dictionary)],
+    dictionaries: Listed<'_>,
 ) -> Result<Vec<Array>, AllocError>
-    requires sound { IsSound body.now dictionaries.now (fields_view fields.now) left.nodes.now left.buffers.now }
-    requires fit { AreFit dictionaries.now (fields_view fields.now) }
-    ensures { IfOk result (λ v. v.items ≡ columns_of body.now dictionaries.now (fields_view fields.now) left.entry.nodes.now left.entry.buffers.now) }
+    requires sound { IsSound body.now dictionaries.entries.now (fields_view fields.now) left.nodes.now left.buffers.now }
+    requires fit { AreFit dictionaries.entries.now (fields_view fields.now) }
+    ensures { IfOk result (λ v. v.items ≡ columns_of body.now dictionaries.entry.entries.now (fields_view fields.now) left.entry.nodes.now left.entry.buffers.now) }
 {
     let mut arrays = Vec::with_capacity(alloc, fields.len())?;
     let mut rest = left;

@@ -1,45 +1,28 @@
 //! Whether the indices of a body have their values.
 
-ghost use Rattle.std.specs.Prelude.{◌≡◌, ◌↔◌, IsTrue, option_map, [], ◌∷◌};
+ghost use Rattle.std.specs.Prelude.{◌≡◌, ◌↔◌, IsTrue, [], ◌∷◌};
 ghost use Rattle.arrow_types.specs.Field.{fields_of};
 ghost use Rattle.arrow_types.specs.View.{field_view, fields_view};
-ghost use Rattle.arrow_body.specs.Sound.{AreIndexed, AreLaid, IsNodeIndexed, IsNodeLaid, listed};
+ghost use Rattle.arrow_body.specs.Sound.{AreIndexed, AreLaid, IsNodeIndexed, IsNodeLaid};
 ghost use Rattle.arrow_body.specs.Taken.{AreThere};
 
 use crate::held::{bytes_at, own_ranges};
 use crate::laid::slots;
+use crate::listed::Listed;
 use crate::taken::{Left, after, below, inside};
-use arrow_array::Dictionary;
 use arrow_array::layout::are_indices;
 use arrow_types::Field;
 
-// The dictionary that is listed first for the id.
-pub(crate) fn find(dictionaries: &[(i64, Dictionary)], id: i64) -> Option<&Dictionary>
-    ensures { option_map (λ d. d.now) result ≡ listed dictionaries.now id }
-{
-    for entry in dictionaries {
-        if entry.0 == id {
-            return Some(&entry.1);
-        }
-    }
-    None
-}
-
 // Whether the valid slots of the field's own node, if it is dictionary-encoded, have their values.
-fn is_node_indexed(
-    field: &Field,
-    left: Left<'_>,
-    body: &[u8],
-    dictionaries: &[(i64, Dictionary)],
-) -> bool
+fn is_node_indexed(field: &Field, left: Left<'_>, body: &[u8], dictionaries: Listed<'_>) -> bool
     requires there { AreThere (fields_of (field_view field.now ∷ [])) left.nodes.now left.buffers.now }
     requires laid { IsNodeLaid body.now (field_view field.now).head (field_view field.now).children left.nodes.now left.buffers.now }
-    ensures { IsTrue result ↔ IsNodeIndexed body.now dictionaries.now (field_view field.now).head (field_view field.now).children left.entry.nodes.now left.entry.buffers.now }
+    ensures { IsTrue result ↔ IsNodeIndexed body.now dictionaries.entry.entries.now (field_view field.now).head (field_view field.now).children left.entry.nodes.now left.entry.buffers.now }
 {
     let Some(encoding) = field.dictionary else {
         return true;
     };
-    let count = match find(dictionaries, encoding.id) {
+    let count = match dictionaries.find(encoding.id) {
         Some(dictionary) => dictionary.len(),
         None => 0,
     };
@@ -62,11 +45,11 @@ pub(crate) fn are_indexed(
     fields: &[Field],
     left: Left<'_>,
     body: &[u8],
-    dictionaries: &[(i64, Dictionary)],
+    dictionaries: Listed<'_>,
 ) -> bool
     requires there { AreThere (fields_view fields.now) left.nodes.now left.buffers.now }
     requires laid { AreLaid body.now (fields_view fields.now) left.nodes.now left.buffers.now }
-    ensures { IsTrue result ↔ AreIndexed body.now dictionaries.now (fields_view fields.now) left.entry.nodes.now left.entry.buffers.now }
+    ensures { IsTrue result ↔ AreIndexed body.now dictionaries.entry.entries.now (fields_view fields.now) left.entry.nodes.now left.entry.buffers.now }
 {
     let mut rest = left;
     for field in fields {

@@ -12,15 +12,18 @@
 
 mod body;
 mod build;
+mod counts;
 mod fit;
 mod held;
 mod indexed;
 mod laid;
 pub mod laws;
+mod listed;
 mod taken;
 #[cfg(test)]
 mod tests;
 mod text;
 
 pub use body::{BodyFault, load};
+pub use counts::{have_length, nodes_of};
 pub use fit::are_fit;

@@ -1,5 +1,5 @@
 -- What stands at the front of bytes: it is one thing, more bytes leave it, and less than a message waits.
-use Rattle.std.proofs.Common.{◌≡◌, ℕ, ◌+◌, ◌<◌, ◌≤◌, List, ◌++◌, length, take, drop, refl, sym, ap, ◌∙◌, subst, arith, inl, inr, Result, Ok, Err, length-drop, length-append, length-take}
+use Rattle.std.proofs.Common.{◌≡◌, ℕ, ℤ, ◌+◌, ◌<◌, ◌≤◌, List, ◌++◌, length, take, drop, refl, sym, ap, ◌∙◌, subst, arith, inl, inr, Result, Ok, Err, length-drop, length-append, length-take}
 use Rattle.std.specs.Prelude.{is_some}
 use Rattle.std.proofs.lemmas.Bool.{cases_lt}
 use Rattle.std.proofs.lemmas.List.{take-append-le, drop-append-le, take-take, take-append-drop}
@@ -7,9 +7,13 @@ use Rattle.arrow_types.specs.Limits.{LimitNumbers}
 use Rattle.arrow_stream.specs.declared.kind.Refusal.{Refusal}
 use Rattle.arrow_stream.specs.declared.prefix.Prefix.{Prefix}
 use Rattle.arrow_stream.specs.declared.prefix.Prefix.TheVariants as prefixes
-use Rattle.arrow_stream.specs.Message.{Content, Message}
+use Rattle.arrow_stream.specs.Message.{Message}
+use Rattle.arrow_types.specs.Field.{Fields}
+use Rattle.arrow_array.specs.Column.{Column, ValueList}
+use Rattle.arrow_meta.specs.Means.{PlainBatch, PlainHeader}
+use Rattle.arrow_stream.specs.Batch.{Holds, columns, bad_layout, bad_text, bad_index, dictionary_left, batch_left}
 use Rattle.arrow_stream.specs.State.{StreamState, Given}
-use Rattle.arrow_stream.specs.Frame.{prefix_says, judged, MetadataSays, BodySays, schema_comes, HasPrefix, HasMetadata, HasBody, Outcome, whole, marker, refused, waits, First, short_prefix, short_metadata, short_body, bad_prefix, bad_metadata, bad_body, end_marker, message_comes}
+use Rattle.arrow_stream.specs.Frame.{prefix_says, judged, MetadataSays, BodySays, schema_comes, dictionary_comes, batch_comes, HasPrefix, HasMetadata, HasBody, Outcome, whole, marker, refused, waits, First, short_prefix, short_metadata, short_body, bad_prefix, bad_metadata, bad_body, end_marker, message_comes}
 use Rattle.arrow_stream.proofs.Meanings.{one_meaning}
 
 part-append : (k n : ℕ) (b c : List ℕ) → k + n ≤ length b → take n (drop k (b ++ c)) ≡ take n (drop k b)
@@ -18,13 +22,35 @@ part-append k n b c h =
 
 -- METADATA AND BODIES: each says one thing
 
-one_metadata : {l : LimitNumbers} {seen : _} {p : ℕ} {b : List ℕ} {r q : Result Message Refusal} →
-    MetadataSays l seen p b r → MetadataSays l seen p b q → r ≡ q
-one_metadata {l} {seen} {p} {b} x y = x.says ∙ ap (judged seen (p + length b)) (one_meaning x.means y.means) ∙ sym y.says
+one_metadata : {l : LimitNumbers} {s : StreamState} {p : ℕ} {b : List ℕ} {r q : Result Message Refusal} →
+    MetadataSays l s p b r → MetadataSays l s p b q → r ≡ q
+one_metadata {l} {s} {p} {b} x y = x.says ∙ ap (judged l.max_rows s (p + length b)) (one_meaning x.means y.means) ∙ sym y.says
 
-one_body : {s : StreamState} {m : Content} {b : List ℕ} {r q : Result (StreamState × Given) Refusal} →
+-- a body holds the same columns, or is refused by the same kind
+one_holding : {b : List ℕ} {ds : List (ℤ × ValueList)} {f : Fields} {w : PlainBatch} {r q : Result (List Column) Refusal} →
+    Holds b ds f w r → Holds b ds f w q → r ≡ q
+one_holding (columns x y z) (columns x' y' z') = refl
+one_holding (columns x y z) (bad_layout n) = absurd (n x)
+one_holding (columns x y z) (bad_text x' n) = absurd (n y)
+one_holding (columns x y z) (bad_index x' y' n) = absurd (n z)
+one_holding (bad_layout n) (columns x y z) = absurd (n x)
+one_holding (bad_layout n) (bad_layout m) = refl
+one_holding (bad_layout n) (bad_text x m) = absurd (n x)
+one_holding (bad_layout n) (bad_index x y m) = absurd (n x)
+one_holding (bad_text x n) (columns x' y z) = absurd (n y)
+one_holding (bad_text x n) (bad_layout m) = absurd (m x)
+one_holding (bad_text x n) (bad_text x' m) = refl
+one_holding (bad_text x n) (bad_index x' y m) = absurd (n y)
+one_holding (bad_index x y n) (columns x' y' z) = absurd (n z)
+one_holding (bad_index x y n) (bad_layout m) = absurd (m x)
+one_holding (bad_index x y n) (bad_text x' m) = absurd (m y)
+one_holding (bad_index x y n) (bad_index x' y' m) = refl
+
+one_body : {s : StreamState} {m : PlainHeader} {b : List ℕ} {r q : Result (StreamState × Given) Refusal} →
     BodySays s m b r → BodySays s m b q → r ≡ q
 one_body schema_comes schema_comes = refl
+one_body {s} (dictionary_comes {id = id} {delta = delta} h e) (dictionary_comes g f) = e ∙ ap (dictionary_left s id delta) (one_holding h g) ∙ sym f
+one_body {s} (batch_comes {rows = rows} h e) (batch_comes g f) = e ∙ ap (batch_left s rows) (one_holding h g) ∙ sym f
 
 -- THE PARTS OF A FRAME
 
@@ -51,7 +77,7 @@ module _ {l : LimitNumbers} {s : StreamState} {p : ℕ} {b : List ℕ} where
   HasMetadata-append {m} {r} c h = record {
     prefix = HasPrefix-append c h.prefix;
     within = omega (arith, length-append b c);
-    says = subst (λ x. MetadataSays l (is_some s.schema) (p + 8) x r) (sym (part-append 8 m b c h.within)) h.says;
+    says = subst (λ x. MetadataSays l s (p + 8) x r) (sym (part-append 8 m b c h.within)) h.says;
   }
 
   pub HasBody-append : {m : ℕ} {t : Message} {r : Result (StreamState × Given) Refusal} (c : List ℕ) →
@@ -217,7 +243,7 @@ module _ {l : LimitNumbers} {s : StreamState} {p : ℕ} {b : List ℕ} where
   HasMetadata-take {m} {r} k h n g = record {
     prefix = HasPrefix-take k (omega arith) n g.prefix;
     within = simp length-take (omega (arith, h, n));
-    says = subst (λ x. MetadataSays l (is_some s.schema) (p + 8) x r) (sym (part-take b k 8 m n h)) g.says;
+    says = subst (λ x. MetadataSays l s (p + 8) x r) (sym (part-take b k 8 m n h)) g.says;
   }
 
   pub HasBody-take : {m : ℕ} {t : Message} {r : Result (StreamState × Given) Refusal} (k : ℕ) →

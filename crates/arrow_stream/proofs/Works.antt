@@ -1,29 +1,31 @@
 -- What the steps of reading rest on: sizes that were judged are small, and what is held shows its parts.
 use Rattle.std.proofs.Common.{◌≡◌, ℕ, ◌+◌, ◌-◌, ◌^◌, ◌<◌, ◌≤◌, inl, inr, Bool, true, false, cond, ltb, eqb, List, ◌++◌, length, take, drop, refl, sym, ap, ◌∙◌, subst, arith, Option, Some, None, Result, Ok, Err, length-drop, length-take}
 use Rattle.std.specs.Prelude.{is_some, not}
+use Rattle.std.specs.declared.vec.Vec.{Vec}
+use Rattle.std.specs.declared.alloc.Global.{Global}
 use Rattle.std.proofs.lemmas.Bool.{ltb-false}
 use Rattle.std.proofs.lemmas.List.{take_all}
 use Rattle.arrow_types.specs.Limits.{LimitNumbers}
 use Rattle.arrow_meta.specs.declared.fault.MetaFault.{MetaFault}
-use Rattle.arrow_meta.specs.declared.fault.MetaFault.TheVariants as faults
 use Rattle.arrow_stream.specs.declared.kind.Refusal.{Refusal}
-use Rattle.arrow_stream.specs.declared.kind.Refusal.TheVariants.{Continuation, MetadataSize, BodyLength, Order, Unsupported, Schema, Compressed, NoSchema}
+use Rattle.arrow_stream.specs.declared.kind.Refusal.TheVariants.{Continuation, MetadataSize, BodyLength, Order, NoSchema}
 use Rattle.arrow_stream.specs.declared.prefix.Prefix.{Prefix}
 use Rattle.arrow_stream.specs.declared.prefix.Prefix.TheVariants as prefixes
 use Rattle.arrow_stream.specs.Message.{Message}
 use Rattle.arrow_stream.specs.State.{StreamState, Given}
 use Rattle.arrow_stream.specs.Meaning.{Means}
-use Rattle.arrow_stream.specs.Frame.{prefix_says, judged, refused_first, misplaced, is_out_of_order, MetadataSays, number_at, has_continuation, BodySays, schema_comes, bad_metadata, HasPrefix, HasMetadata, HasBody}
-use Rattle.arrow_stream.specs.declared.message.Content.{Content as Held}
-use Rattle.arrow_stream.specs.declared.message.Content.TheVariants as held
-use Rattle.arrow_stream.specs.Views.{plain, content_of, after, gives, Understood}
+use Rattle.arrow_stream.specs.Frame.{prefix_says, judged, against, refused_first, is_out_of_order, MetadataSays, number_at, has_continuation, BodySays, bad_metadata, bad_body, HasPrefix, HasMetadata, HasBody}
+use Rattle.arrow_stream.specs.declared.message.Content.{Content as HeldContent}
+use Rattle.arrow_stream.specs.declared.message.Message.{Message as HeldMessage}
+use Rattle.arrow_stream.specs.declared.state.State.{State}
+use Rattle.arrow_stream.specs.Views.{Applies, IsFit, Ready, content_of, message_of, plain, Understood}
 use Rattle.arrow_stream.specs.declared.message.Stop.{Stop}
 use Rattle.arrow_stream.specs.declared.message.Stop.TheVariants.{Refused, Memory}
 use Rattle.arrow_stream.specs.declared.work.Work.{Work}
 use Rattle.arrow_stream.specs.declared.work.Phase.{Phase}
 use Rattle.arrow_stream.specs.declared.work.Phase.TheVariants as phases
-use Rattle.arrow_stream.specs.Work.{Filled, Shown, Stopped, Works}
-use Rattle.arrow_stream.proofs.Firsts.{metadata_held}
+use Rattle.arrow_stream.specs.Work.{Filled, Finishes, NotApplied, Shown, Stopped, Works}
+use Rattle.arrow_stream.proofs.Firsts.{metadata_held, body_held}
 use Rattle.arrow_stream.proofs.Meanings.{meaning_small}
 
 -- where the tests of a prefix answer a size, both limits were kept
@@ -53,33 +55,35 @@ marker_cases false true c d e n q = absurd (cc)
 marker_cases false false true d e n q = absurd (cc)
 marker_cases false false false d e n q = refl
 
--- what the place does not refuse ends by the last place
-placed_cases : (a b : Bool) (u t : Message) →
-    Ok t ≡ refused_first (cond a (Some BodyLength) (cond b (Some Order) None)) (Ok u) → (a ≡ false) × (u ≡ t)
-placed_cases true b u t e = absurd (cc)
-placed_cases false true u t e = absurd (cc)
-placed_cases false false u t e = (refl, (cc))
+-- what the place does not refuse ends by the last place and is in order, and nothing else stands against it
+placed_cases : (a b : Bool) (k : Option Refusal) (u t : Message) →
+    Ok t ≡ refused_first (cond a (Some BodyLength) (cond b (Some Order) None)) (refused_first k (Ok u)) →
+    (a ≡ false) × (b ≡ false) × (k ≡ None) × (u ≡ t)
+placed_cases true b k u t e = absurd (cc)
+placed_cases false true k u t e = absurd (cc)
+placed_cases false false None u t e = (refl, refl, refl, (cc))
+placed_cases false false (Some k) u t e = absurd (cc)
 
-never_placed : (k : Option Refusal) (r : Refusal) (t : Message) → Ok t ≡ refused_first k (Err r) → ⊥
-never_placed None r t e = cc
-never_placed (Some k) r t e = cc
+-- A message that is judged is meant, ends by the last place, is in order, and nothing stands against it.
+record IsJudged (n : ℕ) (s : StreamState) (p : ℕ) (d : Result Message MetaFault) (t : Message) : Type 0 where
+  pub meant : d ≡ Ok t
+  pub near : p + t.body_len ≤ 2 ^ 62
+  pub in_order : is_out_of_order (is_some s.schema) t.content ≡ false
+  pub none : against n s t.content ≡ None
 
--- a message that is judged is meant, and ends by the last place
-judged_small : (seen : Bool) (p : ℕ) (d : Result Message MetaFault) (t : Message) → Ok t ≡ judged seen p d →
-    (d ≡ Ok t) × (p + t.body_len ≤ 2 ^ 62)
-judged_small seen p (Ok u) t e =
-    let w = placed_cases (ltb (2 ^ 62) (p + u.body_len)) (is_out_of_order seen u.content) u t e in
+is_judged : (n : ℕ) (s : StreamState) (p : ℕ) (d : Result Message MetaFault) (t : Message) → Ok t ≡ judged n s p d → IsJudged n s p d t
+is_judged n s p (Ok u) t e =
+    let w = placed_cases (ltb (2 ^ 62) (p + u.body_len)) (is_out_of_order (is_some s.schema) u.content) (against n s u.content) u t e in
     let y = ltb-false (2 ^ 62) (p + u.body_len) w.0 in
-    let len : u.body_len ≡ t.body_len = ap (λ v. v.body_len) w.1 in
-    (ap Ok w.1, omega arith)
-judged_small seen p (Err faults.Metadata) t e = absurd (cc)
-judged_small seen p (Err faults.Version) t e = absurd (cc)
-judged_small seen p (Err faults.Header) t e = absurd (cc)
-judged_small seen p (Err faults.BodyLength) t e = absurd (cc)
-judged_small seen p (Err (faults.Unsupported n)) t e = absurd (never_placed (misplaced p n seen) Unsupported t e)
-judged_small seen p (Err (faults.Schema n)) t e = absurd (never_placed (misplaced p n seen) Schema t e)
-judged_small seen p (Err (faults.Compressed k n)) t e = absurd (never_placed (misplaced p n (not seen)) Compressed t e)
-judged_small seen p (Err faults.Memory) t e = absurd (cc)
+    let len : u.body_len ≡ t.body_len = ap (λ (v : Message). v.body_len) w.3 in
+    let same = ap (λ (v : Message). v.content) w.3 in
+    record {
+      meant = ap Ok w.3;
+      near = omega arith;
+      in_order = ap (is_out_of_order (is_some s.schema)) (sym same) ∙ w.1;
+      none = ap (against n s) (sym same) ∙ w.2;
+    }
+is_judged n s p (Err f) t e = absurd (cc)
 
 module _ {l : LimitNumbers} {s : StreamState} {p : ℕ} where
   pub size_small : {b : List ℕ} {m : ℕ} → HasPrefix l s p b (Ok (prefixes.Metadata m)) →
@@ -93,13 +97,20 @@ module _ {l : LimitNumbers} {s : StreamState} {p : ℕ} where
       let w = marker_cases (not (has_continuation (take 8 b))) (ltb l.max_metadata n) (ltb (2 ^ 62) (p + 8 + n)) (not (eqb n 0)) (not (is_some s.schema)) n h.says in
       let y = ltb-false (2 ^ 62) (p + 8 + n) w in omega arith
 
+  judged_at : {b : List ℕ} {m : ℕ} {t : Message} (h : HasMetadata l s p b m (Ok t)) → IsJudged l.max_rows s (p + 8 + length (take m (drop 8 b))) h.says.meant t
+  judged_at {b} {m} {t} h = is_judged l.max_rows s (p + 8 + length (take m (drop 8 b))) h.says.meant t h.says.says
+
   pub frame_small : {b : List ℕ} {m : ℕ} {t : Message} → HasMetadata l s p b m (Ok t) →
       (m ≤ l.max_metadata) × (t.body_len ≤ l.max_body) × (p + 8 + m + t.body_len ≤ 2 ^ 62)
   frame_small {b} {m} {t} h =
-      let w = judged_small (is_some s.schema) (p + 8 + length (take m (drop 8 b))) h.says.meant t h.says.says in
+      let w = judged_at h in
       let n : length (take m (drop 8 b)) ≡ m = simp (length-take, length-drop) (omega (arith, h.within)) in
-      let means = subst (λ r. Means l (take m (drop 8 b)) r) w.0 h.says.means in
-      ((size_small h.prefix).0, meaning_small means, omega (arith, w.1))
+      let means = subst (λ r. Means l (take m (drop 8 b)) r) w.meant h.says.means in
+      ((size_small h.prefix).0, meaning_small means, omega (arith, w.near))
+
+  -- a message that was judged may be applied
+  pub is_ready : {b : List ℕ} {m : ℕ} {t : Message} → l.max_rows ≤ 2147483647 → HasMetadata l s p b m (Ok t) → Ready s t.content
+  is_ready few h = let w = judged_at h in record { max_rows = l.max_rows; ceiling = few; in_order = w.in_order; none = w.none }
 
   -- a body that was read from the bytes held
   pub body_read : {h : List ℕ} {m : ℕ} {t : Message} {r : Result (StreamState × Given) Refusal} →
@@ -107,17 +118,26 @@ module _ {l : LimitNumbers} {s : StreamState} {p : ℕ} where
       BodySays s t.content (take t.body_len (drop (8 + m) h)) r → HasBody l s p h m t r
   body_read {h} {m} {t} {r} g n says = record { metadata = g; within = omega arith; says = says }
 
+  -- a body that is all the bytes held behind the metadata
+  pub body_said : {h : List ℕ} {m : ℕ} {t : Message} {r : Result (StreamState × Given) Refusal} (d : List ℕ) → d ≡ h →
+      HasMetadata l s p h m (Ok t) → length h ≡ 8 + m + t.body_len →
+      BodySays s t.content (take (length d - (8 + m)) (drop (8 + m) d)) r → HasBody l s p h m t r
+  body_said {h} {m} {t} {r} d e g n says =
+      let says' = subst (λ x. BodySays s t.content (take (length x - (8 + m)) (drop (8 + m) x)) r) e says in
+      let rest : length h - (8 + m) ≡ t.body_len = omega arith in
+      body_read g n (subst (λ i. BodySays s t.content (take i (drop (8 + m) h)) r) rest says')
+
   -- a metadata that was read from the bytes held
-  pub metadata_read : {h : List ℕ} {m : ℕ} {r : Result Message Refusal} (d : List ℕ) (seen : Bool) → d ≡ h →
-      seen ≡ is_some s.schema → HasPrefix l s p h (Ok (prefixes.Metadata m)) → length h ≡ 8 + m →
-      MetadataSays l seen (p + 8) (take (length d - 8) (drop 8 d)) r → HasMetadata l s p h m r
-  metadata_read {h} {m} {r} d seen e k g n says = record {
+  pub metadata_read : {h : List ℕ} {m : ℕ} {r : Result Message Refusal} (d : List ℕ) → d ≡ h →
+      HasPrefix l s p h (Ok (prefixes.Metadata m)) → length h ≡ 8 + m →
+      MetadataSays l s (p + 8) (take (length d - 8) (drop 8 d)) r → HasMetadata l s p h m r
+  metadata_read {h} {m} {r} d e g n says = record {
     prefix = g;
     within = omega arith;
     says =
-        let says' = subst (λ x. MetadataSays l seen (p + 8) (take (length x - 8) (drop 8 x)) r) e says in
+        let says' = subst (λ x. MetadataSays l s (p + 8) (take (length x - 8) (drop 8 x)) r) e says in
         let rest : length h - 8 ≡ m = omega arith in
-        subst (λ y. MetadataSays l y (p + 8) (take m (drop 8 h)) r) k (subst (λ x. MetadataSays l seen (p + 8) (take x (drop 8 h)) r) rest says');
+        subst (λ x. MetadataSays l s (p + 8) (take x (drop 8 h)) r) rest says';
   }
 
   -- a prefix that was read from the bytes held
@@ -136,18 +156,13 @@ held_small l s p h (phases.Metadata m) x = let w = size_small x.0 in omega (arit
 held_small l s p h (phases.Body m t) x = let w = frame_small x.0 in omega (arith, x.1)
 
 -- what stops a metadata that was read from the bytes held stops the work
-pub metadata_stops : {old new : Work} {h b : List ℕ} {m : ℕ} (d c : List ℕ) (seen : Bool) (stop : Stop) → d ≡ h →
-    seen ≡ is_some old.state.schema → HasPrefix old.limits (plain old.state) old.place h (Ok (prefixes.Metadata m)) →
+pub metadata_stops : {old new : Work} {h b : List ℕ} {m : ℕ} (d c : List ℕ) (stop : Stop) → d ≡ h →
+    HasPrefix old.limits (plain old.state) old.place h (Ok (prefixes.Metadata m)) →
     length h ≡ 8 + m → h ++ c ≡ b →
-    Understood old.limits seen (old.place + 8) (take (length d - 8) (drop 8 d)) (Err stop) → Stopped old b new →
+    Understood old.limits (plain old.state) (old.place + 8) (take (length d - 8) (drop 8 d)) (Err stop) → Stopped old b new →
     Works old b (Err stop) new
-metadata_stops {b = b} d c seen (Refused k) e q g n rest says x = record { stopped = x; first = bad_metadata (metadata_held b c (sym rest) (metadata_read d seen e q g n says)) }
-metadata_stops d c seen Memory e q g n rest says x = x
-
--- what a whole message leaves and gives
-pub body_comes : (s : StreamState) (m : Held) (body : List ℕ) →
-    BodySays s (content_of m) body (Ok (after m s, gives m))
-body_comes s (held.Schema fields) body = schema_comes
+metadata_stops {b = b} d c (Refused k) e g n rest says x = record { stopped = x; first = bad_metadata (metadata_held b c (sym rest) (metadata_read d e g n says)) }
+metadata_stops d c Memory e g n rest says x = x
 
 -- what is held was filled
 module _ {old piece : List ℕ} {want n : ℕ} {new : List ℕ} where
@@ -157,3 +172,66 @@ module _ {old piece : List ℕ} {want n : ℕ} {new : List ℕ} where
 
   pub filled : Filled old piece want n new → want ≤ length new → length new ≡ want
   filled f h = elim f.enough [ inl e ↦ e | inr w ↦ absurd (omega arith) ]
+
+-- the work at a message of which all bytes are held, in a state and with a message handed back
+abbrev handed_back : Work → State → ℕ → HeldContent → ℕ → Work
+handed_back old st m c n = record {
+  alloc = old.alloc;
+  limits = old.limits;
+  state = st;
+  place = old.place;
+  held = old.held;
+  phase = phases.Body m (record { content = c; body_len = n });
+}
+
+module _ (old : Work) (st : State) (m : ℕ) (t : HeldMessage) (c : HeldContent)
+    (known : HasMetadata old.limits (plain old.state) old.place old.held.items m (Ok (message_of t)))
+    (whole : length old.held.items ≡ 8 + m + t.body_len) where
+  not_applied : old.limits.max_rows ≤ 2147483647 → IsFit (plain st) → plain st ≡ plain old.state → content_of c ≡ content_of t.content →
+      NotApplied old (handed_back old st m c t.body_len)
+  not_applied few fit e f = record {
+    same = record { limits = refl; state = e; place = refl };
+    held = refl;
+    at = record {
+      shown = (
+        subst (λ x. HasMetadata old.limits x old.place old.held.items m (Ok (record { content = content_of c; body_len = t.body_len }))) (sym e)
+        (subst (λ k. HasMetadata old.limits (plain old.state) old.place old.held.items m (Ok (record { content = k; body_len = t.body_len }))) (sym f) known),
+        omega arith, few);
+      near = omega (arith, (frame_small known).2);
+      fit = fit;
+    };
+  }
+
+  -- a message that is not applied stops the work where it was
+  pub not_finished : (d : List ℕ) (stop : Stop) → d ≡ old.held.items → old.limits.max_rows ≤ 2147483647 → IsFit (plain st) →
+      Applies (plain old.state) (content_of t.content) (take (length d - (8 + m)) (drop (8 + m) d)) (Err (stop, c)) (plain st) →
+      Finishes old m (message_of t) (Err stop) (handed_back old st m c t.body_len)
+  not_finished d (Refused k) e few fit a = (not_applied few fit a.1 a.2, body_said d e known whole a.0)
+  not_finished d Memory e few fit a = not_applied few fit a.0 a.1
+
+-- so does the step to which it belongs
+module _ (old : Work) (h : Vec ℕ Global) (f : Phase) (new : Work) where
+  abbrev filled_up : Work
+  filled_up = record { alloc = old.alloc; limits = old.limits; state = old.state; place = old.place; held = h; phase = f }
+
+  pub finish_stops : (b rest : List ℕ) (m : ℕ) (t : Message) (stop : Stop) → h.items ++ rest ≡ b → length old.held.items ≤ length h.items →
+      Finishes filled_up m t (Err stop) new → Works old b (Err stop) new
+  finish_stops b rest m t (Refused k) e covers x =
+      let not = x.0 in
+      record {
+        stopped = record {
+          same = record { limits = not.same.limits; state = not.same.state; place = not.same.place };
+          more = rest;
+          held = sym e ∙ ap (λ y. y ++ rest) (sym not.held);
+          covers = subst (λ y. length old.held.items ≤ length y) (sym not.held) covers;
+          at = not.at;
+        };
+        first = bad_body (body_held b rest e x.1);
+      }
+  finish_stops b rest m t Memory e covers x = record {
+    same = record { limits = x.same.limits; state = x.same.state; place = x.same.place };
+    more = rest;
+    held = sym e ∙ ap (λ y. y ++ rest) (sym x.held);
+    covers = subst (λ y. length old.held.items ≤ length y) (sym x.held) covers;
+    at = x.at;
+  }

@@ -1,17 +1,24 @@
 -- What stands at the front of bytes: one message, the end marker, a refusal, or less than that (Columnar Format,
 -- "Encapsulated message format").
-use Rattle.std.specs.Prelude.{◌≡◌, ℕ, ◌+◌, ◌*◌, ◌^◌, ◌<◌, ◌≤◌, ◌==◌, ◌&&◌, not, nat_lt, if◌then◌else◌, Bool, List, length, slice_index, take, drop, Option, Some, None, is_some, Result, Ok, Err}
+use Rattle.std.specs.Prelude.{◌≡◌, ℕ, ℤ, ◌+◌, ◌*◌, ◌^◌, ◌<◌, ◌≤◌, ◌==◌, ◌&&◌, ◌||◌, not, nat_lt, if◌then◌else◌, Bool, List, [], length, slice_index, take, drop, Option, Some, None, is_some, Result, Ok, Err}
 use Rattle.arrow_types.specs.Field.{Fields}
 use Rattle.arrow_types.specs.Limits.{LimitNumbers}
 use Rattle.arrow_meta.specs.declared.fault.MetaFault.{MetaFault}
 use Rattle.arrow_meta.specs.declared.fault.MetaFault.TheVariants as faults
 use Rattle.arrow_stream.specs.declared.kind.Refusal.{Refusal}
-use Rattle.arrow_stream.specs.declared.kind.Refusal.TheVariants.{Continuation, MetadataSize, Metadata, Version, Header, BodyLength, Order, Unsupported, Schema, Compressed, NoSchema}
+use Rattle.arrow_stream.specs.declared.kind.Refusal.TheVariants.{Continuation, MetadataSize, Metadata, Version, Header, BodyLength, Order, Unsupported, Schema, Compressed, UnknownId, NoBase, Rows, NoSchema}
 use Rattle.arrow_stream.specs.declared.prefix.Prefix.{Prefix}
 use Rattle.arrow_stream.specs.declared.prefix.Prefix.TheVariants as prefixes
-use Rattle.arrow_stream.specs.State.{StreamState, Given, schema_given}
-use Rattle.arrow_stream.specs.Message.{Content, schema, Message}
+use Rattle.arrow_types.specs.Schema.{dictionary_fields}
+use Rattle.arrow_array.specs.Column.{Column}
+use Rattle.arrow_array.specs.Listed.{listed}
+use Rattle.arrow_body.specs.Held.{count_of}
+use Rattle.arrow_dict.specs.ValueTypes.{value_type_of}
+use Rattle.arrow_meta.specs.Means.{PlainBatch, PlainHeader, schema, dictionary, batch}
+use Rattle.arrow_stream.specs.State.{StreamState, Given, schema_given, fields_in}
+use Rattle.arrow_stream.specs.Message.{Message}
 use Rattle.arrow_stream.specs.Meaning.{Means}
+use Rattle.arrow_stream.specs.Batch.{Holds, base_of, batch_left, dictionary_left, has_bad_length, value_fields}
 
 -- the number of the four bytes from place p on, the least first
 abbrev pub number_at : List ℕ → ℕ → ℕ
@@ -34,50 +41,83 @@ prefix_says limits has_schema place b =
     (if not (number_at b 4 == 0) then Ok (prefixes.Metadata (number_at b 4)) else
     (if not has_schema then Err NoSchema else Ok prefixes.EndMarker))))
 
--- whether a message may not stand here: a schema behind a schema
-abbrev pub is_out_of_order : Bool → Content → Bool
+-- whether a message may not stand here: a schema behind a schema, a batch before it
+abbrev pub is_out_of_order : Bool → PlainHeader → Bool
 is_out_of_order has_schema (schema fields) = has_schema
+is_out_of_order has_schema (dictionary id delta rows) = not has_schema
+is_out_of_order has_schema (batch rows) = not has_schema
 
 -- The kind that a message's place decides, if one does: its body would end past 2^62, or it is out of order.
 abbrev pub misplaced : ℕ → ℕ → Bool → Option Refusal
 misplaced end body_len out_of_order =
     if nat_lt (2 ^ 62) (end + body_len) then Some BodyLength else (if out_of_order then Some Order else None)
 
+-- The kind that stands against a dictionary batch, if one does: no field gives its id, a delta finds no dictionary, or
+-- there are too many rows, in the batch or in the dictionary behind it.
+abbrev pub against_dictionary : ℕ → StreamState → ℤ → Bool → PlainBatch → Option Refusal
+against_dictionary max_rows s id delta rows =
+    if not (is_some (value_type_of (dictionary_fields (fields_in s.schema)) id)) then Some UnknownId else
+    (if delta && not (is_some (listed s.dictionaries id)) then Some NoBase else
+    (if has_bad_length max_rows (value_fields s.schema id) rows then Some Rows else
+    (if nat_lt max_rows (length (base_of delta (listed s.dictionaries id)) + count_of rows.length) then Some Rows else
+    None)))
+
+-- The kind that stands against a message by what was read before it, if one does.
+abbrev pub against : ℕ → StreamState → PlainHeader → Option Refusal
+against max_rows s (schema fields) = None
+against max_rows s (dictionary id delta rows) = against_dictionary max_rows s id delta rows
+against max_rows s (batch rows) = if has_bad_length max_rows (fields_in s.schema) rows then Some Rows else None
+
+-- that kind, or else one with a greater number
+abbrev pub least_kind : Option Refusal → Refusal → Refusal
+least_kind (Some k) j = k
+least_kind None j = j
+
+-- The least kind of a metadata with this fault that ends at this place, behind a schema or not. Of the faults Unsupported
+-- and Schema are of a schema, and Compressed is of a batch. Want of memory is no meaning, and stands here for
+-- completeness alone.
+abbrev pub kind_of_fault : Bool → ℕ → MetaFault → Refusal
+kind_of_fault has_schema end faults.Metadata = Metadata
+kind_of_fault has_schema end faults.Version = Version
+kind_of_fault has_schema end faults.Header = Header
+kind_of_fault has_schema end faults.BodyLength = BodyLength
+kind_of_fault has_schema end (faults.Unsupported body_len) = least_kind (misplaced end body_len has_schema) Unsupported
+kind_of_fault has_schema end (faults.Schema body_len) = least_kind (misplaced end body_len has_schema) Schema
+kind_of_fault has_schema end (faults.Compressed where_found body_len) = least_kind (misplaced end body_len (not has_schema)) Compressed
+kind_of_fault has_schema end faults.Memory = Metadata
+
 -- that kind, or else what has a greater number, or nothing against the message
 abbrev pub refused_first : Option Refusal → Result Message Refusal → Result Message Refusal
 refused_first (Some k) r = Err k
 refused_first None r = r
 
--- What a metadata that ends at this place says there: the message, or the least of the kinds of the metadata by
--- itself and of those that its place decides. Of the metadata's faults Unsupported and Schema are of a schema, and
--- Compressed is of a batch. Want of memory is no meaning, and stands here for completeness alone.
-abbrev pub judged : Bool → ℕ → Result Message MetaFault → Result Message Refusal
-judged has_schema end (Err faults.Metadata) = Err Metadata
-judged has_schema end (Err faults.Version) = Err Version
-judged has_schema end (Err faults.Header) = Err Header
-judged has_schema end (Err faults.BodyLength) = Err BodyLength
-judged has_schema end (Err (faults.Unsupported body_len)) =
-    refused_first (misplaced end body_len has_schema) (Err Unsupported)
-judged has_schema end (Err (faults.Schema body_len)) =
-    refused_first (misplaced end body_len has_schema) (Err Schema)
-judged has_schema end (Err (faults.Compressed batch body_len)) =
-    refused_first (misplaced end body_len (not has_schema)) (Err Compressed)
-judged has_schema end (Err faults.Memory) = Err Metadata
-judged has_schema end (Ok m) =
-    refused_first (misplaced end m.body_len (is_out_of_order has_schema m.content)) (Ok m)
+-- What a metadata that ends at this place says there, behind what was read before: the message, or the least of the kinds
+-- of the metadata by itself and of those that its place and what was read before decide.
+abbrev pub judged : ℕ → StreamState → ℕ → Result Message MetaFault → Result Message Refusal
+judged max_rows s end (Err fault) = Err (kind_of_fault (is_some s.schema) end fault)
+judged max_rows s end (Ok m) =
+    refused_first (misplaced end m.body_len (is_out_of_order (is_some s.schema) m.content))
+    (refused_first (against max_rows s m.content) (Ok m))
 
 -- what a metadata says that begins at this place
-pub record MetadataSays (limits : LimitNumbers) (has_schema : Bool) (start : ℕ) (metadata : List ℕ)
+pub record MetadataSays (limits : LimitNumbers) (s : StreamState) (start : ℕ) (metadata : List ℕ)
     (r : Result Message Refusal) : Type 0 where
   pub meant : Result Message MetaFault
   pub means : Means limits metadata meant
-  pub says : r ≡ judged has_schema (start + length metadata) meant
+  pub says : r ≡ judged limits.max_rows s (start + length metadata) meant
 
 -- What a message and its whole body do: the state that they leave and what they give, or the kind that the body
--- decides. The body of a schema message is not looked at.
-pub data BodySays : StreamState → Content → List ℕ → Result (StreamState × Given) Refusal → Type 0 where
-  schema_comes : {s : StreamState} {fields : Fields} {body : List ℕ} →
-      BodySays s (schema fields) body (Ok (record { schema = Some fields }, schema_given))
+-- decides. A schema begins with no dictionaries, and its body is not looked at. The values of a dictionary have no
+-- dictionaries of their own. The indices of a record batch are looked up in the dictionaries as they stand here.
+pub data BodySays (s : StreamState) : PlainHeader → List ℕ → Result (StreamState × Given) Refusal → Type 0 where
+  schema_comes : {fields : Fields} {body : List ℕ} →
+      BodySays s (schema fields) body (Ok (record { schema = Some fields; dictionaries = [] }, schema_given))
+  dictionary_comes : {id : ℤ} {delta : Bool} {rows : PlainBatch} {body : List ℕ} {cs : Result (List Column) Refusal}
+      {r : Result (StreamState × Given) Refusal} → Holds body [] (value_fields s.schema id) rows cs →
+      r ≡ dictionary_left s id delta cs → BodySays s (dictionary id delta rows) body r
+  batch_comes : {rows : PlainBatch} {body : List ℕ} {cs : Result (List Column) Refusal}
+      {r : Result (StreamState × Given) Refusal} → Holds body s.dictionaries (fields_in s.schema) rows cs →
+      r ≡ batch_left s rows cs → BodySays s (batch rows) body r
 
 -- b begins with eight bytes that say r
 pub record HasPrefix (limits : LimitNumbers) (s : StreamState) (place : ℕ) (b : List ℕ)
@@ -90,7 +130,7 @@ pub record HasMetadata (limits : LimitNumbers) (s : StreamState) (place : ℕ) (
     (r : Result Message Refusal) : Type 0 where
   pub prefix : HasPrefix limits s place b (Ok (prefixes.Metadata m))
   pub within : 8 + m ≤ length b
-  pub says : MetadataSays limits (is_some s.schema) (place + 8) (take m (drop 8 b)) r
+  pub says : MetadataSays limits s (place + 8) (take m (drop 8 b)) r
 
 -- b begins with a whole frame: a metadata of m bytes that announces this message, and its body, which says r
 pub record HasBody (limits : LimitNumbers) (s : StreamState) (place : ℕ) (b : List ℕ) (m : ℕ) (message : Message)

@@ -2,6 +2,7 @@ pub mod Kind
 pub mod State
 pub mod Message
 pub mod Meaning
+pub mod Batch
 pub mod Frame
 pub mod Front
 pub mod Laws

@@ -1,16 +1,27 @@
 -- What a stream has told so far, and what its messages give (Columnar Format, "IPC Streaming Format").
-use Rattle.std.specs.Prelude.{Option, None}
-use Rattle.arrow_types.specs.Field.{Fields}
+use Rattle.std.specs.Prelude.{ℤ, List, [], Option, Some, None}
+use Rattle.arrow_types.specs.Field.{Fields, none}
+use Rattle.arrow_array.specs.Batch.{Table}
+use Rattle.arrow_array.specs.Column.{ValueList}
 
--- what the whole messages leave to the ones behind them
+-- what the whole messages leave to the ones behind them: the schema, and the dictionaries by rising id
 pub record StreamState : Type 0 where
   pub schema : Option Fields
+  pub dictionaries : List (ℤ × ValueList)
 
 -- where a stream begins
 abbrev pub nothing_yet : StreamState
-nothing_yet = record { schema = None }
+nothing_yet = record { schema = None; dictionaries = [] }
 
--- what a whole message gives to the reader's caller, or the end marker
+-- the columns of the stream's batches, none before its schema
+abbrev pub fields_in : Option Fields → Fields
+fields_in None = none
+fields_in (Some fields) = fields
+
+-- What a whole message gives to the reader's caller, or the end marker. A batch gives its rows with every index looked
+-- up in the dictionaries as they stand then.
 pub data Given : Type 0 where
   schema_given : Given
+  dictionary_given : ℤ → Given
+  batch_given : Table → Given
   ended : Given

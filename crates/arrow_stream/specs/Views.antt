@@ -1,63 +1,111 @@
 -- What the values of the program say.
-use Rattle.std.specs.Prelude.{◌≡◌, ℕ, List, Bool, Some, Result, Ok, Err}
+use Rattle.std.specs.Prelude.{◌≡◌, ◌≤◌, ◌≤ℤ◌, ℕ, ℤ, pos, List, [], ◌∷◌, Bool, true, false, None, Option, Some, is_some, not, Result, Ok, Err}
+use Rattle.arrow_types.specs.Field.{Fields, TypeShape}
 use Rattle.arrow_types.specs.Limits.{LimitNumbers}
+use Rattle.arrow_types.specs.Schema.{dictionary_fields, has_encoding}
+use Rattle.arrow_array.specs.Batch.{Table}
+use Rattle.arrow_array.specs.Column.{Column, ValueList}
+use Rattle.arrow_array.specs.Listed.{listed}
+use Rattle.arrow_dict.specs.ValueTypes.{value_type_of}
 use Rattle.arrow_meta.specs.declared.fault.MetaFault.{MetaFault}
 use Rattle.arrow_meta.specs.declared.fault.MetaFault.TheVariants as faults
+use Rattle.arrow_meta.specs.Means.{PlainBatch, PlainHeader, PlainMessage, schema, dictionary, batch, batch_view}
 use Rattle.arrow_stream.specs.declared.item.Item.{Item}
 use Rattle.arrow_stream.specs.declared.item.Item.TheVariants as items
-use Rattle.arrow_stream.specs.declared.message.Content.{Content as Held}
+use Rattle.arrow_stream.specs.declared.message.Content.{Content as HeldContent}
 use Rattle.arrow_stream.specs.declared.message.Content.TheVariants as held
 use Rattle.arrow_stream.specs.declared.message.Message.{Message as HeldMessage}
 use Rattle.arrow_stream.specs.declared.message.Stop.{Stop}
 use Rattle.arrow_stream.specs.declared.message.Stop.TheVariants.{Refused, Memory}
 use Rattle.arrow_stream.specs.declared.kind.Refusal.{Refusal}
 use Rattle.arrow_stream.specs.declared.state.State.{State}
-use Rattle.arrow_stream.specs.State.{StreamState, Given, schema_given, ended}
-use Rattle.arrow_stream.specs.Message.{Content, schema, Message}
+use Rattle.arrow_stream.specs.Batch.{Holds, base_of, dictionary_left, value_fields}
+use Rattle.arrow_stream.specs.State.{StreamState, Given, schema_given, dictionary_given, batch_given, ended, fields_in}
+use Rattle.arrow_stream.specs.Message.{Message}
 use Rattle.arrow_stream.specs.Meaning.{Means}
-use Rattle.arrow_stream.specs.Frame.{judged, MetadataSays}
+use Rattle.arrow_stream.specs.Frame.{BodySays, MetadataSays, against, is_out_of_order, judged, kind_of_fault}
 
 abbrev pub plain : State → StreamState
-plain s = record { schema = s.schema }
+plain s = record { schema = s.columns; dictionaries = s.dictionaries }
 
 abbrev pub given : Item → Given
 given items.Schema = schema_given
+given (items.Dictionary id) = dictionary_given id
+given (items.Batch b) = batch_given b
 given items.End = ended
 
-abbrev pub content_of : Held → Content
+abbrev pub content_of : HeldContent → PlainHeader
 content_of (held.Schema s) = schema s
+content_of (held.Dictionary id delta rows) = dictionary id delta (batch_view rows)
+content_of (held.Batch rows) = batch (batch_view rows)
 
 abbrev pub message_of : HeldMessage → Message
 message_of m = record { content = content_of m.content; body_len = m.body_len }
 
--- what a whole message leaves, and what it gives
-abbrev pub after : Held → StreamState → StreamState
-after (held.Schema fields) s = record { schema = Some fields }
-
-abbrev pub gives : Held → Given
-gives (held.Schema fields) = schema_given
-
-abbrev pub meant_by : Result HeldMessage MetaFault → Result Message MetaFault
-meant_by (Ok m) = Ok (message_of m)
-meant_by (Err f) = Err f
-
-abbrev pub judged_by : Result HeldMessage Refusal → Result Message Refusal
-judged_by (Ok m) = Ok (message_of m)
-judged_by (Err k) = Err k
-
--- what a metadata means by itself; want of memory says nothing of it
-abbrev pub Reads : LimitNumbers → List ℕ → Result HeldMessage MetaFault → Type 0
-Reads limits metadata (Err faults.Memory) = Unit {0}
-Reads limits metadata r = Means limits metadata (meant_by r)
+abbrev pub announced : PlainMessage → Message
+announced m = record { content = m.header; body_len = m.body_len }
 
 -- Why a metadata with this fault is not read on that ends at this place: the least kind, or want of memory.
 abbrev pub StopsBy : Stop → Bool → ℕ → MetaFault → Type 0
-StopsBy (Refused k) has_schema end fault =
-    (fault ≡ faults.Memory → ⊥) × (judged has_schema end (Err fault) ≡ Err k)
+StopsBy (Refused k) has_schema end fault = (fault ≡ faults.Memory → ⊥) × (k ≡ kind_of_fault has_schema end fault)
 StopsBy Memory has_schema end fault = fault ≡ faults.Memory
 
+-- what a message is answered with whose metadata end at this place; want of memory says nothing of it
+abbrev pub Placed : ℕ → StreamState → ℕ → PlainMessage → Result HeldMessage Stop → Type 0
+Placed max_rows s end m (Ok r) = Ok (message_of r) ≡ judged max_rows s end (Ok (announced m))
+Placed max_rows s end m (Err (Refused k)) = Err k ≡ judged max_rows s end (Ok (announced m))
+Placed max_rows s end m (Err Memory) = Unit {0}
+
 -- what a metadata says that begins at this place; want of memory says nothing of it
-abbrev pub Understood : LimitNumbers → Bool → ℕ → List ℕ → Result HeldMessage Stop → Type 0
-Understood limits has_schema start metadata (Ok m) = MetadataSays limits has_schema start metadata (Ok (message_of m))
-Understood limits has_schema start metadata (Err (Refused k)) = MetadataSays limits has_schema start metadata (Err k)
-Understood limits has_schema start metadata (Err Memory) = Unit {0}
+abbrev pub Understood : LimitNumbers → StreamState → ℕ → List ℕ → Result HeldMessage Stop → Type 0
+Understood limits s start metadata (Ok m) = MetadataSays limits s start metadata (Ok (message_of m))
+Understood limits s start metadata (Err (Refused k)) = MetadataSays limits s start metadata (Err k)
+Understood limits s start metadata (Err Memory) = Unit {0}
+
+-- Each dictionary has the type of the values of the fields that give its id.
+pub record IsFit (s : StreamState) : Type 0 where
+  pub typed : (id : ℤ) (t : TypeShape) (d : ValueList) →
+      value_type_of (dictionary_fields (fields_in s.schema)) id ≡ Some t → listed s.dictionaries id ≡ Some d → d.data_type ≡ t
+
+-- A message may be applied: it is in order, and nothing stands against it by a limit that offsets of 32 bits keep to.
+pub record Ready (s : StreamState) (m : PlainHeader) : Type 0 where
+  pub max_rows : ℕ
+  pub ceiling : max_rows ≤ 2147483647
+  pub in_order : is_out_of_order (is_some s.schema) m ≡ false
+  pub none : against max_rows s m ≡ None
+
+-- the refusal of a body; want of memory says nothing of it
+abbrev pub HoldsNone : List ℕ → List (ℤ × ValueList) → Fields → PlainBatch → Stop → Type 0
+HoldsNone body ds fields rows (Refused k) = Holds body ds fields rows (Err k)
+HoldsNone body ds fields rows Memory = Unit {0}
+
+-- the one column of a dictionary batch is of the type of the dictionary's values
+pub record AreValues (s : StreamState) (id : ℤ) (rows : PlainBatch) (body : List ℕ) (c : Column) : Type 0 where
+  pub holds : Holds body [] (value_fields s.schema id) rows (Ok (c ∷ []))
+  pub typed : value_type_of (dictionary_fields (fields_in s.schema)) id ≡ Some c.data_type
+  pub plain : c.encoding ≡ None
+  pub flat : has_encoding c.data_type.children ≡ false
+
+abbrev pub HeldValues : StreamState → ℤ → PlainBatch → List ℕ → Result Column Stop → Type 0
+HeldValues s id rows body (Ok c) = AreValues s id rows body c
+HeldValues s id rows body (Err (Refused k)) = Holds body [] (value_fields s.schema id) rows (Err k)
+HeldValues s id rows body (Err Memory) = Unit {0}
+
+-- what a dictionary batch leaves, or its refusal; where it is not taken nothing changes
+abbrev pub Updates : StreamState → ℤ → Bool → PlainBatch → List ℕ → Result (Unit {0}) Stop → StreamState → Type 0
+Updates s id delta rows body (Ok x) s' = BodySays s (dictionary id delta rows) body (Ok (s', dictionary_given id))
+Updates s id delta rows body (Err (Refused k)) s' = BodySays s (dictionary id delta rows) body (Err k) × (s' ≡ s)
+Updates s id delta rows body (Err Memory) s' = s' ≡ s
+
+-- the rows that a record batch gives, or its refusal
+abbrev pub Gives : StreamState → PlainBatch → List ℕ → Result Table Stop → Type 0
+Gives s rows body (Ok b) = BodySays s (batch rows) body (Ok (s, batch_given b))
+Gives s rows body (Err (Refused k)) = BodySays s (batch rows) body (Err k)
+Gives s rows body (Err Memory) = Unit {0}
+
+-- What a message with its whole body leaves and gives, or its refusal. Where it is not applied nothing changes, and the
+-- message is handed back.
+abbrev pub Applies : StreamState → PlainHeader → List ℕ → Result Item (Stop × HeldContent) → StreamState → Type 0
+Applies s m body (Ok item) s' = BodySays s m body (Ok (s', given item))
+Applies s m body (Err (Refused k, c)) s' = BodySays s m body (Err k) × (s' ≡ s) × (content_of c ≡ m)
+Applies s m body (Err (Memory, c)) s' = (s' ≡ s) × (content_of c ≡ m)

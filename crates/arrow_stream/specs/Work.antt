@@ -11,9 +11,10 @@ use Rattle.arrow_stream.specs.declared.work.Phase.TheVariants as phases
 use Rattle.arrow_stream.specs.declared.work.Step.{Step}
 use Rattle.arrow_stream.specs.declared.work.Step.TheVariants as steps
 use Rattle.arrow_stream.specs.declared.work.Work.{Work}
+use Rattle.arrow_stream.specs.Message.{Message}
 use Rattle.arrow_stream.specs.State.{StreamState}
-use Rattle.arrow_stream.specs.Frame.{HasPrefix, HasMetadata, Outcome, First, whole, marker, refused, waits}
-use Rattle.arrow_stream.specs.Views.{plain, given, message_of}
+use Rattle.arrow_stream.specs.Frame.{HasPrefix, HasMetadata, HasBody, Outcome, First, whole, marker, refused, waits}
+use Rattle.arrow_stream.specs.Views.{IsFit, plain, given, message_of}
 
 -- n bytes of a piece went behind the old ones, as many as there were up to the number wanted
 pub record Filled (old piece : List ℕ) (want n : ℕ) (new : List ℕ) : Type 0 where
@@ -26,11 +27,12 @@ pub record Filled (old piece : List ℕ) (want n : ℕ) (new : List ℕ) : Type 
 abbrev pub Shown : LimitNumbers → StreamState → ℕ → List ℕ → Phase → Type 0
 Shown l s p h phases.Prefix = length h ≤ 8
 Shown l s p h (phases.Metadata m) = HasPrefix l s p h (Ok (prefixes.Metadata m)) × (length h ≤ 8 + m)
-Shown l s p h (phases.Body m t) = HasMetadata l s p h m (Ok (message_of t)) × (length h ≤ 8 + m + t.body_len)
+Shown l s p h (phases.Body m t) = HasMetadata l s p h m (Ok (message_of t)) × (length h ≤ 8 + m + t.body_len) × (l.max_rows ≤ 2147483647)
 
 pub record IsAt (w : Work) : Type 0 where
   pub shown : Shown w.limits (plain w.state) w.place w.held.items w.phase
   pub near : w.place ≤ 2 ^ 62
+  pub fit : IsFit (plain w.state)
 
 -- what stands at the front of b, where the work is
 abbrev pub FirstAt : Work → List ℕ → Outcome → Type 0
@@ -86,6 +88,27 @@ Works old b (Ok steps.EndMarker) new = Marked old b new
 Works old b (Ok (steps.Whole item)) new = Gave old b item new
 Works old b (Err (Refused k)) new = Failed old b k new
 Works old b (Err Memory) new = Stopped old b new
+
+-- A message was applied that all the bytes held were.
+pub record Applied (old : Work) (m : ℕ) (message : Message) (item : Item) (new : Work) : Type 0 where
+  pub limits : new.limits ≡ old.limits
+  pub place : new.place ≡ old.place + length old.held.items
+  pub held : new.held.items ≡ []
+  pub at : IsAt new
+  pub body : HasBody old.limits (plain old.state) old.place old.held.items m message (Ok (plain new.state, given item))
+
+-- it was not, and nothing but the phase changed
+pub record NotApplied (old new : Work) : Type 0 where
+  pub same : SameBut old new
+  pub held : new.held.items ≡ old.held.items
+  pub at : IsAt new
+
+-- what becomes of a message of which all bytes are held
+abbrev pub Finishes : Work → ℕ → Message → Result Item Stop → Work → Type 0
+Finishes old m message (Ok item) new = Applied old m message item new
+Finishes old m message (Err (Refused k)) new =
+    NotApplied old new × HasBody old.limits (plain old.state) old.place old.held.items m message (Err k)
+Finishes old m message (Err Memory) new = NotApplied old new
 
 -- the first bytes held alone
 pub record Rewound (old : Work) (count : ℕ) (new : Work) : Type 0 where

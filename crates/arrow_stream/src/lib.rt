@@ -12,6 +12,8 @@
 //! So a reader's answers hang on the bytes alone and on no cut between them: [`laws`] says it in three sentences.
 #![tactic(auto)]
 
+mod body;
+mod columns;
 mod fault;
 #[cfg(test)]
 mod frames;
@@ -22,6 +24,7 @@ pub mod laws;
 mod message;
 mod prefix;
 mod reader;
+mod refusals;
 mod state;
 #[cfg(test)]
 mod tests;

@@ -1,25 +1,31 @@
 //! What a message announces: what its metadata mean where they stand.
 
-ghost use Rattle.std.specs.Prelude.{◌≡◌, ◌^◌, ◌+◌, ◌≤◌, length, Ok};
-ghost use Rattle.arrow_stream.specs.Frame.{judged, misplaced};
-ghost use Rattle.arrow_meta.specs.Means.{header_view};
-ghost use Rattle.arrow_stream.specs.Meaning.{without_schema, schema_in};
-ghost use Rattle.arrow_stream.specs.Views.{Reads, StopsBy, Understood, judged_by, meant_by, message_of};
+ghost use Rattle.std.specs.Prelude.{◌≡◌, ◌^◌, ◌+◌, ◌≤◌, length, IfOk};
+ghost use Rattle.arrow_meta.specs.Means.{header_view, message_view};
+ghost use Rattle.arrow_stream.specs.Frame.{misplaced};
+ghost use Rattle.arrow_stream.specs.Views.{Placed, StopsBy, Understood, content_of, plain};
 
+use crate::columns::Columns;
 use crate::kind::Refusal;
-use arrow_meta::{Header, MetaFault, judge, tree};
-use arrow_types::{Limits, Schema};
-use std::alloc::Global;
+use crate::refusals::{against, is_out_of_order, misplaced};
+use crate::state::State;
+use arrow_meta::{Header, Message as Judged, MetaFault, RecordBatch, decode};
+use arrow_types::Limits;
+use std::alloc::{AllocError, Global};
 
 /// What a message holds, by its header.
-#[derive(Debug, Drop)]
+#[derive(Drop)]
 pub(crate) enum Content {
     /// The schema of the stream.
-    Schema(Schema),
+    Schema(Columns),
+    /// Values for the dictionary of this id: with true they are appended to it, with false they replace it.
+    Dictionary(i64, bool, RecordBatch),
+    /// Rows.
+    Batch(RecordBatch),
 }
 
 /// What the metadata of a message announce.
-#[derive(Debug, Drop)]
+#[derive(Drop)]
 pub(crate) struct Message {
     pub(crate) content: Content,
     /// How many bytes of body follow the metadata.
@@ -35,81 +41,62 @@ pub(crate) enum Stop {
     Memory,
 }
 
-/// What a metadata says that begins at the place `start` of a stream, behind a schema or not.
+/// What a metadata says that begins at the place `start` of a stream, behind what was read before. What the message
+/// needs to be applied is made here, but for what its body holds.
 pub(crate) fn understand(
     alloc: Global,
     limits: &Limits,
-    has_schema: bool,
+    state: &State,
     start: u64,
     metadata: &[u8],
 ) -> Result<Message, Stop>
     requires near { start + length metadata.now ≤ 2 ^ 62 }
-    ensures says { Understood limits.now has_schema start metadata.now result }
+    ensures says { Understood limits.now (plain state.now) start metadata.now result }
+    ensures ceiling { limits.now.max_rows ≤ 2147483647 }
 {
     let end = start + metadata.len() as u64;
-    match meaning(alloc, limits, metadata) {
-        Ok(message) => match judge_place(has_schema, end, message) {
-            Ok(message) => Ok(message),
-            Err(refusal) => Err(Stop::Refused(refusal)),
-        },
-        Err(fault) => Err(stop_by(has_schema, end, fault)),
+    let max_rows = limits.max_rows();
+    match decode(alloc, metadata, limits) {
+        Ok(message) => place(alloc, max_rows, state, end, message),
+        Err(fault) => Err(stop_by(state.columns.is_some(), end, fault)),
     }
 }
 
-/// What a metadata means by itself, to a reader that reads schemas alone.
-fn meaning(alloc: Global, limits: &Limits, metadata: &[u8]) -> Result<Message, MetaFault>
-    ensures reads { Reads limits.now metadata.now result }
-{
-    let tree = tree(alloc, metadata, limits)?;
-    let is_schema = tree.is_schema();
-    match judge(alloc, tree, limits) {
-        Ok(message) => {
-            let body_len = message.body_len;
-            schema_in(message.header, body_len)
-        }
-        Err(fault) if is_schema => Err(fault),
-        Err(fault) => Err(without_schema(fault)),
-    }
-}
-
-/// The message with this header and a body of this length, if it holds a schema.
-fn schema_in(header: Header, body_len: u64) -> Result<Message, MetaFault>
-    ensures schema { meant_by result ≡ schema_in (header_view header) body_len }
-{
-    match header {
-        Header::Schema(schema) => Ok(Message {
-            content: Content::Schema(schema),
-            body_len,
-        }),
-        Header::Dictionary(_, _, _) => Err(MetaFault::Header),
-        Header::Batch(_) => Err(MetaFault::Header),
-    }
-}
-
-/// The fault of a message that is no schema: its header is refused, unless a fault of a lower number holds.
-fn without_schema(fault: MetaFault) -> MetaFault
-    ensures fault { result ≡ without_schema fault }
-{
-    match fault {
-        MetaFault::Metadata => MetaFault::Metadata,
-        MetaFault::Version => MetaFault::Version,
-        MetaFault::Memory => MetaFault::Memory,
-        _ => MetaFault::Header,
-    }
-}
-
-/// The message where its metadata end at the place `end`, or the kind that the place decides.
-fn judge_place(has_schema: bool, end: u64, message: Message) -> Result<Message, Refusal>
+/// The message where its metadata end at the place `end`, or the least kind that its place and what was read before
+/// decide.
+fn place(
+    alloc: Global,
+    max_rows: u64,
+    state: &State,
+    end: u64,
+    message: Judged,
+) -> Result<Message, Stop>
     requires near { end ≤ 2 ^ 62 }
-    ensures judged { judged_by result ≡ judged has_schema end (Ok (message_of message)) }
+    ensures placed { Placed max_rows (plain state.now) end (message_view message) result }
 {
-    let out_of_order = match &message.content {
-        Content::Schema(_) => has_schema,
-    };
-    match misplaced(end, message.body_len, out_of_order) {
-        Some(refusal) => Err(refusal),
-        None => Ok(message),
+    let out_of_order = is_out_of_order(state.columns.is_some(), &message.header);
+    if let Some(refusal) = misplaced(end, message.body_len, out_of_order) {
+        return Err(Stop::Refused(refusal));
     }
+    if let Some(refusal) = against(max_rows, state, &message.header) {
+        return Err(Stop::Refused(refusal));
+    }
+    let body_len = message.body_len;
+    match content_by(alloc, message.header) {
+        Ok(content) => Ok(Message { content, body_len }),
+        Err(_) => Err(Stop::Memory),
+    }
+}
+
+/// What a message with this header holds.
+fn content_by(alloc: Global, header: Header) -> Result<Content, AllocError>
+    ensures same { IfOk result (λ c. content_of c ≡ header_view header) }
+{
+    Ok(match header {
+        Header::Schema(schema) => Content::Schema(Columns::of(alloc, schema)?),
+        Header::Dictionary(id, is_delta, rows) => Content::Dictionary(id, is_delta, rows),
+        Header::Batch(rows) => Content::Batch(rows),
+    })
 }
 
 /// Why a metadata with this fault is not read on that ends at the place `end`: the least kind of its own and of
@@ -134,19 +121,4 @@ fn stop_by(has_schema: bool, end: u64, fault: MetaFault) -> Stop
             Stop::Refused(misplaced(end, body_len, !has_schema).unwrap_or(Refusal::Compressed))
         }
     }
-}
-
-/// The kind that the place of a message decides, if one does: a body that would end past the last place, or the
-/// order of messages.
-fn misplaced(end: u64, body_len: u64, out_of_order: bool) -> Option<Refusal>
-    requires near { end ≤ 2 ^ 62 }
-    ensures kind { result ≡ misplaced end body_len out_of_order }
-{
-    if Limits::LAST_PLACE - end < body_len {
-        return Some(Refusal::BodyLength);
-    }
-    if out_of_order {
-        return Some(Refusal::Order);
-    }
-    None
 }

@@ -12,6 +12,7 @@ use crate::kind::{Kind, Refusal};
 use crate::message::Stop;
 use crate::state::State;
 use crate::work::{Phase, Step, Work};
+use arrow_dict::Store;
 use arrow_types::{Limits, Schema};
 use std::alloc::Global;
 use std::marker::Model;
@@ -67,7 +68,7 @@ impl StreamReader {
             work: Work {
                 alloc,
                 limits,
-                state: State { schema: None },
+                state: State::new(alloc),
                 place: 0,
                 held: Vec::new(alloc),
                 phase: Phase::Prefix,
@@ -162,7 +163,7 @@ impl StreamReader {
         let kind = match self.verdict {
             Verdict::Bad(refusal) => refusal.kind(),
             Verdict::Done => return Ok(()),
-            Verdict::Open if self.work.state.schema.is_none() => Kind::NoSchema,
+            Verdict::Open if self.work.state.columns.is_none() => Kind::NoSchema,
             Verdict::Open if self.work.held.is_empty() => return Ok(()),
             Verdict::Open => Kind::Truncated,
         };
@@ -203,6 +204,16 @@ impl StreamReader {
     pub fn schema(&self) -> Option<&Schema>
         ensures schema { option_map (λ s. s.now) result ≡ self.now.at.state.schema }
     {
-        self.work.state.schema.as_ref()
+        match &self.work.state.columns {
+            Some(columns) => Some(columns.schema()),
+            None => None,
+        }
+    }
+
+    /// The stream's dictionaries as the whole messages left them. It takes no memory.
+    pub fn dictionaries(&self) -> &Store
+        ensures dictionaries { result.now ≡ self.now.at.state.dictionaries }
+    {
+        &self.work.state.dictionaries
     }
 }

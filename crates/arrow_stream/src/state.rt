@@ -1,28 +1,200 @@
 //! What the messages of a stream leave to the ones behind them.
 
-ghost use Rattle.std.specs.Prelude.{◌≡◌};
-ghost use Rattle.arrow_stream.specs.Views.{plain, given, after, gives};
+ghost use Rattle.std.specs.Prelude.{◌≡◌, ◌≤ℤ◌, pos, [], false, Some, None, option_map, length};
+ghost use Rattle.arrow_types.specs.Schema.{dictionary_fields, has_encoding};
+ghost use Rattle.arrow_types.specs.Field.{TypeShape};
+ghost use Rattle.arrow_types.specs.View.{field_view, fields_view};
+ghost use Rattle.arrow_array.specs.Listed.{listed};
+ghost use Rattle.arrow_dict.specs.ValueTypes.{value_field, value_type_of};
+ghost use Rattle.arrow_meta.specs.Means.{batch_view, dictionary, batch};
+ghost use Rattle.arrow_stream.specs.State.{fields_in, nothing_yet};
+ghost use Rattle.arrow_stream.specs.Views.{Applies, Gives, HeldValues, IsFit, Ready, Updates, content_of, plain};
 
+use crate::body::{hold, row_count};
+use crate::columns::Columns;
 use crate::item::Item;
-use crate::message::Content;
-use arrow_types::Schema;
+use crate::message::{Content, Stop};
+use arrow_array::{Array, Batch, Dictionary};
+use arrow_dict::Store;
+use arrow_meta::RecordBatch;
+use arrow_types::Field;
+use std::alloc::Global;
+use std::slice;
 
 /// What the whole messages have left.
-#[derive(Debug, Drop)]
+#[derive(Drop)]
 pub(crate) struct State {
     /// The stream's schema, once its message was whole.
-    pub(crate) schema: Option<Schema>,
+    pub(crate) columns: Option<Columns>,
+    /// The dictionaries as they stand.
+    pub(crate) dictionaries: Store,
 }
 
-/// Applies what a whole message holds, and answers what it gives.
-pub(crate) fn apply(state: &mut State, content: Content) -> Item
-    ensures state { plain state.new ≡ after content (plain state.old) }
-    ensures item { given result ≡ gives content }
+impl State {
+    /// What a stream begins with.
+    pub(crate) fn new(alloc: Global) -> State
+        ensures nothing { plain result ≡ nothing_yet }
+        ensures fit { IsFit (plain result) }
+    {
+        State {
+            columns: None,
+            dictionaries: Store::new(alloc),
+        }
+    }
+
+    /// The columns of the stream's batches, none before its schema.
+    pub(crate) fn fields(&self) -> &[Field]
+        ensures same { fields_view result.now ≡ fields_in (plain self.now).schema }
+    {
+        match &self.columns {
+            Some(columns) => columns.schema().fields(),
+            None => &[],
+        }
+    }
+
+    /// The field of the values of the dictionary with this id, if a field of the schema gives the id.
+    pub(crate) fn value_field(&self, id: i64) -> Option<&Field>
+        ensures field { option_map (λ f. field_view f.now) result
+            ≡ option_map value_field (value_type_of (dictionary_fields (fields_in (plain self.now).schema)) id) }
+        ensures flat { (t : TypeShape) → value_type_of (dictionary_fields (fields_in (plain self.now).schema)) id ≡ Some t
+            → has_encoding t.children ≡ false }
+    {
+        match &self.columns {
+            Some(columns) => columns.value_field(id),
+            None => None,
+        }
+    }
+
+    /// How many values the dictionary with this id has, if there is one.
+    pub(crate) fn base_len(&self, id: i64) -> Option<usize>
+        ensures count { result ≡ option_map (λ d. length d.values) (listed (plain self.now).dictionaries id) }
+    {
+        match self.dictionaries.get(id) {
+            Some(dictionary) => Some(dictionary.len()),
+            None => None,
+        }
+    }
+
+    /// Begins a new stream.
+    pub(crate) fn clear(&mut self)
+        ensures nothing { plain self.new ≡ nothing_yet }
+        ensures fit { IsFit (plain self.new) }
+    {
+        self.columns = None;
+        self.dictionaries.clear();
+    }
+
+    /// Begins a stream of these columns.
+    fn begin(&mut self, columns: Columns)
+        ensures begun { plain self.new ≡ record { schema = Some columns; dictionaries = [] } }
+        ensures fit { IsFit (plain self.new) }
+    {
+        self.columns = Some(columns);
+        self.dictionaries.clear();
+    }
+
+    /// The rows of a record batch with this body.
+    fn batch(&self, alloc: Global, rows: &RecordBatch, body: &[u8]) -> Result<Batch, Stop>
+        requires ready { Ready (plain self.now) (batch (batch_view rows.now)) }
+        requires fit { IsFit (plain self.now) }
+        ensures gives { Gives (plain self.now) (batch_view rows.now) body.now result }
+    {
+        let Some(columns) = &self.columns else {
+            return Err(Stop::Memory);
+        };
+        let schema = columns.schema();
+        let dictionaries = self.dictionaries.entries();
+        let arrays = match hold(alloc, schema.fields(), rows, body, dictionaries) {
+            Ok(arrays) => arrays,
+            Err(stop) => return Err(stop),
+        };
+        let Ok(schema) = schema.clone() else {
+            return Err(Stop::Memory);
+        };
+        match Batch::new(schema, arrays, row_count(rows)) {
+            Ok(batch) => Ok(batch),
+            Err(_) => Err(Stop::Memory),
+        }
+    }
+
+    /// The values of a dictionary batch with this body.
+    fn values(&self, alloc: Global, id: i64, rows: &RecordBatch, body: &[u8]) -> Result<Array, Stop>
+        requires sign { pos 0 ≤ℤ rows.now.length }
+        ensures values { HeldValues (plain self.now) id (batch_view rows.now) body.now result }
+    {
+        let Some(field) = self.value_field(id) else {
+            return Err(Stop::Memory);
+        };
+        match hold(alloc, slice::from_ref(field), rows, body, &[]) {
+            Ok(mut arrays) => match arrays.pop() {
+                Some(values) => Ok(values),
+                None => Err(Stop::Memory),
+            },
+            Err(stop) => Err(stop),
+        }
+    }
+
+    /// Takes the values of a dictionary batch with this body: in place of those of its id, or behind them.
+    fn update(
+        &mut self,
+        alloc: Global,
+        id: i64,
+        is_delta: bool,
+        rows: &RecordBatch,
+        body: &[u8],
+    ) -> Result<(), Stop>
+        requires ready { Ready (plain self.old) (dictionary id is_delta (batch_view rows.now)) }
+        requires fit { IsFit (plain self.old) }
+        ensures updates { Updates (plain self.old) id is_delta (batch_view rows.now) body.now result (plain self.new) }
+        ensures fit { IsFit (plain self.new) }
+    {
+        let values = match self.values(alloc, id, rows, body) {
+            Ok(values) => values,
+            Err(stop) => return Err(stop),
+        };
+        if is_delta {
+            return match self.dictionaries.append(alloc, id, values) {
+                Ok(()) => Ok(()),
+                Err(_) => Err(Stop::Memory),
+            };
+        }
+        let Ok(dictionary) = Dictionary::from_array(alloc, values) else {
+            return Err(Stop::Memory);
+        };
+        match self.dictionaries.replace(id, dictionary) {
+            Ok(()) => Ok(()),
+            Err(_) => Err(Stop::Memory),
+        }
+    }
+}
+
+/// Applies a message whose body is whole, and answers what it gives. Where the body is refused or a growth is, nothing
+/// has changed and the message is handed back.
+pub(crate) fn apply(
+    state: &mut State,
+    alloc: Global,
+    content: Content,
+    body: &[u8],
+) -> Result<Item, (Stop, Content)>
+    requires ready { Ready (plain state.old) (content_of content) }
+    requires fit { IsFit (plain state.old) }
+    ensures applies { Applies (plain state.old) (content_of content) body.now result (plain state.new) }
+    ensures fit { IsFit (plain state.new) }
 {
     match content {
-        Content::Schema(schema) => {
-            state.schema = Some(schema);
-            Item::Schema
+        Content::Schema(columns) => {
+            state.begin(columns);
+            Ok(Item::Schema)
         }
+        Content::Dictionary(id, is_delta, rows) => {
+            match state.update(alloc, id, is_delta, &rows, body) {
+                Ok(()) => Ok(Item::Dictionary(id)),
+                Err(stop) => Err((stop, Content::Dictionary(id, is_delta, rows))),
+            }
+        }
+        Content::Batch(rows) => match state.batch(alloc, &rows, body) {
+            Ok(batch) => Ok(Item::Batch(batch)),
+            Err(stop) => Err((stop, Content::Batch(rows))),
+        },
     }
 }

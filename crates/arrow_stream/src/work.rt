@@ -4,8 +4,8 @@ ghost use Rattle.std.specs.Prelude.{◌≡◌, ℕ, ◌+◌, ◌^◌, ◌<◌, �
 ghost use Rattle.arrow_stream.specs.declared.prefix.Prefix.TheVariants as prefixes;
 ghost use Rattle.arrow_stream.specs.Frame.{HasPrefix, HasMetadata};
 ghost use Rattle.arrow_stream.specs.State.{nothing_yet};
-ghost use Rattle.arrow_stream.specs.Views.{plain, message_of};
-ghost use Rattle.arrow_stream.specs.Work.{IsAt, Works, Rewound};
+ghost use Rattle.arrow_stream.specs.Views.{IsFit, plain, message_of};
+ghost use Rattle.arrow_stream.specs.Work.{Finishes, IsAt, Works, Rewound};
 
 use crate::held::fill;
 use crate::item::Item;
@@ -17,7 +17,7 @@ use std::alloc::Global;
 use std::mem;
 
 /// How far the message in work has come.
-#[derive(Debug, Drop)]
+#[derive(Drop)]
 pub(crate) enum Phase {
     /// Its first eight bytes are not whole.
     Prefix,
@@ -28,7 +28,7 @@ pub(crate) enum Phase {
 }
 
 /// What a piece brought.
-#[derive(Debug, Drop)]
+#[derive(Drop)]
 pub(crate) enum Step {
     /// Less than a whole message.
     Short,
@@ -68,6 +68,7 @@ impl Work {
     fn read_prefix(&mut self, piece: &[u8]) -> Result<Step, Stop>
         requires within { length self.old.held.items ≤ 8 }
         requires near { self.old.place ≤ 2 ^ 62 }
+        requires fit { IsFit (plain self.old.state) }
         ensures works { Works self.old (self.old.held.items ++ piece.now) result self.new }
     {
         self.phase = Phase::Prefix;
@@ -77,7 +78,7 @@ impl Work {
         if self.held.len() < 8 {
             return Ok(Step::Short);
         }
-        let has_schema = self.state.schema.is_some();
+        let has_schema = self.state.columns.is_some();
         match read_prefix(&self.limits, has_schema, self.place, &self.held) {
             Ok(Prefix::Metadata(size)) => self.read_metadata(size, &piece[taken..]),
             Ok(Prefix::EndMarker) => Ok(Step::EndMarker),
@@ -90,6 +91,7 @@ impl Work {
         requires known { HasPrefix self.old.limits (plain self.old.state) self.old.place
             self.old.held.items (Ok (prefixes.Metadata size)) }
         requires within { length self.old.held.items ≤ 8 + size }
+        requires fit { IsFit (plain self.old.state) }
         ensures works { Works self.old (self.old.held.items ++ piece.now) result self.new }
     {
         self.phase = Phase::Metadata(size);
@@ -100,9 +102,8 @@ impl Work {
         if self.held.len() < whole {
             return Ok(Step::Short);
         }
-        let has_schema = self.state.schema.is_some();
         let start = self.place + 8;
-        match understand(self.alloc, &self.limits, has_schema, start, &self.held[8..]) {
+        match understand(self.alloc, &self.limits, &self.state, start, &self.held[8..]) {
             Ok(message) => self.read_body(size, message, &piece[taken..]),
             Err(stop) => Err(stop),
         }
@@ -113,6 +114,8 @@ impl Work {
         requires known { HasMetadata self.old.limits (plain self.old.state) self.old.place
             self.old.held.items size (Ok (message_of message)) }
         requires within { length self.old.held.items ≤ 8 + size + message.body_len }
+        requires ceiling { self.old.limits.max_rows ≤ 2147483647 }
+        requires fit { IsFit (plain self.old.state) }
         ensures works { Works self.old (self.old.held.items ++ piece.now) result self.new }
     {
         let whole = 8 + size as usize + message.body_len as usize;
@@ -124,10 +127,35 @@ impl Work {
             self.phase = Phase::Body(size, message);
             return Ok(Step::Short);
         }
-        self.place += whole as u64;
-        self.held.clear();
-        self.phase = Phase::Prefix;
-        Ok(Step::Whole(apply(&mut self.state, message.content)))
+        match self.finish(size, message) {
+            Ok(item) => Ok(Step::Whole(item)),
+            Err(stop) => Err(stop),
+        }
+    }
+
+    /// Applies a message of which all bytes are held, and no others.
+    fn finish(&mut self, size: u64, message: Message) -> Result<Item, Stop>
+        requires known { HasMetadata self.old.limits (plain self.old.state) self.old.place
+            self.old.held.items size (Ok (message_of message)) }
+        requires whole { length self.old.held.items ≡ 8 + size + message.body_len }
+        requires ceiling { self.old.limits.max_rows ≤ 2147483647 }
+        requires fit { IsFit (plain self.old.state) }
+        ensures finishes { Finishes self.old size (message_of message) result self.new }
+    {
+        let body_len = message.body_len;
+        let body = &self.held[8 + size as usize..];
+        match apply(&mut self.state, self.alloc, message.content, body) {
+            Ok(item) => {
+                self.place += self.held.len() as u64;
+                self.held.clear();
+                self.phase = Phase::Prefix;
+                Ok(item)
+            }
+            Err((stop, content)) => {
+                self.phase = Phase::Body(size, Message { content, body_len });
+                Err(stop)
+            }
+        }
     }
 
     /// Goes back to the first bytes held.
@@ -152,6 +180,7 @@ impl Work {
     /// Goes past this many bytes, all that are held among them.
     pub(crate) fn pass(&mut self, count: u64)
         requires near { self.old.place + count ≤ 2 ^ 62 }
+        requires fit { IsFit (plain self.old.state) }
         ensures at { IsAt self.new }
         ensures limits { self.new.limits ≡ self.old.limits }
         ensures state { plain self.new.state ≡ plain self.old.state }
@@ -171,7 +200,7 @@ impl Work {
         ensures place { self.new.place ≡ 0 }
         ensures held { self.new.held.items ≡ [] }
     {
-        self.state.schema = None;
+        self.state.clear();
         self.place = 0;
         self.held.clear();
         self.phase = Phase::Prefix;

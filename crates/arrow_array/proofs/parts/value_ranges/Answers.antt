@@ -2,7 +2,7 @@ use Rattle.std.proofs.Common.{◌≡◌, ◌≤◌, ◌-◌, length, ap, sym, �
 use Rattle.arrow_types.specs.View.{type_view, field_view}
 use Rattle.arrow_types.specs.Field.{TypeShape}
 use Rattle.arrow_array.specs.Layout.{buffer_count}
-use Rattle.arrow_array.proofs.NodeParts.{list_lies, list_same, list_tag, only_child, some_child, struct_lies, struct_same, struct_tag}
+use Rattle.arrow_array.proofs.NodeParts.{list_lies, list_same, list_tag, number_same, number_shape, only_child, some_child, struct_lies, struct_same, struct_tag}
 use Rattle.arrow_array.proofs.parts.value_ranges.Goals as goal
 
 some_inj : {A : Type 0} (x y : A) → Some x ≡ Some y → x ≡ y
@@ -54,3 +54,10 @@ returns-in-Struct-clause-same c =
     let tag = ap (λ (x : TypeShape). x.tag) (ap type_view c.in-Struct.is ∙ struct_tag c.in-Struct.field-0) in
     let one : 1 ≤ length c.args.buffers.now = subst (λ x. buffer_count x None ≤ length c.args.buffers.now) tag c.requires.count in
     struct_same t c.args.len c.args.body.now c.args.buffers.now (record { start = 0; end = 0 }) c.args.children tag one
+
+pub returns-in-Int-clause-same : goal.returns-in-Int-clause-same
+returns-in-Int-clause-same c =
+    let t = type_view c.args.data_type.now in
+    let shape = number_shape c.args.data_type.now c.in-Int.is in
+    let n = c.numbers.ensures in
+    number_same t c.args.len c.args.body.now c.args.buffers.now c.args.children.items c.numbers.result shape.0 shape.1 c.requires.children c.requires.count n.format.0 n.format.1 n.validity n.values

@@ -10,8 +10,8 @@ decreases-build l = count (fields_view l.fields.now)
 -- the arrays so far and those to come are all
 abbrev pub invariant-loop-field : goal.invariant-loop-field
 invariant-loop-field l = record {
-  built : l.arrays.items ++ columns_of l.body l.dictionaries (fields_view (drop l.field-index l.fields)) l.rest.nodes.now l.rest.buffers.now
-      ≡ columns_of l.body l.dictionaries (fields_view l.fields) l.left.nodes.now l.left.buffers.now;
-  sound : IsSound l.body l.dictionaries (fields_view (drop l.field-index l.fields)) l.rest.nodes.now l.rest.buffers.now;
-  fit : AreFit l.dictionaries (fields_view (drop l.field-index l.fields));
+  built : l.arrays.items ++ columns_of l.body l.dictionaries.entries.now (fields_view (drop l.field-index l.fields)) l.rest.nodes.now l.rest.buffers.now
+      ≡ columns_of l.body l.dictionaries.entries.now (fields_view l.fields) l.left.nodes.now l.left.buffers.now;
+  sound : IsSound l.body l.dictionaries.entries.now (fields_view (drop l.field-index l.fields)) l.rest.nodes.now l.rest.buffers.now;
+  fit : AreFit l.dictionaries.entries.now (fields_view (drop l.field-index l.fields));
 }

@@ -13,7 +13,7 @@ from_parts-requires-clause-children c =
     let ch = (field_view f).children in
     let ns = c.args.left.nodes.now in
     let bs = c.args.left.buffers.now in
-    let typed = columns_typed c.args.body.now c.args.dictionaries.now (below h.encoding ch) (drop 1 ns) (drop (own_buffers h) bs) in
+    let typed = columns_typed c.args.body.now c.args.dictionaries.entries.now (below h.encoding ch) (drop 1 ns) (drop (own_buffers h) bs) in
     rw (field_encoding f, field_type f, c.requires.children) (are_children (record { tag = h.tag; children = ch }) h.encoding _ typed c.requires.fit.flat)
 
 pub from_parts-requires-clause-layout : goal.from_parts-requires-clause-layout
@@ -23,6 +23,6 @@ from_parts-requires-clause-layout c =
     let ch = (field_view f).children in
     let ns = c.args.left.nodes.now in
     let bs = c.args.left.buffers.now in
-    let long = columns_long c.args.body.now c.args.dictionaries.now (below h.encoding ch) (drop 1 ns) (drop (own_buffers h) bs) in
+    let long = columns_long c.args.body.now c.args.dictionaries.entries.now (below h.encoding ch) (drop 1 ns) (drop (own_buffers h) bs) in
     let ranges = rw (c.as_slice.ensures) at c.in-Some.ensures in
     rw (field_encoding f, c.slots-len.ensures, ranges.same, c.own_buffers-own.ensures, ap counts_of c.requires.children ∙ long, ap (λ (t : TypeShape). t.tag) (field_type f)) c.requires.laid.laid

@@ -38,11 +38,11 @@ loop-field-preserved t c =
     let after = there_after h ch rest ns ns' bs bs' parts.0 parts.1 taken.0 taken.1 taken.2 in
     let here = c.is_node_indexed.ensures.0 c.if-not-is_node_indexed.false in
     let inner = rw (c.below.ensures, c.inside-inner.ensures.nodes, c.inside-inner.ensures.buffers) at (c.are_indexed.ensures.0 c.if-not-are_indexed.false) in
-    let all = all_after (IsNodeIndexed c.args.body.now c.args.dictionaries.now) h ch rest ns ns' bs bs' here inner taken.1 taken.2 in
+    let all = all_after (IsNodeIndexed c.args.body.now c.args.dictionaries.entries.now) h ch rest ns ns' bs bs' here inner taken.1 taken.2 in
     record {
       same = (
-        λ x. inv.same.0 (subst (λ v. AllNodes (IsNodeIndexed c.args.body.now c.args.dictionaries.now) v ns bs) (sym step) (all.0 x)),
-        λ y. all.1 (subst (λ v. AllNodes (IsNodeIndexed c.args.body.now c.args.dictionaries.now) v ns bs) step (inv.same.1 y)),
+        λ x. inv.same.0 (subst (λ v. AllNodes (IsNodeIndexed c.args.body.now c.args.dictionaries.entries.now) v ns bs) (sym step) (all.0 x)),
+        λ y. all.1 (subst (λ v. AllNodes (IsNodeIndexed c.args.body.now c.args.dictionaries.entries.now) v ns bs) step (inv.same.1 y)),
       );
       there = after.0.1 there;
       laid = all_next (IsNodeLaid c.args.body.now) h ch rest ns ns' bs bs' (subst (λ v. AllNodes (IsNodeLaid c.args.body.now) v ns bs) step inv.laid) taken.1 taken.2;

@@ -11,7 +11,7 @@ decreases-are_indexed l = count (fields_view l.fields.now)
 -- all nodes and buffers are as they should be exactly where those to come are
 abbrev pub invariant-loop-field : goal.invariant-loop-field
 invariant-loop-field l = record {
-  same : AreIndexed l.body l.dictionaries (fields_view (drop l.field-index l.fields)) l.rest.nodes.now l.rest.buffers.now ↔ AreIndexed l.body l.dictionaries (fields_view l.fields) l.left.nodes.now l.left.buffers.now;
+  same : AreIndexed l.body l.dictionaries.entries.now (fields_view (drop l.field-index l.fields)) l.rest.nodes.now l.rest.buffers.now ↔ AreIndexed l.body l.dictionaries.entries.now (fields_view l.fields) l.left.nodes.now l.left.buffers.now;
   there : AreThere (fields_view (drop l.field-index l.fields)) l.rest.nodes.now l.rest.buffers.now;
   laid : AreLaid l.body (fields_view (drop l.field-index l.fields)) l.rest.nodes.now l.rest.buffers.now;
 }

@@ -1,18 +1,15 @@
-use Rattle.std.proofs.Common.{Ok}
-use Rattle.arrow_stream.specs.Views.{message_of}
-use Rattle.arrow_stream.proofs.Meanings.{fault_understood}
+use Rattle.std.proofs.Common.{◌+◌, length, subst}
+use Rattle.arrow_meta.specs.Means.{message_view}
+use Rattle.arrow_stream.specs.Views.{Placed, StopsBy, plain}
+use Rattle.arrow_stream.proofs.Meanings.{fault_understood, message_understood}
 use Rattle.arrow_stream.proofs.message.understand.Goals as goal
 
-pub returns-in-Ok-judge_place : goal.returns-in-Ok-judge_place
-returns-in-Ok-judge_place c = record {
-  says = record {
-    meant = Ok (message_of c.in-Ok.message);
-    means = c.in-Ok.ensures.reads;
-    says = c.in-Ok-judge_place.ensures.judged;
-  };
-}
+pub returns-in-Ok-clause-says : goal.returns-in-Ok-clause-says
+returns-in-Ok-clause-says c =
+    message_understood c.args.limits.now (plain c.args.state.now) c.args.start c.args.metadata.now (message_view c.in-Ok.message) c.place.result c.in-Ok.ensures.decoded
+    (subst (λ n. Placed n (plain c.args.state.now) (c.args.start + length c.args.metadata.now) (message_view c.in-Ok.message) c.place.result) c.max_rows-max_rows.ensures.value c.place.ensures.placed)
 
-pub returns-in-Err : goal.returns-in-Err
-returns-in-Err c = record {
-  says = fault_understood c.args.limits.now c.args.has_schema c.args.start c.args.metadata.now c.in-Err.fault c.stop_by.result c.in-Err.ensures.reads c.stop_by.ensures.stop;
-}
+pub returns-in-Err-clause-says : goal.returns-in-Err-clause-says
+returns-in-Err-clause-says c =
+    fault_understood c.args.limits.now (plain c.args.state.now) c.args.start c.args.metadata.now c.in-Err.fault c.stop_by.result c.in-Err.ensures.decoded
+    (subst (λ b. StopsBy c.stop_by.result b (c.args.start + length c.args.metadata.now) c.in-Err.fault) c.is_some.ensures c.stop_by.ensures.stop)

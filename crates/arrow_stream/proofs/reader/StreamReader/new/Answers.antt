@@ -1,17 +1,17 @@
 use Rattle.std.proofs.Common.{refl, ap, length, arith}
 use Rattle.arrow_stream.specs.Frame.{short_prefix}
-use Rattle.arrow_stream.specs.State.{nothing_yet}
+use Rattle.arrow_stream.specs.Views.{plain}
 use Rattle.arrow_stream.proofs.Streams.{anew_stands}
 use Rattle.arrow_stream.proofs.reader.StreamReader.new.Goals as goal
 
 pub invariant_of-result : goal.invariant_of-result
 invariant_of-result c =
-    let none = ap length c.new.ensures.items in
+    let none = ap length c.new-2.ensures.items in
     record {
-      at = record { shown = omega arith; near = omega arith };
+      at = record { shown = omega arith; near = omega arith; fit = c.new.ensures.fit };
       waiting = λ _. short_prefix (omega arith);
       empty = λ n. absurd (n refl);
     }
 
 pub returns-clause-start : goal.returns-clause-start
-returns-clause-start c = anew_stands c.args.limits nothing_yet 0 c.new.result.items refl refl c.new.ensures.items
+returns-clause-start c = anew_stands c.args.limits (plain c.new.result) 0 c.new-2.result.items c.new.ensures.nothing refl c.new-2.ensures.items

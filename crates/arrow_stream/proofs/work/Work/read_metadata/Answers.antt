@@ -12,7 +12,7 @@ returns-then-len-whole c =
       works = record {
         same = record { limits = refl; state = refl; place = refl };
         held = held;
-        at = record { shown = (prefix_held _ _ held c.requires.known, omega arith); near = omega (arith, (size_small c.requires.known).1) };
+        at = record { shown = (prefix_held _ _ held c.requires.known, omega arith); near = omega (arith, (size_small c.requires.known).1); fit = c.requires.fit };
         first = short_metadata (HasPrefix-append c.args.piece.now c.requires.known) (rw (← held) short);
       };
     }
@@ -21,19 +21,19 @@ pub read_body-requires-clause-known : goal.read_body-requires-clause-known
 read_body-requires-clause-known c =
     let whole : length c.fill.new.held.items ≡ 8 + c.args.size = filled c.in-Ok.ensures.filled (omega (arith, c.fill.new.held.ok.0)) in
     let known = prefix_held _ _ c.in-Ok.ensures.filled.took c.requires.known in
-    metadata_read c.deref.result.now c.is_some-has_schema.result c.deref.ensures.value c.is_some-has_schema.ensures known whole c.in-Ok-understand.ensures.says
+    metadata_read c.deref.result.now c.deref.ensures.value known whole c.in-Ok-understand.ensures.says
 
 pub returns-in-Err : goal.returns-in-Err
 returns-in-Err c =
     let whole : length c.fill.new.held.items ≡ 8 + c.args.size = filled c.in-Ok.ensures.filled (omega (arith, c.fill.new.held.ok.0)) in
     let known = prefix_held _ _ c.in-Ok.ensures.filled.took c.requires.known in
     record {
-      works = metadata_stops c.deref.result.now (drop c.in-Ok.taken c.args.piece.now) c.is_some-has_schema.result c.in-Err.stop c.deref.ensures.value c.is_some-has_schema.ensures known whole c.in-Ok.ensures.filled.rest c.in-Err.ensures.says
+      works = metadata_stops c.deref.result.now (drop c.in-Ok.taken c.args.piece.now) c.in-Err.stop c.deref.ensures.value known whole c.in-Ok.ensures.filled.rest c.in-Err.ensures.says
           (record {
             same = record { limits = refl; state = refl; place = refl };
             more = drop c.in-Ok.taken c.args.piece.now;
             held = sym c.in-Ok.ensures.filled.rest;
             covers = omega arith;
-            at = record { shown = (known, omega arith); near = omega (arith, (size_small c.requires.known).1) };
+            at = record { shown = (known, omega arith); near = omega (arith, (size_small c.requires.known).1); fit = c.requires.fit };
           });
     }

@@ -12,7 +12,7 @@ returns-then-len-lt8 c =
       works = record {
         same = record { limits = refl; state = refl; place = refl };
         held = held;
-        at = record { shown = omega arith; near = omega arith };
+        at = record { shown = omega arith; near = omega arith; fit = c.requires.fit };
         first = short_prefix (rw (← held) short);
       };
     }
@@ -41,7 +41,7 @@ returns-in-Err c =
           more = drop c.in-Ok.taken c.args.piece.now;
           held = sym c.in-Ok.ensures.filled.rest;
           covers = omega arith;
-          at = record { shown = omega arith; near = omega arith };
+          at = record { shown = omega arith; near = omega arith; fit = c.requires.fit };
         };
         first = bad_prefix (prefix_held _ (drop c.in-Ok.taken c.args.piece.now) (sym c.in-Ok.ensures.filled.rest) known);
       };

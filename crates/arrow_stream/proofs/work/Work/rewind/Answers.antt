@@ -16,8 +16,9 @@ returns-else-count-size c =
         held = c.truncate.ensures.items;
         at = record {
           shown = subst (λ f. Shown old.limits (plain old.state) old.place c.truncate.new.self.items f) (sym c.in-Body.is)
-              (rw c.truncate.ensures.items (HasMetadata-take c.args.count c.if-count-size.false c.requires.within shown.0, omega (arith, size, fits)));
+              (rw c.truncate.ensures.items (HasMetadata-take c.args.count c.if-count-size.false c.requires.within shown.0, omega (arith, size, fits), shown.2));
           near = c.requires.at.near;
+          fit = c.requires.at.fit;
         };
       };
     }
@@ -34,6 +35,7 @@ returns-then-count-size c =
         at = record {
           shown = rw c.truncate.ensures.items (HasPrefix-take c.args.count c.if-count-lt8.false c.requires.within shown.0.prefix, omega (arith, size));
           near = c.requires.at.near;
+          fit = c.requires.at.fit;
         };
       };
     }

@@ -1,0 +1,126 @@
+//! Whether slots hold texts.
+//!
+//! The bytes of all slots are looked at together. Where they are a text, a slot of them is one exactly where it begins
+//! and ends between characters. Where they are not, as null slots may hide any bytes, each slot is looked at by itself.
+
+ghost use Rattle.std.specs.Prelude.{◌≡◌, ◌↔◌, ◌-◌, ◌+◌, ◌≤◌, ◌<◌, length, slice_range, true, IsTrue, IsUtf8, IsCharBoundary};
+ghost use Rattle.arrow_array.specs.Layout.{HasStrings};
+ghost use Rattle.arrow_array.specs.Slots.{place_of, range_of, is_valid_at, AreTexts, HasOffsets};
+
+use crate::slot::{binary_at, is_valid};
+use arrow_bits::Offsets;
+
+// Whether each valid slot of `len` is UTF-8.
+pub(crate) fn are_slots_utf8(len: usize, validity: &[u8], offsets: &[u8], bytes: &[u8]) -> bool
+    requires { HasStrings len validity.now offsets.now bytes.now }
+    ensures { IsTrue result ↔ AreTexts len validity.now offsets.now bytes.now }
+{
+    if len == 0 {
+        return true;
+    }
+    match simdutf8::basic::from_utf8(all_slots(len, offsets, bytes)) {
+        Ok(text) => are_parts(len, validity, offsets, bytes, text),
+        Err(_) => are_utf8_one_by_one(len, validity, offsets, bytes),
+    }
+}
+
+// The bytes of all slots, whether these are valid or not.
+#[tactic(auto, using(arrow_bits::proofs::Rising::length_offsets, arrow_bits::proofs::Rising::offset_found, crate::proofs::Cuts::places_order))]
+fn all_slots<'a>(len: usize, offsets: &[u8], bytes: &'a [u8]) -> &'a [u8]
+    requires slots { 0 < len }
+    requires rising { HasOffsets len (length bytes.now) offsets.now }
+    ensures same { result.now ≡ slice_range bytes.now (place_of offsets.now 0) (place_of offsets.now len) }
+    ensures inside { place_of offsets.now len ≤ length bytes.now }
+{
+    let places = Offsets::new_unchecked(offsets, len, bytes.len() as u64);
+    &bytes[places.at(0)..places.at(len)]
+}
+
+// Whether each valid slot of `len` is UTF-8, where the bytes of all slots are the text.
+fn are_parts(len: usize, validity: &[u8], offsets: &[u8], bytes: &[u8], text: &str) -> bool
+    requires laid { HasStrings len validity.now offsets.now bytes.now }
+    requires inside { place_of offsets.now len ≤ length bytes.now }
+    requires whole { text.now ≡ slice_range bytes.now (place_of offsets.now 0) (place_of offsets.now len) }
+    ensures { IsTrue result ↔ AreTexts len validity.now offsets.now bytes.now }
+{
+    for j in 0..len {
+        if !is_part(len, validity, offsets, bytes, text, j) {
+            return false;
+        }
+    }
+    true
+}
+
+// Whether slot `j` is null or UTF-8, where the bytes of all slots are the text.
+fn is_part(
+    len: usize,
+    validity: &[u8],
+    offsets: &[u8],
+    bytes: &[u8],
+    text: &str,
+    j: usize,
+) -> bool
+    requires slot { j < len }
+    requires laid { HasStrings len validity.now offsets.now bytes.now }
+    requires inside { place_of offsets.now len ≤ length bytes.now }
+    requires whole { text.now ≡ slice_range bytes.now (place_of offsets.now 0) (place_of offsets.now len) }
+    ensures { IsTrue result
+        ↔ (is_valid_at validity.now j ≡ true → IsUtf8 (range_of offsets.now bytes.now j)) }
+{
+    if !is_valid(validity, j) {
+        return true;
+    }
+    let (start, end) = places_of(len, offsets, bytes.len(), j);
+    is_text(text, start, end)
+}
+
+// Where slot `j` begins and ends in the bytes of all slots.
+#[tactic(auto, using(arrow_bits::proofs::Rising::length_offsets, arrow_bits::proofs::Rising::offset_found, crate::proofs::Cuts::places_order))]
+fn places_of(len: usize, offsets: &[u8], top: usize, j: usize) -> (usize, usize)
+    requires slot { j < len }
+    requires rising { HasOffsets len top offsets.now }
+    ensures before { place_of offsets.now 0 ≤ place_of offsets.now j }
+    ensures order { place_of offsets.now j ≤ place_of offsets.now (j + 1) }
+    ensures after { place_of offsets.now (j + 1) ≤ place_of offsets.now len }
+    ensures start { result.0 ≡ place_of offsets.now j - place_of offsets.now 0 }
+    ensures stop { result.1 ≡ place_of offsets.now (j + 1) - place_of offsets.now 0 }
+{
+    let places = Offsets::new_unchecked(offsets, len, top as u64);
+    let first = places.at(0);
+    (places.at(j) - first, places.at(j + 1) - first)
+}
+
+// Whether the bytes from `start` up to `end` are UTF-8.
+fn is_text(text: &str, start: usize, end: usize) -> bool
+    requires order { start ≤ end }
+    requires inside { end ≤ length text.now }
+    ensures { IsTrue result ↔ IsUtf8 (slice_range text.now start end) }
+{
+    if start == end {
+        return true;
+    }
+    is_cut(text, start, end)
+}
+
+// Whether the text may be cut in both places.
+fn is_cut(text: &str, start: usize, end: usize) -> bool
+    ensures { IsTrue result ↔ IsCharBoundary text.now start × IsCharBoundary text.now end }
+{
+    text.is_char_boundary(start) && text.is_char_boundary(end)
+}
+
+// Whether each valid slot of `len` is UTF-8, one after another.
+fn are_utf8_one_by_one(len: usize, validity: &[u8], offsets: &[u8], bytes: &[u8]) -> bool
+    requires { HasStrings len validity.now offsets.now bytes.now }
+    ensures { IsTrue result ↔ AreTexts len validity.now offsets.now bytes.now }
+{
+    for j in 0..len {
+        let Some(text) = binary_at(validity, offsets, bytes, len, j) else {
+            continue;
+        };
+        if std::str::from_utf8(text).is_err() {
+            return false;
+        }
+    }
+    true
+}

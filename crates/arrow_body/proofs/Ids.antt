@@ -1,0 +1,110 @@
+-- Where a dictionary stands among those whose ids rise.
+use Rattle.std.proofs.Common.{◌≡◌, ◌≤◌, ◌<◌, ◌+◌, ◌-◌, ℕ, zero, suc, ℤ, List, [], ◌∷◌, length, get_or, ⊎_elim, Some, None, true, false, refl, sym, ap, ◌∙◌, subst, arith, int_lt}
+use Rattle.std.specs.Prelude.{◌≤ℤ◌, ◌<ℤ◌}
+use Rattle.std.specs.Ordering.{int_eq}
+use Rattle.std.proofs.lemmas.Bool.{cases_lt}
+use Rattle.std.proofs.lemmas.Bool.Decides.{Decides-int_eq}
+use Rattle.std.proofs.lemmas.Int.{ints}
+use Rattle.std.proofs.lemmas.List.{get_or_default}
+use Rattle.arrow_array.specs.Column.{ValueList}
+use Rattle.arrow_array.specs.Listed.{listed}
+
+int_eq-false : (a b : ℤ) → (a ≡ b → ⊥) → int_eq a b ≡ false
+int_eq-false a b differ = elim (int_eq a b) as (λ v. int_eq a b ≡ v → v ≡ false) [
+  | true ↦ λ same. absurd (differ ((Decides-int_eq a b).0 same))
+  | false ↦ λ same. refl
+] refl
+
+up_up : (a b c : ℤ) → a ≤ℤ b → b ≤ℤ c → a ≤ℤ c
+up_up a b c h k = omega (arith, ints, h, k)
+
+up_down : (a b : ℤ) → a ≤ℤ b → b <ℤ a → ⊥
+up_down a b h k = omega (arith, ints, h, k)
+
+up_below : (a b c : ℤ) → a ≤ℤ b → b <ℤ c → a <ℤ c
+up_below a b c h k = omega (arith, ints, h, k)
+
+both_up : (a b : ℤ) → a ≤ℤ b → b ≤ℤ a → a ≡ b
+both_up a b h k = omega (arith, ints, h, k)
+
+up_same : (a b : ℤ) → a ≡ b → a ≤ℤ b
+up_same a b h = omega (arith, ints, h)
+
+-- what int_lt tells
+below_from : (a b : ℤ) → int_lt a b ≡ true → a <ℤ b
+below_from a b h = grind (arith, ints)
+
+not_below_from : (a b : ℤ) → int_lt a b ≡ false → b ≤ℤ a
+not_below_from a b h = grind (arith, ints)
+
+is_below : (a b : ℤ) → a <ℤ b → int_lt a b ≡ true
+is_below a b h = grind (arith, ints)
+
+-- an id that no entry before the place has is looked for from there on
+listed_at : (ds : List (ℤ × ValueList)) (id : ℤ) (at : ℕ) (d : ℤ × ValueList) → ((k : ℕ) (e : ℤ × ValueList) → k < at → int_eq (get_or ds k e).0 id ≡ false) → at < length ds → d ≡ get_or ds at d → int_eq d.0 id ≡ true
+    → listed ds id ≡ Some d.1
+listed_at [] id at d before l is same = absurd (omega arith)
+listed_at (x ∷ ds) id zero d before l is same =
+    let found : int_eq x.0 id ≡ true = subst (λ (y : ℤ × ValueList). int_eq y.0 id ≡ true) is same in
+    rw found (ap (λ (y : ℤ × ValueList). Some y.1) (sym is))
+listed_at (x ∷ ds) id (suc at) d before l is same =
+    let other : int_eq x.0 id ≡ false = before zero d (omega arith) in
+    rw other (listed_at ds id at d (λ k e h. before (suc k) e (omega arith)) (omega arith) is same)
+
+-- an id that no entry has
+pub listed_nowhere : (ds : List (ℤ × ValueList)) (id : ℤ) → ((k : ℕ) (e : ℤ × ValueList) → k < length ds → int_eq (get_or ds k e).0 id ≡ false) → listed ds id ≡ None
+listed_nowhere [] id none = refl
+listed_nowhere (x ∷ ds) id none =
+    let other : int_eq x.0 id ≡ false = none zero x (omega arith) in
+    rw other (listed_nowhere ds id (λ k e h. none (suc k) e (omega arith)))
+
+-- the ids of the first entries rise
+abbrev pub RisesTo : List (ℤ × ValueList) → ℕ → Type 0
+RisesTo ds n = (i j : ℕ) (d : ℤ × ValueList) → i ≤ j → j < n → (get_or ds i d).0 ≤ℤ (get_or ds j d).0
+
+-- the next entry's id is above all others where it is not below the last one's
+above_last : (ds : List (ℤ × ValueList)) (k : ℕ) (a b : ℤ × ValueList) → 1 ≤ k → k < length ds → a ≡ get_or ds k a → b ≡ get_or ds (k - 1) b → b.0 ≤ℤ a.0 → RisesTo ds k
+    → (i : ℕ) (d : ℤ × ValueList) → i < k → (get_or ds i d).0 ≤ℤ (get_or ds k d).0
+above_last ds k a b one l is is' le up i d below =
+    let here : (get_or ds k d).0 ≡ a.0 = ap (λ (e : ℤ × ValueList). e.0) (get_or_default ds k d a l ∙ sym is) in
+    let last : (get_or ds (k - 1) d).0 ≡ b.0 = ap (λ (e : ℤ × ValueList). e.0) (get_or_default ds (k - 1) d b (omega arith) ∙ sym is') in
+    let below_last = rw last at (up i (k - 1) d (omega arith) (omega arith)) in
+    rw here (up_up (get_or ds i d).0 b.0 a.0 below_last le)
+
+pub rises_more : (ds : List (ℤ × ValueList)) (k : ℕ) (a b : ℤ × ValueList) → 1 ≤ k → k < length ds → a ≡ get_or ds k a → b ≡ get_or ds (k - 1) b → b.0 ≤ℤ a.0 → RisesTo ds k → RisesTo ds (k + 1)
+rises_more ds k a b one l is is' le up i j d h below = ⊎_elim
+    (λ (before : j < k). up i j d h before)
+    (λ (behind : k ≤ j). let at : k ≡ j = omega arith in subst (λ n. (get_or ds i d).0 ≤ℤ (get_or ds n d).0) at (⊎_elim
+    (λ (lower : i < k). above_last ds k a b one l is is' le up i d lower)
+    (λ (level : k ≤ i). let same : i ≡ k = omega arith in up_same (get_or ds i d).0 (get_or ds k d).0 (ap (λ n. (get_or ds n d).0) same))
+    (cases_lt i k)))
+    (cases_lt j k)
+
+-- where an entry's id is below the one before it, they do not rise
+pub never_rises : (ds : List (ℤ × ValueList)) (k : ℕ) (a b : ℤ × ValueList) → 1 ≤ k → k < length ds → a ≡ get_or ds k a → b ≡ get_or ds (k - 1) b → a.0 <ℤ b.0 → RisesTo ds (length ds) → ⊥
+never_rises ds k a b one l is is' falls up =
+    let last : (get_or ds (k - 1) a).0 ≡ b.0 = ap (λ (e : ℤ × ValueList). e.0) (get_or_default ds (k - 1) a b (omega arith) ∙ sym is') in
+    let here : (get_or ds k a).0 ≡ a.0 = ap (λ (e : ℤ × ValueList). e.0) (sym is) in
+    let rises = rw (here, last) at (up (k - 1) k a (omega arith) l) in
+    up_down b.0 a.0 rises falls
+
+-- what is below an id of those that rise stands before all that is not
+pub parted : (ds : List (ℤ × ValueList)) (id : ℤ) → RisesTo ds (length ds) → (i j : ℕ) (d : ℤ × ValueList) → i ≤ j → j < length ds → int_lt (get_or ds j d).0 id ≡ true → int_lt (get_or ds i d).0 id ≡ true
+parted ds id up i j d h l below = is_below (get_or ds i d).0 id (up_below (get_or ds i d).0 (get_or ds j d).0 id (up i j d h l) (below_from (get_or ds j d).0 id below))
+
+-- the place of an id from which on ids are not below it
+pub met : (ds : List (ℤ × ValueList)) (id : ℤ) (at : ℕ) (d : ℤ × ValueList) → ((k : ℕ) (e : ℤ × ValueList) → 0 ≤ k → k < at → int_lt (get_or ds k e).0 id ≡ true) → at < length ds → d ≡ get_or ds at d → d.0 ≡ id → Some d.1 ≡ listed ds id
+met ds id at d before l is same = sym (listed_at ds id at d (λ k e h. int_eq-false (get_or ds k e).0 id (λ level. up_down id (get_or ds k e).0 (up_same id (get_or ds k e).0 (sym level)) (below_from (get_or ds k e).0 id (before k e (omega arith) h)))) l is ((Decides-int_eq d.0 id).1 same))
+
+-- an id that stands nowhere from the place on where those that are not below it begin
+pub missed : (ds : List (ℤ × ValueList)) (id : ℤ) (at : ℕ) → RisesTo ds (length ds) → at ≤ length ds
+    → ((k : ℕ) (e : ℤ × ValueList) → 0 ≤ k → k < at → int_lt (get_or ds k e).0 id ≡ true)
+    → ((k : ℕ) (e : ℤ × ValueList) → at ≤ k → k < length ds → int_lt (get_or ds k e).0 id ≡ false)
+    → ((e : ℤ × ValueList) → at < length ds → (get_or ds at e).0 ≡ id → ⊥)
+    → None ≡ listed ds id
+missed ds id at up bound before from other = sym (listed_nowhere ds id (λ k e l. int_eq-false (get_or ds k e).0 id (⊎_elim
+    (λ (lower : k < at). λ same. up_down id (get_or ds k e).0 (up_same id (get_or ds k e).0 (sym same)) (below_from (get_or ds k e).0 id (before k e (omega arith) lower)))
+    (λ (behind : at ≤ k). λ same.
+    let first : id ≤ℤ (get_or ds at e).0 = not_below_from (get_or ds at e).0 id (from at e (omega arith) (omega arith)) in
+    other e (omega arith) (both_up (get_or ds at e).0 id (subst (λ z. (get_or ds at e).0 ≤ℤ z) same (up at k e behind l)) first))
+    (cases_lt k at))))

@@ -1,0 +1,6 @@
+pub mod Dictionaries
+pub mod Appends
+pub mod Places
+pub mod ValueTypes
+pub mod ValueFields
+pub mod Laws

@@ -1,0 +1,152 @@
+//! Dictionaries by their ids.
+
+ghost use Rattle.std.specs.Prelude.{◌≡◌, IsTrue, MatchResult, None, OnErr, OnOk, Some, [], is_ok, is_some, option_map};
+ghost use Rattle.arrow_array.specs.Column.{ValueList};
+ghost use Rattle.arrow_array.specs.Listed.{listed};
+ghost use Rattle.arrow_dict.specs.Appends.{Appends, number_of};
+ghost use Rattle.arrow_dict.specs.Dictionaries.{IsRising, placed};
+ghost use Rattle.arrow_dict.specs.Places.{IsAt, IsGap};
+
+use arrow_array::{Array, Dictionary};
+use std::alloc::{AllocError, Global};
+use std::error::Error;
+use std::fmt;
+use std::marker::Model;
+
+/// Why values are not appended, in the order of the faults' numbers.
+#[derive(Clone, Copy, Debug, PartialEq, Eq)]
+pub enum StoreFault {
+    /// There is no dictionary of the id.
+    NoBase,
+    /// The dictionary would have more values than `Store::MAX_VALUES`.
+    TooLong,
+    /// A growth was refused. None of the other faults applies.
+    Memory,
+}
+
+impl StoreFault {
+    /// The fault's number, from 1.
+    pub fn number(self) -> u8
+        ensures { result ≡ number_of self }
+    {
+        match self {
+            StoreFault::NoBase => 1,
+            StoreFault::TooLong => 2,
+            StoreFault::Memory => 3,
+        }
+    }
+}
+
+impl fmt::Display for StoreFault {
+    fn fmt<W: fmt::Write>(&self, f: &mut fmt::Formatter<W>) -> fmt::Result {
+        f.write_str(match self {
+            StoreFault::NoBase => "no dictionary to append to",
+            StoreFault::TooLong => "more than 2,147,483,647 values in a dictionary",
+            StoreFault::Memory => "out of memory",
+        })
+    }
+}
+
+impl Error for StoreFault {}
+
+/// The dictionaries of a stream as they stand, at most one for each id, by rising id.
+#[derive(Drop)]
+pub struct Store {
+    entries: Vec<(i64, Dictionary)>,
+}
+
+impl Model for Store {
+    ghost use Rattle.std.specs.Prelude.{ℤ, List};
+    ghost use Rattle.arrow_array.specs.Column.{ValueList};
+    ghost use Rattle.arrow_dict.specs.Dictionaries.{IsRising, entries_code};
+
+    ghost Value = { List (ℤ × ValueList) };
+
+    ghost coded = { entries_code };
+
+    ghost view = { λ s. s.entries.items };
+
+    ghost invariant = { λ s. IsRising s.entries.items };
+}
+
+impl Store {
+    /// The greatest number of values of a dictionary: as many as a signed 32-bit number counts.
+    pub const MAX_VALUES: usize = 2_147_483_647;
+
+    /// The store without dictionaries. Takes no memory.
+    pub fn new(alloc: Global) -> Store
+        ensures { result ≡ [] }
+    {
+        Store {
+            entries: Vec::new(alloc),
+        }
+    }
+
+    /// The dictionary of the id, None where there is none. It is found by binary search.
+    pub fn get(&self, id: i64) -> Option<&Dictionary>
+        ensures { option_map (λ d. d.now) result ≡ listed self.now id }
+    {
+        match self.place_of(id) {
+            Ok(at) => Some(&self.entries[at].1),
+            Err(_) => None,
+        }
+    }
+
+    /// The ids and their dictionaries, by rising id.
+    pub fn entries(&self) -> &[(i64, Dictionary)]
+        ensures all { result.now ≡ self.now }
+        ensures rising { IsRising self.now }
+    {
+        &self.entries
+    }
+
+    /// Takes the dictionary for the id, in place of the one that was there. Memory may be asked for only where there
+    /// was none; where it is refused nothing changes.
+    pub fn replace(&mut self, id: i64, dictionary: Dictionary) -> Result<(), AllocError>
+        ensures ok { OnOk result (self.new ≡ placed id dictionary self.old) }
+        ensures err { OnErr result (self.new ≡ self.old) }
+        ensures there { IsTrue (is_some (listed self.old id)) → IsTrue (is_ok result) }
+    {
+        match self.place_of(id) {
+            Ok(at) => {
+                self.entries[at] = (id, dictionary);
+                Ok(())
+            }
+            Err(at) => Ok(self.entries.insert(at, (id, dictionary))?),
+        }
+    }
+
+    /// Puts the values of the array behind those of the id's dictionary, of which none is copied (Columnar Format,
+    /// "Dictionary Messages", of delta dictionaries). After a fault nothing has changed.
+    pub fn append(&mut self, alloc: Global, id: i64, values: Array) -> Result<(), StoreFault>
+        requires plain { values.encoding ≡ None }
+        requires typed { (d : ValueList) → listed self.old id ≡ Some d → values.data_type ≡ d.data_type }
+        ensures { Appends self.old id values result self.new }
+    {
+        let Ok(at) = self.place_of(id) else {
+            return Err(StoreFault::NoBase);
+        };
+        let dictionary = &mut self.entries[at].1;
+        if dictionary.len().saturating_add(values.len()) > Store::MAX_VALUES {
+            return Err(StoreFault::TooLong);
+        }
+        match dictionary.append(alloc, values) {
+            Ok(()) => Ok(()),
+            Err(_) => Err(StoreFault::Memory),
+        }
+    }
+
+    /// Lets all dictionaries go, as where a stream begins anew. Takes no memory.
+    pub fn clear(&mut self)
+        ensures { self.new ≡ [] }
+    {
+        self.entries.clear();
+    }
+
+    // Where the id stands, or where it would stand.
+    fn place_of(&self, id: i64) -> Result<usize, usize>
+        ensures { MatchResult result (IsAt self.now id) (IsGap self.now id) }
+    {
+        self.entries.binary_search_by_key(&id, |entry| entry.0)
+    }
+}

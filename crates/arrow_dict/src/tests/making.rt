@@ -1,0 +1,135 @@
+// Columns, and dictionaries of their values.
+
+ghost use Rattle.std.specs.Prelude.{◌≡◌, ◌≤◌, ℕ, IfOk, IsTrue, List, None, Some, false};
+ghost use Rattle.arrow_types.specs.Field.{none};
+ghost use Rattle.arrow_types.specs.Schema.{has_encoding};
+ghost use Rattle.arrow_types.specs.View.{field_view, type_view};
+ghost use Rattle.arrow_array.specs.Column.{ValueList};
+ghost use Rattle.arrow_array.specs.Layout.{IsText, buffer_count};
+ghost use Rattle.arrow_array.specs.Listed.{listed};
+
+use crate::{Store, StoreFault};
+use arrow_array::layout::is_laid;
+use arrow_array::{Array, ByteRange, Dictionary};
+use arrow_types::{BitWidth, DataType, Field};
+use bytes::Bytes;
+use std::alloc::{AllocError, Global};
+use std::test::Fail;
+
+pub(super) const NO_COLUMN: &str = "the parts are as they should be";
+
+// Signed numbers of 8 bits.
+pub(super) fn int8() -> DataType {
+    DataType::Int {
+        bits: BitWidth::Eight,
+        signed: true,
+    }
+}
+
+// A nullable field without a name and an encoding.
+pub(super) fn field(alloc: Global, data_type: DataType) -> Field
+    ensures { (result.dictionary ≡ None) × (type_view result.data_type ≡ type_view data_type) }
+{
+    Field {
+        name: String::new(alloc),
+        nullable: true,
+        data_type,
+        dictionary: None,
+    }
+}
+
+// Whether the type is one of numbers or of nothing.
+fn is_simple(data_type: &DataType) -> bool
+    ensures childless { IsTrue result → (type_view data_type.now).children ≡ none }
+    ensures texts { IsTrue result → (len : ℕ) (b : List (List ℕ)) → IsText (type_view data_type.now).tag None len b }
+    ensures buffers { IsTrue result → buffer_count (type_view data_type.now).tag None ≤ 2 }
+{
+    match data_type {
+        DataType::Null | DataType::Int { .. } => true,
+        DataType::Bool
+        | DataType::Binary
+        | DataType::Utf8
+        | DataType::Date(_)
+        | DataType::Time(_)
+        | DataType::Timestamp(..)
+        | DataType::List(_)
+        | DataType::Struct(_) => false,
+    }
+}
+
+// A column of `len` slots without nulls.
+fn column(
+    alloc: Global,
+    data_type: DataType,
+    len: usize,
+    bytes: &[u8],
+) -> Result<Option<Array>, AllocError> {
+    let field = field(alloc, data_type);
+    let body = Bytes::copy_from_slice(alloc, bytes)?;
+    let range = ByteRange {
+        start: 0,
+        end: bytes.len(),
+    };
+    let buffers = [ByteRange::EMPTY, range];
+    if len > 2147483647
+        || !is_simple(&field.data_type)
+        || !is_laid(&field.data_type, None, len, body.as_slice(), &buffers, &[])
+    {
+        return Ok(None);
+    }
+    let column = Array::from_parts(alloc, &field, len, &body, &buffers, Vec::new(alloc), None)?;
+    Ok(Some(column))
+}
+
+// Numbers of 8 bits.
+pub(super) fn numbers(alloc: Global, numbers: &[u8]) -> Result<Array, Fail> {
+    Ok(column(alloc, int8(), numbers.len(), numbers)?.ok_or(NO_COLUMN)?)
+}
+
+// Nulls, which lie in no body.
+pub(super) fn nulls(alloc: Global, len: usize) -> Result<Array, Fail> {
+    Ok(column(alloc, DataType::Null, len, &[])?.ok_or(NO_COLUMN)?)
+}
+
+// The dictionary of the values of a column.
+pub(super) fn dictionary(alloc: Global, values: Array) -> Result<Dictionary, Fail> {
+    if values.encoding().is_some() || values.data_type().has_encoding_below() {
+        return Err(Fail::from(NO_COLUMN));
+    }
+    Ok(Dictionary::from_array(alloc, values)?)
+}
+
+// Whether values may be appended to what the id has.
+fn may_append(store: &Store, id: i64, values: &Array) -> bool
+    ensures plain { IsTrue result → values.now.encoding ≡ None }
+    ensures typed { IsTrue result
+        → (d : ValueList) → listed store.now id ≡ Some d → values.now.data_type ≡ d.data_type }
+{
+    values.encoding().is_none()
+        && match store.get(id) {
+            Some(dictionary) => *values.data_type() == *dictionary.data_type(),
+            None => true,
+        }
+}
+
+// The fault of values that are appended, if there is one.
+pub(super) fn appended(
+    alloc: Global,
+    store: &mut Store,
+    id: i64,
+    values: Array,
+) -> Result<Option<StoreFault>, Fail> {
+    if !may_append(store, id, &values) {
+        return Err(Fail::from(NO_COLUMN));
+    }
+    Ok(store.append(alloc, id, values).err())
+}
+
+// The number that value `i` is.
+pub(super) fn number(dictionary: &Dictionary, i: usize) -> Option<i128> {
+    if i >= dictionary.len() {
+        return None;
+    }
+    let (values, place) = dictionary.value(i);
+    values.int_at(place)
+}

@@ -1,0 +1,66 @@
+-- What the layer below answers of a body is what the body holds.
+use Rattle.std.proofs.Common.{◌≡◌, ◌≤ℤ◌, pos, negsuc, ◌↔◌, rules, ℕ, ℤ, List, [], IsTrue, refl, sym, ap, subst, Ok, Err, arith}
+use Rattle.std.specs.Prelude.{nat_abs}
+use Rattle.std.specs.List.{AllByRecursion}
+use Rattle.arrow_types.specs.Field.{Fields}
+use Rattle.arrow_array.specs.Column.{Column, ValueList}
+use Rattle.arrow_body.specs.Held.{count_of}
+use Rattle.arrow_body.specs.Sound.{AreIndexed, AreLaid, AreText, Explains, IsSound, columns_of, lengths_of}
+use Rattle.arrow_body.specs.declared.body.BodyFault.{BodyFault}
+use Rattle.arrow_body.specs.declared.body.BodyFault.TheVariants as bodies
+use Rattle.arrow_types.specs.declared.node.FieldNode.{FieldNode}
+use Rattle.arrow_types.specs.declared.node.Buffer.{Buffer}
+use Rattle.arrow_meta.specs.Means.{PlainBatch}
+use Rattle.arrow_stream.specs.declared.kind.Refusal.TheVariants.{Layout, Text, Index}
+use Rattle.arrow_stream.specs.Batch.{AreLong, Holds, IsLayout, columns, bad_layout, bad_text, bad_index}
+
+-- a number that is not negative is what it counts
+pub counted : (z : ℤ) → pos 0 ≤ℤ z → nat_abs z ≡ count_of z
+counted (pos n) h = refl
+counted (negsuc n) h = absurd (search rules)
+
+-- the columns have the length of the batch, of which these are the nodes and this is the count
+pub are_long : (fields : Fields) (rows : PlainBatch) (ns : List FieldNode) (n : ℕ) → ns ≡ rows.nodes → n ≡ count_of rows.length →
+    AllByRecursion (λ (k : ℕ). k ≡ n) (lengths_of fields ns) ↔ AreLong fields rows
+are_long fields rows ns n e f = (
+  λ h. subst (λ x. AllByRecursion (λ (k : ℕ). k ≡ x) (lengths_of fields rows.nodes)) f (subst (λ x. AllByRecursion (λ (k : ℕ). k ≡ n) (lengths_of fields x)) e h),
+  λ h. subst (λ x. AllByRecursion (λ (k : ℕ). k ≡ n) (lengths_of fields x)) (sym e) (subst (λ x. AllByRecursion (λ (k : ℕ). k ≡ x) (lengths_of fields rows.nodes)) (sym f) h),
+)
+
+-- what explains a fault of this body, these nodes and these buffers
+pub explains_of : (k : BodyFault) (body body' : List ℕ) (ds : List (ℤ × ValueList)) (fields : Fields) (rows : PlainBatch) (ns : List FieldNode) (bs : List Buffer) →
+    body' ≡ body → ns ≡ rows.nodes → bs ≡ rows.buffers → Explains k body' ds fields ns bs → Explains k body ds fields rows.nodes rows.buffers
+explains_of k body body' ds fields rows ns bs b e f h =
+    subst (λ x. Explains k x ds fields rows.nodes rows.buffers) b (subst (λ x. Explains k body' ds fields rows.nodes x) f (subst (λ x. Explains k body' ds fields x bs) e h))
+
+-- the columns of a body are those of these nodes and buffers
+pub record AreColumns (body : List ℕ) (ds : List (ℤ × ValueList)) (fields : Fields) (ns : List FieldNode) (bs : List Buffer) (cs : List Column) : Type 0 where
+  pub sound : IsSound body ds fields ns bs
+  pub same : cs ≡ columns_of body ds fields ns bs
+
+pub columns_are : (body body' : List ℕ) (ds : List (ℤ × ValueList)) (fields : Fields) (rows : PlainBatch) (ns : List FieldNode) (bs : List Buffer) (cs : List Column) →
+    body' ≡ body → ns ≡ rows.nodes → bs ≡ rows.buffers → IsSound body' ds fields ns bs × (cs ≡ columns_of body' ds fields ns bs) →
+    AreColumns body ds fields rows.nodes rows.buffers cs
+columns_are body body' ds fields rows ns bs cs b e f h =
+    subst (λ x. AreColumns x ds fields rows.nodes rows.buffers cs) b
+    (subst (λ x. AreColumns body' ds fields rows.nodes x cs) f
+    (subst (λ x. AreColumns body' ds fields x bs cs) e (record { sound = h.0; same = h.1 })))
+
+module _ {body : List ℕ} {ds : List (ℤ × ValueList)} {fields : Fields} {rows : PlainBatch} where
+  -- columns of another length are no layout
+  pub not_long : (AreLong fields rows → ⊥) → Holds body ds fields rows (Err Layout)
+  not_long n = bad_layout (λ h. n h.long)
+
+  pub sound_holds : (cs : List Column) → AreLong fields rows → AreColumns body ds fields rows.nodes rows.buffers cs → Holds body ds fields rows (Ok cs)
+  sound_holds cs long s =
+      subst (λ x. Holds body ds fields rows (Ok x)) (sym s.same)
+      (columns (record { there = s.sound.there; laid = s.sound.laid; long = long }) s.sound.text s.sound.indexed)
+
+  pub layout_holds : Explains bodies.Layout body ds fields rows.nodes rows.buffers → Holds body ds fields rows (Err Layout)
+  layout_holds n = bad_layout (λ h. n (h.there, h.laid))
+
+  pub text_holds : AreLong fields rows → Explains bodies.Text body ds fields rows.nodes rows.buffers → Holds body ds fields rows (Err Text)
+  text_holds long e = bad_text (record { there = e.0; laid = e.1; long = long }) e.2
+
+  pub index_holds : AreLong fields rows → Explains bodies.Index body ds fields rows.nodes rows.buffers → Holds body ds fields rows (Err Index)
+  index_holds long e = bad_index (record { there = e.0; laid = e.1; long = long }) e.2 e.3

@@ -1,0 +1,66 @@
+use Rattle.std.proofs.Common.{◌≡◌, sym, subst, w64, Ok, Err}
+use Rattle.std.proofs.lemmas.Int.{to_z-of_z}
+use Rattle.arrow_dict.specs.Appends.{IsAppended}
+use Rattle.arrow_dict.specs.Dictionaries.{placed}
+use Rattle.arrow_meta.specs.Means.{batch_view, dictionary}
+use Rattle.arrow_stream.specs.State.{dictionary_given}
+use Rattle.arrow_stream.specs.Frame.{BodySays}
+use Rattle.arrow_stream.specs.Views.{AreValues, HeldValues, plain}
+use Rattle.arrow_stream.proofs.States.{append_updates, append_fits, replace_updates, replace_fits, update_refused}
+use Rattle.arrow_stream.proofs.state.State.update.Goals as goal
+
+pub returns-in-Err-clause-updates : goal.returns-in-Err-clause-updates
+returns-in-Err-clause-updates c =
+    let s = plain c.args.self.now in
+    let rows = batch_view c.args.rows.now in
+    let body = c.args.body.now in
+    let id = to_z-of_z w64 c.args.id c.ranges.id in
+    update_refused s rows body c.args.id c.args.is_delta c.in-Err.stop (subst (λ i. HeldValues s i rows body (Err c.in-Err.stop)) id c.in-Err.ensures.values)
+
+pub returns-in-Ok-append-clause-updates : goal.returns-in-Ok-append-clause-updates
+returns-in-Ok-append-clause-updates c =
+    let s = plain c.args.self.now in
+    let rows = batch_view c.args.rows.now in
+    let body = c.args.body.now in
+    let id = to_z-of_z w64 c.args.id c.ranges.id in
+    let new = c.append.new.self in
+    let v = subst (λ i. AreValues s i rows body c.in-Ok.values) id c.in-Ok.ensures.values in
+    let a = subst (λ i. IsAppended s.dictionaries i c.in-Ok.values new) id c.in-Ok-append.ensures in
+    subst (λ b. BodySays s (dictionary c.args.id b rows) body (Ok (record { schema = s.schema; dictionaries = new }, dictionary_given c.args.id))) (sym c.if-is_delta.true)
+    (append_updates s rows body c.args.id c.in-Ok.values new c.requires.fit v a)
+
+pub returns-in-Ok-append-clause-fit : goal.returns-in-Ok-append-clause-fit
+returns-in-Ok-append-clause-fit c =
+    let s = plain c.args.self.now in
+    let rows = batch_view c.args.rows.now in
+    let body = c.args.body.now in
+    let id = to_z-of_z w64 c.args.id c.ranges.id in
+    let new = c.append.new.self in
+    append_fits s rows body c.args.id c.in-Ok.values new c.requires.fit
+    (subst (λ i. AreValues s i rows body c.in-Ok.values) id c.in-Ok.ensures.values)
+    (subst (λ i. IsAppended s.dictionaries i c.in-Ok.values new) id c.in-Ok-append.ensures)
+
+pub returns-in-Ok-replace-clause-updates : goal.returns-in-Ok-replace-clause-updates
+returns-in-Ok-replace-clause-updates c =
+    let s = plain c.args.self.now in
+    let rows = batch_view c.args.rows.now in
+    let body = c.args.body.now in
+    let id = to_z-of_z w64 c.args.id c.ranges.id in
+    let new = c.replace.new.self in
+    let d = c.in-Ok-from_array.dictionary in
+    let v = subst (λ i. AreValues s i rows body c.in-Ok.values) id c.in-Ok.ensures.values in
+    let e = subst (λ i. new ≡ placed i d s.dictionaries) id c.in-Ok-replace.ensures.ok in
+    subst (λ b. BodySays s (dictionary c.args.id b rows) body (Ok (record { schema = s.schema; dictionaries = new }, dictionary_given c.args.id))) (sym c.if-is_delta.false)
+    (replace_updates s rows body c.args.id c.in-Ok.values d new v c.in-Ok-from_array.ensures e)
+
+pub returns-in-Ok-replace-clause-fit : goal.returns-in-Ok-replace-clause-fit
+returns-in-Ok-replace-clause-fit c =
+    let s = plain c.args.self.now in
+    let rows = batch_view c.args.rows.now in
+    let body = c.args.body.now in
+    let id = to_z-of_z w64 c.args.id c.ranges.id in
+    let new = c.replace.new.self in
+    let d = c.in-Ok-from_array.dictionary in
+    let v = subst (λ i. AreValues s i rows body c.in-Ok.values) id c.in-Ok.ensures.values in
+    let e = subst (λ i. new ≡ placed i d s.dictionaries) id c.in-Ok-replace.ensures.ok in
+    replace_fits s rows body c.args.id c.in-Ok.values d new c.requires.fit v c.in-Ok-from_array.ensures e

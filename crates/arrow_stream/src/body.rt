@@ -1,0 +1,56 @@
+//! The columns that a body holds.
+
+ghost use Rattle.std.specs.Prelude.{◌≡◌, ◌≤ℤ◌, pos, MatchResult, Ok};
+ghost use Rattle.arrow_types.specs.View.{fields_view};
+ghost use Rattle.arrow_body.specs.Held.{count_of};
+ghost use Rattle.arrow_body.specs.Sound.{AreFit};
+ghost use Rattle.arrow_meta.specs.Means.{batch_view};
+ghost use Rattle.arrow_stream.specs.Batch.{Holds};
+ghost use Rattle.arrow_stream.specs.Views.{HoldsNone};
+
+use crate::kind::Refusal;
+use crate::message::Stop;
+use arrow_array::{Array, Dictionary};
+use arrow_body::{BodyFault, have_length, load};
+use arrow_meta::RecordBatch;
+use arrow_types::Field;
+use bytes::Bytes;
+use std::alloc::Global;
+
+/// How many rows a batch has whose length is not negative.
+pub(crate) fn row_count(rows: &RecordBatch) -> usize
+    requires sign { pos 0 ≤ℤ rows.now.length }
+    ensures count { result ≡ count_of rows.now.length }
+{
+    rows.length as usize
+}
+
+/// The columns of the fields that a body holds, or the first of Layout, Text and Index that applies to any of them.
+/// They share one copy of the body.
+pub(crate) fn hold(
+    alloc: Global,
+    fields: &[Field],
+    rows: &RecordBatch,
+    body: &[u8],
+    dictionaries: &[(i64, Dictionary)],
+) -> Result<Vec<Array>, Stop>
+    requires sign { pos 0 ≤ℤ rows.now.length }
+    requires fit { AreFit dictionaries.now (fields_view fields.now) }
+    ensures held { MatchResult result
+        (λ columns. Holds body.now dictionaries.now (fields_view fields.now) (batch_view rows.now) (Ok columns.items))
+        (λ stop. HoldsNone body.now dictionaries.now (fields_view fields.now) (batch_view rows.now) stop) }
+{
+    if !have_length(fields, &rows.nodes, row_count(rows)) {
+        return Err(Stop::Refused(Refusal::Layout));
+    }
+    let Ok(body) = Bytes::copy_from_slice(alloc, body) else {
+        return Err(Stop::Memory);
+    };
+    match load(alloc, fields, &rows.nodes, &rows.buffers, &body, dictionaries) {
+        Ok(columns) => Ok(columns),
+        Err(BodyFault::Layout) => Err(Stop::Refused(Refusal::Layout)),
+        Err(BodyFault::Text) => Err(Stop::Refused(Refusal::Text)),
+        Err(BodyFault::Index) => Err(Stop::Refused(Refusal::Index)),
+        Err(BodyFault::Memory) => Err(Stop::Memory),
+    }
+}

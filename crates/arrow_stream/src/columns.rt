@@ -1,0 +1,65 @@
+//! A stream's schema, with what its dictionaries hold.
+
+ghost use Rattle.std.specs.Prelude.{◌≡◌, IfOk, option_map};
+ghost use Rattle.arrow_types.specs.Schema.{IsSchema, dictionary_fields};
+ghost use Rattle.arrow_types.specs.View.{field_view};
+ghost use Rattle.arrow_dict.specs.ValueTypes.{value_field, value_type_of};
+
+use arrow_dict::ValueFields;
+use arrow_types::{Field, Schema};
+use std::alloc::{AllocError, Global};
+use std::marker::Model;
+use std::rc::Rc;
+
+/// The columns of a stream's batches, and for each dictionary id a field of the dictionary's values. A clause sees the
+/// columns.
+#[derive(Drop)]
+pub(crate) struct Columns {
+    schema: Rc<Schema>,
+    value_fields: ValueFields,
+}
+
+impl Model for Columns {
+    ghost use Rattle.arrow_types.specs.Field.{Fields};
+    ghost use Rattle.arrow_types.specs.Stored.{fields_code};
+    ghost use Rattle.arrow_dict.specs.ValueTypes.{NameSame};
+    ghost use Rattle.arrow_types.specs.Schema.{IsSchema, dictionary_fields};
+
+    ghost Value = { Fields };
+
+    ghost coded = { fields_code };
+
+    ghost view = { λ c. c.schema.value };
+
+    ghost invariant = { λ c. IsSchema c.schema.value × NameSame c.value_fields (dictionary_fields c.schema.value) };
+}
+
+impl Columns {
+    /// Those of the schema, or `AllocError` where a growth was refused.
+    pub(crate) fn of(alloc: Global, schema: Schema) -> Result<Columns, AllocError>
+        ensures same { IfOk result (λ c. c ≡ schema) }
+    {
+        let value_fields = ValueFields::of(alloc, &schema)?;
+        Ok(Columns {
+            schema: Rc::new(alloc, schema)?,
+            value_fields,
+        })
+    }
+
+    /// The schema, which batches share.
+    pub(crate) fn schema(&self) -> &Rc<Schema>
+        ensures same { result.now.value ≡ self.now }
+        ensures known { IsSchema self.now }
+    {
+        &self.schema
+    }
+
+    /// The field of the values of the dictionary with this id, if a field gives the id.
+    pub(crate) fn value_field(&self, id: i64) -> Option<&Field>
+        ensures field { option_map (λ f. field_view f.now) result
+            ≡ option_map value_field (value_type_of (dictionary_fields self.now) id) }
+        ensures known { IsSchema self.now }
+    {
+        self.value_fields.get(id)
+    }
+}
