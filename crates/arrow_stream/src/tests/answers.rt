@@ -98,14 +98,12 @@ impl Answers {
 
     // A refusal is the same each time.
     fn push_fault(&mut self, fault: Fault) -> Result<(), AllocError> {
-        match self.refused {
-            None => {
-                self.refused = Some(fault);
-                Ok(())
-            }
-            Some(first) if first == fault => Ok(()),
-            Some(_) => self.push_word("another-fault"),
+        let first = self.refused.unwrap_or(fault);
+        self.refused = Some(first);
+        if first != fault {
+            self.push_word("another-fault")?;
         }
+        Ok(())
     }
 
     // Looks at the reader where nothing more will come, and at the batches once more.

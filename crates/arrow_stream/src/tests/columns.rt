@@ -1,6 +1,8 @@
 // Batches of columns without dictionaries.
 
-use super::telling::{Edits, NOTHING, Told, are_beginnings_told, are_told, cut_off, read_to, stream};
+use super::telling::{
+    Edits, NOTHING, Told, are_beginnings_told, are_told, cut_off, read_to, stream,
+};
 use crate::frames::columns::{
     BITS, FOUR_BITS, LIST_ROWS, LISTS, MANY, MANY_ROWS, NO_COLUMNS, NO_TEXTS, STRUCT_ROWS, STRUCTS,
     TEXTS, THREE_ROWS, THREE_TEXTS,
@@ -71,11 +73,7 @@ fn numbers_texts_and_truth_values(rt: HostRuntime) -> Result<(), Fail> {
 #[test]
 fn lists_and_structs(rt: HostRuntime) -> Result<(), Fail> {
     let alloc = rt.alloc();
-    let lists = one_batch(
-        608,
-        "l: another type",
-        "3: [1;2;] null []: 'a,b' null ''",
-    );
+    let lists = one_batch(608, "l: another type", "3: [1;2;] null []: 'a,b' null ''");
     let parts: [&[u8]; 3] = [&LISTS, &LIST_ROWS, &END_MARKER];
     are_told(&rt, alloc, "lists", &parts, &[], lists)?;
     let structs = one_batch(432, "s: another type", "2: {5;} null");
@@ -123,7 +121,11 @@ fn texts_of_no_rows(rt: HostRuntime) -> Result<(), Fail> {
 #[test]
 fn what_need_not_be_so(rt: HostRuntime) -> Result<(), Fail> {
     let rows: [(&str, Edits, &str); 5] = [
-        ("a null count that is not told", &[(256, &[0xff; 8])], "3: 1 null 3"),
+        (
+            "a null count that is not told",
+            &[(256, &[0xff; 8])],
+            "3: 1 null 3",
+        ),
         ("a bit behind the slots", &[(304, &[0x0d])], "3: 1 null 3"),
         ("no validity", &[(280, &[0]), (256, &[0])], "3: 1 0 3"),
         (
@@ -177,7 +179,10 @@ fn a_field_that_is_longer_than_its_structs(rt: HostRuntime) -> Result<(), Fail> 
 // Nulls of type Null are not counted.
 #[test]
 fn any_number_of_nulls(rt: HostRuntime) -> Result<(), Fail> {
-    let rows: [(&str, Edits); 2] = [("none", &[(680, &[0])]), ("-5", &[(680, &[0xfb]), (681, &[0xff; 7])])];
+    let rows: [(&str, Edits); 2] = [
+        ("none", &[(680, &[0])]),
+        ("-5", &[(680, &[0xfb]), (681, &[0xff; 7])]),
+    ];
     for (what, edits) in rows {
         let want = one_batch(
             1120,

@@ -1,11 +1,11 @@
 // Columns with dictionaries of other forms.
 
 use super::telling::{Told, are_told, read_to};
+use crate::frames::END_MARKER;
 use crate::frames::encoded::{
     ANIMALS, BELOW, BELOW_ROWS, COLORS, GROUP_ROWS, GROUPS, MIXED, MIXED_ROWS, SHARED, SHARED_ROWS,
     SIZE_ROWS, SIZES, THREE_SIZES, TWO_GROUPS,
 };
-use crate::frames::END_MARKER;
 use crate::frames::letters::ABC;
 use std::test::Fail;
 
@@ -27,12 +27,7 @@ fn one_batch(
 
 #[test]
 fn beside_a_plain_column(rt: HostRuntime) -> Result<(), Fail> {
-    let want = one_batch(
-        760,
-        "k: utf8",
-        "3: 'c' 'a' null: 'x' null 'y'",
-        A_TO_C,
-    );
+    let want = one_batch(760, "k: utf8", "3: 'c' 'a' null: 'x' null 'y'", A_TO_C);
     let parts: [&[u8]; 4] = [&MIXED, &ABC, &MIXED_ROWS, &END_MARKER];
     are_told(&rt, rt.alloc(), "two columns", &parts, &[], want)?;
     Ok(())
@@ -66,12 +61,7 @@ fn of_numbers(rt: HostRuntime) -> Result<(), Fail> {
 
 #[test]
 fn of_lists(rt: HostRuntime) -> Result<(), Fail> {
-    let want = one_batch(
-        720,
-        "g: another type",
-        "3: [] [1;2;] null",
-        "0: [1;2;] []",
-    );
+    let want = one_batch(720, "g: another type", "3: [] [1;2;] null", "0: [1;2;] []");
     let parts: [&[u8]; 4] = [&GROUPS, &TWO_GROUPS, &GROUP_ROWS, &END_MARKER];
     are_told(&rt, rt.alloc(), "groups", &parts, &[], want)?;
     Ok(())

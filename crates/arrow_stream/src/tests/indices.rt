@@ -90,7 +90,11 @@ fn an_index_that_was_in_range(rt: HostRuntime) -> Result<(), Fail> {
     let parts: [&[u8]; 5] = [&SCHEMA, &ABC, &DE, &ABC, &SECOND];
     let before = Told {
         dictionaries: A_TO_C,
-        ..read_to(872, "schema dictionary:0 dictionary:0 dictionary:0", "k: utf8")
+        ..read_to(
+            872,
+            "schema dictionary:0 dictionary:0 dictionary:0",
+            "k: utf8",
+        )
     };
     let want = refused(Kind::Index, before);
     are_told(&rt, rt.alloc(), "index 4", &parts, &[], want)?;

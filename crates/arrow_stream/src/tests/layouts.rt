@@ -29,7 +29,10 @@ fn lengths_and_counts_of_numbers(rt: HostRuntime) -> Result<(), Fail> {
         ("no nulls", &[(256, &[0])]),
         ("two nulls", &[(256, &[2])]),
         ("a null, and no validity", &[(280, &[0])]),
-        ("a number of nulls below -1", &[(256, &[0xfe]), (257, &[0xff; 7])]),
+        (
+            "a number of nulls below -1",
+            &[(256, &[0xfe]), (257, &[0xff; 7])],
+        ),
     ];
     for (what, edits) in rows {
         let want = contradicted(152, "n: int32");
@@ -103,14 +106,28 @@ fn offsets_of_texts(rt: HostRuntime) -> Result<(), Fail> {
     }
     let two_bytes: Edits = &[(280, &[2])];
     let want = contradicted(136, "t: utf8");
-    are_told(&rt, rt.alloc(), "no rows", &[&TEXTS, &NO_TEXTS], two_bytes, want)?;
+    are_told(
+        &rt,
+        rt.alloc(),
+        "no rows",
+        &[&TEXTS, &NO_TEXTS],
+        two_bytes,
+        want,
+    )?;
     Ok(())
 }
 
 #[test]
 fn children(rt: HostRuntime) -> Result<(), Fail> {
     let rows: [(&str, &[u8], &[u8], Edits, u64, &str); 4] = [
-        ("a list past its items", &LISTS, &LIST_ROWS, &[(556, &[3])], 272, "l: another type"),
+        (
+            "a list past its items",
+            &LISTS,
+            &LIST_ROWS,
+            &[(556, &[3])],
+            272,
+            "l: another type",
+        ),
         (
             "fewer items than lists ask for",
             &LISTS,

@@ -1,6 +1,8 @@
 // Messages behind a schema that are refused, and which kind comes first.
 
-use super::telling::{Edits, NOTHING, Told, are_told, first_fault, is_told, read_to, refused, stream};
+use super::telling::{
+    Edits, NOTHING, Told, are_told, first_fault, is_told, read_to, refused, stream,
+};
 use crate::frames::columns::{LIST_ROWS, LISTS, TEXTS, THREE_TEXTS};
 use crate::frames::encoded::{GROUPS, MIXED, MIXED_ROWS, TWO_GROUPS};
 use crate::frames::{BATCH, SCHEMA, columns, letters};
@@ -30,10 +32,30 @@ fn a_batch_before_the_schema(rt: HostRuntime) -> Result<(), Fail> {
     let rows: [(&str, &[u8], Edits, Kind); 6] = [
         ("a batch", &BATCH, &[], Kind::Order),
         ("a dictionary", &letters::ABC, &[], Kind::Order),
-        ("body before order", &BATCH, &[(47, &[0x80])], Kind::BodyLength),
-        ("order before compressed", &columns::COMPRESSED, &[], Kind::Order),
-        ("order before rows", &BATCH, &[(72, &BELOW_ZERO)], Kind::Order),
-        ("order before base", &letters::DE, &[(72, &[7])], Kind::Order),
+        (
+            "body before order",
+            &BATCH,
+            &[(47, &[0x80])],
+            Kind::BodyLength,
+        ),
+        (
+            "order before compressed",
+            &columns::COMPRESSED,
+            &[],
+            Kind::Order,
+        ),
+        (
+            "order before rows",
+            &BATCH,
+            &[(72, &BELOW_ZERO)],
+            Kind::Order,
+        ),
+        (
+            "order before base",
+            &letters::DE,
+            &[(72, &[7])],
+            Kind::Order,
+        ),
     ];
     for (what, frame, edits, kind) in rows {
         let want = refused(kind, NOTHING);
@@ -48,8 +70,16 @@ fn a_compressed_body(rt: HostRuntime) -> Result<(), Fail> {
     let batch: [&[u8]; 2] = [&SCHEMA, &columns::COMPRESSED];
     let rows: [(&str, Edits, Kind); 3] = [
         ("a batch", &[], Kind::Compressed),
-        ("body before compressed", &[(199, &[0x80])], Kind::BodyLength),
-        ("compressed before rows", &[(224, &BELOW_ZERO)], Kind::Compressed),
+        (
+            "body before compressed",
+            &[(199, &[0x80])],
+            Kind::BodyLength,
+        ),
+        (
+            "compressed before rows",
+            &[(224, &BELOW_ZERO)],
+            Kind::Compressed,
+        ),
     ];
     for (what, edits, kind) in rows {
         are_told(&rt, alloc, what, &batch, edits, refused(kind, numbers()))?;
@@ -71,18 +101,44 @@ fn lengths_of_a_batch(rt: HostRuntime) -> Result<(), Fail> {
     let rows: [(&str, Edits, Kind); 7] = [
         ("rows below 0", &[(224, &BELOW_ZERO)], Kind::Rows),
         ("2^31 rows", &[(224, &[0, 0, 0, 0x80])], Kind::Rows),
-        ("2^31 - 1 rows", &[(224, &[0xff, 0xff, 0xff, 0x7f])], Kind::Layout),
+        (
+            "2^31 - 1 rows",
+            &[(224, &[0xff, 0xff, 0xff, 0x7f])],
+            Kind::Layout,
+        ),
         ("a node below 0", &[(248, &BELOW_ZERO)], Kind::Rows),
         ("a node of 2^31", &[(248, &[0, 0, 0, 0x80])], Kind::Rows),
-        ("rows before layout", &[(224, &BELOW_ZERO), (244, &[0])], Kind::Rows),
-        ("version before rows", &[(180, &[3]), (224, &BELOW_ZERO)], Kind::Version),
+        (
+            "rows before layout",
+            &[(224, &BELOW_ZERO), (244, &[0])],
+            Kind::Rows,
+        ),
+        (
+            "version before rows",
+            &[(180, &[3]), (224, &BELOW_ZERO)],
+            Kind::Version,
+        ),
     ];
     for (what, edits, kind) in rows {
-        are_told(&rt, rt.alloc(), what, NUMBERS, edits, refused(kind, numbers()))?;
+        are_told(
+            &rt,
+            rt.alloc(),
+            what,
+            NUMBERS,
+            edits,
+            refused(kind, numbers()),
+        )?;
     }
     let lists = refused(Kind::Rows, read_to(272, "schema", "l: another type"));
     let below: Edits = &[(384, &BELOW_ZERO)];
-    are_told(&rt, rt.alloc(), "items below 0", &[&LISTS, &LIST_ROWS], below, lists)?;
+    are_told(
+        &rt,
+        rt.alloc(),
+        "items below 0",
+        &[&LISTS, &LIST_ROWS],
+        below,
+        lists,
+    )?;
     Ok(())
 }
 
@@ -91,17 +147,39 @@ fn lengths_of_a_dictionary(rt: HostRuntime) -> Result<(), Fail> {
     let rows: [(&str, &[&[u8]], Edits, Kind); 6] = [
         ("values below 0", LETTERS, &[(304, &BELOW_ZERO)], Kind::Rows),
         ("a node below 0", LETTERS, &[(328, &BELOW_ZERO)], Kind::Rows),
-        ("2^31 values", LETTERS, &[(304, &[0, 0, 0, 0x80])], Kind::Rows),
-        ("base before rows", DELTA, &[(304, &BELOW_ZERO)], Kind::NoBase),
+        (
+            "2^31 values",
+            LETTERS,
+            &[(304, &[0, 0, 0, 0x80])],
+            Kind::Rows,
+        ),
+        (
+            "base before rows",
+            DELTA,
+            &[(304, &BELOW_ZERO)],
+            Kind::NoBase,
+        ),
         ("id before base", DELTA, &[(272, &[7])], Kind::UnknownId),
-        ("id before rows", LETTERS, &[(272, &[7]), (304, &BELOW_ZERO)], Kind::UnknownId),
+        (
+            "id before rows",
+            LETTERS,
+            &[(272, &[7]), (304, &BELOW_ZERO)],
+            Kind::UnknownId,
+        ),
     ];
     for (what, parts, edits, kind) in rows {
         are_told(&rt, rt.alloc(), what, parts, edits, refused(kind, words()))?;
     }
     let groups = refused(Kind::Rows, read_to(280, "schema", "g: another type"));
     let below: Edits = &[(424, &BELOW_ZERO)];
-    are_told(&rt, rt.alloc(), "items below 0", &[&GROUPS, &TWO_GROUPS], below, groups)?;
+    are_told(
+        &rt,
+        rt.alloc(),
+        "items below 0",
+        &[&GROUPS, &TWO_GROUPS],
+        below,
+        groups,
+    )?;
     Ok(())
 }
 
@@ -118,8 +196,16 @@ fn rows_over_the_limit(rt: HostRuntime) -> Result<(), Fail> {
     };
     for (max_rows, batch, dictionary) in [
         (3, batch, dictionary),
-        (2, refused(Kind::Rows, numbers()), refused(Kind::Rows, words())),
-        (0, refused(Kind::Rows, numbers()), refused(Kind::Rows, words())),
+        (
+            2,
+            refused(Kind::Rows, numbers()),
+            refused(Kind::Rows, words()),
+        ),
+        (
+            0,
+            refused(Kind::Rows, numbers()),
+            refused(Kind::Rows, words()),
+        ),
     ] {
         let limits = Limits::new(1000, 1000, max_rows).ok_or("within the ceilings")?;
         let bytes = stream(alloc, NUMBERS, &[])?;
@@ -147,9 +233,23 @@ fn texts_that_are_none(rt: HostRuntime) -> Result<(), Fail> {
         ..read_to(336, "schema batch", "t: utf8")
     };
     let hidden: Edits = &[(320, &[2]), (329, &[0xff])];
-    are_told(&rt, alloc, "under a null", &[&TEXTS, &THREE_TEXTS], hidden, read)?;
+    are_told(
+        &rt,
+        alloc,
+        "under a null",
+        &[&TEXTS, &THREE_TEXTS],
+        hidden,
+        read,
+    )?;
     let want = refused(Kind::Text, words());
-    are_told(&rt, alloc, "in a dictionary", LETTERS, &[(416, &[0xff])], want)?;
+    are_told(
+        &rt,
+        alloc,
+        "in a dictionary",
+        LETTERS,
+        &[(416, &[0xff])],
+        want,
+    )?;
     Ok(())
 }
 
@@ -159,9 +259,21 @@ fn two_columns(rt: HostRuntime) -> Result<(), Fail> {
     let rows: [(&str, Edits, Kind); 5] = [
         ("an index", &[(704, &[9])], Kind::Index),
         ("a text", &[(744, &[0xff])], Kind::Text),
-        ("text before index", &[(704, &[9]), (744, &[0xff])], Kind::Text),
-        ("layout before index", &[(704, &[9]), (672, &[15])], Kind::Layout),
-        ("layout before text", &[(640, &[11]), (744, &[0xff])], Kind::Layout),
+        (
+            "text before index",
+            &[(704, &[9]), (744, &[0xff])],
+            Kind::Text,
+        ),
+        (
+            "layout before index",
+            &[(704, &[9]), (672, &[15])],
+            Kind::Layout,
+        ),
+        (
+            "layout before text",
+            &[(640, &[11]), (744, &[0xff])],
+            Kind::Layout,
+        ),
     ];
     for (what, edits, kind) in rows {
         let before = Told {
@@ -180,7 +292,13 @@ fn the_byte_that_decides_a_refusal(rt: HostRuntime) -> Result<(), Fail> {
     let alloc = rt.alloc();
     let rows: [(&[&[u8]], Edits, usize, Kind, u64); 6] = [
         (&[&BATCH], &[], 152, Kind::Order, 0),
-        (&[&SCHEMA, &columns::COMPRESSED], &[], 320, Kind::Compressed, 152),
+        (
+            &[&SCHEMA, &columns::COMPRESSED],
+            &[],
+            320,
+            Kind::Compressed,
+            152,
+        ),
         (NUMBERS, &[(224, &BELOW_ZERO)], 304, Kind::Rows, 152),
         (NUMBERS, &[(199, &[0x80])], 304, Kind::BodyLength, 152),
         (LETTERS, &[(328, &BELOW_ZERO)], 400, Kind::Rows, 200),

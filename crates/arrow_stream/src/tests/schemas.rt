@@ -1,6 +1,6 @@
 // Schema messages, and what stands in their place.
 
-use super::telling::{Edits, NOTHING, Told, cut_off, is_told, are_told, read_to, refused, stream};
+use super::telling::{Edits, NOTHING, Told, are_told, cut_off, is_told, read_to, refused, stream};
 use crate::Kind;
 use crate::frames::{BATCH, END_MARKER, SCHEMA};
 use arrow_types::Limits;
@@ -11,7 +11,11 @@ fn a_type_is_read(rt: HostRuntime) -> Result<(), Fail> {
     let rows: [(&str, Edits, &str); 7] = [
         ("nothing changed", &[], "n: int32"),
         ("is_signed is 0", &[(144, &[0])], "n: uint32"),
-        ("the vtable ends before is_signed", &[(122, &[6])], "n: uint32"),
+        (
+            "the vtable ends before is_signed",
+            &[(122, &[6])],
+            "n: uint32",
+        ),
         ("the vtable of another table", &[(136, &[0x58])], "n: int32"),
         ("type code Null", &[(105, &[1])], "n: null"),
         ("type code Utf8", &[(105, &[5])], "n: utf8"),
@@ -40,14 +44,34 @@ fn a_name_and_nullable_are_read(rt: HostRuntime) -> Result<(), Fail> {
 #[test]
 fn a_schema_is_refused(rt: HostRuntime) -> Result<(), Fail> {
     let rows: [(&str, Edits, Kind); 11] = [
-        ("a byte of the continuation", &[(3, &[0xfe])], Kind::Continuation),
-        ("a name that is not UTF-8", &[(120, &[0xff])], Kind::Metadata),
+        (
+            "a byte of the continuation",
+            &[(3, &[0xfe])],
+            Kind::Continuation,
+        ),
+        (
+            "a name that is not UTF-8",
+            &[(120, &[0xff])],
+            Kind::Metadata,
+        ),
         ("version V4", &[(28, &[3])], Kind::Version),
-        ("version before type", &[(28, &[3]), (105, &[3])], Kind::Version),
+        (
+            "version before type",
+            &[(28, &[3]), (105, &[3])],
+            Kind::Version,
+        ),
         ("header code Tensor", &[(30, &[4])], Kind::Header),
-        ("header before body", &[(30, &[4]), (47, &[0x80])], Kind::Header),
+        (
+            "header before body",
+            &[(30, &[4]), (47, &[0x80])],
+            Kind::Header,
+        ),
         ("a negative body", &[(47, &[0x80])], Kind::BodyLength),
-        ("body before type", &[(47, &[0x80]), (105, &[3])], Kind::BodyLength),
+        (
+            "body before type",
+            &[(47, &[0x80]), (105, &[3])],
+            Kind::BodyLength,
+        ),
         ("big-endian", &[(60, &[1])], Kind::Unsupported),
         ("type code FloatingPoint", &[(105, &[3])], Kind::Unsupported),
         ("24 bits", &[(140, &[0x18])], Kind::Schema),
@@ -76,7 +100,11 @@ fn a_stream_without_a_schema_is_refused(rt: HostRuntime) -> Result<(), Fail> {
     let rows: [(&str, &[u8], Kind); 4] = [
         ("eight bytes FF", &[0xff; 8], Kind::MetadataSize),
         ("no continuation", &SCHEMA[4..], Kind::Continuation),
-        ("zeros in its place", &[0, 0, 0, 0, 0x90, 0, 0, 0], Kind::Continuation),
+        (
+            "zeros in its place",
+            &[0, 0, 0, 0, 0x90, 0, 0, 0],
+            Kind::Continuation,
+        ),
         ("an end marker", &END_MARKER, Kind::NoSchema),
     ];
     for (what, message, kind) in rows {
@@ -92,10 +120,25 @@ fn a_second_message_is_refused(rt: HostRuntime) -> Result<(), Fail> {
     let rows: [(&str, &[u8], Edits, Kind); 6] = [
         ("a second schema", &SCHEMA, &[], Kind::Order),
         ("order before type", &SCHEMA, &[(257, &[3])], Kind::Order),
-        ("order before width", &SCHEMA, &[(292, &[0x18])], Kind::Order),
-        ("body before order", &SCHEMA, &[(199, &[0x80])], Kind::BodyLength),
+        (
+            "order before width",
+            &SCHEMA,
+            &[(292, &[0x18])],
+            Kind::Order,
+        ),
+        (
+            "body before order",
+            &SCHEMA,
+            &[(199, &[0x80])],
+            Kind::BodyLength,
+        ),
         ("header before order", &SCHEMA, &[(182, &[4])], Kind::Header),
-        ("a negative body", &BATCH, &[(192, &[0xff; 8])], Kind::BodyLength),
+        (
+            "a negative body",
+            &BATCH,
+            &[(192, &[0xff; 8])],
+            Kind::BodyLength,
+        ),
     ];
     for (what, message, edits, kind) in rows {
         let want = refused(kind, read_to(152, "schema", "n: int32"));

@@ -69,14 +69,12 @@ pub(super) fn refused(kind: Kind, before: Told<'_>) -> Told<'_> {
 
 // The stream, which ends so many bytes behind the beginning of its next message.
 pub(super) fn cut_off(held: u64, before: Told<'_>) -> Told<'_> {
-    let kind = if before.items.is_empty() {
-        Kind::NoSchema
-    } else {
-        Kind::Truncated
+    let truncated = Fault {
+        kind: Kind::Truncated,
+        place: before.place,
     };
-    let place = before.place;
     Told {
-        end: Err(Fault { kind, place }),
+        end: before.end.and(Err(truncated)),
         held,
         ..before
     }
@@ -174,12 +172,8 @@ pub(super) fn are_beginnings_told(
 pub(super) fn first_fault(alloc: Global, limits: Limits, bytes: &[u8]) -> Option<(usize, Fault)> {
     let mut reader = StreamReader::new(alloc, limits);
     for (k, byte) in bytes.chunks(1).enumerate() {
-        for _ in 0..2 {
-            match reader.read(byte) {
-                Err(fault) if fault.kind == Kind::Memory => {}
-                Err(fault) => return Some((k.saturating_add(1), fault)),
-                Ok(_) => break,
-            }
+        if let Err(fault) = reader.read(byte) {
+            return Some((k.saturating_add(1), fault));
         }
     }
     None

@@ -77,12 +77,7 @@ fn values_of_a_delta(rt: HostRuntime) -> Result<(), Fail> {
 #[test]
 fn values_behind_none(rt: HostRuntime) -> Result<(), Fail> {
     let parts: [&[u8]; 4] = [&SCHEMA, &ABC, &DE, &SECOND];
-    let edits: [(usize, &[u8]); 4] = [
-        (304, &[0]),
-        (328, &[0]),
-        (376, &[0]),
-        (800, &[1]),
-    ];
+    let edits: [(usize, &[u8]); 4] = [(304, &[0]), (328, &[0]), (376, &[0]), (800, &[1])];
     let want = Told {
         rows: "2: 'e' 'd'",
         dictionaries: "0: 'd' 'e'",
