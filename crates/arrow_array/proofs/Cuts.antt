@@ -1,5 +1,5 @@
 -- Where a text may be cut.
-use Rattle.std.proofs.Common.{◌≡◌, ◌↔◌, ℕ, ◌+◌, ◌-◌, ◌*◌, ◌<◌, ◌≤◌, Bool, IsTrue, List, length, take, drop, get_or, ap, sym, ◌∙◌, subst, arith}
+use Rattle.std.proofs.Common.{◌≡◌, ◌↔◌, ℕ, ◌+◌, ◌-◌, ◌<◌, ◌≤◌, Bool, IsTrue, List, length, take, drop, get_or, ap, sym, ◌∙◌, subst, arith}
 use Rattle.std.specs.Prelude.{slice_range, IsUtf8, IsCharBoundary}
 use Rattle.std.specs.List.Sorted.{IsNonDecreasing}
 use Rattle.std.proofs.Math.Seq.{take-add}
@@ -43,7 +43,7 @@ places_order offsets len i k rises order inside =
     omega (arith, offset_found len offsets i (omega (arith, order, inside)), offset_found len offsets k (omega (arith, inside)), rises i k 0 order (omega (arith, room, inside)))
 
 -- the bytes of a slot, in those of all
-pub slot_in : (offsets bytes text : List ℕ) (len j start stop : ℕ) → text ≡ slice_range bytes (place_of offsets 0) (place_of offsets len) 
+pub slot_in : (offsets bytes text : List ℕ) (len j start stop : ℕ) → text ≡ slice_range bytes (place_of offsets 0) (place_of offsets len)
     → place_of offsets 0 ≤ place_of offsets j → place_of offsets j ≤ place_of offsets (j + 1) → place_of offsets (j + 1) ≤ place_of offsets len
     → start ≡ place_of offsets j - place_of offsets 0 → stop ≡ place_of offsets (j + 1) - place_of offsets 0 → slice_range text start stop ≡ range_of offsets bytes j
 slot_in offsets bytes text len j start stop whole before order after low high =

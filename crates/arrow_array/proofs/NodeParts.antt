@@ -6,16 +6,14 @@ use Rattle.std.specs.List.{AllByRecursion}
 use Rattle.std.specs.Prelude.{slice_index_or, ⊤, ◌⊎◌, option_map, String, string_bytes}
 use Rattle.std.specs.declared.alloc.Global.{Global}
 use Rattle.std.specs.declared.vec.Vec.{Vec}
-use Rattle.arrow_bits.specs.Numbers.{IsWidth}
-use Rattle.arrow_types.specs.DataType.{Tag, int, date, time, timestamp, null, boolean, binary, utf8, list, struct, bits_of, date_width_of, time_width_of}
+use Rattle.arrow_types.specs.DataType.{Tag, int, date, time, timestamp, null, boolean, binary, utf8, list, struct}
 use Rattle.arrow_types.specs.Field.{Fields, none, more, TypeShape, Head, fields_of}
 use Rattle.arrow_types.specs.declared.data_type.BitWidth.{BitWidth}
-use Rattle.arrow_types.specs.declared.data_type.BitWidth.TheVariants.{Eight, Sixteen, ThirtyTwo, SixtyFour}
 use Rattle.arrow_types.specs.declared.data_type.TimeUnit.{TimeUnit}
 use Rattle.arrow_types.specs.declared.field.Encoding.{Encoding}
 use Rattle.arrow_array.specs.Column.{Column, AreOf, IsColumn, counts_of, listed_of, plain_column}
-use Rattle.arrow_array.specs.Layout.{buffer, buffer_count, IsLaid, HasInts}
-use Rattle.arrow_array.specs.Node.{column_by, AreLists, AreStructs, AreInts, bytes_of, IsInside, IsFormat}
+use Rattle.arrow_array.specs.Layout.{buffer, buffer_count, IsLaid}
+use Rattle.arrow_array.specs.Node.{column_by, AreLists, AreStructs, bytes_of, IsInside, IsFormat}
 use Rattle.arrow_array.specs.Parts.{node_column, value_slot}
 use Rattle.arrow_array.specs.PlainValue.{PlainValue}
 use Rattle.arrow_array.specs.Slots.{slots, index_width, entry_slot, int_slot, list_slot, struct_slot, width_of, is_signed}

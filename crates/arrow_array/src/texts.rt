@@ -52,14 +52,7 @@ fn are_parts(len: usize, validity: &[u8], offsets: &[u8], bytes: &[u8], text: &s
 }
 
 // Whether slot `j` is null or UTF-8, where the bytes of all slots are the text.
-fn is_part(
-    len: usize,
-    validity: &[u8],
-    offsets: &[u8],
-    bytes: &[u8],
-    text: &str,
-    j: usize,
-) -> bool
+fn is_part(len: usize, validity: &[u8], offsets: &[u8], bytes: &[u8], text: &str, j: usize) -> bool
     requires slot { j < len }
     requires laid { HasStrings len validity.now offsets.now bytes.now }
     requires inside { place_of offsets.now len ≤ length bytes.now }

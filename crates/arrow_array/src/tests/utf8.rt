@@ -26,7 +26,10 @@ fn are_utf8(
 #[test]
 fn texts_of_one_byte_letters(rt: HostRuntime) -> Result<(), Fail> {
     let bytes = b"abcdef";
-    assert_eq!(rt; are_utf8(rt.alloc(), &[], &[0, 1, 3, 3, 6], bytes)?, Some(true));
+    assert_eq!(rt;
+        are_utf8(rt.alloc(), &[], &[0, 1, 3, 3, 6], bytes)?,
+        Some(true)
+    );
     assert_eq!(rt; are_utf8(rt.alloc(), &[], &[2, 3], bytes)?, Some(true));
     assert_eq!(rt; are_utf8(rt.alloc(), &[], &[0], bytes)?, Some(true));
     assert_eq!(rt; are_utf8(rt.alloc(), &[], &[], bytes)?, Some(true));
@@ -38,7 +41,10 @@ const LETTERS: [u8; 9] = [0xc3, 0xa9, 0xe2, 0x82, 0xac, 0xf0, 0x9f, 0x98, 0x80];
 
 #[test]
 fn texts_of_longer_letters(rt: HostRuntime) -> Result<(), Fail> {
-    assert_eq!(rt; are_utf8(rt.alloc(), &[], &[0, 2, 5, 9], &LETTERS)?, Some(true));
+    assert_eq!(rt;
+        are_utf8(rt.alloc(), &[], &[0, 2, 5, 9], &LETTERS)?,
+        Some(true)
+    );
     assert_eq!(rt; are_utf8(rt.alloc(), &[], &[0, 9], &LETTERS)?, Some(true));
     assert_eq!(rt; are_utf8(rt.alloc(), &[], &[2, 5], &LETTERS)?, Some(true));
     Ok(())

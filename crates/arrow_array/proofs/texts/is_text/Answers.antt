@@ -1,4 +1,4 @@
-use Rattle.std.proofs.Common.{◌<◌, arith, rules}
+use Rattle.std.proofs.Common.{◌<◌, rules}
 use Rattle.arrow_array.proofs.Cuts.{part_decides}
 use Rattle.arrow_array.proofs.texts.is_text.Goals as goal
 
