@@ -2,3 +2,4 @@ mod Chars
 mod First
 mod Found
 mod Indented
+mod Feeding

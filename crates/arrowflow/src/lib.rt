@@ -15,6 +15,7 @@ mod escapes;
 mod plans;
 mod schema_call;
 mod schema_lines;
+pub mod session;
 #[cfg(test)]
 mod tests;
 mod tool_fault;
