@@ -96,9 +96,11 @@ pub flat_fit : (ds : List (ℤ × ValueList)) (f : Fields) → has_encoding f �
 flat_fit ds none e = tt
 flat_fit ds (more h c r) e =
     let own = or_false (is_some h.encoding || has_encoding c) (has_encoding r) e in
-    let both = or_false (is_some h.encoding) (has_encoding c) own.0 in
-    (record { typed = flat_node ds h.encoding (record { tag = h.tag; children = c }) both.0; flat = λ _. both.1 },
-     if_flattened h.encoding (AreFit ds c) (flat_fit ds c both.1), flat_fit ds r own.1)
+    let both = or_false (is_some h.encoding) (has_encoding c) own.0 in (
+      record { typed = flat_node ds h.encoding (record { tag = h.tag; children = c }) both.0; flat = λ _. both.1 },
+      if_flattened h.encoding (AreFit ds c) (flat_fit ds c both.1),
+      flat_fit ds r own.1,
+    )
 
 -- so is the field of a dictionary's values
 pub value_fit : (ds : List (ℤ × ValueList)) (t : TypeShape) → has_encoding t.children ≡ false → AreFit ds (fields_of (value_field t ∷ []))
@@ -125,9 +127,11 @@ typed_fit ds (more h c r) n all =
     let first = all_left (IsTyped ds) (dictionary_of h c ++ dictionary_fields c) (dictionary_fields r) all in
     let next = all_right (IsTyped ds) (dictionary_of h c ++ dictionary_fields c) (dictionary_fields r) all in
     let here = all_left (IsTyped ds) (dictionary_of h c) (dictionary_fields c) first in
-    let below = all_right (IsTyped ds) (dictionary_of h c) (dictionary_fields c) first in
-    (record { typed = typed_node ds h.encoding h.tag c here; flat = flat_below h.encoding c both.0 },
-     if_flattened h.encoding (AreFit ds c) (typed_fit ds c both.1 below), typed_fit ds r own.1 next)
+    let below = all_right (IsTyped ds) (dictionary_of h c) (dictionary_fields c) first in (
+      record { typed = typed_node ds h.encoding h.tag c here; flat = flat_below h.encoding c both.0 },
+      if_flattened h.encoding (AreFit ds c) (typed_fit ds c both.1 below),
+      typed_fit ds r own.1 next,
+    )
 
 of_type : (o : Option ValueList) (t : TypeShape) → ((d : ValueList) → o ≡ Some d → d.data_type ≡ t) → IsOfType t o
 of_type None t h = tt
@@ -139,7 +143,7 @@ state_fit s fit known =
     let fields = dictionary_fields (fields_in s.schema) in
     typed_fit s.dictionaries (fields_in s.schema) known.bounded.flat
     (all_places (IsTyped s.dictionaries) fields (λ i d e. of_type (listed s.dictionaries d.id) d.value_type
-        (λ v there. fit.typed d.id d.value_type v (each_named fields i d known.one_type e) there)))
+    (λ v there. fit.typed d.id d.value_type v (each_named fields i d known.one_type e) there)))
 
 -- they go on fitting where one of the type of its id is placed
 pub placed_fit : (s : StreamState) (id : ℤ) (t : TypeShape) (d : ValueList) (ds : List (ℤ × ValueList)) → IsFit s →
@@ -149,16 +153,16 @@ placed_fit s id t d ds fit named same is = record {
   typed = λ other u v e there.
       ⊎_elim
       (λ (h : int_eq other id ≡ true).
-          let one : other ≡ id = (Decides-int_eq other id).0 h in
-          let here : listed ds id ≡ Some d = ap (λ x. listed x id) is ∙ listed_here s.dictionaries id d in
-          let found : Some d ≡ Some v = sym here ∙ ap (listed ds) (sym one) ∙ there in
-          let types : Some t ≡ Some u = sym named ∙ ap (value_type_of (dictionary_fields (fields_in s.schema))) (sym one) ∙ e in
-          let a : d ≡ v = cc in
-          let b : t ≡ u = cc in
-          ap (λ (x : ValueList). x.data_type) (sym a) ∙ same ∙ b)
+      let one : other ≡ id = (Decides-int_eq other id).0 h in
+      let here : listed ds id ≡ Some d = ap (λ x. listed x id) is ∙ listed_here s.dictionaries id d in
+      let found : Some d ≡ Some v = sym here ∙ ap (listed ds) (sym one) ∙ there in
+      let types : Some t ≡ Some u = sym named ∙ ap (value_type_of (dictionary_fields (fields_in s.schema))) (sym one) ∙ e in
+      let a : d ≡ v = cc in
+      let b : t ≡ u = cc in
+      ap (λ (x : ValueList). x.data_type) (sym a) ∙ same ∙ b)
       (λ (h : int_eq other id ≡ false).
-          let apart : other ≡ id → ⊥ = λ one. (let yes : int_eq other id ≡ true = (Decides-int_eq other id).1 one in cc) in
-          fit.typed other u v e (sym (listed_elsewhere s.dictionaries id other d apart) ∙ ap (λ x. listed x other) (sym is) ∙ there))
+      let apart : other ≡ id → ⊥ = λ one. (let yes : int_eq other id ≡ true = (Decides-int_eq other id).1 one in cc) in
+      fit.typed other u v e (sym (listed_elsewhere s.dictionaries id other d apart) ∙ ap (λ x. listed x other) (sym is) ∙ there))
       (cases_Bool (int_eq other id));
 }
 

@@ -199,8 +199,10 @@ module _ (old : Work) (st : State) (m : ℕ) (t : HeldMessage) (c : HeldContent)
     at = record {
       shown = (
         subst (λ x. HasMetadata old.limits x old.place old.held.items m (Ok (record { content = content_of c; body_len = t.body_len }))) (sym e)
-        (subst (λ k. HasMetadata old.limits (plain old.state) old.place old.held.items m (Ok (record { content = k; body_len = t.body_len }))) (sym f) known),
-        omega arith, few);
+            (subst (λ k. HasMetadata old.limits (plain old.state) old.place old.held.items m (Ok (record { content = k; body_len = t.body_len }))) (sym f) known),
+        omega arith,
+        few,
+      );
       near = omega (arith, (frame_small known).2);
       fit = fit;
     };

@@ -46,7 +46,14 @@ pub(crate) fn hold(
     let Ok(body) = Bytes::copy_from_slice(alloc, body) else {
         return Err(Stop::Memory);
     };
-    match load(alloc, fields, &rows.nodes, &rows.buffers, &body, dictionaries) {
+    match load(
+        alloc,
+        fields,
+        &rows.nodes,
+        &rows.buffers,
+        &body,
+        dictionaries,
+    ) {
         Ok(columns) => Ok(columns),
         Err(BodyFault::Layout) => Err(Stop::Refused(Refusal::Layout)),
         Err(BodyFault::Text) => Err(Stop::Refused(Refusal::Text)),

@@ -103,7 +103,13 @@ impl Work {
             return Ok(Step::Short);
         }
         let start = self.place + 8;
-        match understand(self.alloc, &self.limits, &self.state, start, &self.held[8..]) {
+        match understand(
+            self.alloc,
+            &self.limits,
+            &self.state,
+            start,
+            &self.held[8..],
+        ) {
             Ok(message) => self.read_body(size, message, &piece[taken..]),
             Err(stop) => Err(stop),
         }
