@@ -1,4 +1,3 @@
-use Rattle.std.proofs.Common.{arith}
 use Rattle.arrow_array.proofs.Indices.{indices_at_most}
 use Rattle.arrow_array.proofs.layout.are_indices_at_once.Goals as goal
 
