@@ -8,3 +8,4 @@ pub mod NodeParts
 pub mod Batches
 pub mod Values
 pub mod Cuts
+pub mod Indices

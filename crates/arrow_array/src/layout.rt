@@ -3,19 +3,19 @@
 //! A buffer is given by its bytes. An empty validity bitmap stands for none, and for no slots the offsets may be left out.
 //! Nothing here takes memory. The tests of offsets, texts and indices look at each slot, the others at the lengths.
 
-ghost use Rattle.std.specs.Prelude.{◌≡◌, ◌↔◌, ◌≤◌, ◌<◌, length, map, IsTrue};
-ghost use Rattle.arrow_bits.specs.Numbers.{IsWidth};
+ghost use Rattle.std.specs.Prelude.{◌≡◌, ◌↔◌, ◌≤◌, ◌<◌, ◌*◌, ℕ, pos, [], length, map, if◌then◌else◌, IsTrue};
+ghost use Rattle.arrow_bits.specs.Numbers.{IsWidth, twos_complement};
 ghost use Rattle.std.specs.List.{AllByRecursion};
 ghost use Rattle.arrow_types.specs.View.{type_view};
 ghost use Rattle.arrow_array.specs.Layout.{HasBools, HasInts, HasLists, HasStrings, IsLaid, buffer, buffer_count};
 ghost use Rattle.arrow_array.specs.Node.{bytes_of, IsInside};
-ghost use Rattle.arrow_array.specs.Slots.{HasBits, HasOffsets, AreIndices, AreTexts};
+ghost use Rattle.arrow_array.specs.Slots.{HasBits, HasOffsets, AreIndices, AreTexts, IsIndex};
 
 use crate::byte_range::{ByteRange, bytes_in};
 use crate::slot::number_at;
 use crate::texts::are_slots_utf8;
 use crate::width::{index_width, width};
-use arrow_bits::Offsets;
+use arrow_bits::{Offsets, are_at_most};
 use arrow_types::{DataType, Encoding};
 
 /// Whether there is no bitmap, or it has a bit for each of `len` slots.
@@ -88,6 +88,26 @@ pub fn are_indices(
     requires laid { HasInts len width validity.now indices.now }
     ensures { IsTrue result ↔ AreIndices len width signed validity.now indices.now count }
 {
+    if width == 4 && validity.is_empty() {
+        are_indices_at_once(len, signed, indices, count)
+    } else {
+        are_indices_one_by_one(len, width, signed, validity, indices, count)
+    }
+}
+
+// The same of `len` indices, one slot after another.
+fn are_indices_one_by_one(
+    len: usize,
+    width: usize,
+    signed: bool,
+    validity: &[u8],
+    indices: &[u8],
+    count: usize,
+) -> bool
+    requires width { IsWidth width }
+    requires laid { HasInts len width validity.now indices.now }
+    ensures { IsTrue result ↔ AreIndices len width signed validity.now indices.now count }
+{
     for j in 0..len {
         let Some(index) = number_at(validity, indices, width, signed, j) else {
             continue;
@@ -97,6 +117,31 @@ pub fn are_indices(
         }
     }
     true
+}
+
+// The same of `len` indices of 32 bits that all are valid, compared without a sign: a negative one is then above the rest.
+fn are_indices_at_once(len: usize, signed: bool, indices: &[u8], count: usize) -> bool
+    requires { 4 * len ≤ length indices.now }
+    ensures { IsTrue result ↔ AreIndices len 4 signed [] indices.now count }
+{
+    if count == 0 {
+        return len == 0;
+    }
+    are_at_most(indices, len, last_index(signed, count))
+}
+
+// The last index of 32 bits to one of `count` values. A number of 32 bits is an index, by its sign or without one, where
+// it is not above this one, both read without a sign.
+fn last_index(signed: bool, count: usize) -> u32
+    requires { 0 < count }
+    ensures { (n : ℕ) → n < 4294967296 → (n ≤ result) ↔ IsIndex count (if signed then twos_complement 4 n else pos n) }
+{
+    let greatest = if signed {
+        i32::MAX as usize
+    } else {
+        u32::MAX as usize
+    };
+    (count - 1).min(greatest) as u32
 }
 
 /// How many buffers a node of this type and encoding has: a dictionary-encoded one has those of its indices.

@@ -6,6 +6,7 @@ use Rattle.std.proofs.lemmas.Nat.{pow_pos}
 use Rattle.std.proofs.lemmas.Bool.{eqb-true, leb-true, le-leb}
 use Rattle.std.proofs.lemmas.Simd.{tops_compared, mask_l-mod, get_or-zip2, length-zip2, get_or_wider, chunk-fits, below_from_Fits}
 use Rattle.arrow_bits.specs.Numbers.{number_of, number_at}
+use Rattle.arrow_bits.specs.AtMost.{AreAtMost}
 use Rattle.arrow_bits.specs.Offsets.{NeverFall}
 use Rattle.arrow_bits.proofs.Places.{number_in_part}
 
@@ -85,4 +86,16 @@ block_falls_not bytes i n = (
       let low : 4 * i + 4 * k ≡ 4 * (i + k) = omega arith in
       let high : 4 * (i + 1) + 4 * k ≡ 4 * (i + k + 1) = omega arith in
       rw (low, high) (never (i + k) (omega arith) (omega (arith, h)))),
+)
+
+-- n lanes hold the numbers from number i on
+pub block_at_most : (bytes : List ℕ) (i n top : ℕ) → ((k : ℕ) → k < n → number_at bytes (4 * i + 4 * k) 4 ≤ top) ↔ AreAtMost bytes i (i + n) top
+block_at_most bytes i n top = (
+  (λ lanes j from h.
+      let k = j - i in
+      let low : 4 * j ≡ 4 * i + 4 * k = omega (arith, from) in
+      rw low (lanes k (omega (arith, from, h)))),
+  (λ all k h.
+      let low : 4 * i + 4 * k ≡ 4 * (i + k) = omega arith in
+      rw low (all (i + k) (omega arith) (omega (arith, h)))),
 )

@@ -1,3 +1,4 @@
 pub mod Numbers
 pub mod Bitmap
 pub mod Offsets
+pub mod AtMost

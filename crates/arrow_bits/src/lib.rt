@@ -6,12 +6,13 @@
 //! `put_int` write the same the other way. Nothing is copied, and no call but these two takes memory.
 //!
 //! What a place of the bytes means is said once, in `specs/`: `bit_of` and `bits_of` (`Bitmap.antt`), `number_at`,
-//! `signed_at` and `int_of` (`Numbers.antt`), `AreOffsets` and `offsets_of` (`Offsets.antt`). They take a whole list of
-//! bytes and a place in it, so that a layer above can speak of a body and the places of its buffers;
-//! `proofs/Places.antt` says that a place in a range of bytes is a place in the whole.
+//! `signed_at` and `int_of` (`Numbers.antt`), `AreOffsets` and `offsets_of` (`Offsets.antt`), `AreAtMost`
+//! (`AtMost.antt`). They take a whole list of bytes and a place in it, so that a layer above can speak of a body and the
+//! places of its buffers; `proofs/Places.antt` says that a place in a range of bytes is a place in the whole.
 //!
-//! `Offsets::check` compares sixteen neighbours at a time and `Bits::count_zero` counts 64 bits at a time. `plain` has
-//! both once more as loops over the definitions, with the same contracts.
+//! `Offsets::check` compares sixteen neighbours at a time, `are_at_most` sixteen numbers with one, and `Bits::count_zero`
+//! counts 64 bits at a time. `plain` has the first and the last once more as loops over the definitions, with the same
+//! contracts.
 #![tactic(auto)]
 
 mod bitmap;
@@ -25,5 +26,6 @@ mod tests;
 
 pub use bitmap::{Bits, bit};
 pub use bitmap_builder::BitsBuilder;
+pub use lanes::are_at_most;
 pub use numbers::{int_at, put_int};
 pub use offsets::Offsets;

@@ -1,6 +1,6 @@
 ghost use Rattle.arrow_bits.specs.Numbers.{FitsWidth, IsWidth};
 
-use crate::{Bits, BitsBuilder, Offsets, int_at, plain, put_int};
+use crate::{Bits, BitsBuilder, Offsets, are_at_most, int_at, plain, put_int};
 use std::alloc::{AllocError, Global};
 use std::process::Abort;
 use std::test::Fail;
@@ -170,6 +170,56 @@ fn offsets_of_each_length(rt: HostRuntime) -> Result<(), Fail> {
             assert_check(&rt, &negative, len, 4294967296, false);
         }
     }
+    Ok(())
+}
+
+// The bytes of `len` numbers of 32 bits that are seven, but for one of them.
+fn sevens_but_one(alloc: Global, len: u8, place: u8, other: u32) -> Result<Vec<u8>, AllocError> {
+    let mut bytes = Vec::new(alloc);
+    for j in 0..len {
+        let number = if j == place { other } else { 7 };
+        bytes.extend_from_slice(&number.to_le_bytes())?;
+    }
+    Ok(bytes)
+}
+
+// Whether the first `len` numbers are at most `top`, where the bytes have so many.
+fn first_are_at_most(bytes: &[u8], len: u8, top: u32) -> Option<bool> {
+    let len = usize::from(len);
+    if len <= bytes.len() / 4 {
+        Some(are_at_most(bytes, len, top))
+    } else {
+        None
+    }
+}
+
+// With another number at any place of `len` the answer is this one; behind them it is not looked at.
+fn assert_at_most(
+    rt: &impl Abort,
+    alloc: Global,
+    len: u8,
+    other: u32,
+    top: u32,
+    answer: bool,
+) -> Result<(), Fail> {
+    for place in 0..len {
+        let bytes = sevens_but_one(alloc, len, place, other)?;
+        assert_eq!(rt; first_are_at_most(&bytes, len, top), Some(answer), "number {place} of {len}");
+        assert_eq!(rt; first_are_at_most(&bytes, place, top), Some(true), "before {place}");
+    }
+    Ok(())
+}
+
+#[test]
+fn numbers_at_most_a_top(rt: HostRuntime) -> Result<(), Fail> {
+    for len in 0..41 {
+        assert_at_most(&rt, rt.alloc(), len, 9, 9, true)?;
+        assert_at_most(&rt, rt.alloc(), len, 10, 9, false)?;
+        assert_at_most(&rt, rt.alloc(), len, 0x8000_0000, 0x7fff_ffff, false)?;
+        assert_at_most(&rt, rt.alloc(), len, u32::MAX, u32::MAX - 1, false)?;
+        assert_at_most(&rt, rt.alloc(), len, u32::MAX, u32::MAX, true)?;
+    }
+    assert_eq!(rt; first_are_at_most(&[], 0, 0), Some(true));
     Ok(())
 }
 

@@ -1,5 +1,5 @@
 use Rattle.arrow_array.specs.Slots.{AreIndices}
-use Rattle.arrow_array.proofs.layout.are_indices.Given as goal
+use Rattle.arrow_array.proofs.layout.are_indices_one_by_one.Given as goal
 
 -- the indices so far have their values
 abbrev pub invariant-loop-j : goal.invariant-loop-j
