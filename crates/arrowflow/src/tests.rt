@@ -1,5 +1,7 @@
 //! What no clause says: that texts are the ones that are meant, and that calls succeed.
 
 mod command_line;
+mod growing;
 mod schema_call;
 mod schema_lines;
+mod session;
