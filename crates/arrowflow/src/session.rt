@@ -86,11 +86,7 @@ fn hand_out(
 }
 
 /// Gives the reader a piece, and what it leaves of it again.
-fn feed(
-    reader: &mut StreamReader,
-    handed: &mut Vec<Batch>,
-    piece: &[u8],
-) -> Result<(), AllocError>
+fn feed(reader: &mut StreamReader, handed: &mut Vec<Batch>, piece: &[u8]) -> Result<(), AllocError>
     ensures feeds { OnOk result (Feeds reader.old handed.old.items piece.now reader.new handed.new.items) }
     ensures limits { reader.new.limits ≡ reader.old.limits }
     ensures inside { OnErr result (FeedsInside reader.old piece.now reader.new) }

@@ -70,11 +70,7 @@ fn answer(
 }
 
 /// What is received in one piece, which has to be the same in pieces of one byte.
-fn answer_twice(
-    alloc: Global,
-    reader: &mut StreamReader,
-    bytes: &[u8],
-) -> Result<String, Fail> {
+fn answer_twice(alloc: Global, reader: &mut StreamReader, bytes: &[u8]) -> Result<String, Fail> {
     let ones = Vec::from_elem(alloc, 1usize, bytes.len())?;
     let text = answer(alloc, reader, bytes, &ones)?;
     if answer(alloc, reader, bytes, &[])? != text {
