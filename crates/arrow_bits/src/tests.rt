@@ -204,8 +204,16 @@ fn assert_at_most(
 ) -> Result<(), Fail> {
     for place in 0..len {
         let bytes = sevens_but_one(alloc, len, place, other)?;
-        assert_eq!(rt; first_are_at_most(&bytes, len, top), Some(answer), "number {place} of {len}");
-        assert_eq!(rt; first_are_at_most(&bytes, place, top), Some(true), "before {place}");
+        assert_eq!(rt;
+            first_are_at_most(&bytes, len, top),
+            Some(answer),
+            "number {place} of {len}"
+        );
+        assert_eq!(rt;
+            first_are_at_most(&bytes, place, top),
+            Some(true),
+            "before {place}"
+        );
     }
     Ok(())
 }
