@@ -118,34 +118,44 @@ fn offsets_of_texts(rt: HostRuntime) -> Result<(), Fail> {
 }
 
 #[test]
-fn items_of_lists(rt: HostRuntime) -> Result<(), Fail> {
-    let rows: [(&str, Edits); 2] = [
-        ("a list past its items", &[(556, &[3])]),
-        ("fewer items than lists ask for", &[(384, &[1])]),
+fn children(rt: HostRuntime) -> Result<(), Fail> {
+    let rows: [(&str, &[u8], &[u8], Edits, u64, &str); 4] = [
+        (
+            "a list past its items",
+            &LISTS,
+            &LIST_ROWS,
+            &[(556, &[3])],
+            272,
+            "l: another type",
+        ),
+        (
+            "fewer items than lists ask for",
+            &LISTS,
+            &LIST_ROWS,
+            &[(384, &[1])],
+            272,
+            "l: another type",
+        ),
+        (
+            "a field that is shorter than its structs",
+            &STRUCTS,
+            &STRUCT_ROWS,
+            &[(328, &[1]), (336, &[0])],
+            216,
+            "s: another type",
+        ),
+        (
+            "no node of a field",
+            &STRUCTS,
+            &STRUCT_ROWS,
+            &[(308, &[1])],
+            216,
+            "s: another type",
+        ),
     ];
-    for (what, edits) in rows {
-        let want = contradicted(272, "l: another type");
-        are_told(&rt, rt.alloc(), what, &[&LISTS, &LIST_ROWS], edits, want)?;
-    }
-    Ok(())
-}
-
-#[test]
-fn fields_of_structs(rt: HostRuntime) -> Result<(), Fail> {
-    let rows: [(&str, Edits); 2] = [
-        ("shorter than the structs", &[(328, &[1]), (336, &[0])]),
-        ("without a node", &[(308, &[1])]),
-    ];
-    for (what, edits) in rows {
-        let want = contradicted(216, "s: another type");
-        are_told(
-            &rt,
-            rt.alloc(),
-            what,
-            &[&STRUCTS, &STRUCT_ROWS],
-            edits,
-            want,
-        )?;
+    for (what, schema, batch, edits, place, column) in rows {
+        let want = contradicted(place, column);
+        are_told(&rt, rt.alloc(), what, &[schema, batch], edits, want)?;
     }
     Ok(())
 }

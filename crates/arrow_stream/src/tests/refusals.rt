@@ -129,6 +129,16 @@ fn lengths_of_a_batch(rt: HostRuntime) -> Result<(), Fail> {
             refused(kind, numbers()),
         )?;
     }
+    let lists = refused(Kind::Rows, read_to(272, "schema", "l: another type"));
+    let below: Edits = &[(384, &BELOW_ZERO)];
+    are_told(
+        &rt,
+        rt.alloc(),
+        "items below 0",
+        &[&LISTS, &LIST_ROWS],
+        below,
+        lists,
+    )?;
     Ok(())
 }
 
@@ -160,25 +170,15 @@ fn lengths_of_a_dictionary(rt: HostRuntime) -> Result<(), Fail> {
     for (what, parts, edits, kind) in rows {
         are_told(&rt, rt.alloc(), what, parts, edits, refused(kind, words()))?;
     }
-    Ok(())
-}
-
-// The nodes of children count too.
-#[test]
-fn lengths_of_items(rt: HostRuntime) -> Result<(), Fail> {
-    let alloc = rt.alloc();
-    let want = refused(Kind::Rows, read_to(272, "schema", "l: another type"));
-    let edits: Edits = &[(384, &BELOW_ZERO)];
-    are_told(&rt, alloc, "a batch", &[&LISTS, &LIST_ROWS], edits, want)?;
-    let want = refused(Kind::Rows, read_to(280, "schema", "g: another type"));
-    let edits: Edits = &[(424, &BELOW_ZERO)];
+    let groups = refused(Kind::Rows, read_to(280, "schema", "g: another type"));
+    let below: Edits = &[(424, &BELOW_ZERO)];
     are_told(
         &rt,
-        alloc,
-        "a dictionary",
+        rt.alloc(),
+        "items below 0",
         &[&GROUPS, &TWO_GROUPS],
-        edits,
-        want,
+        below,
+        groups,
     )?;
     Ok(())
 }

@@ -42,8 +42,8 @@ fn a_name_and_nullable_are_read(rt: HostRuntime) -> Result<(), Fail> {
 }
 
 #[test]
-fn a_message_is_refused(rt: HostRuntime) -> Result<(), Fail> {
-    let rows: [(&str, Edits, Kind); 6] = [
+fn a_schema_is_refused(rt: HostRuntime) -> Result<(), Fail> {
+    let rows: [(&str, Edits, Kind); 11] = [
         (
             "a byte of the continuation",
             &[(3, &[0xfe])],
@@ -55,6 +55,11 @@ fn a_message_is_refused(rt: HostRuntime) -> Result<(), Fail> {
             Kind::Metadata,
         ),
         ("version V4", &[(28, &[3])], Kind::Version),
+        (
+            "version before type",
+            &[(28, &[3]), (105, &[3])],
+            Kind::Version,
+        ),
         ("header code Tensor", &[(30, &[4])], Kind::Header),
         (
             "header before body",
@@ -62,22 +67,6 @@ fn a_message_is_refused(rt: HostRuntime) -> Result<(), Fail> {
             Kind::Header,
         ),
         ("a negative body", &[(47, &[0x80])], Kind::BodyLength),
-    ];
-    for (what, edits, kind) in rows {
-        let want = refused(kind, NOTHING);
-        are_told(&rt, rt.alloc(), what, &[&SCHEMA], edits, want)?;
-    }
-    Ok(())
-}
-
-#[test]
-fn a_schema_is_refused(rt: HostRuntime) -> Result<(), Fail> {
-    let rows: [(&str, Edits, Kind); 5] = [
-        (
-            "version before type",
-            &[(28, &[3]), (105, &[3])],
-            Kind::Version,
-        ),
         (
             "body before type",
             &[(47, &[0x80]), (105, &[3])],
