@@ -4,6 +4,7 @@ pub mod Sameness
 pub mod Segments
 pub mod Entries
 pub mod Resolving
+pub mod SlotValues
 pub mod NodeParts
 pub mod Batches
 pub mod Values

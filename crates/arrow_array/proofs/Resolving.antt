@@ -1,5 +1,5 @@
 -- Why the resolved values of every array are what its raw values stand for.
-use Rattle.std.proofs.Common.{◌≡◌, ◌≤◌, ◌<◌, ◌+◌, ◌-◌, ◌*◌, ℕ, zero, suc, ℤ, pos, negsuc, Bool, true, false, List, [], ◌∷◌, ◌++◌, length, map, take, drop, slice_get, Option, Some, None, refl, sym, ap, ◌∙◌, subst, arith, if◌then◌else◌}
+use Rattle.std.proofs.Common.{◌≡◌, ◌≤◌, ◌<◌, ◌||◌, ◌+◌, ◌-◌, ◌*◌, ℕ, zero, suc, ℤ, pos, negsuc, Bool, true, false, List, [], ◌∷◌, ◌++◌, length, map, take, drop, slice_get, get_or, is_some, Option, Some, None, refl, sym, ap, ◌∙◌, subst, arith, if◌then◌else◌}
 use Rattle.std.proofs.lemmas.Bool.{false≢true}
 use Rattle.std.proofs.lemmas.List.{take-map, drop-map}
 use Rattle.std.specs.List.{AllByRecursion, range_with_len}
@@ -7,12 +7,14 @@ use Rattle.std.specs.Prelude.{slice_range, option_map}
 use Rattle.arrow_bits.specs.Numbers.{int_of}
 use Rattle.arrow_types.specs.Field.{Fields, none, more, TypeShape}
 use Rattle.arrow_types.specs.Schema.{has_encoding}
+use Rattle.arrow_types.specs.View.{type_view}
 use Rattle.arrow_types.specs.declared.field.Encoding.{Encoding}
 use Rattle.arrow_array.specs.PlainValue.{PlainValue, PlainValues, value_at, null_value, list_value, struct_value, more_values, values_of}
 use Rattle.arrow_array.specs.Resolve.{resolve, resolve_items, resolve_parts, entry_of, before}
 use Rattle.arrow_array.specs.Column.{Column, AreOf, Agree, IsColumn, listed_of}
-use Rattle.arrow_array.specs.Slots.{slots, is_valid_at, place_of, entry_at, IsIndex}
-use Rattle.arrow_array.specs.Node.{column_by, raw_slot, resolved_slot, AreRanges, bytes_of}
+use Rattle.arrow_array.specs.Slots.{slots, list_slot, struct_slot, is_valid_at, place_of, entry_at, IsIndex}
+use Rattle.arrow_array.specs.Node.{column_by, column_of, raw_slot, resolved_slot, AreRanges, IsArray, bytes_of}
+use Rattle.arrow_array.specs.declared.array.Array.TheInside.{Inside}
 use Rattle.arrow_array.specs.declared.array.Ranges.{Ranges}
 use Rattle.arrow_array.specs.declared.array.Ranges.TheVariants as ranges
 use Rattle.arrow_array.proofs.Shown.{length_slots}
@@ -101,14 +103,40 @@ pub index_resolves : (values : List PlainValue) (z : ℤ) → IsIndex (length va
 index_resolves values (pos n) h = entry_found values n h
 index_resolves values (negsuc n) h = absurd h
 
+-- no part of a choice
+neither : (a b : Bool) → a || b ≡ false → (a ≡ false) × (b ≡ false)
+neither false b h = (refl, h)
+neither true b h = absurd (false≢true (sym h))
+
+no_encoding : (e : Option Encoding) → is_some e ≡ false → e ≡ None
+no_encoding None h = refl
+no_encoding (Some e) h = absurd (false≢true (sym h))
+
+-- without an encoding on any level the columns of fields hold the values that their raw values are
+children_plain : (fields : Fields) (cs : List Column) → AreOf fields cs → AllByRecursion IsColumn cs → has_encoding fields ≡ false
+    → map (λ (c : Column). c.resolved) cs ≡ map (λ (c : Column). c.raw) cs
+children_plain none [] typed known flat = refl
+children_plain none (c ∷ cs) typed known flat = absurd typed
+children_plain (more head children rest) [] typed known flat = absurd typed
+children_plain (more head children rest) (c ∷ cs) typed known flat =
+    let others = neither (is_some head.encoding || has_encoding children) (has_encoding rest) flat in
+    let own = neither (is_some head.encoding) (has_encoding children) others.0 in
+    let here = known.0.plain (typed.1 ∙ no_encoding head.encoding own.0) (ap (λ (t : TypeShape). has_encoding t.children) typed.0 ∙ own.1) in
+    λ i. here i ∷ children_plain rest cs typed.2 known.1 others.1 i
+
+child_plain : (fields : Fields) (c : Column) → AreOf fields (c ∷ []) → IsColumn c → has_encoding fields ≡ false → c.resolved ≡ c.raw
+child_plain fields c typed known flat = ap (λ vs. get_or vs 0 []) (children_plain fields (c ∷ []) typed (known, tt) flat)
+
 -- a column of values
 values_known : (t : TypeShape) (n : ℕ) (raw resolved : ℕ → PlainValue) (listed : List (ℤ × List PlainValue)) → n ≤ 2147483647
+    → (has_encoding t.children ≡ false → (j : ℕ) → resolved j ≡ raw j)
     → ((d : ℤ → List PlainValue) → Agree listed d → (j : ℕ) → j < n → resolve None t.children d (raw j) ≡ Some (resolved j))
     → IsColumn (record { data_type = t; encoding = None; raw = slots n (λ j. raw j); resolved = slots n (λ j. resolved j); dictionaries = listed })
-values_known t n raw resolved listed few h = record {
+values_known t n raw resolved listed few plain h = record {
   few = omega (arith, length_slots n (λ j. raw j));
   long = length_slots n (λ j. resolved j) ∙ sym (length_slots n (λ j. raw j));
   flat = λ some. absurd (false≢true some);
+  plain = λ none flat. λ i. slots n (λ j. plain flat j i);
   resolves = λ d agree. slots_resolve n (resolve None t.children d) (λ j. raw j) (λ j. resolved j) (h d agree);
 }
 
@@ -120,27 +148,34 @@ plain_resolves e fields d valid x h = shown_resolves e fields d valid x x (λ _.
 -- what the ranges make known of the column
 pub ranges_known : (len : ℕ) (t : TypeShape) (e : Option Encoding) (body : List ℕ) (r : Ranges) → len ≤ 2147483647 → AreRanges len t e body r → IsColumn (column_by t e len body r)
 ranges_known len t e body ranges.Nulls few h =
-    subst (λ x. IsColumn (column_by t x len body ranges.Nulls)) (sym h.0) (values_known t len (λ j. null_value) (λ j. null_value) [] few (λ d agree j l. refl))
+    subst (λ x. IsColumn (column_by t x len body ranges.Nulls)) (sym h.0) (values_known t len (λ j. null_value) (λ j. null_value) [] few (λ _ j. refl) (λ d agree j l. refl))
 ranges_known len t e body (ranges.Bools b) few h =
-    subst (λ x. IsColumn (column_by t x len body (ranges.Bools b))) (sym h.0) (values_known t len _ _ [] few (λ d agree j l. plain_resolves None t.children d (is_valid_at (bytes_of body b.validity) j) _ refl))
+    subst (λ x. IsColumn (column_by t x len body (ranges.Bools b))) (sym h.0) (values_known t len _ _ [] few (λ _ j. refl) (λ d agree j l. plain_resolves None t.children d (is_valid_at (bytes_of body b.validity) j) _ refl))
 ranges_known len t e body (ranges.Ints n) few h =
-    subst (λ x. IsColumn (column_by t x len body (ranges.Ints n))) (sym h.0) (values_known t len _ _ [] few (λ d agree j l. plain_resolves None t.children d (is_valid_at (bytes_of body n.validity) j) _ refl))
+    subst (λ x. IsColumn (column_by t x len body (ranges.Ints n))) (sym h.0) (values_known t len _ _ [] few (λ _ j. refl) (λ d agree j l. plain_resolves None t.children d (is_valid_at (bytes_of body n.validity) j) _ refl))
 ranges_known len t e body (ranges.Binaries s) few h =
-    subst (λ x. IsColumn (column_by t x len body (ranges.Binaries s))) (sym h.0) (values_known t len _ _ [] few (λ d agree j l. plain_resolves None t.children d (is_valid_at (bytes_of body s.validity) j) _ refl))
+    subst (λ x. IsColumn (column_by t x len body (ranges.Binaries s))) (sym h.0) (values_known t len _ _ [] few (λ _ j. refl) (λ d agree j l. plain_resolves None t.children d (is_valid_at (bytes_of body s.validity) j) _ refl))
 ranges_known len t e body (ranges.Texts s) few h =
-    subst (λ x. IsColumn (column_by t x len body (ranges.Texts s))) (sym h.0) (values_known t len _ _ [] few (λ d agree j l. plain_resolves None t.children d (is_valid_at (bytes_of body s.validity) j) _ refl))
+    subst (λ x. IsColumn (column_by t x len body (ranges.Texts s))) (sym h.0) (values_known t len _ _ [] few (λ _ j. refl) (λ d agree j l. plain_resolves None t.children d (is_valid_at (bytes_of body s.validity) j) _ refl))
 ranges_known len t e body (ranges.Lists v o child) few h =
     let places = bytes_of body o in
-    subst (λ x. IsColumn (column_by t x len body (ranges.Lists v o child))) (sym h.0) (values_known t len _ _ child.value.dictionaries few (λ d agree j l.
+    subst (λ x. IsColumn (column_by t x len body (ranges.Lists v o child))) (sym h.0) (values_known t len _ _ child.value.dictionaries few
+    (λ flat j. ap (λ vs. list_slot (bytes_of body v) places vs j) (child_plain t.children child.value h.2.typed h.2.known flat)) (λ d agree j l.
     shown_resolves None t.children d (is_valid_at (bytes_of body v) j) _ _ (λ valid. ap (option_map list_value) (list_resolves t.children child.value d (place_of places j) (place_of places (j + 1)) h.2.typed h.2.known agree))))
 ranges_known len t e body (ranges.Structs v children) few h =
-    subst (λ x. IsColumn (column_by t x len body (ranges.Structs v children))) (sym h.0) (values_known t len _ _ (listed_of children.items) few (λ d agree j l.
+    subst (λ x. IsColumn (column_by t x len body (ranges.Structs v children))) (sym h.0) (values_known t len _ _ (listed_of children.items) few
+    (λ flat j. ap (λ vs. struct_slot (bytes_of body v) vs j) (children_plain t.children children.items h.2.typed h.2.known flat)) (λ d agree j l.
     shown_resolves None t.children d (is_valid_at (bytes_of body v) j) _ _ (λ valid. ap (option_map struct_value) (struct_resolves t.children children.items d j h.2.typed h.2.known agree))))
 ranges_known len t None body (ranges.Indices n d) few h = absurd h
 ranges_known len t (Some e) body (ranges.Indices n d) few h = let index = λ (j : ℕ). int_of (bytes_of body n.values) (n.width * j) n.width n.signed in record {
   few = omega (arith, length_slots len (λ j. raw_slot body (ranges.Indices n d) j));
   long = length_slots len (λ j. resolved_slot body (ranges.Indices n d) j) ∙ sym (length_slots len (λ j. raw_slot body (ranges.Indices n d) j));
   flat = λ some. subst (λ (x : TypeShape). has_encoding x.children ≡ false) h.typed h.known.flat;
+  plain = λ none flat. absurd (cc);
   resolves = λ ds agree. slots_resolve len (resolve (Some e) t.children ds) (λ j. raw_slot body (ranges.Indices n d) j) (λ j. resolved_slot body (ranges.Indices n d) j)
       (λ j l. shown_resolves (Some e) t.children ds (is_valid_at (bytes_of body n.validity) j) _ _ (λ valid. ap (λ vs. entry_of vs (index j)) agree.0 ∙ index_resolves d.value.values (index j) (h.indices j l valid)));
 }
+
+-- what is known of every array
+pub array_known : (a : Inside) (c : Column) → column_of a ≡ c → IsArray a → IsColumn c
+array_known a c view ok = subst IsColumn view (ranges_known a.len (type_view a.data_type) a.encoding a.body a.ranges ok.0 ok.1)

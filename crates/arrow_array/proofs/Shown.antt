@@ -39,13 +39,17 @@ longer_of_counts n (c ∷ cs) h = (h.0, longer_of_counts n cs h.1)
 
 -- what a valid slot of a struct shows
 pub parts_shown : (c : Column) (n i : ℕ) (t : TypeShape) (body : List ℕ) (v : ByteRange) (cs : List Column)
-    → c.raw ≡ slots n (λ j. struct_slot (bytes_of body v) (map (λ (x : Column). x.raw) cs) j) → c.data_type ≡ t → AreStructs n t body v cs
+    → c.raw ≡ slots n (λ j. struct_slot (bytes_of body v) (map (λ (x : Column). x.raw) cs) j)
+    → c.resolved ≡ slots n (λ j. struct_slot (bytes_of body v) (map (λ (x : Column). x.resolved) cs) j) → c.data_type ≡ t → AreStructs n t body v cs
     → i < n → is_valid_at (bytes_of body v) i ≡ true → HasParts c i cs
-parts_shown c n i t body v cs raw shape ok within valid =
-    let slot = struct_slot (bytes_of body v) (map (λ (x : Column). x.raw) cs) in
-    let long : length c.raw ≡ n = ap length raw ∙ length_slots n (λ j. slot j) in
+parts_shown c n i t body v cs raw resolved shape ok within valid =
+    let slot = λ (of : Column → List PlainValue). struct_slot (bytes_of body v) (map of cs) in
+    let long : length c.raw ≡ n = ap length raw ∙ length_slots n (λ j. slot (λ (x : Column). x.raw) j) in
+    let shown : (of : Column → List PlainValue) → value_at (slots n (λ j. slot of j)) i ≡ struct_value (values_of (map (λ (x : Column). value_at (of x) i) cs)) =
+    λ of. at_slots n (λ j. slot of j) i within ∙ ap (λ b. if b then struct_value (values_of (map (λ values. value_at values i) (map of cs))) else null_value) valid ∙ ap (λ vs. struct_value (values_of vs)) (row_same of cs i) in
     record {
       typed = rw shape ok.typed;
       longer = rw long (longer_of_counts n cs ok.laid.longer);
-      same = rw raw (at_slots n (λ j. slot j) i within ∙ ap (λ b. if b then struct_value (values_of (map (λ values. value_at values i) (map (λ (x : Column). x.raw) cs))) else null_value) valid ∙ ap (λ vs. struct_value (values_of vs)) (row_same (λ (x : Column). x.raw) cs i));
+      same = rw raw (shown (λ (x : Column). x.raw));
+      same_resolved = rw resolved (shown (λ (x : Column). x.resolved));
     }

@@ -74,11 +74,12 @@ abbrev pub Agree : List (ℤ × List PlainValue) → (ℤ → List PlainValue) �
 Agree listed dictionaries = AllByRecursion (λ (d : ℤ × List PlainValue). dictionaries d.0 ≡ d.1) listed
 
 -- What is known of every array. The resolved values are what the raw ones stand for, by all dictionaries that have the
--- listed values.
+-- listed values; without an encoding on any level each raw value stands for itself.
 pub record IsColumn (c : Column) : Type 0 where
   pub few : length c.raw ≤ 2147483647
   pub long : length c.resolved ≡ length c.raw
   pub flat : IsTrue (is_some c.encoding) → has_encoding c.data_type.children ≡ false
+  pub plain : c.encoding ≡ None → has_encoding c.data_type.children ≡ false → c.resolved ≡ c.raw
   pub resolves : (dictionaries : ℤ → List PlainValue) → Agree c.dictionaries dictionaries
       → map (resolve c.encoding c.data_type.children dictionaries) c.raw ≡ map Some c.resolved
 
@@ -104,6 +105,7 @@ pub record HasItems (c : Column) (i start stop : ℕ) (child : Column) : Type 0 
   pub typed : AreOf c.data_type.children (child ∷ [])
   pub ordered : start ≤ stop
   pub inside : stop ≤ length child.raw
+  pub long : length child.resolved ≡ length child.raw
   pub same : value_at c.raw i ≡ list_value (values_of (values_from child.raw start stop))
   pub same_resolved : value_at c.resolved i ≡ list_value (values_of (values_from child.resolved start stop))
 
@@ -112,6 +114,7 @@ pub record HasParts (c : Column) (i : ℕ) (children : List Column) : Type 0 whe
   pub typed : AreOf c.data_type.children children
   pub longer : AllByRecursion (λ (d : Column). length c.raw ≤ length d.raw) children
   pub same : value_at c.raw i ≡ struct_value (values_of (row_of children i))
+  pub same_resolved : value_at c.resolved i ≡ struct_value (values_of (resolved_row_of children i))
 
 -- the type and the encoding of field k
 abbrev pub type_of_field : Fields → ℕ → Option (TypeShape × Option Encoding)

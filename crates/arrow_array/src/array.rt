@@ -4,7 +4,7 @@ ghost use Rattle.std.specs.Prelude.{◌≡◌, ◌<◌, length, option_map, Matc
 ghost use Rattle.arrow_types.specs.View.{type_view};
 ghost use Rattle.arrow_array.specs.Column.{HasItems, HasChild, HasField, HasEntry, HasNoIndex, HasDictionary, IsColumn, IsList, struct_fields, type_of_field};
 ghost use Rattle.arrow_array.specs.PlainValue.{value_at, is_null_value, bool_in, int_in, binary_in, utf8_in, items_in};
-ghost use Rattle.arrow_array.specs.Shown.{Shows};
+ghost use Rattle.arrow_array.specs.Shown.{HoldsValue, Shows, value_shown};
 
 use crate::buffers::{Bools, Ints, Strings};
 use crate::byte_range::{ByteRange, bytes_in};
@@ -80,6 +80,42 @@ pub(crate) enum Seen<'a> {
     Text(&'a str),
     Items(usize, usize, &'a Array),
     Parts(&'a [Array]),
+}
+
+/// The value of a slot, where an index stands for the value that it refers to.
+#[derive(Clone, Copy)]
+pub enum SlotValue<'a> {
+    /// No value.
+    Null,
+    /// A truth value.
+    Bool(bool),
+    /// A number; of a date, a time or a timestamp the number of its units.
+    Int(i128),
+    /// A byte string.
+    Bytes(&'a [u8]),
+    /// A text.
+    Text(&'a str),
+    /// A list: the first and the end of the slots that its items stand in, and the array that has these slots.
+    List(usize, usize, &'a Array),
+    /// A struct: the arrays of its fields, and the slot in which each of them has its value.
+    Struct(&'a [Array], usize),
+}
+
+impl<'a> Seen<'a> {
+    // What slot `i` shows, as a value.
+    fn at(self, i: usize) -> SlotValue<'a>
+        ensures { result ≡ value_shown i self.entry }
+    {
+        match self {
+            Seen::Nothing => SlotValue::Null,
+            Seen::Truth(truth) => SlotValue::Bool(truth),
+            Seen::Number(number) => SlotValue::Int(number),
+            Seen::Binary(bytes) => SlotValue::Bytes(bytes),
+            Seen::Text(text) => SlotValue::Text(text),
+            Seen::Items(start, end, items) => SlotValue::List(start, end, items),
+            Seen::Parts(children) => SlotValue::Struct(children, i),
+        }
+    }
 }
 
 #[tactic(auto, using(crate::proofs::Shown::shown))]
@@ -267,5 +303,29 @@ impl Array {
             }
             _ => None,
         }
+    }
+
+    /// The value of slot `i`, whatever its type. In a dictionary-encoded column it is the dictionary's value, and null
+    /// where the index or that value is. No memory is taken.
+    pub fn slot(&self, i: usize) -> SlotValue<'_>
+        requires { i < length self.now.raw }
+        ensures { HoldsValue self.now i result }
+    {
+        let _ = &self.len;
+        match self.resolved(i) {
+            Some((values, place)) => values.own_slot(place),
+            None => self.own_slot(i),
+        }
+    }
+
+    // The value of slot `i`, which holds no index.
+    fn own_slot(&self, i: usize) -> SlotValue<'_>
+        requires inside { i < length self.now.raw }
+        requires own { HasNoIndex self.now i }
+        ensures holds { HoldsValue self.now i result }
+        ensures column { IsColumn self.now }
+    {
+        let _ = &self.len;
+        self.seen(i).at(i)
     }
 }

@@ -130,7 +130,8 @@ impl Batch {
 
     /// The columns, one for each field, in the order of the fields.
     pub fn columns(&self) -> &[Array]
-        ensures { result.now ≡ self.now.columns }
+        ensures same { result.now ≡ self.now.columns }
+        ensures long { HaveRows self.now.rows result.now }
     {
         &self.columns
     }

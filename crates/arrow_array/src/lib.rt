@@ -26,7 +26,7 @@ mod texts;
 mod value;
 mod width;
 
-pub use array::Array;
+pub use array::{Array, SlotValue};
 pub use batch::{Batch, BatchFault};
 pub use byte_range::ByteRange;
 pub use dictionary::Dictionary;

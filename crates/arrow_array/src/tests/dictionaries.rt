@@ -2,7 +2,7 @@
 
 use super::forms::{leaf, referring};
 use super::making::{NO_COLUMN, column, dictionary, field, grown, indices, int32, range};
-use crate::{Array, ByteRange, Dictionary};
+use crate::{Array, ByteRange, Dictionary, SlotValue};
 use arrow_types::DataType;
 use bytes::Bytes;
 use std::alloc::{AllocError, Global};
@@ -178,6 +178,17 @@ fn text_behind(column: &Array, i: usize) -> Option<&str> {
     }
 }
 
+// The text that slot `i` shows.
+fn text_shown(column: &Array, i: usize) -> Option<&str> {
+    if i >= column.len() {
+        return None;
+    }
+    match column.slot(i) {
+        SlotValue::Text(text) => Some(text),
+        _ => None,
+    }
+}
+
 #[test]
 fn indices_into_segments(rt: HostRuntime) -> Result<(), Fail> {
     let alloc = rt.alloc();
@@ -195,6 +206,7 @@ fn indices_into_segments(rt: HostRuntime) -> Result<(), Fail> {
         assert_eq!(rt; column.int_at(i), number, "slot {i}");
         assert_eq!(rt; column.is_null(i), number.is_none(), "slot {i}");
         assert_eq!(rt; text_behind(&column, i), want, "slot {i}");
+        assert_eq!(rt; text_shown(&column, i), want, "slot {i}");
         assert!(rt; column.text_at(i).is_none(), "slot {i}");
     }
     assert!(rt; *column.data_type() == DataType::Utf8);
@@ -262,5 +274,8 @@ fn indices_of_null_values(rt: HostRuntime) -> Result<(), Fail> {
         assert!(rt; place < values.len());
         assert_eq!(rt; values.int_at(place), want);
     }
+    assert!(rt; 1 < column.len());
+    assert!(rt; matches!(column.slot(0), SlotValue::Null));
+    assert!(rt; matches!(column.slot(1), SlotValue::Int(7)));
     Ok(())
 }

@@ -2,6 +2,7 @@
 
 use super::forms::{leaf, lists, structs};
 use super::making::{NO_COLUMN, range};
+use crate::SlotValue;
 use arrow_types::{BitWidth, DataType, DateUnit, TimeUnit};
 use std::alloc::{AllocError, Global};
 use std::test::Fail;
@@ -78,6 +79,8 @@ fn byte_strings_and_texts_beside_a_null(rt: HostRuntime) -> Result<(), Fail> {
         assert_eq!(rt; texts.is_null(j), j == 1, "slot {j}");
         assert_eq!(rt; strings.same_slot(j, &texts, j), j == 1, "slot {j}");
     }
+    assert!(rt; 2 < strings.len());
+    assert!(rt; matches!(strings.slot(2), SlotValue::Bytes(_)));
     Ok(())
 }
 
@@ -91,6 +94,10 @@ fn truth_values_beside_a_null(rt: HostRuntime) -> Result<(), Fail> {
         assert_eq!(rt; column.bool_at(j), want, "slot {j}");
         assert_eq!(rt; column.is_null(j), want.is_none(), "slot {j}");
     }
+    assert!(rt; 2 < column.len());
+    assert!(rt; matches!(column.slot(0), SlotValue::Bool(true)));
+    assert!(rt; matches!(column.slot(1), SlotValue::Null));
+    assert!(rt; matches!(column.slot(2), SlotValue::Bool(false)));
     Ok(())
 }
 
@@ -105,6 +112,8 @@ fn items_under_a_null_list(rt: HostRuntime) -> Result<(), Fail> {
         assert_eq!(rt; range, want, "slot {j}");
         assert_eq!(rt; lists.is_null(j), want.is_none(), "slot {j}");
     }
+    assert!(rt; 2 < lists.len());
+    assert!(rt; matches!(lists.slot(2), SlotValue::List(3, 3, _)));
     let items = lists.items().ok_or("lists have items")?;
     assert_eq!(rt; items.len(), 5);
     for (k, want) in [(0, 1), (1, 2), (2, 3), (3, 4), (4, 5)] {
@@ -123,6 +132,9 @@ fn fields_under_a_null_struct(rt: HostRuntime) -> Result<(), Fail> {
         assert!(rt; j < structs.len());
         assert_eq!(rt; structs.is_null(j), want, "slot {j}");
     }
+    assert!(rt; 2 < structs.len());
+    assert!(rt; matches!(structs.slot(1), SlotValue::Null));
+    assert!(rt; matches!(structs.slot(2), SlotValue::Struct(_, 2)));
     let numbers = structs.field(0).ok_or("the struct has a field")?;
     assert_eq!(rt; numbers.len(), 5);
     for (k, want) in [(0, 1), (1, 2), (2, 3), (3, 4), (4, 5)] {

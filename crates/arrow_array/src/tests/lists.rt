@@ -2,7 +2,7 @@
 
 use super::forms::{list_type, lists, referring};
 use super::making::{NO_COLUMN, dictionary};
-use crate::{Array, Dictionary};
+use crate::{Array, Dictionary, SlotValue};
 use std::alloc::{AllocError, Global};
 use std::test::Fail;
 
@@ -78,6 +78,8 @@ fn indices_of_lists(rt: HostRuntime) -> Result<(), Fail> {
     assert!(rt; 2 < column.len());
     assert!(rt; column.is_null(2) && column.resolved(2).is_none());
     assert!(rt; column.items().is_none());
+    assert!(rt; matches!(column.slot(0), SlotValue::List(1, 3, _)));
+    assert!(rt; matches!(column.slot(2), SlotValue::Null));
     Ok(())
 }
 

@@ -1,0 +1,33 @@
+-- The records of a schema and of rows (RFC 4180, with line feeds; the quoting is that of the crate `csv` by default).
+use Rattle.std.specs.Prelude.{ℕ, ◌-◌, List, [], ◌∷◌, map, codes}
+use Rattle.std.specs.Fmt.{decimal}
+use Rattle.std.specs.List.{flat_map, range_with_len}
+use Rattle.csv.specs.Writing.{default_writer, row_text}
+use Rattle.arrow_types.specs.Field.{Fields, none, more}
+use Rattle.arrow_array.specs.Batch.{Table}
+use Rattle.arrow_array.specs.Column.{Column}
+use Rattle.arrow_array.specs.PlainValue.{value_at}
+use Rattle.arrow_csv.specs.Texts.{value_text}
+
+-- one record of these fields, with its line feed
+abbrev pub record_of : List (List ℕ) → List ℕ
+record_of fields = row_text default_writer fields
+
+abbrev pub names : Fields → List (List ℕ)
+names none = []
+names (more head children rest) = head.name ∷ names rest
+
+abbrev pub header_record : Fields → List ℕ
+header_record schema = record_of (codes "batch" ∷ names schema)
+
+-- the texts of the columns' values in slot i, indices looked up; a null is empty
+abbrev pub column_texts : List Column → ℕ → List (List ℕ)
+column_texts columns i = map (λ (c : Column). value_text [] c.data_type.children (value_at c.resolved i)) columns
+
+-- the record of row i of the batch of this number
+abbrev pub row_record : ℕ → Table → ℕ → List ℕ
+row_record number batch i = record_of (decimal number ∷ column_texts batch.columns i)
+
+-- the records of the rows from `start` up to `end`
+abbrev pub batch_rows : ℕ → Table → ℕ → ℕ → List ℕ
+batch_rows number batch start end = flat_map (row_record number batch) (range_with_len start (end - start))

@@ -1,0 +1,3 @@
+//! Records against texts that are written out.
+
+mod records;

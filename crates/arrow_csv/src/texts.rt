@@ -1,0 +1,98 @@
+//! The texts of values.
+
+ghost use Rattle.std.specs.Prelude.{◌≡◌, ◌≤◌, ◌<◌, ◌++◌, OnOk, codes, length, map};
+ghost use Rattle.arrow_array.specs.Column.{AreOf, resolved_row_of, values_from};
+ghost use Rattle.arrow_array.specs.PlainValue.{value_at, values_of};
+ghost use Rattle.arrow_array.specs.Same.{HaveSlot};
+ghost use Rattle.arrow_types.specs.View.{fields_view};
+ghost use Rattle.arrow_csv.specs.Texts.{item_text, joined, part_texts, value_text};
+
+use arrow_array::{Array, SlotValue};
+use arrow_types::Field;
+use itoa::Buffer;
+use std::alloc::{AllocError, Global};
+
+/// How a null shows inside of a list or a struct.
+const NULL: &[u8] = b"null";
+
+/// Appends the text of the value in slot `i`; of a null the text that is given for it.
+#[cycle(text)]
+pub(crate) fn push_value(
+    alloc: Global,
+    out: &mut Vec<u8>,
+    column: &Array,
+    i: usize,
+    null: &[u8],
+) -> Result<(), AllocError>
+    requires { i < length column.now.raw }
+    ensures { OnOk result (out.new.items ≡ out.old.items
+        ++ value_text null.now column.now.data_type.children (value_at column.now.resolved i)) }
+{
+    match column.slot(i) {
+        SlotValue::Null => out.extend_from_slice(null),
+        SlotValue::Bool(true) => out.extend_from_slice(b"true"),
+        SlotValue::Bool(false) => out.extend_from_slice(b"false"),
+        SlotValue::Int(number) => out.extend_from_slice(Buffer::new().format(number).as_bytes()),
+        SlotValue::Bytes(bytes) => out.extend_from_slice(hex::encode(alloc, bytes)?.as_bytes()),
+        SlotValue::Text(text) => out.extend_from_slice(text.as_bytes()),
+        SlotValue::List(start, end, items) => push_items(alloc, out, items, start, end),
+        SlotValue::Struct(children, place) => {
+            push_parts(alloc, out, column.data_type().children(), children, place)
+        }
+    }
+}
+
+/// Appends the text of a list whose items stand in a range of slots.
+#[cycle(text)]
+fn push_items(
+    alloc: Global,
+    out: &mut Vec<u8>,
+    items: &Array,
+    start: usize,
+    end: usize,
+) -> Result<(), AllocError>
+    requires order { start ≤ end }
+    requires inside { end ≤ length items.now.raw }
+    requires long { length items.now.resolved ≡ length items.now.raw }
+    ensures { OnOk result (out.new.items ≡ out.old.items ++ codes "["
+        ++ joined (map (item_text items.now.data_type.children)
+        (values_from items.now.resolved start end)) ++ codes "]") }
+{
+    out.push(b'[')?;
+    for k in start..end {
+        if k > start {
+            out.push(b';')?;
+        }
+        push_value(alloc, out, items, k, NULL)?;
+    }
+    out.push(b']')?;
+    Ok(())
+}
+
+/// Appends the text of a struct whose fields have their values in one slot of their arrays.
+#[cycle(text)]
+fn push_parts(
+    alloc: Global,
+    out: &mut Vec<u8>,
+    fields: &[Field],
+    children: &[Array],
+    place: usize,
+) -> Result<(), AllocError>
+    requires typed { AreOf (fields_view fields.now) children.now }
+    requires inside { HaveSlot place children.now }
+    ensures { OnOk result (out.new.items ≡ out.old.items ++ codes "{"
+        ++ joined (part_texts (fields_view fields.now)
+        (values_of (resolved_row_of children.now place))) ++ codes "}") }
+{
+    out.push(b'{')?;
+    for k in 0..children.len() {
+        if k > 0 {
+            out.push(b';')?;
+        }
+        out.extend_from_slice(fields[k].name.as_bytes())?;
+        out.push(b'=')?;
+        push_value(alloc, out, &children[k], place, NULL)?;
+    }
+    out.push(b'}')?;
+    Ok(())
+}

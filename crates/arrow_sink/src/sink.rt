@@ -1,0 +1,50 @@
+//! What a sink is.
+
+ghost use Rattle.std.specs.Prelude.{◌≡◌, ◌≤◌, ◌<◌, ◌-◌, ◌^◌, ℕ, List, length, None, IfOk, Option};
+ghost use Rattle.std.specs.Io.KnownBytes.{Keeps};
+ghost use Rattle.arrow_sink.specs.Sinks.{Puts, CountsPut, CountsFlush};
+
+use std::error::Error;
+use std::fmt;
+
+/// That a call of a sink failed.
+#[derive(Clone, Copy, Debug, PartialEq, Eq)]
+pub struct SinkFault;
+
+impl fmt::Display for SinkFault {
+    fn fmt<W: fmt::Write>(&self, f: &mut fmt::Formatter<W>) -> fmt::Result {
+        f.write_str("the output failed")
+    }
+}
+
+impl Error for SinkFault {}
+
+/// Where bytes go, in order.
+///
+/// A call that fails counts as one failure, and so does one that takes no byte of a piece that has bytes. Nothing else
+/// does. A caller makes no call of a sink whose count is at 2^64 - 1.
+pub trait Sink {
+    // The bytes that it accepted, where it tells.
+    ghost contents: { Self → Option (List ℕ) } = { λ _. None };
+
+    // How many of its calls failed.
+    ghost failed: { Self → ℕ };
+
+    /// Offers a piece, and answers how many of its first bytes were accepted: at most all of them. Of a piece that is
+    /// answered with an error none was.
+    fn put(&mut self, piece: &[u8]) -> Result<usize, SinkFault>
+        requires { failed self.old < 2 ^ 64 - 1 }
+        ensures bound { IfOk result (λ n. n ≤ length piece.now) }
+        ensures bytes { Puts (contents self.old) (contents self.new) result piece.now }
+        ensures count { CountsPut (failed self.old) (failed self.new) result (length piece.now) };
+
+    /// Passes on what was accepted.
+    fn flush(&mut self) -> Result<(), SinkFault>
+        requires { failed self.old < 2 ^ 64 - 1 }
+        ensures bytes { Keeps (contents self.old) (contents self.new) }
+        ensures count { CountsFlush (failed self.old) (failed self.new) result };
+
+    /// How many calls failed so far.
+    fn failures(&self) -> u64
+        ensures { result ≡ failed self.now };
+}
