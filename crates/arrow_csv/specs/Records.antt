@@ -1,5 +1,5 @@
 -- The records of a schema and of rows (RFC 4180, with line feeds; the quoting is that of the crate `csv` by default).
-use Rattle.std.specs.Prelude.{ℕ, ◌-◌, List, [], ◌∷◌, map, codes}
+use Rattle.std.specs.Prelude.{◌+◌, ◌-◌, ◌++◌, ℕ, List, [], ◌∷◌, map, codes, Option, None, Some}
 use Rattle.std.specs.Fmt.{decimal}
 use Rattle.std.specs.List.{flat_map, range_with_len}
 use Rattle.csv.specs.Writing.{default_writer, row_text}
@@ -31,3 +31,13 @@ row_record number batch i = record_of (decimal number ∷ column_texts batch.col
 -- the records of the rows from `start` up to `end`
 abbrev pub batch_rows : ℕ → Table → ℕ → ℕ → List ℕ
 batch_rows number batch start end = flat_map (row_record number batch) (range_with_len start (end - start))
+
+-- the records of batches, the first of which has this number
+abbrev pub batches_text : ℕ → List Table → List ℕ
+batches_text number [] = []
+batches_text number (batch ∷ batches) = batch_rows number batch 0 batch.rows ++ batches_text (number + 1) batches
+
+-- the records of a stream: those of its schema and of its batches, none without a schema
+abbrev pub stream_text : Option Fields → List Table → List ℕ
+stream_text None batches = []
+stream_text (Some schema) batches = header_record schema ++ batches_text 0 batches

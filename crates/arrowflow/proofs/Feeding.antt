@@ -18,7 +18,7 @@ use Rattle.arrowflow.specs.Session.{Receives, StandsInside, ending_by, ending_of
 use Rattle.arrowflow.specs.declared.session.Ending.{Ending}
 
 -- the batches of two parts are those of both
-tables-append : (es fs : List Entry) → tables_of (es ++ fs) ≡ tables_of es ++ tables_of fs
+pub tables-append : (es fs : List Entry) → tables_of (es ++ fs) ≡ tables_of es ++ tables_of fs
 tables-append [] fs = refl
 tables-append (e ∷ es) fs = ap (λ y. table_in e.given ++ y) (tables-append es fs) ∙ sym (append_assoc (table_in e.given) (tables_of es) (tables_of fs))
 

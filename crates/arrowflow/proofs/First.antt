@@ -39,7 +39,7 @@ one_of false false false true a b c d e q = inr (inr (inl q))
 one_of false false false false a b c d e q = inr (inr (inr q))
 
 -- no end marker comes before a schema
-not_marker : {l : LimitNumbers} {s : StreamState} {p : ℕ} {b : List ℕ} {o : Outcome} → First l s p b o → s ≡ nothing_yet → o ≡ marker → ⊥
+pub not_marker : {l : LimitNumbers} {s : StreamState} {p : ℕ} {b : List ℕ} {o : Outcome} → First l s p b o → s ≡ nothing_yet → o ≡ marker → ⊥
 not_marker (short_prefix h) n e = absurd (cc)
 not_marker (short_metadata h i) n e = absurd (cc)
 not_marker (short_body h i) n e = absurd (cc)

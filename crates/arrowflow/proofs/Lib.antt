@@ -3,3 +3,5 @@ mod First
 mod Found
 mod Indented
 mod Feeding
+mod Schemas
+mod Growing

@@ -6,3 +6,4 @@ pub mod SchemaText
 pub mod Session
 pub mod Pieces
 pub mod TypeNames
+pub mod Shown

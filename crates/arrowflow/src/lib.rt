@@ -8,11 +8,13 @@
 //! What is received of bytes is said by `Receives` (`specs/Session.antt`). The text of a schema is a definition,
 //! `schema_lines` (`specs/SchemaText.antt`), and [`schema_lines_of`] gives it for every schema. Which bytes of an input
 //! decide what [`schema_text`] answers is said by `AnswersInput` (`specs/SchemaCall.antt`), in the words of the layer that
-//! reads streams; what is said of a fault by `specs/Faults.antt`.
+//! reads streams; what is said of a fault by `specs/Faults.antt`. What each message adds to the text of a stream's rows is
+//! said by `specs/Shown.antt`, and that the text grows so by [`laws`].
 #![tactic(auto)]
 
 mod command_line;
 mod escapes;
+pub mod laws;
 mod plans;
 mod schema_call;
 mod schema_lines;

@@ -1,0 +1,120 @@
+-- The schema of a stream: the first message gives it, and no later one changes it.
+use Rattle.std.proofs.Common.{◌≡◌, ◌+◌, ℕ, ℤ, List, [], ◌∷◌, ◌++◌, Bool, true, false, Option, Some, None, Result, Ok, Err, refl, sym, ap, ◌∙◌, subst, is_some, drop}
+use Rattle.std.proofs.lemmas.Bool.{false≢true}
+use Rattle.std.proofs.lemmas.List.{drop-append-le}
+use Rattle.arrow_types.specs.Field.{Fields}
+use Rattle.arrow_types.specs.Limits.{LimitNumbers}
+use Rattle.std.specs.List.{AllByRecursion}
+use Rattle.arrow_array.specs.Column.{Column}
+use Rattle.arrow_stream.specs.declared.kind.Refusal.{Refusal}
+use Rattle.arrow_stream.specs.declared.reader.Verdict.TheVariants.{Open}
+use Rattle.arrow_stream.specs.Batch.{with_values}
+use Rattle.arrow_stream.specs.Frame.{is_out_of_order, BodySays, schema_comes, dictionary_comes, batch_comes, Outcome, First, whole, marker, short_prefix, short_metadata, short_body, bad_prefix, bad_metadata, bad_body, end_marker, message_comes}
+use Rattle.arrow_stream.specs.Front.{Entry, Standing, Front, FrontOf, rests, fails, closes, goes_on}
+use Rattle.arrow_stream.specs.State.{StreamState, Given, nothing_yet, schema_given, dictionary_given, batch_given, ended}
+use Rattle.arrow_stream.proofs.Beginnings.{whole_gives}
+use Rattle.arrow_stream.proofs.Firsts.{First-append, First-within}
+use Rattle.arrow_stream.proofs.Fronts.{at_bytes, front_follows}
+use Rattle.arrow_stream.proofs.Works.{message_in_order}
+use Rattle.arrowflow.proofs.First.{not_marker}
+
+-- what a front with more bytes has behind an open one
+pub record GoesOn (l : LimitNumbers) (e : Standing) (c : List ℕ) (es fs : List Entry) (f : Standing) : Type 0 where
+  pub more : List Entry
+  pub joined : fs ≡ es ++ more
+  pub behind : Front l e.state e.place (e.rest ++ c) more f
+
+pub front_behind : {l : LimitNumbers} {s : StreamState} {p : ℕ} {b : List ℕ} {es fs : List Entry} {e f : Standing} (c : List ℕ) → Front l s p b es e → e.verdict ≡ Open → Front l s p (b ++ c) fs f → GoesOn l e c es fs f
+front_behind {fs = fs} c (rests x) o y = record { more = fs; joined = refl; behind = y }
+front_behind c (fails x) o y = absurd (cc)
+front_behind c (closes x) o y = absurd (cc)
+front_behind {p = p} {b = b} c (goes_on {n = n} {g = g} x xs) o y =
+    let w = front_follows (First-append c (λ q. cc) x) y in
+    let i = front_behind c xs o (at_bytes (drop-append-le n b c (First-within x)) w.2) in
+    record { more = i.more; joined = w.1 ∙ ap (λ r. record { given = g; end = p + n } ∷ r) i.joined; behind = i.behind }
+
+-- what is left by a message behind a schema, which gives none
+pub record Keeps (fields : Fields) (s : StreamState) (g : Given) : Type 0 where
+  pub schema : s.schema ≡ Some fields
+  pub other : g ≡ schema_given → ⊥
+
+-- what an answer leaves and gives, where it is one
+abbrev state_in : Result (StreamState × Given) Refusal → StreamState
+state_in (Ok p) = p.0
+state_in (Err k) = nothing_yet
+
+abbrev given_in : Result (StreamState × Given) Refusal → Given
+given_in (Ok p) = p.1
+given_in (Err k) = schema_given
+
+abbrev is_schema : Given → Bool
+is_schema schema_given = true
+is_schema (dictionary_given id) = false
+is_schema (batch_given b) = false
+is_schema ended = false
+
+-- a body behind a schema
+body_keeps : {s : StreamState} {c : _} {b : List ℕ} {r : Result (StreamState × Given) Refusal} → BodySays s c b r → (fields : Fields) → s.schema ≡ Some fields → is_out_of_order (is_some s.schema) c ≡ false
+    → (s' : StreamState) (g : Given) → r ≡ Ok (s', g) → Keeps fields s' g
+body_keeps (schema_comes) fields known o s' g e = absurd (false≢true (sym o ∙ ap is_some known))
+body_keeps (dictionary_comes {cs = Err k} h i) fields known o s' g e = let q = sym i ∙ e in absurd (cc)
+body_keeps {s} (dictionary_comes {id = id} {delta = delta} {cs = Ok cs} h i) fields known o s' g e =
+    let q = sym i ∙ e in
+    record { schema = ap (λ t. t.schema) (sym (ap state_in q)) ∙ same s id delta cs ∙ known; other = λ z. false≢true (ap is_schema (ap given_in q ∙ z)) }
+  where
+    same : (s : StreamState) (id : ℤ) (delta : Bool) (cs : List Column) → (with_values s id delta cs).schema ≡ s.schema
+    same s id delta [] = refl
+    same s id delta (c ∷ cs) = refl
+body_keeps (batch_comes {cs = Err k} h i) fields known o s' g e = let q = sym i ∙ e in absurd (cc)
+body_keeps {s} (batch_comes {cs = Ok cs} h i) fields known o s' g e =
+    let q = sym i ∙ e in
+    record { schema = ap (λ t. t.schema) (sym (ap state_in q)) ∙ known; other = λ z. false≢true (ap is_schema (ap given_in q ∙ z)) }
+
+-- a whole message behind a schema
+pub whole_keeps : {l : LimitNumbers} {s : StreamState} {p : ℕ} {b : List ℕ} {o : Outcome} → First l s p b o → (fields : Fields) → s.schema ≡ Some fields
+    → (n : ℕ) (s' : StreamState) (g : Given) → o ≡ whole n s' g → Keeps fields s' g
+whole_keeps (short_prefix h) fields k n s' g e = absurd (cc)
+whole_keeps (short_metadata h i) fields k n s' g e = absurd (cc)
+whole_keeps (short_body h i) fields k n s' g e = absurd (cc)
+whole_keeps (bad_prefix h) fields k n s' g e = absurd (cc)
+whole_keeps (bad_metadata h) fields k n s' g e = absurd (cc)
+whole_keeps (bad_body h) fields k n s' g e = absurd (cc)
+whole_keeps (end_marker h) fields k n s' g e = absurd (cc)
+whole_keeps (message_comes {s' = s''} {g = g'} h) fields k n s' g e =
+    let states : s'' ≡ s' = cc in
+    let given : g' ≡ g = cc in
+    let w = body_keeps h.says fields k (message_in_order h.metadata) s'' g' refl in
+    record { schema = ap (λ t. t.schema) (sym states) ∙ w.schema; other = λ q. w.other (given ∙ q) }
+
+-- a front behind a schema leaves it, and gives no other
+pub record Keep (fields : Fields) (es : List Entry) (e : Standing) : Type 0 where
+  pub schema : e.state.schema ≡ Some fields
+  pub others : AllByRecursion (λ (x : Entry). x.given ≡ schema_given → ⊥) es
+
+pub front_keeps : {l : LimitNumbers} {s : StreamState} {p : ℕ} {b : List ℕ} {es : List Entry} {e : Standing} → Front l s p b es e → (fields : Fields) → s.schema ≡ Some fields → Keep fields es e
+front_keeps (rests x) fields k = record { schema = k; others = tt }
+front_keeps (fails x) fields k = record { schema = k; others = tt }
+front_keeps (closes x) fields k = record { schema = k; others = ((λ q. false≢true (ap is_schema q)), tt) }
+front_keeps (goes_on {n = n} {s' = s'} {g = g} x xs) fields k =
+    let w = whole_keeps x fields k n s' g refl in
+    let i = front_keeps xs fields w.schema in
+    record { schema = i.schema; others = (w.other, i.others) }
+
+-- a stream that gave something began with its schema, and gave no other
+pub record Begins (es : List Entry) (e : Standing) : Type 0 where
+  pub fields : Fields
+  pub schema : e.state.schema ≡ Some fields
+  pub first : Entry
+  pub rest : List Entry
+  pub joined : es ≡ first ∷ rest
+  pub given : first.given ≡ schema_given
+  pub others : AllByRecursion (λ (x : Entry). x.given ≡ schema_given → ⊥) rest
+
+pub front_begins : {l : LimitNumbers} {s : StreamState} {p : ℕ} {b : List ℕ} {es : List Entry} {e : Standing} → Front l s p b es e → s ≡ nothing_yet → (es ≡ [] → ⊥) → Begins es e
+front_begins (rests x) n some = absurd (some refl)
+front_begins (fails x) n some = absurd (some refl)
+front_begins (closes x) n some = absurd (not_marker x n refl)
+front_begins {p = p} (goes_on {n = m} {s' = s'} {g = g} {es = es} x xs) n some =
+    let w = whole_gives x n m s' g refl in
+    let k = front_keeps xs w.fields (ap (λ t. t.schema) w.state) in
+    record { fields = w.fields; schema = k.schema; first = record { given = g; end = p + m }; rest = es; joined = refl; given = w.given; others = k.others }
