@@ -1,4 +1,4 @@
-// The header and the rows of batches of numbers. Lists, structs and dictionaries come from streams, in `arrowflow`.
+// The header and the rows of batches of numbers.
 
 ghost use Rattle.std.specs.Prelude.{◌≡◌, ◌≤◌, ℕ, IfOk, IsTrue, List, None};
 ghost use Rattle.arrow_types.specs.Field.{none};
