@@ -4,6 +4,8 @@ ghost use Rattle.std.specs.Prelude.{◌≡◌, ◌≤◌, length};
 
 use crate::{Counted, Sink, SinkFault, send};
 use std::alloc::Global;
+use std::io;
+use std::io::Write;
 use std::test::Fail;
 
 // Takes at most `most` bytes at once and `left` in all, and then fails: by an error, or by taking nothing.
@@ -105,5 +107,29 @@ fn nothing_is_asked_of_a_sink_for_no_bytes(rt: HostRuntime) -> Result<(), Fail> 
     assert_eq!(rt; sink.failures(), 0);
     assert!(rt; send(&mut sink, b"x").is_err());
     assert_eq!(rt; sink.failures(), 1);
+    Ok(())
+}
+
+// A writer that takes nothing and passes on nothing.
+#[derive(Drop)]
+struct Shut;
+
+impl Write for Shut {
+    fn write(&mut self, _buf: &[u8]) -> io::Result<usize> {
+        Err(io::Error::from(io::ErrorKind::Interrupted))
+    }
+
+    fn flush(&mut self) -> io::Result<()> {
+        Err(io::Error::from(io::ErrorKind::Interrupted))
+    }
+}
+
+#[test]
+fn errors_of_a_writer_are_told_and_counted(rt: HostRuntime) -> Result<(), Fail> {
+    let mut sink = Counted::new(Shut);
+    assert!(rt; sink.put(b"x").is_err());
+    assert_eq!(rt; sink.failures(), 1);
+    assert!(rt; sink.flush().is_err());
+    assert_eq!(rt; sink.failures(), 2);
     Ok(())
 }
