@@ -4,6 +4,7 @@
     examples/streams.py FOLDER    writes each stream to FOLDER/NAME.arrows
 """
 import pathlib
+import struct
 import sys
 
 import frames
@@ -98,6 +99,46 @@ ENCODED = {
                    batch(lists([[2, 0], None], numbers), structs([(), ()], numbers([1, None])))),
 }
 
+# The names of the columns of numbers below, and the formats of the module struct for them.
+NUMBERS = [(f"{sign}{bits}", integer(bits, sign == "i"), form if sign == "i" else form.upper())
+           for bits, form in ((8, "b"), (16, "h"), (32, "i"), (64, "q")) for sign in "iu"]
+MOMENTS = [("days", date(0), "i"), ("dates", date(1), "q"), ("s", time(0), "i"), ("ms", time(1), "i"), ("us", time(2), "q"),
+           ("ns", time(3), "q"), *((f"at {unit}", timestamp(unit), "q") for unit in range(4))]
+
+
+def extremes(form):
+    """The least and the greatest number of a format, and a null."""
+    bits = struct.calcsize(f"<{form}") * 8
+    low, high = (0, 2 ** bits - 1) if form.isupper() else (-2 ** (bits - 1), 2 ** (bits - 1) - 1)
+    return numbers([low, high, None], form)
+
+
+def points(values):
+    """Structs of `x`, signed 32-bit integers, and `y`, texts, of pairs."""
+    pairs = [value or (None, None) for value in values]
+    return structs([value if value is None else () for value in values], numbers([x for x, _ in pairs]),
+                   strings([y for _, y in pairs]))
+
+
+POINT = field("point", STRUCT, [field("x", INT32), field("y", UTF8)])
+
+# Streams without dictionaries that only the tests of reports hold.
+REPORTED = {
+    "EXTREMES": ("Columns of numbers, dates, times and timestamps: the least and the greatest of each width, and a null.",
+                 schema(*(field(name, kind) for name, kind, _ in NUMBERS + MOMENTS))
+                 + batch(*(extremes(form) for _, _, form in NUMBERS + MOMENTS)) + END_MARKER),
+    "QUOTED": ("Texts of which some stand in quotes, in a column whose name does, and byte strings.",
+               schema(field('a "b"', UTF8), field("c", BINARY))
+               + batch(strings(['say "no"', "a,b", "a\rb", "a\nb", "a;b c", "é", None]),
+                       strings([b"\x00", b"\xff\x0a", b"", None, b",", b"abc", b""])) + END_MARKER),
+    "NESTED": ("Lists of structs of a number `x` and a text `y`, with nulls on each level.",
+               schema(field("g", LIST, [POINT]))
+               + batch(lists([[(1, "a;b"), None, (None, None)], [], None], points)) + END_MARKER),
+    "EMPTY_BATCHES": ("Batches of no text, three, none and three.",
+                      b"".join(COLUMNS[name][1] for name in "TEXTS NO_TEXTS THREE_TEXTS NO_TEXTS THREE_TEXTS".split())
+                      + END_MARKER),
+}
+
 # The modules of frames that the tests of arrow_stream hold, and what each is about.
 TESTED = {
     "letters": ("Frames of a column of letters by their numbers in a dictionary, which grows and is then replaced.",
@@ -151,6 +192,24 @@ def streams():
         "compressed_batch": frames.ONE_COLUMN + joined(COLUMNS, "COMPRESSED"),
         "compressed_dictionary": joined(LETTERS, "SCHEMA COMPRESSED"),
     }
+
+
+def reported():
+    """The streams that the tests of reports hold, with what each is."""
+    laid_out = streams()
+    held = {
+        "ONE_BATCH": ("One batch of a column of 1, a null and 3.", laid_out["one_batch"]),
+        "NO_COLUMNS": ("One batch of three rows without columns.", laid_out["no_columns"]),
+        "LISTS": ("One batch of a column of lists and one of texts.", laid_out["lists"]),
+        "STRUCTS": ("One batch of a column of structs.", laid_out["structs"]),
+        "BITS": ("One batch of a column of truth values.", laid_out["bits"]),
+        "MANY_TYPES": ("One batch of nulls, integers, byte strings, dates, times and timestamps.", laid_out["many_types"]),
+        "SHARED": ("Three columns of texts by indices of two dictionaries.", laid_out["shared"]),
+        "SIZES": ("A column of numbers by indices of a dictionary.", laid_out["sizes"]),
+        "GROUPS": ("A column of lists by indices of a dictionary.", laid_out["groups"]),
+        "BELOW": ("Lists and structs of texts by indices of a dictionary.", laid_out["below"]),
+    }
+    return held | REPORTED
 
 
 def check():

@@ -1,6 +1,6 @@
 //! What a sink is.
 
-ghost use Rattle.std.specs.Prelude.{◌≡◌, ◌≤◌, ◌<◌, ◌-◌, ◌^◌, ℕ, List, length, None, IfOk, Option};
+ghost use Rattle.std.specs.Prelude.{◌≡◌, ◌≤◌, ◌<◌, ◌-◌, ◌^◌, ℕ, List, length, None, IfOk, OnOk, Option, ⊤};
 ghost use Rattle.std.specs.Io.KnownBytes.{Keeps};
 ghost use Rattle.arrow_sink.specs.Sinks.{Puts, CountsPut, CountsFlush};
 
@@ -30,6 +30,9 @@ pub trait Sink {
     // How many of its calls failed.
     ghost failed: { Self → ℕ };
 
+    // That it passed on all that it accepted, where it tells.
+    ghost is_passed_on: { Self → Type 0 } = { λ _. ⊤ };
+
     /// Offers a piece, and answers how many of its first bytes were accepted: at most all of them. Of a piece that is
     /// answered with an error none was.
     fn put(&mut self, piece: &[u8]) -> Result<usize, SinkFault>
@@ -38,10 +41,11 @@ pub trait Sink {
         ensures bytes { Puts (contents self.old) (contents self.new) result piece.now }
         ensures count { CountsPut (failed self.old) (failed self.new) result (length piece.now) };
 
-    /// Passes on what was accepted.
+    /// Passes on all that was accepted.
     fn flush(&mut self) -> Result<(), SinkFault>
         requires { failed self.old < 2 ^ 64 - 1 }
         ensures bytes { Keeps (contents self.old) (contents self.new) }
+        ensures passed { OnOk result (is_passed_on self.new) }
         ensures count { CountsFlush (failed self.old) (failed self.new) result };
 
     /// How many calls failed so far.

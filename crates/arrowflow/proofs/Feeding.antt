@@ -40,6 +40,19 @@ pub record IsFeeding (first : Shows) (handed : List Table) (piece : List ℕ) (n
 pub fed_nothing : (r : Shows) (h : List Table) → Feeds r h [] r h
 fed_nothing r h t es at = record { more = []; stands = stands_at (sym (append-nil t)) (sym (append-nil es)) at; tables = sym (append-nil h) }
 
+-- with no item a reader stands behind the whole piece, whatever it took
+pub taken_all : (now new : Shows) (piece : List ℕ) (n : ℕ) (t : List ℕ) (es : List Entry) → TakesOn now piece n new t es → Stands new (t ++ piece) es
+taken_all now new piece n t es x = by now.at.verdict refl
+  where
+    by : (o : Verdict) → now.at.verdict ≡ o → Stands new (t ++ piece) es
+    by Open e = stands_at (ap (λ y. t ++ y) (take_all n piece (omega (arith, x.all e)))) refl x.stands
+    by Done e =
+        stands_at (append_assoc t (take n piece) (drop n piece) ∙ ap (λ y. t ++ y) (take-append-drop n piece)) refl
+        (ended_stands new (t ++ take n piece) es (drop n piece) (λ q. let s = x.same in cc) x.stands)
+    by (Bad k) e =
+        stands_at (append_assoc t (take n piece) (drop n piece) ∙ ap (λ y. t ++ y) (take-append-drop n piece)) refl
+        (ended_stands new (t ++ take n piece) es (drop n piece) (λ q. let s = x.same in cc) x.stands)
+
 module _ (first now new : Shows) (h h' : List Table) (taken rest : List ℕ) (a : Feeds first h taken now h') where
   -- an item was taken, and its batch kept
   pub fed_next : (h'' : List Table) (n : ℕ) (item : Item) → ((t : List ℕ) (es : List Entry) → Stands now t es → GivesNext rest n item new t es) →
@@ -80,18 +93,8 @@ module _ (first now new : Shows) (h h' : List Table) (taken rest : List ℕ) (a 
       let f = a t es at in
       record { more = f.more; stands = stands_at (append_assoc t taken rest) refl (b (t ++ taken) (es ++ f.more) f.stands); tables = f.tables }
 
-  -- with no item the reader stands behind the whole rest, whatever it took
-  takes_by : (o : Verdict) (n : ℕ) (t : List ℕ) (es : List Entry) → now.at.verdict ≡ o → TakesOn now rest n new t es → Stands new (t ++ rest) es
-  takes_by Open n t es e x = stands_at (ap (λ y. t ++ y) (take_all n rest (omega (arith, x.all e)))) refl x.stands
-  takes_by Done n t es e x =
-      stands_at (append_assoc t (take n rest) (drop n rest) ∙ ap (λ y. t ++ y) (take-append-drop n rest)) refl
-      (ended_stands new (t ++ take n rest) es (drop n rest) (λ q. let s = x.same in cc) x.stands)
-  takes_by (Bad k) n t es e x =
-      stands_at (append_assoc t (take n rest) (drop n rest) ∙ ap (λ y. t ++ y) (take-append-drop n rest)) refl
-      (ended_stands new (t ++ take n rest) es (drop n rest) (λ q. let s = x.same in cc) x.stands)
-
   pub fed_all : (n : ℕ) → ((t : List ℕ) (es : List Entry) → Stands now t es → TakesOn now rest n new t es) → Feeds first h (taken ++ rest) new h'
-  fed_all n b = fed_last (λ t es at. takes_by now.at.verdict n t es refl (b t es at))
+  fed_all n b = fed_last (λ t es at. taken_all now new rest n t es (b t es at))
 
   refused_by : (fault : Fault) (t : List ℕ) (es : List Entry) → (fault.kind ≡ Memory → ⊥) → WantsMemory now fault new ⊎ Refuses rest fault new t es → Stands new (t ++ rest) es
   refused_by fault t es n (inl m) = absurd (n (ap (λ (f : Fault). f.kind) m.fault_is))
@@ -154,7 +157,7 @@ on_err-always (Ok v) p = tt
 on_err-always (Err e) p = p
 
 -- while the stream is open, what is held is the rest; else the ending does not hang on it
-ended_same : (o : Verdict) (seen : Bool) (rest held : List ℕ) (place : ℕ) → (o ≡ Open → rest ≡ held) → ended_by o seen held place ≡ ended_by o seen rest place
+pub ended_same : (o : Verdict) (seen : Bool) (rest held : List ℕ) (place : ℕ) → (o ≡ Open → rest ≡ held) → ended_by o seen held place ≡ ended_by o seen rest place
 ended_same Open seen rest held place h = ap (λ y. ended_by Open seen y place) (sym (h refl))
 ended_same Done seen rest held place h = refl
 ended_same (Bad k) seen rest held place h = refl

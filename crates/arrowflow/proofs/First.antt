@@ -24,7 +24,7 @@ bad_refused (closes x) n k v = absurd (cc)
 bad_refused (goes_on x xs) n k v = absurd (cc)
 
 -- a front without entries leaves the state as it was
-state_stays : {l : LimitNumbers} {s : StreamState} {p : ℕ} {b : List ℕ} {es : List Entry} {e : Standing} → Front l s p b es e → es ≡ [] → e.state ≡ s
+pub state_stays : {l : LimitNumbers} {s : StreamState} {p : ℕ} {b : List ℕ} {es : List Entry} {e : Standing} → Front l s p b es e → es ≡ [] → e.state ≡ s
 state_stays (rests x) n = refl
 state_stays (fails x) n = refl
 state_stays (closes x) n = absurd (cc)

@@ -20,7 +20,7 @@ use Rattle.arrowflow.specs.declared.tool_fault.ToolFault.TheVariants.{Stream}
 use Rattle.arrowflow.proofs.First.{open_waits, bad_refused, one_entry}
 
 -- a refusal is told as it is
-told_refusal : (k : Refusal) (place : ℕ) → told (record { kind = kind_of k; place = place }) ≡ Stream (record { kind = kind_of k; place = place })
+pub told_refusal : (k : Refusal) (place : ℕ) → told (record { kind = kind_of k; place = place }) ≡ Stream (record { kind = kind_of k; place = place })
 told_refusal refusals.Continuation p = refl
 told_refusal refusals.MetadataSize p = refl
 told_refusal refusals.Metadata p = refl

@@ -33,7 +33,7 @@ same_rest : (es : List Entry) (x : Entry) (more : List Entry) → es ++ x ∷ []
 same_rest [] x more q = q
 same_rest (e ∷ es) x more q = let rest : es ++ x ∷ [] ≡ es ++ more = cc in same_rest es x more rest
 
-one_table : (es : List Entry) (x : Entry) → tables_of (es ++ x ∷ []) ≡ tables_of es ++ table_in x.given
+pub one_table : (es : List Entry) (x : Entry) → tables_of (es ++ x ∷ []) ≡ tables_of es ++ table_in x.given
 one_table es x = tables-append es (x ∷ []) ∙ ap (λ ts. tables_of es ++ ts) (append-nil (table_in x.given))
 
 -- a message behind an open front adds its text

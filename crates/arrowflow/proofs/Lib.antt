@@ -5,3 +5,6 @@ mod Indented
 mod Feeding
 mod Schemas
 mod Growing
+mod Sent
+mod Told
+mod Reporting

@@ -5,7 +5,7 @@ use Rattle.arrow_stream.specs.declared.fault.Fault.{Fault}
 use Rattle.arrow_stream.specs.declared.kind.Kind.{Kind}
 use Rattle.arrow_stream.specs.declared.kind.Kind.TheVariants as kinds
 use Rattle.arrowflow.specs.declared.tool_fault.ToolFault.{ToolFault}
-use Rattle.arrowflow.specs.declared.tool_fault.ToolFault.TheVariants.{Input, Stream, Memory}
+use Rattle.arrowflow.specs.declared.tool_fault.ToolFault.TheVariants.{Input, Output, Stream, Memory}
 
 -- a kind by its name
 abbrev pub kind_name : Kind → List ℕ
@@ -29,15 +29,17 @@ kind_name kinds.NoSchema = codes "NoSchema"
 kind_name kinds.Truncated = codes "Truncated"
 kind_name kinds.Memory = codes "Memory"
 
--- a fault's line, by the name of the input that was read
-abbrev pub fault_line : ToolFault → List ℕ → List ℕ
-fault_line (Input number) read = codes "cannot read " ++ read
-fault_line (Stream fault) read = codes "fault at byte " ++ decimal fault.place ++ codes ": " ++ kind_name fault.kind
-fault_line Memory read = codes "out of memory"
+-- a fault's line, by the names of the input that failed and of the output
+abbrev pub fault_line : ToolFault → List ℕ → List ℕ → List ℕ
+fault_line (Input number) read written = codes "cannot read " ++ read
+fault_line Output read written = codes "cannot write " ++ written
+fault_line (Stream fault) read written = codes "fault at byte " ++ decimal fault.place ++ codes ": " ++ kind_name fault.kind
+fault_line Memory read written = codes "out of memory"
 
--- 1 where a stream was refused, 2 where the input or the memory failed
+-- 1 where a stream was refused, 2 where an input, the output or memory failed
 abbrev pub status_of : ToolFault → ℕ
 status_of (Input number) = 2
+status_of Output = 2
 status_of (Stream fault) = 1
 status_of Memory = 2
 

@@ -5,5 +5,6 @@ pub mod SchemaCall
 pub mod SchemaText
 pub mod Session
 pub mod Pieces
+pub mod Reports
 pub mod TypeNames
 pub mod Shown

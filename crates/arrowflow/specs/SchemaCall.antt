@@ -14,7 +14,7 @@ use Rattle.arrow_stream.specs.Kind.{kind_of}
 use Rattle.arrow_stream.specs.State.{nothing_yet, schema_given}
 use Rattle.arrowflow.specs.SchemaText.{schema_lines}
 use Rattle.arrowflow.specs.declared.tool_fault.ToolFault.{ToolFault}
-use Rattle.arrowflow.specs.declared.tool_fault.ToolFault.TheVariants.{Input, Stream, Memory}
+use Rattle.arrowflow.specs.declared.tool_fault.ToolFault.TheVariants.{Input, Output, Stream, Memory}
 
 -- the bytes begin with a whole schema message, which gives these fields
 pub record BeginWithSchema (limits : LimitNumbers) (bytes : List ℕ) (fields : Fields) : Type 0 where
@@ -48,6 +48,7 @@ abbrev pub Answers : LimitNumbers → List ℕ → Option (List ℕ) → Result 
 Answers limits bytes left (Ok text) = IsTextOf limits bytes (string_bytes text)
 Answers limits bytes left (Err (Stream fault)) = AreRefused limits bytes fault ⊎ EndEarly limits bytes left fault
 Answers limits bytes left (Err (Input number)) = (number ≡ 0) × First limits nothing_yet 0 bytes waits
+Answers limits bytes left (Err Output) = ⊥
 Answers limits bytes left (Err Memory) = ⊤
 
 -- what is answered of an input that had these bytes before the call and has these behind it
@@ -59,6 +60,7 @@ abbrev pub Finds : LimitNumbers → List ℕ → Option (List ℕ) → Option Fi
 Finds limits bytes left schema (Ok done) = (fields : Fields) × BeginWithSchema limits bytes fields × (schema ≡ Some fields)
 Finds limits bytes left schema (Err (Stream fault)) = AreRefused limits bytes fault ⊎ EndEarly limits bytes left fault
 Finds limits bytes left schema (Err (Input number)) = (number ≡ 0) × First limits nothing_yet 0 bytes waits
+Finds limits bytes left schema (Err Output) = ⊥
 Finds limits bytes left schema (Err Memory) = ⊤
 
 abbrev pub FindsIn : LimitNumbers → Option (List ℕ) → Option (List ℕ) → Option Fields → Result (Unit {0}) ToolFault → Type 0

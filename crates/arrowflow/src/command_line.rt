@@ -11,7 +11,7 @@ use std::alloc::{AllocError, AllocFailed, Global};
 const ABOUT: &str = "Reads and checks Apache Arrow IPC streams";
 
 /// What it says behind them.
-const EXAMPLE: &str = "Example:\n  arrowflow schema examples/every_type.arrows";
+const EXAMPLE: &str = "Example:\n  arrowflow show examples/growing_dictionary.arrows";
 
 /// What the help of `schema` says before its argument.
 const SCHEMA_ABOUT: &str =
@@ -20,6 +20,20 @@ const SCHEMA_ABOUT: &str =
 /// What it says behind it.
 const SCHEMA_EXAMPLE: &str =
     "Only the stream's first message is read. The exit status is 0, 1 where the stream is refused, and 2 where\nthe file cannot be read or memory is wanting.\n\nExample:\n  arrowflow schema /dev/stdin < examples/one_column.arrows";
+
+/// What the help of `check` says before its argument.
+const CHECK_ABOUT: &str = "Reads a whole stream and prints one line for each of its messages";
+
+/// What it says behind it.
+const CHECK_EXAMPLE: &str =
+    "A line has the message's place in bytes, what it is, and its columns, values or rows. The exit status is 0, 1\nwhere the stream is refused or ends too early, and 2 where the file cannot be read, the output cannot be\nwritten or memory is wanting.\n\nExample:\n  arrowflow check examples/growing_dictionary.arrows";
+
+/// What the help of `show` says before its argument.
+const SHOW_ABOUT: &str = "Prints the rows of a stream as comma-separated values";
+
+/// What it says behind it.
+const SHOW_EXAMPLE: &str =
+    "The first record has the names of the columns, and each row begins with the number of its batch, counted from\n0. The exit status is 0, 1 where the stream is refused or ends too early, and 2 where the file cannot be\nread, the output cannot be written or memory is wanting.\n\nExample:\n  arrowflow show examples/growing_dictionary.arrows";
 
 /// Why a command line has no plan.
 #[derive(Debug, Drop)]
@@ -54,20 +68,25 @@ impl<T: Drop> From<AllocFailed<T>> for ArgFault {
     }
 }
 
-/// The command `schema FILE`.
-fn schema_command<'a>(alloc: Global) -> Result<Command<'a>, AllocError>
+/// A command of one file, with what its help says before and behind the argument.
+fn file_command<'a>(
+    alloc: Global,
+    name: &'a str,
+    about: &'a str,
+    example: &'a str,
+) -> Result<Command<'a>, AllocError>
     ensures { IfOk result HasNoGlobals }
 {
     let file = Arg::new(alloc, "FILE").required(true).help(
         "A file with an Arrow IPC stream; /dev/stdin is standard input",
     );
-    Command::new(alloc, "schema")
-        .about(SCHEMA_ABOUT)
-        .after_help(SCHEMA_EXAMPLE)
+    Command::new(alloc, name)
+        .about(about)
+        .after_help(example)
         .arg(file)
 }
 
-/// The whole command line. Each command is a function of its own, added here.
+/// The whole command line.
 fn command<'a>(alloc: Global) -> Result<Command<'a>, AllocError>
     ensures globals { IfOk result HasNoGlobals }
     ensures needs { IfOk result NeedsSubcommand }
@@ -76,7 +95,9 @@ fn command<'a>(alloc: Global) -> Result<Command<'a>, AllocError>
         .bin_name("arrowflow")?
         .about(ABOUT)
         .after_help(EXAMPLE)
-        .subcommand(schema_command(alloc)?)?;
+        .subcommand(file_command(alloc, "schema", SCHEMA_ABOUT, SCHEMA_EXAMPLE)?)?
+        .subcommand(file_command(alloc, "check", CHECK_ABOUT, CHECK_EXAMPLE)?)?
+        .subcommand(file_command(alloc, "show", SHOW_ABOUT, SHOW_EXAMPLE)?)?;
     Ok(whole.subcommand_required(true))
 }
 
@@ -91,8 +112,13 @@ fn name_of(alloc: Global, matches: &ArgMatches<'_>, argument: &str) -> Result<St
 /// growth was refused.
 pub fn plan(alloc: Global, words: &[&str]) -> Result<Plan, ArgFault> {
     let matches = command(alloc)?.try_get_matches_from(words)?;
-    let Some((_, given)) = matches.subcommand() else {
+    let Some((command, given)) = matches.subcommand() else {
         unreachable!();
     };
-    Ok(Plan::Schema(name_of(alloc, given, "FILE")?))
+    let file = name_of(alloc, given, "FILE")?;
+    Ok(match command {
+        "check" => Plan::Check(file),
+        "show" => Plan::Show(file),
+        _ => Plan::Schema(file),
+    })
 }

@@ -8,24 +8,30 @@
 //! What is received of bytes is said by `Receives` (`specs/Session.antt`). The text of a schema is a definition,
 //! `schema_lines` (`specs/SchemaText.antt`), and [`schema_lines_of`] gives it for every schema. Which bytes of an input
 //! decide what [`schema_text`] answers is said by `AnswersInput` (`specs/SchemaCall.antt`), in the words of the layer that
-//! reads streams; what is said of a fault by `specs/Faults.antt`. What each message adds to the text of a stream's rows is
-//! said by `specs/Shown.antt`, and that the text grows so by [`laws`].
+//! reads streams; what is said of a fault by `specs/Faults.antt`. [`show`] writes the rows of a stream and [`check`] a line for each of its messages, as they come: what
+//! is written, and how that ends, is said by `ReportsInput` (`specs/Reports.antt`). What each message adds to the text of a
+//! stream's rows is said by `specs/Shown.antt`, and that the text grows so by [`laws`].
 #![tactic(auto)]
 
 mod command_line;
 mod escapes;
 pub mod laws;
+mod lines;
+mod pieces;
 mod plans;
+mod report;
+mod reports;
 mod schema_call;
 mod schema_lines;
+mod sending;
 pub mod session;
-#[cfg(test)]
-mod tests;
+mod telling;
 mod tool_fault;
 mod type_names;
 
 pub use command_line::{ArgFault, plan};
 pub use plans::Plan;
+pub use reports::{check, show};
 pub use schema_call::schema_text;
 pub use schema_lines::schema_lines_of;
 pub use tool_fault::ToolFault;

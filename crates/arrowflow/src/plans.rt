@@ -5,4 +5,8 @@
 pub enum Plan {
     /// Print the schema of the stream in the file of this name.
     Schema(String),
+    /// Print a line for each message of the stream in the file of this name.
+    Check(String),
+    /// Print the rows of the stream in the file of this name.
+    Show(String),
 }

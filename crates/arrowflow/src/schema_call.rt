@@ -1,19 +1,17 @@
 //! The text of the schema of an input.
 
-ghost use Rattle.std.specs.Prelude.{◌≡◌, ◌<◌, [], length, vec_len, IfOk};
+ghost use Rattle.std.specs.Prelude.{◌≡◌, ◌<◌, [], length, IfOk};
 ghost use Rattle.arrow_stream.specs.declared.reader.Verdict.TheVariants.{Open};
 ghost use Rattle.arrow_stream.specs.Stream.{Stands};
 ghost use Rattle.arrowflow.specs.SchemaCall.{AnswersInput, FindsIn};
 
+use crate::pieces::room_for_a_piece;
 use crate::schema_lines::schema_lines_of;
 use crate::tool_fault::ToolFault;
 use arrow_stream::StreamReader;
 use arrow_types::Limits;
-use std::alloc::{AllocError, Global};
+use std::alloc::Global;
 use std::io::Read;
-
-/// How many bytes one read asks for.
-const PIECE: usize = 65_536;
 
 /// The text of the schema of a stream: a line a field in pre-order, each with its line feed, two spaces of
 /// indentation for each level below the first. A schema without columns has the empty text.
@@ -32,7 +30,7 @@ pub fn schema_text<R: Read>(
     ensures { AnswersInput limits.now (R.remaining input.old) (R.remaining input.new) result }
 {
     let mut reader = StreamReader::new(alloc, *limits);
-    let Ok(mut room) = zeroes(alloc, PIECE) else {
+    let Ok(mut room) = room_for_a_piece(alloc) else {
         return Err(ToolFault::Memory);
     };
     if let Err(fault) = read_first(&mut reader, input, &mut room) {
@@ -45,13 +43,6 @@ pub fn schema_text<R: Read>(
         Ok(text) => Ok(text),
         Err(_) => Err(ToolFault::Memory),
     }
-}
-
-/// Room for a piece, in zero bytes.
-fn zeroes(alloc: Global, len: usize) -> Result<Vec<u8>, AllocError>
-    ensures { IfOk result (λ v. vec_len v ≡ len) }
-{
-    Vec::from_elem(alloc, 0u8, len)
 }
 
 /// Reads the input piece by piece until the reader has the first message.

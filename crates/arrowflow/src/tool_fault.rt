@@ -14,6 +14,9 @@ pub enum ToolFault {
     /// The input of this number, counted from 0, could not be read. An interrupted read counts as failed.
     #[error("cannot read input {0}")]
     Input(u64),
+    /// The output failed.
+    #[error("cannot write the output")]
+    Output,
     /// A stream was refused, or ended too early.
     #[error("fault at byte {}: {:?}", .0.place, .0.kind)]
     Stream(Fault),
@@ -36,19 +39,22 @@ impl From<Fault> for ToolFault {
 
 impl ToolFault {
     /// The line that the program prints of the fault to standard error, without its line feed, or `AllocError` where
-    /// a growth was refused. `read` is the name of the input that failed, and the second name that of the output,
-    /// which stands in no line as long as no command writes to one.
+    /// a growth was refused. `read` is the name of the input that failed, and `written` that of the output.
     ///
-    /// `cannot read NAME`, `fault at byte P: KIND` with the place of the message in bytes from the stream's beginning
-    /// and the kind by its name, or `out of memory`.
-    pub fn line(&self, alloc: Global, read: &str, _written: &str) -> Result<String, AllocError>
-        ensures { IfOk result (λ line. string_bytes line ≡ fault_line self.now read.now) }
+    /// `cannot read NAME`, `cannot write NAME`, `fault at byte P: KIND` with the place of the message in bytes from the
+    /// stream's beginning and the kind by its name, or `out of memory`.
+    pub fn line(&self, alloc: Global, read: &str, written: &str) -> Result<String, AllocError>
+        ensures { IfOk result (λ line. string_bytes line ≡ fault_line self.now read.now written.now) }
     {
         let mut line = String::new(alloc);
         match self {
             ToolFault::Input(_) => {
                 line.push_str("cannot read ")?;
                 line.push_str(read)?;
+            }
+            ToolFault::Output => {
+                line.push_str("cannot write ")?;
+                line.push_str(written)?;
             }
             ToolFault::Stream(fault) => {
                 line.push_str("fault at byte ")?;
@@ -61,13 +67,13 @@ impl ToolFault {
         Ok(line)
     }
 
-    /// The program's exit status: 1 where a stream was refused, 2 where an input or memory failed.
+    /// The program's exit status: 1 where a stream was refused, 2 where an input, the output or memory failed.
     pub fn status(&self) -> u8
         ensures { result ≡ status_of self.now }
     {
         match self {
             ToolFault::Stream(_) => 1,
-            ToolFault::Input(_) | ToolFault::Memory => 2,
+            ToolFault::Input(_) | ToolFault::Output | ToolFault::Memory => 2,
         }
     }
 }

@@ -2,8 +2,12 @@
 //! gives, and ends with the call's exit status.
 #![tactic(auto)]
 
+mod pipe;
+
+use crate::pipe::Pipe;
+use arrow_sink::Counted;
 use arrow_types::Limits;
-use arrowflow::{ArgFault, Plan, ToolFault, plan, schema_text};
+use arrowflow::{ArgFault, Plan, ToolFault, check, plan, schema_text, show};
 use std::alloc::Global;
 use std::fs::File;
 use std::io::{ErrorKind, Write};
@@ -47,6 +51,8 @@ where
     };
     match plan(alloc, &words) {
         Ok(Plan::Schema(name)) => print_schema(rt, alloc, &name),
+        Ok(Plan::Check(name)) => print_messages(rt, alloc, &name),
+        Ok(Plan::Show(name)) => print_rows(rt, alloc, &name),
         Err(ArgFault::Line(error)) => print_help(rt, &error),
         Err(ArgFault::Memory) => out_of_memory(rt),
     }
@@ -67,18 +73,60 @@ where
     R::File: Drop,
 {
     let Ok(mut file) = File::open(rt, name) else {
-        let _ = eprintln!(rt; "cannot read {name}");
-        return FAILED;
+        return tell(rt, alloc, &ToolFault::Input(0), name);
     };
     match schema_text(alloc, &mut file, &Limits::standard()) {
-        Ok(text) => match io::writer(rt).write_all(text.as_bytes()) {
-            Ok(()) => FINE,
-            Err(_) => {
-                let _ = eprintln!(rt; "cannot write standard output");
-                FAILED
-            }
-        },
+        Ok(text) => {
+            let mut output = Pipe::new(io::writer(rt));
+            let answer = match output.write_all(text.as_bytes()) {
+                Ok(()) => Ok(()),
+                Err(_) => Err(ToolFault::Output),
+            };
+            status_of(rt, alloc, answer, name, &output)
+        }
         Err(fault) => tell(rt, alloc, &fault, name),
+    }
+}
+
+/// Prints a line for each message of the stream in the file of this name.
+fn print_messages<R: Files + Print + Eprint>(rt: &R, alloc: Global, name: &str) -> u8
+where
+    R::File: Drop,
+{
+    let Ok(mut file) = File::open(rt, name) else {
+        return tell(rt, alloc, &ToolFault::Input(0), name);
+    };
+    let output = Counted::new(Pipe::new(io::writer(rt)));
+    let (output, answer) = check(alloc, &mut file, output, &Limits::standard());
+    status_of(rt, alloc, answer, name, &output.into_inner())
+}
+
+/// Prints the rows of the stream in the file of this name.
+fn print_rows<R: Files + Print + Eprint>(rt: &R, alloc: Global, name: &str) -> u8
+where
+    R::File: Drop,
+{
+    let Ok(mut file) = File::open(rt, name) else {
+        return tell(rt, alloc, &ToolFault::Input(0), name);
+    };
+    let output = Counted::new(Pipe::new(io::writer(rt)));
+    let (output, answer) = show(alloc, &mut file, output, &Limits::standard());
+    status_of(rt, alloc, answer, name, &output.into_inner())
+}
+
+/// Tells how a call ended that read the input of this name and wrote standard output, and gives its status.
+fn status_of<R: Eprint, W: Write>(
+    rt: &R,
+    alloc: Global,
+    answer: Result<(), ToolFault>,
+    read: &str,
+    output: &Pipe<W>,
+) -> u8 {
+    match answer {
+        Ok(()) => FINE,
+        // whoever closes a pipe knows that, and wants to hear nothing of it
+        Err(fault) if output.is_closed() => fault.status(),
+        Err(fault) => tell(rt, alloc, &fault, read),
     }
 }
 

@@ -1,6 +1,6 @@
 //! Good and bad command lines, with the exit statuses of their faults.
 
-use crate::{ArgFault, Plan, plan};
+use arrowflow::{ArgFault, Plan, plan};
 use std::test::Fail;
 
 #[test]

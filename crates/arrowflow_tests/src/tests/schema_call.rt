@@ -1,11 +1,10 @@
 //! What the command `schema` answers of whole, changed, cut and failing inputs; expected texts are written out.
 
-use crate::{ToolFault, schema_text};
+use super::inputs::Trickle;
 use arrow_stream::{Fault, Kind};
 use arrow_types::Limits;
+use arrowflow::{ToolFault, schema_text};
 use std::alloc::Global;
-use std::io;
-use std::io::Read;
 use std::test::Fail;
 
 /// The schema message of one nullable signed 32-bit column `n`.
@@ -24,31 +23,6 @@ const ONE_COLUMN: [u8; 152] = [
 
 /// An end marker.
 const END: [u8; 8] = [0xff, 0xff, 0xff, 0xff, 0, 0, 0, 0];
-
-/// Gives its bytes one by one, and fails once at a place.
-#[derive(Drop)]
-struct Trickle<'a> {
-    bytes: &'a [u8],
-    at: usize,
-    cut: Option<usize>,
-}
-
-impl<'a> Read for Trickle<'a> {
-    fn read(&mut self, buf: &mut [u8]) -> io::Result<usize> {
-        if self.cut == Some(self.at) {
-            self.cut = None;
-            return Err(io::Error::from(io::ErrorKind::Interrupted));
-        }
-        match (self.bytes.get(self.at), buf.first_mut()) {
-            (Some(byte), Some(place)) => {
-                *place = *byte;
-                self.at = self.at.saturating_add(1);
-                Ok(1)
-            }
-            _ => Ok(0),
-        }
-    }
-}
 
 /// The text that is printed, or the fault's line and exit status.
 fn told(alloc: Global, answer: Result<String, ToolFault>) -> Result<String, Fail> {

@@ -1,10 +1,10 @@
 //! What is received of whole, cut off, ended and changed streams, in whatever pieces they come.
 
 use super::growing::GROWING;
-use crate::session::{Ending, Received, receive};
 use arrow_array::{Array, Batch};
 use arrow_stream::StreamReader;
 use arrow_types::Limits;
+use arrowflow::session::{Ending, Received, receive};
 use std::alloc::{AllocError, Global};
 use std::test::Fail;
 

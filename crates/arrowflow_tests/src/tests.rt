@@ -2,6 +2,10 @@
 
 mod command_line;
 mod growing;
+mod inputs;
+mod reports;
 mod schema_call;
 mod schema_lines;
 mod session;
+mod sinks;
+mod streams;

@@ -1,0 +1,146 @@
+-- How a stream ends that was told piece by piece.
+use Rattle.std.proofs.Common.{◌≡◌, ℕ, ◌+◌, List, [], ◌++◌, Option, None, Some, Result, Ok, Err, ◌⊎◌, inl, inr, refl, sym, ap, ◌∙◌, subst, append_assoc, append-nil, is_some, true}
+use Rattle.std.specs.Io.KnownBytes.{Appends, IsAtEnd, Keeps}
+use Rattle.std.proofs.KnownBytes.{Appends-kept, Appends-nil, Appends-trans}
+use Rattle.arrow_types.specs.Field.{Fields}
+use Rattle.arrow_types.specs.Limits.{LimitNumbers}
+use Rattle.arrow_array.specs.Batch.{Table}
+use Rattle.arrow_sink.specs.Sinks.{AcceptsBeginning}
+use Rattle.arrow_stream.specs.declared.fault.Fault.{Fault}
+use Rattle.arrow_stream.specs.declared.reader.Verdict.TheVariants.{Done}
+use Rattle.arrow_stream.specs.Front.{Entry, Standing, FrontOf}
+use Rattle.arrow_stream.specs.Stream.{Shows, Stands, ended_by, ended_so}
+use Rattle.arrowflow.specs.Reports.{IsTextOf, IsEnding, EndTold, Sends, SendsSome, IsTold, IsCutOff, PieceTold, IsWritten, IsBegun, EndsWell, Reports}
+use Rattle.arrowflow.specs.Session.{tables_of}
+use Rattle.arrowflow.specs.declared.report.Report.{Report}
+use Rattle.arrowflow.specs.declared.report.Report.TheVariants.{Messages, Rows}
+use Rattle.arrowflow.specs.declared.tool_fault.ToolFault.{ToolFault}
+use Rattle.arrowflow.specs.declared.tool_fault.ToolFault.TheVariants.{Input, Output, Stream, Memory}
+use Rattle.arrowflow.proofs.Feeding.{ended_same}
+use Rattle.arrowflow.proofs.First.{state_stays}
+use Rattle.arrowflow.proofs.Sent.{begun_all, begun_behind}
+
+abbrev pub standing_of : Shows → List ℕ → Standing
+standing_of r rest = record { state = r.at.state; place = r.at.place; rest = rest; verdict = r.at.verdict }
+
+-- at its beginning a stream has no text
+pub told_nothing : (report : Report) (held : Option (List ℕ)) (r : Shows) → Stands r [] [] → IsTold report held held 0 r [] []
+told_nothing report held r at = record { text = []; stands = at; is = by report; wrote = Appends-nil held; counted = refl }
+  where
+    by : (p : Report) → IsTextOf p r.at.state.schema [] []
+    by Messages = tt
+    by Rows = subst (λ s. IsTextOf Rows s.schema [] []) (sym (state_stays at.front refl)) refl
+
+module _ (report : Report) (limits : LimitNumbers) (bytes : List ℕ) (left first : Option (List ℕ)) (start : ℕ) where
+  -- what is left of a text that was told
+  abbrev pub written : (held : Option (List ℕ)) (number : ℕ) (r : Shows) (es : List Entry) (same : r.limits ≡ limits) (x : IsTold report first held number r bytes es)
+      → IsWritten report limits bytes (standing_of r x.stands.rest) first held
+  written held number r es same x = record {
+    entries = es;
+    front = subst (λ l. FrontOf l bytes es (standing_of r x.stands.rest)) same x.stands.front;
+    text = x.text;
+    is = x.is;
+    wrote = x.wrote;
+  }
+
+  -- the input failed
+  pub input_failed : (held : Option (List ℕ)) (number failed : ℕ) (r : Shows) (es : List Entry) → r.limits ≡ limits → failed ≡ start → IsTold report first held number r bytes es
+      → Reports report limits bytes left first start (Err (Input 0)) held failed
+  input_failed held number failed r es same count x = (refl, (standing_of r x.stands.rest, written held number r es same x), count)
+
+  -- what was written goes on by a text, or by a beginning of one
+  more_written : (e : Standing) (held held' : Option (List ℕ)) (text : List ℕ) (w : IsWritten report limits bytes e first held) → IsTextOf report e.state.schema (tables_of w.entries) (w.text ++ text) → Appends held held' text → IsWritten report limits bytes e first held'
+  more_written e held held' text w is h = record { entries = w.entries; front = w.front; text = w.text ++ text; is = is; wrote = Appends-trans first held held' w.text text w.wrote h }
+
+  more_begun : (e : Standing) (held held' : Option (List ℕ)) (text : List ℕ) (w : IsWritten report limits bytes e first held) → IsTextOf report e.state.schema (tables_of w.entries) (w.text ++ text) → AcceptsBeginning held held' text → IsBegun report limits bytes first held'
+  more_begun e held held' text w is h = record {
+    taken = bytes;
+    rest = [];
+    whole = append-nil bytes;
+    standing = e;
+    entries = w.entries;
+    front = w.front;
+    text = w.text ++ text;
+    is = is;
+    wrote = begun_behind first held held' w.text text w.wrote h;
+  }
+
+  -- the last flush
+  pub flushed : (e : Standing) (held held' : Option (List ℕ)) (failed failed' : ℕ) (answer : Result (Unit {0}) ToolFault) → IsWritten report limits bytes e first held → EndsWell left e → failed ≡ start
+      → Sends held failed [] answer held' failed' → Reports report limits bytes left first start answer held' failed'
+  flushed e held held' failed failed' answer w well count sent = by answer sent
+    where
+      is : IsTextOf report e.state.schema (tables_of w.entries) (w.text ++ [])
+      is = subst (IsTextOf report e.state.schema (tables_of w.entries)) (sym (append-nil w.text)) w.is
+
+      by : (answer : Result (Unit {0}) ToolFault) → Sends held failed [] answer held' failed' → Reports report limits bytes left first start answer held' failed'
+      by (Ok done) sent = (e, more_written e held held' [] w is sent.0, well, sent.1 ∙ count)
+      by (Err Output) sent = (more_begun e held held' [] w is sent.0, sent.1 ∙ ap (λ n. n + 1) count)
+      by (Err Memory) sent = (more_begun e held held' [] w is sent.0, sent.1 ∙ count)
+      by (Err (Input n)) sent = absurd sent
+      by (Err (Stream f)) sent = absurd sent
+
+  -- nothing comes behind the rows where the input ends
+  with_ending : (p : Report) (schema : Option Fields) (tables : List Table) (text ending : List ℕ) → IsTextOf p schema tables text → IsEnding p ending → IsTextOf p schema tables (text ++ ending)
+  with_ending Messages schema tables text ending is end = tt
+  with_ending Rows schema tables text ending is end = ap (λ y. text ++ y) end ∙ append-nil text ∙ is
+
+  module _ (held : Option (List ℕ)) (number failed : ℕ) (r : Shows) (es : List Entry) (same : r.limits ≡ limits) (count : failed ≡ start) (over : IsAtEnd left) (x : IsTold report first held number r bytes es) where
+    abbrev w : IsWritten report limits bytes (standing_of r x.stands.rest) first held
+    w = written held number r es same x
+
+    ends_so : ended_so (standing_of r x.stands.rest) ≡ ended_so r.at
+    ends_so = sym (ended_same r.at.verdict (is_some r.at.state.schema) x.stands.rest r.at.rest r.at.place x.stands.held)
+
+    is_ended : (ending : List ℕ) → IsEnding report ending → IsTextOf report r.at.state.schema (tables_of es) (x.text ++ ending)
+    is_ended ending e = with_ending report r.at.state.schema (tables_of es) x.text ending x.is e
+
+    -- the input ended at the end of a message
+    pub end_flushed : (held' held'' : Option (List ℕ)) (failed' failed'' : ℕ) (answer : Result (Unit {0}) ToolFault) → EndTold report r.at held failed (Ok tt) held' failed' → Sends held' failed' [] answer held'' failed''
+        → Reports report limits bytes left first start answer held'' failed''
+    end_flushed held' held'' failed' failed'' answer end sent =
+        let e = standing_of r x.stands.rest in
+        let ending = end.1.0 in
+        flushed e held' held'' failed' failed'' answer (more_written e held held' ending w (is_ended ending end.1.1) end.1.2.0) (ends_so ∙ end.0, inr over) (end.1.2.1 ∙ count) sent
+
+    -- it ended where no stream ends, or its end was not told
+    pub end_reported : (f : ToolFault) (held' : Option (List ℕ)) (failed' : ℕ) → EndTold report r.at held failed (Err f) held' failed' → Reports report limits bytes left first start (Err f) held' failed'
+    end_reported (Input n) held' failed' end = absurd end
+    end_reported (Stream f) held' failed' end =
+        let e = standing_of r x.stands.rest in
+        (e, record { entries = es; front = w.front; text = x.text; is = x.is; wrote = Appends-kept first held held' x.text x.wrote end.1 }, inr (ends_so ∙ end.0, over), end.2 ∙ count)
+    end_reported Output held' failed' end = (more_begun (standing_of r x.stands.rest) held held' end.0 w (is_ended end.0 end.1) end.2.0, end.2.1 ∙ ap (λ n. n + 1) count)
+    end_reported Memory held' failed' end = (more_begun (standing_of r x.stands.rest) held held' end.0 w (is_ended end.0 end.1) end.2.0, end.2.1 ∙ count)
+
+-- what ends inside of a piece
+module _ (report : Report) (limits : LimitNumbers) (bytes piece : List ℕ) (left first held : Option (List ℕ)) (start failed failed' number : ℕ) (r : Shows) (same : r.limits ≡ limits) (count : failed ≡ start) where
+  cut_begun : IsCutOff report first held r bytes piece → IsBegun report limits (bytes ++ piece) first held
+  cut_begun c = record {
+    taken = bytes ++ c.taken;
+    rest = c.rest;
+    whole = append_assoc bytes c.taken c.rest ∙ ap (λ y. bytes ++ y) c.whole;
+    standing = standing_of r c.stands.rest;
+    entries = c.entries;
+    front = subst (λ l. FrontOf l (bytes ++ c.taken) c.entries (standing_of r c.stands.rest)) same c.stands.front;
+    text = c.text;
+    is = c.is;
+    wrote = c.wrote;
+  }
+
+  pub piece_reported : (f : ToolFault) → PieceTold report first failed bytes piece (Err f) held failed' number r → Reports report limits (bytes ++ piece) left first start (Err f) held failed'
+  piece_reported (Input n) told = absurd told
+  piece_reported Output told = (cut_begun told.0, told.1 ∙ ap (λ n. n + 1) count)
+  piece_reported Memory told = (cut_begun told.0, told.1 ∙ count)
+  piece_reported (Stream f) told =
+      let x = told.0.1 in
+      (standing_of r x.stands.rest, written report limits (bytes ++ piece) left first start held number r told.0.0 same x, inl told.2, told.1 ∙ count)
+
+  -- the end marker came, and the output was flushed
+  pub marker_flushed : (held' : Option (List ℕ)) (failed'' : ℕ) (answer : Result (Unit {0}) ToolFault) → PieceTold report first failed bytes piece (Ok true) held failed' number r → Sends held failed' [] answer held' failed''
+      → Reports report limits (bytes ++ piece) left first start answer held' failed''
+  marker_flushed held' failed'' answer told sent =
+      let x = told.0.1 in
+      let done = told.2 refl in
+      let e = standing_of r x.stands.rest in
+      flushed report limits (bytes ++ piece) left first start e held held' failed' failed'' answer (written report limits (bytes ++ piece) left first start held number r told.0.0 same x)
+      (ap (λ v. ended_by v (is_some r.at.state.schema) x.stands.rest r.at.place) done, inl done) (told.1 ∙ count) sent

@@ -1,0 +1,22 @@
+//! The pieces in which an input is read.
+
+ghost use Rattle.std.specs.Prelude.{◌≡◌, ◌<◌, IfOk, vec_len};
+
+use std::alloc::{AllocError, Global};
+
+/// How many bytes one read asks for.
+const PIECE: usize = 65_536;
+
+/// Room for a piece, in zero bytes.
+pub(crate) fn room_for_a_piece(alloc: Global) -> Result<Vec<u8>, AllocError>
+    ensures { IfOk result (λ v. 0 < vec_len v) }
+{
+    zeroes(alloc, PIECE)
+}
+
+/// So many zero bytes.
+fn zeroes(alloc: Global, len: usize) -> Result<Vec<u8>, AllocError>
+    ensures { IfOk result (λ v. vec_len v ≡ len) }
+{
+    Vec::from_elem(alloc, 0u8, len)
+}

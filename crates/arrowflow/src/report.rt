@@ -1,0 +1,10 @@
+//! What is told of a stream.
+
+/// What is told of a stream, as it comes.
+#[derive(Clone, Copy, Debug, PartialEq, Eq)]
+pub(crate) enum Report {
+    /// A line for each message.
+    Messages,
+    /// Its rows, as records of comma-separated values.
+    Rows,
+}

@@ -1,0 +1,143 @@
+//! A stream told message by message.
+
+ghost use Rattle.std.specs.Prelude.{◌≡◌, ◌<◌, ◌+◌, ◌-◌, ◌^◌, OnOk, length, ⊤};
+ghost use Rattle.arrow_stream.specs.Views.{given};
+ghost use Rattle.arrowflow.specs.Reports.{EndTold, IsAdded, Sends, SendsSome, TellsPiece};
+ghost use Rattle.arrowflow.specs.Session.{table_in};
+ghost use Rattle.arrowflow.specs.Shown.{text_in};
+
+use crate::lines::{end_line, message_line};
+use crate::report::Report;
+use crate::sending::{flush, send_rows, send_text};
+use crate::tool_fault::ToolFault;
+use arrow_csv::header;
+use arrow_sink::Sink;
+use arrow_stream::{Item, StreamReader};
+use std::alloc::Global;
+
+/// Gives the reader a piece, and sends the text of its messages. The answer tells whether an end marker came: what stands
+/// behind it in the piece is not looked at.
+pub(crate) fn tell_piece<S: Sink>(
+    alloc: Global,
+    report: Report,
+    reader: &mut StreamReader,
+    number: &mut u64,
+    output: &mut S,
+    piece: &[u8],
+) -> Result<bool, ToolFault>
+    requires { S.failed output.old < 2 ^ 64 - 1 }
+    ensures told { TellsPiece report reader.old (S.contents output.old) (S.failed output.old) number.old piece.now
+        result reader.new (S.contents output.new) (S.failed output.new) number.new }
+    ensures limits { reader.new.limits ≡ reader.old.limits }
+{
+    let mut rest = piece;
+    loop {
+        let place = reader.place();
+        match reader.read(rest) {
+            Ok((taken, Some(item))) => {
+                match tell_item(alloc, report, reader, place, number, &item, output) {
+                    Ok(()) => rest = &rest[taken..],
+                    Err(fault) => return Err(fault),
+                }
+                if let Item::End = item {
+                    return Ok(true);
+                }
+            }
+            Ok((_, None)) => return Ok(false),
+            Err(fault) => return Err(ToolFault::from(fault)),
+        }
+    }
+}
+
+/// Sends the text of a message that the reader has just read, and counts the batches.
+fn tell_item<S: Sink>(
+    alloc: Global,
+    report: Report,
+    reader: &StreamReader,
+    place: u64,
+    number: &mut u64,
+    item: &Item,
+    output: &mut S,
+) -> Result<(), ToolFault>
+    requires { S.failed output.old < 2 ^ 64 - 1 }
+    ensures sent { SendsSome (IsAdded report reader.now.at.state.schema number.old (given item.now))
+        (S.contents output.old) (S.failed output.old) result (S.contents output.new) (S.failed output.new) }
+    ensures counted { OnOk result (number.new ≡ number.old + length (table_in (given item.now))) }
+{
+    let before = *number;
+    if let Item::Batch(_) = item {
+        let Some(next) = before.checked_add(1) else {
+            return Err(ToolFault::Memory);
+        };
+        *number = next;
+    }
+    match report {
+        Report::Messages => tell_message(alloc, reader, place, before, item, output),
+        Report::Rows => tell_rows(alloc, reader, before, item, output),
+    }
+}
+
+/// Sends the line of a message.
+fn tell_message<S: Sink>(
+    alloc: Global,
+    reader: &StreamReader,
+    place: u64,
+    number: u64,
+    item: &Item,
+    output: &mut S,
+) -> Result<(), ToolFault>
+    requires { S.failed output.old < 2 ^ 64 - 1 }
+    ensures { SendsSome (λ _. ⊤) (S.contents output.old) (S.failed output.old) result (S.contents output.new)
+        (S.failed output.new) }
+{
+    match message_line(alloc, reader, place, number, item) {
+        Ok(line) => send_text(output, line.as_bytes()),
+        Err(_) => Err(ToolFault::Memory),
+    }
+}
+
+/// Sends what a message adds to the text of the rows.
+fn tell_rows<S: Sink>(
+    alloc: Global,
+    reader: &StreamReader,
+    number: u64,
+    item: &Item,
+    output: &mut S,
+) -> Result<(), ToolFault>
+    requires { S.failed output.old < 2 ^ 64 - 1 }
+    ensures { Sends (S.contents output.old) (S.failed output.old)
+        (text_in reader.now.at.state.schema number (given item.now)) result (S.contents output.new)
+        (S.failed output.new) }
+{
+    match (item, reader.schema()) {
+        (Item::Schema, Some(schema)) => match header(alloc, schema) {
+            Ok(text) => send_text(output, &text),
+            Err(_) => Err(ToolFault::Memory),
+        },
+        (Item::Batch(batch), _) => send_rows(alloc, number, batch, output),
+        _ => Ok(()),
+    }
+}
+
+/// Tells the end of the input.
+pub(crate) fn tell_end<S: Sink>(
+    alloc: Global,
+    report: Report,
+    reader: &StreamReader,
+    output: &mut S,
+) -> Result<(), ToolFault>
+    requires { S.failed output.old < 2 ^ 64 - 1 }
+    ensures { EndTold report reader.now.at (S.contents output.old) (S.failed output.old) result
+        (S.contents output.new) (S.failed output.new) }
+{
+    if let Err(fault) = reader.end() {
+        return Err(ToolFault::from(fault));
+    }
+    match report {
+        Report::Messages => match end_line(alloc, reader.place()) {
+            Ok(line) => send_text(output, line.as_bytes()),
+            Err(_) => Err(ToolFault::Memory),
+        },
+        Report::Rows => Ok(()),
+    }
+}
