@@ -48,14 +48,14 @@ pub fn rows(
     let mut buffer = Buffer::new();
     let number = buffer.format(number).as_bytes();
     let mut record = ByteRecord::new(alloc);
-    let mut writer = WriterBuilder::new().from_writer(Vec::new(alloc));
+    let mut table = WriterBuilder::new().from_writer(Vec::new(alloc));
     for i in start..end {
         fill(alloc, &mut record, number, batch.columns(), i)?;
-        let Ok(()) = writer.write_byte_record(&record) else {
+        let Ok(()) = table.write_byte_record(&record) else {
             return Err(AllocError);
         };
     }
-    match writer.into_inner() {
+    match table.into_inner() {
         Ok(text) => Ok(text),
         Err(_) => Err(AllocError),
     }
@@ -64,21 +64,21 @@ pub fn rows(
 /// Puts the number of a batch and the values of a row in place of a record's fields.
 fn fill(
     alloc: Global,
-    record: &mut ByteRecord,
+    row: &mut ByteRecord,
     number: &[u8],
     columns: &[Array],
     i: usize,
 ) -> Result<(), AllocError>
     requires { HaveSlot i columns.now }
-    ensures { OnOk result (fields_of record.new ≡ number.now ∷ column_texts columns.now i) }
+    ensures { OnOk result (fields_of row.new ≡ number.now ∷ column_texts columns.now i) }
 {
-    record.clear();
-    record.push_field(number)?;
+    row.clear();
+    row.push_field(number)?;
     let mut text = Vec::new(alloc);
     for column in columns {
         text.clear();
         push_value(alloc, &mut text, column, i, b"")?;
-        record.push_field(&text)?;
+        row.push_field(&text)?;
     }
     Ok(())
 }

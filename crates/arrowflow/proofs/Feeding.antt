@@ -13,8 +13,8 @@ use Rattle.arrow_stream.specs.Front.{Entry, Standing, FrontOf}
 use Rattle.arrow_stream.specs.Stream.{Shows, Stands, TakesOn, GivesNext, Refuses, WantsMemory, ended_by, ended_so}
 use Rattle.arrow_stream.specs.Views.{given}
 use Rattle.arrow_stream.proofs.Streams.{ended_stands}
-use Rattle.arrowflow.specs.Pieces.{Fed, Feeds, FeedsInside, HandsOut}
-use Rattle.arrowflow.specs.Session.{Receives, StandsInside, ending_by, ending_of, table_in, tables_of}
+use Rattle.arrowflow.specs.Pieces.{Feeds, FeedsInside, HandsOut}
+use Rattle.arrowflow.specs.Session.{Receives, StandsInside, ending_by, table_in, tables_of}
 use Rattle.arrowflow.specs.declared.session.Ending.{Ending}
 
 -- the batches of two parts are those of both

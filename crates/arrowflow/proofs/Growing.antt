@@ -1,5 +1,5 @@
 -- How the text of a stream grows with its messages.
-use Rattle.std.proofs.Common.{◌≡◌, ◌≤◌, ◌<◌, ◌+◌, ◌-◌, ℕ, suc, List, [], ◌∷◌, ◌++◌, length, take, drop, Option, None, Some, Result, Ok, Err, ◌⊎◌, inl, inr, refl, sym, ap, ◌∙◌, subst, arith, append_assoc, append-nil, take-append-drop}
+use Rattle.std.proofs.Common.{◌≡◌, ◌+◌, ℕ, suc, List, [], ◌∷◌, ◌++◌, length, Option, None, Some, refl, sym, ap, ◌∙◌, subst, arith, append_assoc, append-nil}
 use Rattle.std.specs.List.{AllByRecursion}
 use Rattle.arrow_types.specs.Field.{Fields}
 use Rattle.arrow_types.specs.Limits.{LimitNumbers}
@@ -7,7 +7,7 @@ use Rattle.arrow_array.specs.Batch.{Table}
 use Rattle.arrow_csv.specs.Records.{batch_rows, batches_text, header_record, stream_text}
 use Rattle.arrow_stream.specs.declared.reader.Verdict.TheVariants.{Open}
 use Rattle.arrow_stream.specs.Front.{Entry, Standing, FrontOf}
-use Rattle.arrow_stream.specs.State.{Given, nothing_yet, schema_given, dictionary_given, batch_given, ended}
+use Rattle.arrow_stream.specs.State.{Given, schema_given, dictionary_given, batch_given, ended}
 use Rattle.arrowflow.specs.Session.{table_in, tables_of}
 use Rattle.arrowflow.specs.Shown.{TextGrows, text_in}
 use Rattle.arrowflow.proofs.Feeding.{tables-append}

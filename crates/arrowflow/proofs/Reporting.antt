@@ -1,16 +1,14 @@
 -- How a stream ends that was told piece by piece.
-use Rattle.std.proofs.Common.{◌≡◌, ℕ, ◌+◌, List, [], ◌++◌, Option, None, Some, Result, Ok, Err, ◌⊎◌, inl, inr, refl, sym, ap, ◌∙◌, subst, append_assoc, append-nil, is_some, true}
-use Rattle.std.specs.Io.KnownBytes.{Appends, IsAtEnd, Keeps}
+use Rattle.std.proofs.Common.{◌≡◌, ℕ, ◌+◌, List, [], ◌++◌, Option, Result, Ok, Err, inl, inr, refl, sym, ap, ◌∙◌, subst, append_assoc, append-nil, is_some, true}
+use Rattle.std.specs.Io.KnownBytes.{Appends, IsAtEnd}
 use Rattle.std.proofs.KnownBytes.{Appends-kept, Appends-nil, Appends-trans}
 use Rattle.arrow_types.specs.Field.{Fields}
 use Rattle.arrow_types.specs.Limits.{LimitNumbers}
 use Rattle.arrow_array.specs.Batch.{Table}
 use Rattle.arrow_sink.specs.Sinks.{AcceptsBeginning}
-use Rattle.arrow_stream.specs.declared.fault.Fault.{Fault}
-use Rattle.arrow_stream.specs.declared.reader.Verdict.TheVariants.{Done}
 use Rattle.arrow_stream.specs.Front.{Entry, Standing, FrontOf}
 use Rattle.arrow_stream.specs.Stream.{Shows, Stands, ended_by, ended_so}
-use Rattle.arrowflow.specs.Reports.{IsTextOf, IsEnding, EndTold, Sends, SendsSome, IsTold, IsCutOff, PieceTold, IsWritten, IsBegun, EndsWell, Reports}
+use Rattle.arrowflow.specs.Reports.{IsTextOf, IsEnding, EndTold, Sends, IsTold, IsCutOff, PieceTold, IsWritten, IsBegun, EndsWell, Reports}
 use Rattle.arrowflow.specs.Session.{tables_of}
 use Rattle.arrowflow.specs.declared.report.Report.{Report}
 use Rattle.arrowflow.specs.declared.report.Report.TheVariants.{Messages, Rows}
@@ -18,7 +16,7 @@ use Rattle.arrowflow.specs.declared.tool_fault.ToolFault.{ToolFault}
 use Rattle.arrowflow.specs.declared.tool_fault.ToolFault.TheVariants.{Input, Output, Stream, Memory}
 use Rattle.arrowflow.proofs.Feeding.{ended_same}
 use Rattle.arrowflow.proofs.First.{state_stays}
-use Rattle.arrowflow.proofs.Sent.{begun_all, begun_behind}
+use Rattle.arrowflow.proofs.Sent.{begun_behind}
 
 abbrev pub standing_of : Shows → List ℕ → Standing
 standing_of r rest = record { state = r.at.state; place = r.at.place; rest = rest; verdict = r.at.verdict }

@@ -1,5 +1,5 @@
 -- The schema of a stream: the first message gives it, and no later one changes it.
-use Rattle.std.proofs.Common.{◌≡◌, ◌+◌, ℕ, ℤ, List, [], ◌∷◌, ◌++◌, Bool, true, false, Option, Some, None, Result, Ok, Err, refl, sym, ap, ◌∙◌, subst, is_some, drop}
+use Rattle.std.proofs.Common.{◌≡◌, ◌+◌, ℕ, ℤ, List, [], ◌∷◌, ◌++◌, Bool, true, false, Some, Result, Ok, Err, refl, sym, ap, ◌∙◌, is_some}
 use Rattle.std.proofs.lemmas.Bool.{false≢true}
 use Rattle.std.proofs.lemmas.List.{drop-append-le}
 use Rattle.arrow_types.specs.Field.{Fields}
@@ -9,8 +9,8 @@ use Rattle.arrow_array.specs.Column.{Column}
 use Rattle.arrow_stream.specs.declared.kind.Refusal.{Refusal}
 use Rattle.arrow_stream.specs.declared.reader.Verdict.TheVariants.{Open}
 use Rattle.arrow_stream.specs.Batch.{with_values}
-use Rattle.arrow_stream.specs.Frame.{is_out_of_order, BodySays, schema_comes, dictionary_comes, batch_comes, Outcome, First, whole, marker, short_prefix, short_metadata, short_body, bad_prefix, bad_metadata, bad_body, end_marker, message_comes}
-use Rattle.arrow_stream.specs.Front.{Entry, Standing, Front, FrontOf, rests, fails, closes, goes_on}
+use Rattle.arrow_stream.specs.Frame.{is_out_of_order, BodySays, schema_comes, dictionary_comes, batch_comes, Outcome, First, whole, short_prefix, short_metadata, short_body, bad_prefix, bad_metadata, bad_body, end_marker, message_comes}
+use Rattle.arrow_stream.specs.Front.{Entry, Standing, Front, rests, fails, closes, goes_on}
 use Rattle.arrow_stream.specs.State.{StreamState, Given, nothing_yet, schema_given, dictionary_given, batch_given, ended}
 use Rattle.arrow_stream.proofs.Beginnings.{whole_gives}
 use Rattle.arrow_stream.proofs.Firsts.{First-append, First-within}

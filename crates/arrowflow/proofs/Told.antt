@@ -1,10 +1,8 @@
 -- A stream that is told message by message.
-use Rattle.std.proofs.Common.{◌≡◌, ℕ, ◌+◌, ◌-◌, Bool, true, false, List, [], ◌∷◌, ◌++◌, length, take, drop, Option, None, Some, Result, Ok, Err, ◌⊎◌, inl, inr, refl, sym, ap, ◌∙◌, subst, arith, append_assoc, append-nil, take-append-drop}
-use Rattle.std.specs.Prelude.{IsTrue}
+use Rattle.std.proofs.Common.{◌≡◌, ℕ, ◌+◌, Bool, true, false, List, [], ◌∷◌, ◌++◌, length, take, drop, Option, None, Some, Result, Ok, Err, ◌⊎◌, inl, inr, refl, sym, ap, ◌∙◌, subst, arith, append_assoc, append-nil, take-append-drop}
 use Rattle.std.specs.Io.KnownBytes.{Appends}
 use Rattle.std.proofs.KnownBytes.{Appends-trans}
 use Rattle.std.proofs.lemmas.Bool.{false≢true}
-use Rattle.arrow_types.specs.Field.{Fields}
 use Rattle.arrow_types.specs.Limits.{LimitNumbers}
 use Rattle.arrow_array.specs.Batch.{Table}
 use Rattle.arrow_csv.specs.Records.{stream_text}
@@ -14,7 +12,6 @@ use Rattle.arrow_stream.specs.declared.item.Item.{Item}
 use Rattle.arrow_stream.specs.declared.kind.Refusal.{Refusal}
 use Rattle.arrow_stream.specs.declared.reader.Verdict.{Verdict}
 use Rattle.arrow_stream.specs.declared.reader.Verdict.TheVariants.{Open, Done, Bad}
-use Rattle.arrow_stream.specs.Batch.{dictionary_left, batch_left}
 use Rattle.arrow_stream.specs.Frame.{BodySays, schema_comes, dictionary_comes, batch_comes, Outcome, First, whole, short_prefix, short_metadata, short_body, bad_prefix, bad_metadata, bad_body, end_marker, message_comes}
 use Rattle.arrow_stream.specs.Front.{Entry, Standing, Front, FrontOf, rests, fails, closes, goes_on}
 use Rattle.arrow_stream.specs.Kind.{kind_of}
@@ -24,7 +21,7 @@ use Rattle.arrow_stream.specs.Views.{given}
 use Rattle.arrow_stream.proofs.Fronts.{more_bytes}
 use Rattle.arrow_stream.proofs.Streams.{ended_stands}
 use Rattle.arrowflow.specs.Faults.{told}
-use Rattle.arrowflow.specs.Reports.{IsTextOf, IsAdded, Sends, SendsSome, IsTold, IsCutOff, IsBadBy, PieceTold}
+use Rattle.arrowflow.specs.Reports.{IsTextOf, IsAdded, SendsSome, IsTold, IsCutOff, PieceTold}
 use Rattle.arrowflow.specs.Session.{table_in, tables_of}
 use Rattle.arrowflow.specs.Shown.{text_in}
 use Rattle.arrowflow.specs.declared.report.Report.{Report}

@@ -7,5 +7,5 @@ use Rattle.arrow_csv.proofs.records.fill.Given as goal
 -- what stands in the record, and the texts to come, are the whole; the columns to come have the slot
 abbrev pub invariant-loop-column : goal.invariant-loop-column
 invariant-loop-column l =
-    (fields_of l.record ++ column_texts (drop l.column-index l.columns) l.i ≡ l.number ∷ column_texts l.columns l.i)
-    × (partial_of l.record ≡ []) × HaveSlot l.i (drop l.column-index l.columns)
+    (fields_of l.row ++ column_texts (drop l.column-index l.columns) l.i ≡ l.number ∷ column_texts l.columns l.i)
+    × (partial_of l.row ≡ []) × HaveSlot l.i (drop l.column-index l.columns)

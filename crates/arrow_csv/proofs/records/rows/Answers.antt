@@ -12,8 +12,8 @@ loop-i-preserved c =
     let h = c.loop-i.invariant in
     let e = c.in-Ok.ensures in
     let number : c.as_bytes-number.result.now ≡ decimal c.args.number = c.as_bytes-number.ensures.value ∙ c.format.ensures.text in
-    let fields : fields_of c.fill.new.record ≡ decimal c.args.number ∷ column_texts c.args.batch.now.columns c.loop-i.i =
+    let fields : fields_of c.fill.new.row ≡ decimal c.args.number ∷ column_texts c.args.batch.now.columns c.loop-i.i =
     c.in_ok-fill.ensures ∙ ap (λ n. n ∷ column_texts c.columns.result.now c.loop-i.i) number ∙ ap (λ cs. decimal c.args.number ∷ column_texts cs c.loop-i.i) c.columns.ensures.same in
-    let record_is = ap (λ s. row_text s (fields_of c.fill.new.record)) h.same ∙ ap (row_text default_writer) fields in
+    let record_is = ap (λ s. row_text s (fields_of c.fill.new.row)) h.same ∙ ap (row_text default_writer) fields in
     let wrote = e.bytes h.ended h.clean (λ x. absurd (cc)) in
-    written_next h c.loop-i-test.true (subst (λ t. Appends (text_written (λ v. Some v.items) c.loop-i.writer) (text_written (λ v. Some v.items) c.write_byte_record.new.self) t) record_is wrote) e.setup e.ended e.clean
+    written_next h c.loop-i-test.true (subst (λ t. Appends (text_written (λ v. Some v.items) c.loop-i.table) (text_written (λ v. Some v.items) c.write_byte_record.new.self) t) record_is wrote) e.setup e.ended e.clean

@@ -5,4 +5,4 @@ use Rattle.arrow_csv.proofs.records.rows.Given as goal
 
 -- what was written, and the rows to come, are the whole
 abbrev pub invariant-loop-i : goal.invariant-loop-i
-invariant-loop-i l = HasWritten (text_written (λ v. Some v.items) l.writer) l.writer.cfg l.writer.fields l.writer.wrote l.number-2 l.batch l.start l.i l.end
+invariant-loop-i l = HasWritten (text_written (λ v. Some v.items) l.table) l.table.cfg l.table.fields l.table.wrote l.number-2 l.batch l.start l.i l.end

@@ -1,4 +1,4 @@
-use Rattle.std.proofs.Common.{◌≡◌, ℕ, ◌-◌, ◌++◌, List, length, take, drop, sym, ap, ◌∙◌, subst, append_assoc, ◌⊎◌}
+use Rattle.std.proofs.Common.{ℕ, ◌-◌, ◌++◌, List, length, take, drop, ap, ◌∙◌, subst, append_assoc, ◌⊎◌}
 use Rattle.std.proofs.lemmas.List.{take-append-drop, take_rest}
 use Rattle.arrow_stream.specs.Front.{Entry}
 use Rattle.arrow_stream.specs.Stream.{Stands, GivesNext, TakesOn, Refuses, WantsMemory}
