@@ -1,29 +1,32 @@
 //! Good and bad command lines, with the exit statuses of their faults.
 
-use arrowflow::{ArgFault, Plan, plan};
+use arrowflow::{ArgFault, plan};
 use std::test::Fail;
 
 #[test]
-fn good_lines_name_their_files(rt: HostRuntime) -> Result<(), Fail> {
+fn good_lines_name_their_files(rt: HostRuntime) {
     let alloc = rt.alloc();
     let lines = [
-        (["arrowflow", "schema", "a.arrows"], "a.arrows"),
-        (["any name", "schema", "/dev/stdin"], "/dev/stdin"),
-        (["arrowflow", "schema", "two words é"], "two words é"),
-        (["arrowflow", "schema", ""], ""),
+        (["arrowflow", "schema", "a.arrows"], "Schema(\"a.arrows\")"),
+        (
+            ["any name", "schema", "/dev/stdin"],
+            "Schema(\"/dev/stdin\")",
+        ),
+        (
+            ["arrowflow", "check", "two words é"],
+            "Check(\"two words é\")",
+        ),
+        (["arrowflow", "show", ""], "Show(\"\")"),
     ];
-    for (words, file) in lines {
-        let Ok(Plan::Schema(name)) = plan(alloc, words.as_slice()) else {
-            return Err("no plan")?;
-        };
-        assert_eq!(rt; name.as_str(), file);
+    for (words, expected) in lines {
+        let plan = plan(alloc, words.as_slice()).expect(&rt, "a plan");
+        let text = format!(in alloc; "{plan:?}").expect(&rt, "memory");
+        assert_eq!(rt; text.as_str(), expected);
     }
-    let words = ["arrowflow", "schema", "--", "-x"];
-    let Ok(Plan::Schema(name)) = plan(alloc, words.as_slice()) else {
-        return Err("no plan behind --")?;
-    };
-    assert_eq!(rt; name.as_str(), "-x");
-    Ok(())
+    let words = ["arrowflow", "show", "--", "-x"];
+    let plan = plan(alloc, words.as_slice()).expect(&rt, "a plan behind --");
+    let text = format!(in alloc; "{plan:?}").expect(&rt, "memory");
+    assert_eq!(rt; text.as_str(), "Show(\"-x\")");
 }
 
 #[test]
@@ -33,6 +36,8 @@ fn other_lines_have_a_status(rt: HostRuntime) -> Result<(), Fail> {
         ("arrowflow", 2),
         ("arrowflow schema", 2),
         ("arrowflow schema a b", 2),
+        ("arrowflow check", 2),
+        ("arrowflow show a b", 2),
         ("arrowflow schema -x", 2),
         ("arrowflow schema --long a", 2),
         ("arrowflow schemas a", 2),
@@ -62,10 +67,15 @@ fn help_gives_an_example(rt: HostRuntime) -> Result<(), Fail> {
     let lines = [
         (
             "arrowflow --help",
-            "  arrowflow schema examples/every_type.arrows",
+            "  arrowflow show examples/growing_dictionary.arrows",
         ),
         ("arrowflow --help", "Prints the columns of a stream"),
         ("arrowflow --help", "Usage: arrowflow <COMMAND>"),
+        ("arrowflow check --help", "Usage: arrowflow check <FILE>"),
+        (
+            "arrowflow help show",
+            "  arrowflow show examples/growing_dictionary.arrows",
+        ),
         (
             "elsewhere/program schema -h",
             "Usage: arrowflow schema <FILE>",
