@@ -20,8 +20,6 @@ pub mod layout;
 mod parts;
 mod same;
 mod slot;
-#[cfg(test)]
-mod tests;
 mod texts;
 mod value;
 mod width;

@@ -21,8 +21,6 @@ mod laid;
 pub mod laws;
 mod listed;
 mod taken;
-#[cfg(test)]
-mod tests;
 mod text;
 
 pub use body::{BodyFault, load};

@@ -1,7 +1,7 @@
 use Rattle.std.proofs.Common.{drop}
 use Rattle.std.specs.List.{AllByRecursion}
 use Rattle.arrow_array.specs.Node.{IsInside}
-use Rattle.arrow_array.proofs.tests.making.are_inside.Given as goal
+use Rattle.arrow_array_tests.proofs.tests.making.are_inside.Given as goal
 
 -- what is known of the ranges that are left is all that is missing
 abbrev pub invariant-loop-range : goal.invariant-loop-range

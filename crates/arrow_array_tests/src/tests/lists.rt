@@ -1,39 +1,38 @@
 // Dictionaries of lists, and the columns that refer to them.
 
 use super::forms::{list_type, lists, referring};
-use super::making::{NO_COLUMN, dictionary};
-use crate::{Array, Dictionary, SlotValue};
-use std::alloc::{AllocError, Global};
-use std::test::Fail;
+use super::making::{NO_COLUMN, dictionary, one};
+use arrow_array::{Array, Dictionary, SlotValue};
+use std::process::Abort;
 
 // The lists of 1, of none, and of 2 and 3; then those of 4, and of 5 and 6.
-fn five_lists(alloc: Global) -> Result<Option<Dictionary>, Fail> {
-    let mut parts = Vec::new(alloc);
-    parts.push(lists(alloc, &[], &[0, 1, 1, 3], &[1, 2, 3])?.ok_or(NO_COLUMN)?)?;
-    parts.push(lists(alloc, &[], &[0, 1, 3], &[4, 5, 6])?.ok_or(NO_COLUMN)?)?;
-    Ok(dictionary(alloc, parts)?)
+fn five_lists(rt: &(impl Abort + AllocGlobal)) -> Dictionary {
+    let mut parts = one(rt, lists(rt, &[], &[0, 1, 1, 3], &[1, 2, 3]));
+    parts
+        .push(lists(rt, &[], &[0, 1, 3], &[4, 5, 6]))
+        .expect(rt, "memory");
+    dictionary(rt, parts)
 }
 
 // The numbers of the list in a slot, none where it is null.
-fn numbers(alloc: Global, lists: &Array, j: usize) -> Result<Vec<i128>, AllocError> {
-    let mut numbers = Vec::new(alloc);
+fn numbers(rt: &(impl Abort + AllocGlobal), lists: &Array, j: usize) -> Vec<i128> {
+    let mut numbers = Vec::new(rt.alloc());
     if j >= lists.len() {
-        return Ok(numbers);
+        return numbers;
     }
     if let Some((start, end, items)) = lists.list_at(j) {
         for k in start..end {
             if let Some(number) = items.int_at(k) {
-                numbers.push(number)?;
+                numbers.push(number).expect(rt, "memory");
             }
         }
     }
-    Ok(numbers)
+    numbers
 }
 
 #[test]
-fn lists_of_two_segments(rt: HostRuntime) -> Result<(), Fail> {
-    let alloc = rt.alloc();
-    let dictionary = five_lists(alloc)?.ok_or(NO_COLUMN)?;
+fn lists_of_two_segments(rt: HostRuntime) {
+    let dictionary = five_lists(&rt);
     assert_eq!(rt; dictionary.len(), 5);
     for (i, want) in [
         (0, [1].as_slice()),
@@ -44,24 +43,16 @@ fn lists_of_two_segments(rt: HostRuntime) -> Result<(), Fail> {
     ] {
         assert!(rt; i < dictionary.len());
         let (values, place) = dictionary.value(i);
-        let numbers = numbers(alloc, values, place)?;
+        let numbers = numbers(&rt, values, place);
         assert_eq!(rt; numbers.as_slice(), want, "value {i}");
     }
-    Ok(())
 }
 
 #[test]
-fn indices_of_lists(rt: HostRuntime) -> Result<(), Fail> {
-    let alloc = rt.alloc();
+fn indices_of_lists(rt: HostRuntime) {
     let indices = [4, 0, 9, 1, 2];
-    let column = referring(
-        alloc,
-        list_type(alloc)?,
-        &[0xfb],
-        &indices,
-        five_lists(alloc)?,
-    )?
-    .ok_or(NO_COLUMN)?;
+    let values = Some(five_lists(&rt));
+    let column = referring(&rt, list_type(&rt), &[0xfb], &indices, values).expect(&rt, NO_COLUMN);
     for (i, number, want) in [
         (0, Some(4), [5, 6].as_slice()),
         (1, Some(0), [1].as_slice()),
@@ -71,8 +62,8 @@ fn indices_of_lists(rt: HostRuntime) -> Result<(), Fail> {
         assert!(rt; i < column.len());
         assert_eq!(rt; column.int_at(i), number, "slot {i}");
         assert!(rt; column.list_at(i).is_none(), "slot {i}");
-        let (values, place) = column.resolved(i).ok_or("the index is there")?;
-        let numbers = numbers(alloc, values, place)?;
+        let (values, place) = column.resolved(i).expect(&rt, "the index is there");
+        let numbers = numbers(&rt, values, place);
         assert_eq!(rt; numbers.as_slice(), want, "slot {i}");
     }
     assert!(rt; 2 < column.len());
@@ -80,24 +71,19 @@ fn indices_of_lists(rt: HostRuntime) -> Result<(), Fail> {
     assert!(rt; column.items().is_none());
     assert!(rt; matches!(column.slot(0), SlotValue::List(1, 3, _)));
     assert!(rt; matches!(column.slot(2), SlotValue::Null));
-    Ok(())
 }
 
 // Equal lists are equal values, whatever the segments that hold them.
 #[test]
-fn equal_dictionaries_of_lists(rt: HostRuntime) -> Result<(), Fail> {
-    let alloc = rt.alloc();
-    let parts = five_lists(alloc)?.ok_or(NO_COLUMN)?;
+fn equal_dictionaries_of_lists(rt: HostRuntime) {
+    let parts = five_lists(&rt);
     for (offsets, items, want) in [
         ([0, 1, 1, 3, 4, 6], [1, 2, 3, 4, 5, 6], true),
         ([0, 1, 1, 3, 4, 6], [1, 2, 3, 4, 5, 7], false),
         ([0, 0, 1, 3, 4, 6], [1, 2, 3, 4, 5, 6], false),
     ] {
-        let mut one = Vec::new(alloc);
-        one.push(lists(alloc, &[], &offsets, &items)?.ok_or(NO_COLUMN)?)?;
-        let whole = dictionary(alloc, one)?.ok_or(NO_COLUMN)?;
+        let whole = dictionary(&rt, one(&rt, lists(&rt, &[], &offsets, &items)));
         assert_eq!(rt; whole == parts, want);
         assert_eq!(rt; parts == whole, want);
     }
-    Ok(())
 }

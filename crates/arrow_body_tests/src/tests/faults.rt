@@ -1,9 +1,8 @@
 // Bodies that are none.
 
-use super::reading::{fault, field, int32, list, loaded, structure};
-use crate::BodyFault;
+use super::reading::{fault, field, int32, list, loaded, structure, two};
+use arrow_body::BodyFault;
 use arrow_types::DataType;
-use std::test::Fail;
 
 const NUMBERS: [u8; 24] = [
     5, 0, 0, 0, 0, 0, 0, 0, 1, 0, 0, 0, 0, 0, 0, 0, 3, 0, 0, 0, 0, 0, 0, 0,
@@ -11,8 +10,7 @@ const NUMBERS: [u8; 24] = [
 
 // Each condition of the layout of numbers, on its own.
 #[test]
-fn numbers_that_do_not_lie(rt: HostRuntime) -> Result<(), Fail> {
-    let alloc = rt.alloc();
+fn numbers_that_do_not_lie(rt: HostRuntime) {
     for (node, validity, values) in [
         ((3, 0), (0, 1), (8, 12)),
         ((3, 2), (0, 1), (8, 12)),
@@ -30,40 +28,36 @@ fn numbers_that_do_not_lie(rt: HostRuntime) -> Result<(), Fail> {
         ((9223372036854775807, -1), (0, 0), (8, 12)),
         ((3, 1), (0, 1), (9223372036854775807, 9223372036854775807)),
     ] {
-        let of = field(alloc, int32())?;
-        let got = fault(alloc, of, &[node], &[validity, values], &NUMBERS)?;
+        let of = field(&rt, int32());
+        let got = fault(&rt, of, &[node], &[validity, values], &NUMBERS);
         assert_eq!(rt; got, Some(BodyFault::Layout));
     }
-    Ok(())
 }
 
 #[test]
-fn missing_nodes_and_buffers(rt: HostRuntime) -> Result<(), Fail> {
-    let alloc = rt.alloc();
+fn missing_nodes_and_buffers(rt: HostRuntime) {
     let two = [(0, 1), (8, 12)];
     for (nodes, buffers) in [
         ([].as_slice(), two.as_slice()),
         ([(3, 1)].as_slice(), [(0, 1)].as_slice()),
     ] {
-        let got = fault(alloc, field(alloc, int32())?, nodes, buffers, &NUMBERS)?;
+        let got = fault(&rt, field(&rt, int32()), nodes, buffers, &NUMBERS);
         assert_eq!(rt; got, Some(BodyFault::Layout));
     }
-    let of = list(alloc, field(alloc, int32())?)?;
+    let of = list(&rt, field(&rt, int32()));
     let got = fault(
-        alloc,
+        &rt,
         of,
         &[(0, 0)],
         &[(0, 0), (0, 0), (0, 0), (0, 0)],
         &NUMBERS,
-    )?;
+    );
     assert_eq!(rt; got, Some(BodyFault::Layout));
-    Ok(())
 }
 
 // Offsets of two texts over three bytes of data.
 #[test]
-fn offsets_that_fall_or_run_out(rt: HostRuntime) -> Result<(), Fail> {
-    let alloc = rt.alloc();
+fn offsets_that_fall_or_run_out(rt: HostRuntime) {
     for (offsets, want) in [
         ([0, 1, 3], None),
         ([0, 3, 3], None),
@@ -82,61 +76,47 @@ fn offsets_that_fall_or_run_out(rt: HostRuntime) -> Result<(), Fail> {
             body[3] = 0xff;
         }
         let got = fault(
-            alloc,
-            field(alloc, DataType::Utf8)?,
+            &rt,
+            field(&rt, DataType::Utf8),
             &[(2, 0)],
             &[(0, 0), (0, 12), (12, 3)],
             &body,
-        )?;
+        );
         assert_eq!(rt; got, want);
     }
     let short = [(0, 0), (0, 2), (0, 0)];
-    let got = fault(
-        alloc,
-        field(alloc, DataType::Utf8)?,
-        &[(0, 0)],
-        &short,
-        &[0; 4],
-    )?;
+    let got = fault(&rt, field(&rt, DataType::Utf8), &[(0, 0)], &short, &[0; 4]);
     assert_eq!(rt; got, Some(BodyFault::Layout));
-    Ok(())
 }
 
 #[test]
-fn a_struct_with_a_shorter_field(rt: HostRuntime) -> Result<(), Fail> {
-    let alloc = rt.alloc();
+fn a_struct_with_a_shorter_field(rt: HostRuntime) {
     let buffers = [(0, 0), (0, 0), (0, 12)];
     for (slots, want) in [(3, None), (2, None), (1, Some(BodyFault::Layout))] {
-        let of = structure(alloc, field(alloc, int32())?)?;
-        let got = fault(alloc, of, &[(2, 0), (slots, 0)], &buffers, &[0; 12])?;
+        let of = structure(&rt, field(&rt, int32()));
+        let got = fault(&rt, of, &[(2, 0), (slots, 0)], &buffers, &[0; 12]);
         assert_eq!(rt; got, want);
     }
-    Ok(())
 }
 
 // A text below a null struct is looked at all the same.
 #[test]
-fn a_text_below_a_null_struct(rt: HostRuntime) -> Result<(), Fail> {
-    let alloc = rt.alloc();
+fn a_text_below_a_null_struct(rt: HostRuntime) {
     let body = [0, 0, 0, 0, 0, 0, 0, 0, 1, 0, 0, 0, 0xff];
-    let of = structure(alloc, field(alloc, DataType::Utf8)?)?;
+    let of = structure(&rt, field(&rt, DataType::Utf8));
     let buffers = [(0, 1), (0, 0), (4, 8), (12, 1)];
-    let got = fault(alloc, of, &[(1, 1), (1, 0)], &buffers, &body)?;
+    let got = fault(&rt, of, &[(1, 1), (1, 0)], &buffers, &body);
     assert_eq!(rt; got, Some(BodyFault::Text));
-    Ok(())
 }
 
 // The layout of a later column is told before the text of an earlier one.
 #[test]
-fn the_least_fault_of_all_columns(rt: HostRuntime) -> Result<(), Fail> {
-    let alloc = rt.alloc();
+fn the_least_fault_of_all_columns(rt: HostRuntime) {
     let body = [0, 0, 0, 0, 1, 0, 0, 0, 0xff, 0, 0, 0];
-    let mut fields = Vec::new(alloc);
-    fields.push(field(alloc, DataType::Utf8)?)?;
-    fields.push(field(alloc, int32())?)?;
+    let fields = two(&rt, field(&rt, DataType::Utf8), field(&rt, int32()));
     for (length, want) in [(4, BodyFault::Text), (3, BodyFault::Layout)] {
         let buffers = [(0, 0), (0, 8), (8, 1), (0, 0), (0, length)];
-        let got = loaded(alloc, &fields, &[(1, 0), (1, 0)], &buffers, &body, &[])?;
+        let got = loaded(&rt, &fields, &[(1, 0), (1, 0)], &buffers, &body, &[]);
         assert_eq!(rt; got.err(), Some(want));
     }
     for (fault, number) in [
@@ -147,5 +127,4 @@ fn the_least_fault_of_all_columns(rt: HostRuntime) -> Result<(), Fail> {
     ] {
         assert_eq!(rt; fault.number(), number);
     }
-    Ok(())
 }

@@ -1,0 +1,65 @@
+// Values by themselves.
+
+use arrow_array::Value;
+use std::process::Abort;
+
+// The values one and none.
+fn one_and_none(rt: &(impl Abort + AllocGlobal)) -> Vec<Value> {
+    vec![in rt.alloc(); Value::Int(1), Value::Null].expect(rt, "memory")
+}
+
+// One value of each kind; the last two hold others.
+fn one_of_each(rt: &(impl Abort + AllocGlobal)) -> Vec<Value> {
+    let bytes = Vec::from_slice(rt.alloc(), b"a").expect(rt, "memory");
+    let text = String::from_str(rt.alloc(), "a").expect(rt, "memory");
+    let values = vec![in rt.alloc();
+        Value::Null,
+        Value::Bool(false),
+        Value::Int(0),
+        Value::Bytes(bytes),
+        Value::Text(text),
+        Value::List(one_and_none(rt)),
+        Value::Struct(one_and_none(rt)),
+    ];
+    values.expect(rt, "memory")
+}
+
+// A list of these numbers.
+fn list_of(rt: &(impl Abort + AllocGlobal), numbers: &[i128]) -> Value {
+    let mut items = Vec::new(rt.alloc());
+    for number in numbers {
+        items.push(Value::Int(*number)).expect(rt, "memory");
+    }
+    Value::List(items)
+}
+
+#[test]
+fn values_of_different_kinds_differ(rt: HostRuntime) {
+    let values = one_of_each(&rt);
+    let others = one_of_each(&rt);
+    for i in 0..values.len() {
+        let copy = values[i].copy(rt.alloc()).expect(&rt, "memory");
+        for (j, other) in others.iter().enumerate() {
+            assert_eq!(rt; values[i] == *other, i == j, "{i} and {j}");
+            assert_eq!(rt; copy == *other, i == j, "{i} and {j}");
+        }
+    }
+}
+
+#[test]
+fn lists_differ_in_one_item(rt: HostRuntime) {
+    let mut lists = Vec::new(rt.alloc());
+    for numbers in [
+        [1, 2].as_slice(),
+        [1, 3].as_slice(),
+        [1].as_slice(),
+        [].as_slice(),
+    ] {
+        lists.push(list_of(&rt, numbers)).expect(&rt, "memory");
+    }
+    for i in 0..lists.len() {
+        for j in 0..lists.len() {
+            assert_eq!(rt; lists[i] == lists[j], i == j, "{i} and {j}");
+        }
+    }
+}
