@@ -63,7 +63,7 @@ const COMPRESSED: Option<MetaFault> = Some(MetaFault::Compressed {
     body_len: 24,
 });
 
-const FAULTS: [(&str, &[u8], Edits, Option<MetaFault>); 50] = [
+static FAULTS: [(&str, &[u8], Edits, Option<MetaFault>); 50] = [
     ("nothing changed", ONE_FIELD, &[], None),
     (
         "a name that is not UTF-8",
@@ -266,11 +266,11 @@ const FAULTS: [(&str, &[u8], Edits, Option<MetaFault>); 50] = [
 
 #[test]
 fn the_least_fault_is_answered(rt: HostRuntime) {
-    for (name, bytes, edits, fault) in FAULTS {
+    for (name, bytes, edits, fault) in &FAULTS {
         let bytes = edited(&rt, rt.alloc(), bytes, edits);
         assert_eq!(rt;
             fault_in(rt.alloc(), &bytes, &Limits::standard()),
-            fault,
+            *fault,
             "{name}"
         );
     }
