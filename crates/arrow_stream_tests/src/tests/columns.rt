@@ -101,16 +101,16 @@ fn rows_without_columns(rt: HostRuntime) {
 // No rows need no offsets.
 #[test]
 fn texts_of_no_rows(rt: HostRuntime) {
-    let rows: [(&str, Edits); 2] = [("one offset", &[]), ("no offsets", &[(280, &[0])])];
+    static ROWS: [(&str, Edits); 2] = [("one offset", &[]), ("no offsets", &[(280, &[0])])];
     let want = one_batch(320, "t: utf8", "0:");
     let parts: [&[u8]; 3] = [&TEXTS, &NO_TEXTS, &END_MARKER];
-    each_is_told(&rt, rt.alloc(), &parts, &rows, want);
+    each_is_told(&rt, rt.alloc(), &parts, &ROWS, want);
 }
 
 // What a batch may leave out, or hold beside what is taken.
 #[test]
 fn what_need_not_be_so(rt: HostRuntime) {
-    let rows: [(&str, Edits, &str); 5] = [
+    static ROWS: [(&str, Edits, &str); 5] = [
         (
             "a null count that is not told",
             &[(256, &[0xff; 8])],
@@ -125,7 +125,7 @@ fn what_need_not_be_so(rt: HostRuntime) {
         ),
         ("values that are not aligned", &[(288, &[9])], "3: 0 null 0"),
     ];
-    for (what, edits, rows) in rows {
+    for &(what, edits, rows) in &ROWS {
         let want = one_batch(336, "n: int32", rows);
         let parts: [&[u8]; 3] = [&SCHEMA, &BATCH, &END_MARKER];
         are_told(&rt, rt.alloc(), what, &parts, edits, want);
@@ -134,13 +134,13 @@ fn what_need_not_be_so(rt: HostRuntime) {
 
 #[test]
 fn nodes_and_buffers_that_are_not_taken(rt: HostRuntime) {
-    let rows: [(&str, Edits); 2] = [
+    static ROWS: [(&str, Edits); 2] = [
         ("of three rows", &[]),
         ("of a length that no node has", &[(168, &[0xff; 8])]),
     ];
     let want = one_batch(256, "no columns", "3");
     let parts: [&[u8]; 3] = [&NO_COLUMNS, &BATCH, &END_MARKER];
-    each_is_told(&rt, rt.alloc(), &parts, &rows, want);
+    each_is_told(&rt, rt.alloc(), &parts, &ROWS, want);
 }
 
 // The first text begins behind a byte that is no part of any.
@@ -163,7 +163,7 @@ fn a_field_that_is_longer_than_its_structs(rt: HostRuntime) {
 // Nulls of type Null are not counted.
 #[test]
 fn any_number_of_nulls(rt: HostRuntime) {
-    let rows: [(&str, Edits); 2] = [
+    static ROWS: [(&str, Edits); 2] = [
         ("none", &[(680, &[0])]),
         ("-5", &[(680, &[0xfb]), (681, &[0xff; 7])]),
     ];
@@ -173,5 +173,5 @@ fn any_number_of_nulls(rt: HostRuntime) {
         "2: null null: 200 null: null -5: <ff00> <>: -1 20000: 86399999999 0: null 1",
     );
     let parts: [&[u8]; 3] = [&MANY, &MANY_ROWS, &END_MARKER];
-    each_is_told(&rt, rt.alloc(), &parts, &rows, want);
+    each_is_told(&rt, rt.alloc(), &parts, &ROWS, want);
 }

@@ -106,10 +106,7 @@ fn around_the_end_of_a_delta(rt: HostRuntime) {
 
 #[test]
 fn what_each_call_takes(rt: HostRuntime) {
-    let bytes = growing(&rt, rt.alloc());
-    let mut reader = StreamReader::new(rt.alloc(), Limits::standard());
-    let mut rest = bytes.as_slice();
-    for (count, word) in [
+    static CALLS: [(usize, &str); 9] = [
         (200, "schema"),
         (224, "dictionary"),
         (168, "batch"),
@@ -119,7 +116,11 @@ fn what_each_call_takes(rt: HostRuntime) {
         (160, "batch"),
         (8, "end"),
         (0, "nothing"),
-    ] {
+    ];
+    let bytes = growing(&rt, rt.alloc());
+    let mut reader = StreamReader::new(rt.alloc(), Limits::standard());
+    let mut rest = bytes.as_slice();
+    for &(count, word) in &CALLS {
         takes(&rt, &mut reader, rest, Ok((count, word)));
         rest = rest.get(count..).unwrap_or(&[]);
     }

@@ -19,7 +19,7 @@ fn with_dictionary() -> Told<'static> {
 // A column whose slots are all null needs no dictionary, whatever its indices are.
 #[test]
 fn nulls_alone(rt: HostRuntime) {
-    let rows: [(&str, Edits); 3] = [
+    static ROWS: [(&str, Edits); 3] = [
         ("indices in range", &[(304, &[3]), (352, &[0])]),
         ("an index above", &[(304, &[3]), (352, &[0]), (360, &[9])]),
         (
@@ -32,24 +32,24 @@ fn nulls_alone(rt: HostRuntime) {
         ..read_to(384, "schema batch end", "k: utf8")
     };
     let parts: [&[u8]; 3] = [&SCHEMA, &WITH_NULL, &END_MARKER];
-    each_is_told(&rt, rt.alloc(), &parts, &rows, want);
+    each_is_told(&rt, rt.alloc(), &parts, &ROWS, want);
 }
 
 #[test]
 fn an_index_out_of_range(rt: HostRuntime) {
-    let rows: [(&str, Edits); 3] = [
+    static ROWS: [(&str, Edits); 3] = [
         ("index 3", &[(584, &[3])]),
         ("index -1", &[(584, &[0xff, 0xff, 0xff, 0xff])]),
         ("the least index", &[(576, &[0, 0, 0, 0x80])]),
     ];
     let want = refused(Kind::Index, with_dictionary());
     let parts: [&[u8]; 3] = [&SCHEMA, &ABC, &FIRST];
-    each_is_told(&rt, rt.alloc(), &parts, &rows, want);
+    each_is_told(&rt, rt.alloc(), &parts, &ROWS, want);
 }
 
 #[test]
 fn an_index_out_of_range_in_a_null_slot(rt: HostRuntime) {
-    let rows: [(&str, Edits); 2] = [
+    static ROWS: [(&str, Edits); 2] = [
         ("index 3", &[(592, &[3])]),
         ("index -1", &[(592, &[0xff, 0xff, 0xff, 0xff])]),
     ];
@@ -59,7 +59,7 @@ fn an_index_out_of_range_in_a_null_slot(rt: HostRuntime) {
         ..read_to(600, "schema dictionary:0 batch", "k: utf8")
     };
     let parts: [&[u8]; 3] = [&SCHEMA, &ABC, &WITH_NULL];
-    each_is_told(&rt, rt.alloc(), &parts, &rows, want);
+    each_is_told(&rt, rt.alloc(), &parts, &ROWS, want);
 }
 
 #[test]

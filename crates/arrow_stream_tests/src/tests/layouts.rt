@@ -19,7 +19,7 @@ const LARGEST: [u8; 8] = [0xff, 0xff, 0xff, 0xff, 0xff, 0xff, 0xff, 0x7f];
 
 #[test]
 fn lengths_and_counts_of_numbers(rt: HostRuntime) {
-    let rows: [(&str, Edits); 9] = [
+    static ROWS: [(&str, Edits); 9] = [
         ("no node", &[(244, &[0])]),
         ("one buffer", &[(268, &[1])]),
         ("four rows, and a node of three", &[(224, &[4])]),
@@ -34,12 +34,12 @@ fn lengths_and_counts_of_numbers(rt: HostRuntime) {
         ),
     ];
     let want = contradicted(152, "n: int32");
-    each_is_told(&rt, rt.alloc(), &[&SCHEMA, &BATCH], &rows, want);
+    each_is_told(&rt, rt.alloc(), &[&SCHEMA, &BATCH], &ROWS, want);
 }
 
 #[test]
 fn buffers_of_numbers(rt: HostRuntime) {
-    let rows: [(&str, Edits); 9] = [
+    static ROWS: [(&str, Edits); 9] = [
         ("a validity of a length below 0", &[(280, &BELOW_ZERO)]),
         ("values of a length below 0", &[(296, &BELOW_ZERO)]),
         ("values at a place below 0", &[(288, &BELOW_ZERO)]),
@@ -51,7 +51,7 @@ fn buffers_of_numbers(rt: HostRuntime) {
         ("values too short", &[(296, &[11])]),
     ];
     let want = contradicted(152, "n: int32");
-    each_is_told(&rt, rt.alloc(), &[&SCHEMA, &BATCH], &rows, want);
+    each_is_told(&rt, rt.alloc(), &[&SCHEMA, &BATCH], &ROWS, want);
 }
 
 // Eight bits stand for eight slots at most.
@@ -64,7 +64,7 @@ fn bitmaps(rt: HostRuntime) {
         ..read_to(304, "schema batch", "b: bool")
     };
     are_told(&rt, alloc, "eight", &[&BITS, &FOUR_BITS], eight, read);
-    let rows: [(&str, Edits); 3] = [
+    static ROWS: [(&str, Edits); 3] = [
         (
             "nine, and eight of validity",
             &[(208, &[9]), (232, &[9]), (240, &BELOW_ZERO), (280, &[2])],
@@ -76,12 +76,12 @@ fn bitmaps(rt: HostRuntime) {
         ("no values", &[(280, &[0])]),
     ];
     let want = contradicted(136, "b: bool");
-    each_is_told(&rt, alloc, &[&BITS, &FOUR_BITS], &rows, want);
+    each_is_told(&rt, alloc, &[&BITS, &FOUR_BITS], &ROWS, want);
 }
 
 #[test]
 fn offsets_of_texts(rt: HostRuntime) {
-    let rows: [(&str, Edits); 7] = [
+    static ROWS: [(&str, Edits); 7] = [
         ("three of them", &[(280, &[12])]),
         ("one byte too few", &[(280, &[15])]),
         ("none of them", &[(280, &[0])]),
@@ -91,7 +91,7 @@ fn offsets_of_texts(rt: HostRuntime) {
         ("the data are short", &[(296, &[2])]),
     ];
     let want = contradicted(136, "t: utf8");
-    each_is_told(&rt, rt.alloc(), &[&TEXTS, &THREE_TEXTS], &rows, want);
+    each_is_told(&rt, rt.alloc(), &[&TEXTS, &THREE_TEXTS], &ROWS, want);
     let two_bytes: Edits = &[(280, &[2])];
     let want = contradicted(136, "t: utf8");
     are_told(
@@ -106,13 +106,13 @@ fn offsets_of_texts(rt: HostRuntime) {
 
 #[test]
 fn children(rt: HostRuntime) {
-    let rows: [(&str, Edits); 2] = [
+    static OF_LISTS: [(&str, Edits); 2] = [
         ("a list past its items", &[(556, &[3])]),
         ("fewer items than lists ask for", &[(384, &[1])]),
     ];
     let want = contradicted(272, "l: another type");
-    each_is_told(&rt, rt.alloc(), &[&LISTS, &LIST_ROWS], &rows, want);
-    let rows: [(&str, Edits); 2] = [
+    each_is_told(&rt, rt.alloc(), &[&LISTS, &LIST_ROWS], &OF_LISTS, want);
+    static OF_STRUCTS: [(&str, Edits); 2] = [
         (
             "a field that is shorter than its structs",
             &[(328, &[1]), (336, &[0])],
@@ -120,12 +120,18 @@ fn children(rt: HostRuntime) {
         ("no node of a field", &[(308, &[1])]),
     ];
     let want = contradicted(216, "s: another type");
-    each_is_told(&rt, rt.alloc(), &[&STRUCTS, &STRUCT_ROWS], &rows, want);
+    each_is_told(
+        &rt,
+        rt.alloc(),
+        &[&STRUCTS, &STRUCT_ROWS],
+        &OF_STRUCTS,
+        want,
+    );
 }
 
 #[test]
 fn dictionaries(rt: HostRuntime) {
-    let rows: [(&str, Edits); 4] = [
+    static ROWS: [(&str, Edits); 4] = [
         ("a node of two", &[(328, &[2])]),
         ("a length of two", &[(304, &[2])]),
         ("offsets that are short", &[(376, &[15])]),
@@ -133,12 +139,12 @@ fn dictionaries(rt: HostRuntime) {
     ];
     let want = contradicted(200, "k: utf8");
     let parts: [&[u8]; 2] = [&letters::SCHEMA, &letters::ABC];
-    each_is_told(&rt, rt.alloc(), &parts, &rows, want);
+    each_is_told(&rt, rt.alloc(), &parts, &ROWS, want);
 }
 
 #[test]
 fn indices(rt: HostRuntime) {
-    let rows: [(&str, Edits); 2] = [
+    static ROWS: [(&str, Edits); 2] = [
         ("that are short", &[(568, &[11])]),
         ("a null that is not there", &[(528, &[1])]),
     ];
@@ -148,7 +154,7 @@ fn indices(rt: HostRuntime) {
     };
     let want = refused(Kind::Layout, before);
     let parts: [&[u8]; 3] = [&letters::SCHEMA, &letters::ABC, &letters::FIRST];
-    each_is_told(&rt, rt.alloc(), &parts, &rows, want);
+    each_is_told(&rt, rt.alloc(), &parts, &ROWS, want);
 }
 
 // A body is looked at when it is whole.

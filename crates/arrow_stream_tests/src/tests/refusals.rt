@@ -29,7 +29,7 @@ fn words() -> Told<'static> {
 
 #[test]
 fn a_batch_before_the_schema(rt: HostRuntime) {
-    let rows: [(&str, &[u8], Edits, Kind); 6] = [
+    static ROWS: [(&str, &[u8], Edits, Kind); 6] = [
         ("a batch", &BATCH, &[], Kind::Order),
         ("a dictionary", &letters::ABC, &[], Kind::Order),
         (
@@ -57,7 +57,7 @@ fn a_batch_before_the_schema(rt: HostRuntime) {
             Kind::Order,
         ),
     ];
-    for (what, frame, edits, kind) in rows {
+    for &(what, frame, edits, kind) in &ROWS {
         let want = refused(kind, NOTHING);
         are_told(&rt, rt.alloc(), what, &[frame], edits, want);
     }
@@ -67,7 +67,7 @@ fn a_batch_before_the_schema(rt: HostRuntime) {
 fn a_compressed_body(rt: HostRuntime) {
     let alloc = rt.alloc();
     let batch: [&[u8]; 2] = [&SCHEMA, &columns::COMPRESSED];
-    let rows: [(&str, Edits, Kind); 3] = [
+    static OF_BATCHES: [(&str, Edits, Kind); 3] = [
         ("a batch", &[], Kind::Compressed),
         (
             "body before compressed",
@@ -80,19 +80,19 @@ fn a_compressed_body(rt: HostRuntime) {
             Kind::Compressed,
         ),
     ];
-    each_is_refused(&rt, alloc, &batch, &rows, numbers());
+    each_is_refused(&rt, alloc, &batch, &OF_BATCHES, numbers());
     let dictionary: [&[u8]; 2] = [&letters::SCHEMA, &letters::COMPRESSED];
-    let rows: [(&str, Edits); 2] = [
+    static OF_DICTIONARIES: [(&str, Edits); 2] = [
         ("a dictionary", &[]),
         ("compressed before id", &[(272, &[7])]),
     ];
     let want = refused(Kind::Compressed, words());
-    each_is_told(&rt, alloc, &dictionary, &rows, want);
+    each_is_told(&rt, alloc, &dictionary, &OF_DICTIONARIES, want);
 }
 
 #[test]
 fn lengths_of_a_batch(rt: HostRuntime) {
-    let rows: [(&str, Edits, Kind); 7] = [
+    static ROWS: [(&str, Edits, Kind); 7] = [
         ("rows below 0", &[(224, &BELOW_ZERO)], Kind::Rows),
         ("2^31 rows", &[(224, &[0, 0, 0, 0x80])], Kind::Rows),
         (
@@ -113,7 +113,7 @@ fn lengths_of_a_batch(rt: HostRuntime) {
             Kind::Version,
         ),
     ];
-    each_is_refused(&rt, rt.alloc(), NUMBERS, &rows, numbers());
+    each_is_refused(&rt, rt.alloc(), NUMBERS, &ROWS, numbers());
     let lists = refused(Kind::Rows, read_to(272, "schema", "l: another type"));
     let below: Edits = &[(384, &BELOW_ZERO)];
     are_told(
@@ -128,7 +128,7 @@ fn lengths_of_a_batch(rt: HostRuntime) {
 
 #[test]
 fn lengths_of_a_dictionary(rt: HostRuntime) {
-    let rows: [(&str, &[&[u8]], Edits, Kind); 6] = [
+    static ROWS: [(&str, &[&[u8]], Edits, Kind); 6] = [
         ("values below 0", LETTERS, &[(304, &BELOW_ZERO)], Kind::Rows),
         ("a node below 0", LETTERS, &[(328, &BELOW_ZERO)], Kind::Rows),
         (
@@ -151,7 +151,7 @@ fn lengths_of_a_dictionary(rt: HostRuntime) {
             Kind::UnknownId,
         ),
     ];
-    for (what, parts, edits, kind) in rows {
+    for &(what, parts, edits, kind) in &ROWS {
         are_told(&rt, rt.alloc(), what, parts, edits, refused(kind, words()));
     }
     let groups = refused(Kind::Rows, read_to(280, "schema", "g: another type"));
@@ -201,13 +201,13 @@ fn rows_over_the_limit(rt: HostRuntime) {
 #[test]
 fn texts_that_are_none(rt: HostRuntime) {
     let alloc = rt.alloc();
-    let rows: [(&str, Edits); 3] = [
+    static ROWS: [(&str, Edits); 3] = [
         ("a byte that no text has", &[(328, &[0xff])]),
         ("half a character", &[(329, &[0xc3])]),
         ("a character of two slots", &[(328, &[0xc3, 0xa9])]),
     ];
     let want = refused(Kind::Text, read_to(136, "schema", "t: utf8"));
-    each_is_told(&rt, alloc, &[&TEXTS, &THREE_TEXTS], &rows, want);
+    each_is_told(&rt, alloc, &[&TEXTS, &THREE_TEXTS], &ROWS, want);
     let read = Told {
         rows: "3: 'a' null 'c'",
         ..read_to(336, "schema batch", "t: utf8")
@@ -235,7 +235,7 @@ fn texts_that_are_none(rt: HostRuntime) {
 // Of the faults of a body the least is told, whichever column it is of.
 #[test]
 fn two_columns(rt: HostRuntime) {
-    let rows: [(&str, Edits, Kind); 5] = [
+    static ROWS: [(&str, Edits, Kind); 5] = [
         ("an index", &[(704, &[9])], Kind::Index),
         ("a text", &[(744, &[0xff])], Kind::Text),
         (
@@ -259,14 +259,14 @@ fn two_columns(rt: HostRuntime) {
         ..read_to(480, "schema dictionary:0", "k: utf8")
     };
     let parts: [&[u8]; 3] = [&MIXED, &letters::ABC, &MIXED_ROWS];
-    each_is_refused(&rt, rt.alloc(), &parts, &rows, before);
+    each_is_refused(&rt, rt.alloc(), &parts, &ROWS, before);
 }
 
 // What the metadata decide is told before the body comes.
 #[test]
 fn the_byte_that_decides_a_refusal(rt: HostRuntime) {
     let alloc = rt.alloc();
-    let rows: [(&[&[u8]], Edits, usize, Kind, u64); 6] = [
+    static ROWS: [(&[&[u8]], Edits, usize, Kind, u64); 6] = [
         (&[&BATCH], &[], 152, Kind::Order, 0),
         (
             &[&SCHEMA, &columns::COMPRESSED],
@@ -280,7 +280,7 @@ fn the_byte_that_decides_a_refusal(rt: HostRuntime) {
         (LETTERS, &[(328, &BELOW_ZERO)], 400, Kind::Rows, 200),
         (LETTERS, &[(416, &[0xff])], 424, Kind::Text, 200),
     ];
-    for (parts, edits, count, kind, place) in rows {
+    for &(parts, edits, count, kind, place) in &ROWS {
         let bytes = stream(&rt, alloc, parts, edits);
         let fault = Fault { kind, place };
         let limits = Limits::standard();
@@ -290,7 +290,7 @@ fn the_byte_that_decides_a_refusal(rt: HostRuntime) {
 
 #[test]
 fn kinds_have_their_numbers(rt: HostRuntime) {
-    let numbers = [
+    static NUMBERED: [(Kind, u8); 13] = [
         (Kind::Continuation, 1),
         (Kind::MetadataSize, 2),
         (Kind::Header, 5),
@@ -305,7 +305,7 @@ fn kinds_have_their_numbers(rt: HostRuntime) {
         (Kind::Truncated, 18),
         (Kind::Memory, 19),
     ];
-    for (kind, number) in numbers {
+    for &(kind, number) in &NUMBERED {
         assert_eq!(rt; kind.number(), number, "{kind:?}");
     }
 }

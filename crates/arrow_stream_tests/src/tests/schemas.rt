@@ -9,7 +9,7 @@ use arrow_types::Limits;
 
 #[test]
 fn a_type_is_read(rt: HostRuntime) {
-    let rows: [(&str, Edits, &str); 7] = [
+    static ROWS: [(&str, Edits, &str); 7] = [
         ("nothing changed", &[], "n: int32"),
         ("is_signed is 0", &[(144, &[0])], "n: uint32"),
         (
@@ -22,7 +22,7 @@ fn a_type_is_read(rt: HostRuntime) {
         ("type code Utf8", &[(105, &[5])], "n: utf8"),
         ("type code Bool", &[(105, &[6])], "n: bool"),
     ];
-    for (what, edits, column) in rows {
+    for &(what, edits, column) in &ROWS {
         let want = read_to(152, "schema", column);
         are_told(&rt, rt.alloc(), what, &[&SCHEMA], edits, want);
     }
@@ -30,11 +30,11 @@ fn a_type_is_read(rt: HostRuntime) {
 
 #[test]
 fn a_name_and_nullable_are_read(rt: HostRuntime) {
-    let rows: [(&str, Edits, &str); 2] = [
+    static ROWS: [(&str, Edits, &str); 2] = [
         ("a line feed", &[(120, &[0x0a])], "\n: int32"),
         ("nullable is 0", &[(104, &[0])], "n: int32 not null"),
     ];
-    for (what, edits, column) in rows {
+    for &(what, edits, column) in &ROWS {
         let want = read_to(152, "schema", column);
         are_told(&rt, rt.alloc(), what, &[&SCHEMA], edits, want);
     }
@@ -42,7 +42,7 @@ fn a_name_and_nullable_are_read(rt: HostRuntime) {
 
 #[test]
 fn a_schema_is_refused(rt: HostRuntime) {
-    let rows: [(&str, Edits, Kind); 11] = [
+    static ROWS: [(&str, Edits, Kind); 11] = [
         (
             "a byte of the continuation",
             &[(3, &[0xfe])],
@@ -75,7 +75,7 @@ fn a_schema_is_refused(rt: HostRuntime) {
         ("type code FloatingPoint", &[(105, &[3])], Kind::Unsupported),
         ("24 bits", &[(140, &[0x18])], Kind::Schema),
     ];
-    each_is_refused(&rt, rt.alloc(), &[&SCHEMA], &rows, NOTHING);
+    each_is_refused(&rt, rt.alloc(), &[&SCHEMA], &ROWS, NOTHING);
 }
 
 #[test]
@@ -110,7 +110,7 @@ fn a_stream_without_a_schema_is_refused(rt: HostRuntime) {
 
 #[test]
 fn a_second_message_is_refused(rt: HostRuntime) {
-    let rows: [(&str, &[u8], Edits, Kind); 6] = [
+    static ROWS: [(&str, &[u8], Edits, Kind); 6] = [
         ("a second schema", &SCHEMA, &[], Kind::Order),
         ("order before type", &SCHEMA, &[(257, &[3])], Kind::Order),
         (
@@ -133,7 +133,7 @@ fn a_second_message_is_refused(rt: HostRuntime) {
             Kind::BodyLength,
         ),
     ];
-    for (what, message, edits, kind) in rows {
+    for &(what, message, edits, kind) in &ROWS {
         let want = refused(kind, read_to(152, "schema", "n: int32"));
         are_told(&rt, rt.alloc(), what, &[&SCHEMA, message], edits, want);
     }

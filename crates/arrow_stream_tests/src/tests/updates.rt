@@ -12,12 +12,12 @@ fn behind_the_schema() -> Told<'static> {
 
 #[test]
 fn an_id_that_no_column_has(rt: HostRuntime) {
-    let rows: [(&str, &[u8], Edits); 3] = [
+    static ROWS: [(&str, &[u8], Edits); 3] = [
         ("id 7", &ABC, &[(272, &[7])]),
         ("id -1", &ABC, &[(272, &[0xff; 8])]),
         ("id 2^32", &ABC, &[(276, &[1])]),
     ];
-    for (what, frame, edits) in rows {
+    for &(what, frame, edits) in &ROWS {
         let want = refused(Kind::UnknownId, behind_the_schema());
         are_told(&rt, rt.alloc(), what, &[&SCHEMA, frame], edits, want);
     }
@@ -25,12 +25,12 @@ fn an_id_that_no_column_has(rt: HostRuntime) {
 
 #[test]
 fn a_delta_without_a_base(rt: HostRuntime) {
-    let rows: [(&str, &[u8], Edits); 3] = [
+    static ROWS: [(&str, &[u8], Edits); 3] = [
         ("isDelta is 1", &DE, &[]),
         ("isDelta is 2", &DE, &[(284, &[2])]),
         ("of no values", &DE, &[(304, &[0]), (328, &[0])]),
     ];
-    for (what, frame, edits) in rows {
+    for &(what, frame, edits) in &ROWS {
         let want = refused(Kind::NoBase, behind_the_schema());
         are_told(&rt, rt.alloc(), what, &[&SCHEMA, frame], edits, want);
     }
@@ -52,13 +52,13 @@ fn the_byte_that_decides_an_update(rt: HostRuntime) {
 // Values stand behind the others, or take their place.
 #[test]
 fn values_of_a_delta(rt: HostRuntime) {
-    let rows: [(&str, Edits, &str); 4] = [
+    static ROWS: [(&str, Edits, &str); 4] = [
         ("isDelta is 1", &[], "0: 'a' 'b' 'c' 'd' 'e'"),
         ("isDelta is 2", &[(508, &[2])], "0: 'a' 'b' 'c' 'd' 'e'"),
         ("isDelta is 0", &[(508, &[0])], "0: 'd' 'e'"),
         ("no values", &[(528, &[0]), (552, &[0])], "0: 'a' 'b' 'c'"),
     ];
-    for (what, edits, dictionaries) in rows {
+    for &(what, edits, dictionaries) in &ROWS {
         let want = Told {
             dictionaries,
             ..read_to(648, "schema dictionary:0 dictionary:0", "k: utf8")
