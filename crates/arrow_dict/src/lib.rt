@@ -14,8 +14,6 @@
 
 pub mod laws;
 mod store;
-#[cfg(test)]
-mod tests;
 mod value_fields;
 
 pub use store::{Store, StoreFault};

@@ -41,10 +41,6 @@ mod message_tree;
 mod nesting;
 mod parts;
 mod reader;
-#[cfg(test)]
-mod tests;
-#[cfg(test)]
-mod vectors;
 
 pub use fault::{BatchKind, MetaFault};
 pub use judging::{decode, judge};

@@ -15,8 +15,6 @@
 mod body;
 mod columns;
 mod fault;
-#[cfg(test)]
-mod frames;
 mod held;
 mod item;
 mod kind;
@@ -26,8 +24,6 @@ mod prefix;
 mod reader;
 mod refusals;
 mod state;
-#[cfg(test)]
-mod tests;
 mod work;
 
 pub use fault::Fault;

@@ -1,14 +1,14 @@
 // Messages behind a schema that are refused, and which kind comes first.
 
 use super::telling::{
-    Edits, NOTHING, Told, are_told, first_fault, is_told, read_to, refused, stream,
+    Edits, NOTHING, Told, are_told, each_is_refused, each_is_told, first_fault, is_told, read_to,
+    refused, stream,
 };
 use crate::frames::columns::{LIST_ROWS, LISTS, TEXTS, THREE_TEXTS};
 use crate::frames::encoded::{GROUPS, MIXED, MIXED_ROWS, TWO_GROUPS};
 use crate::frames::{BATCH, SCHEMA, columns, letters};
-use crate::{Fault, Kind};
+use arrow_stream::{Fault, Kind};
 use arrow_types::Limits;
-use std::test::Fail;
 
 // Frames of a schema of numbers, and of a batch of it, or of letters, and of a dictionary.
 const NUMBERS: &[&[u8]] = &[&SCHEMA, &BATCH];
@@ -28,8 +28,8 @@ fn words() -> Told<'static> {
 }
 
 #[test]
-fn a_batch_before_the_schema(rt: HostRuntime) -> Result<(), Fail> {
-    let rows: [(&str, &[u8], Edits, Kind); 6] = [
+fn a_batch_before_the_schema(rt: HostRuntime) {
+    static ROWS: [(&str, &[u8], Edits, Kind); 6] = [
         ("a batch", &BATCH, &[], Kind::Order),
         ("a dictionary", &letters::ABC, &[], Kind::Order),
         (
@@ -57,18 +57,17 @@ fn a_batch_before_the_schema(rt: HostRuntime) -> Result<(), Fail> {
             Kind::Order,
         ),
     ];
-    for (what, frame, edits, kind) in rows {
+    for &(what, frame, edits, kind) in &ROWS {
         let want = refused(kind, NOTHING);
-        are_told(&rt, rt.alloc(), what, &[frame], edits, want)?;
+        are_told(&rt, rt.alloc(), what, &[frame], edits, want);
     }
-    Ok(())
 }
 
 #[test]
-fn a_compressed_body(rt: HostRuntime) -> Result<(), Fail> {
+fn a_compressed_body(rt: HostRuntime) {
     let alloc = rt.alloc();
     let batch: [&[u8]; 2] = [&SCHEMA, &columns::COMPRESSED];
-    let rows: [(&str, Edits, Kind); 3] = [
+    static OF_BATCHES: [(&str, Edits, Kind); 3] = [
         ("a batch", &[], Kind::Compressed),
         (
             "body before compressed",
@@ -81,24 +80,19 @@ fn a_compressed_body(rt: HostRuntime) -> Result<(), Fail> {
             Kind::Compressed,
         ),
     ];
-    for (what, edits, kind) in rows {
-        are_told(&rt, alloc, what, &batch, edits, refused(kind, numbers()))?;
-    }
+    each_is_refused(&rt, alloc, &batch, &OF_BATCHES, numbers());
     let dictionary: [&[u8]; 2] = [&letters::SCHEMA, &letters::COMPRESSED];
-    let rows: [(&str, Edits); 2] = [
+    static OF_DICTIONARIES: [(&str, Edits); 2] = [
         ("a dictionary", &[]),
         ("compressed before id", &[(272, &[7])]),
     ];
-    for (what, edits) in rows {
-        let want = refused(Kind::Compressed, words());
-        are_told(&rt, alloc, what, &dictionary, edits, want)?;
-    }
-    Ok(())
+    let want = refused(Kind::Compressed, words());
+    each_is_told(&rt, alloc, &dictionary, &OF_DICTIONARIES, want);
 }
 
 #[test]
-fn lengths_of_a_batch(rt: HostRuntime) -> Result<(), Fail> {
-    let rows: [(&str, Edits, Kind); 7] = [
+fn lengths_of_a_batch(rt: HostRuntime) {
+    static ROWS: [(&str, Edits, Kind); 7] = [
         ("rows below 0", &[(224, &BELOW_ZERO)], Kind::Rows),
         ("2^31 rows", &[(224, &[0, 0, 0, 0x80])], Kind::Rows),
         (
@@ -119,16 +113,7 @@ fn lengths_of_a_batch(rt: HostRuntime) -> Result<(), Fail> {
             Kind::Version,
         ),
     ];
-    for (what, edits, kind) in rows {
-        are_told(
-            &rt,
-            rt.alloc(),
-            what,
-            NUMBERS,
-            edits,
-            refused(kind, numbers()),
-        )?;
-    }
+    each_is_refused(&rt, rt.alloc(), NUMBERS, &ROWS, numbers());
     let lists = refused(Kind::Rows, read_to(272, "schema", "l: another type"));
     let below: Edits = &[(384, &BELOW_ZERO)];
     are_told(
@@ -138,13 +123,12 @@ fn lengths_of_a_batch(rt: HostRuntime) -> Result<(), Fail> {
         &[&LISTS, &LIST_ROWS],
         below,
         lists,
-    )?;
-    Ok(())
+    );
 }
 
 #[test]
-fn lengths_of_a_dictionary(rt: HostRuntime) -> Result<(), Fail> {
-    let rows: [(&str, &[&[u8]], Edits, Kind); 6] = [
+fn lengths_of_a_dictionary(rt: HostRuntime) {
+    static ROWS: [(&str, &[&[u8]], Edits, Kind); 6] = [
         ("values below 0", LETTERS, &[(304, &BELOW_ZERO)], Kind::Rows),
         ("a node below 0", LETTERS, &[(328, &BELOW_ZERO)], Kind::Rows),
         (
@@ -167,8 +151,8 @@ fn lengths_of_a_dictionary(rt: HostRuntime) -> Result<(), Fail> {
             Kind::UnknownId,
         ),
     ];
-    for (what, parts, edits, kind) in rows {
-        are_told(&rt, rt.alloc(), what, parts, edits, refused(kind, words()))?;
+    for &(what, parts, edits, kind) in &ROWS {
+        are_told(&rt, rt.alloc(), what, parts, edits, refused(kind, words()));
     }
     let groups = refused(Kind::Rows, read_to(280, "schema", "g: another type"));
     let below: Edits = &[(424, &BELOW_ZERO)];
@@ -179,12 +163,11 @@ fn lengths_of_a_dictionary(rt: HostRuntime) -> Result<(), Fail> {
         &[&GROUPS, &TWO_GROUPS],
         below,
         groups,
-    )?;
-    Ok(())
+    );
 }
 
 #[test]
-fn rows_over_the_limit(rt: HostRuntime) -> Result<(), Fail> {
+fn rows_over_the_limit(rt: HostRuntime) {
     let alloc = rt.alloc();
     let batch = Told {
         rows: "3: 1 null 3",
@@ -207,27 +190,24 @@ fn rows_over_the_limit(rt: HostRuntime) -> Result<(), Fail> {
             refused(Kind::Rows, words()),
         ),
     ] {
-        let limits = Limits::new(1000, 1000, max_rows).ok_or("within the ceilings")?;
-        let bytes = stream(alloc, NUMBERS, &[])?;
-        is_told(&rt, alloc, "a batch", limits, &bytes, batch)?;
-        let bytes = stream(alloc, LETTERS, &[])?;
-        is_told(&rt, alloc, "a dictionary", limits, &bytes, dictionary)?;
+        let limits = Limits::new(1000, 1000, max_rows).expect(&rt, "within the ceilings");
+        let bytes = stream(&rt, alloc, NUMBERS, &[]);
+        is_told(&rt, alloc, "a batch", limits, &bytes, batch);
+        let bytes = stream(&rt, alloc, LETTERS, &[]);
+        is_told(&rt, alloc, "a dictionary", limits, &bytes, dictionary);
     }
-    Ok(())
 }
 
 #[test]
-fn texts_that_are_none(rt: HostRuntime) -> Result<(), Fail> {
+fn texts_that_are_none(rt: HostRuntime) {
     let alloc = rt.alloc();
-    let rows: [(&str, Edits); 3] = [
+    static ROWS: [(&str, Edits); 3] = [
         ("a byte that no text has", &[(328, &[0xff])]),
         ("half a character", &[(329, &[0xc3])]),
         ("a character of two slots", &[(328, &[0xc3, 0xa9])]),
     ];
-    for (what, edits) in rows {
-        let want = refused(Kind::Text, read_to(136, "schema", "t: utf8"));
-        are_told(&rt, alloc, what, &[&TEXTS, &THREE_TEXTS], edits, want)?;
-    }
+    let want = refused(Kind::Text, read_to(136, "schema", "t: utf8"));
+    each_is_told(&rt, alloc, &[&TEXTS, &THREE_TEXTS], &ROWS, want);
     let read = Told {
         rows: "3: 'a' null 'c'",
         ..read_to(336, "schema batch", "t: utf8")
@@ -240,7 +220,7 @@ fn texts_that_are_none(rt: HostRuntime) -> Result<(), Fail> {
         &[&TEXTS, &THREE_TEXTS],
         hidden,
         read,
-    )?;
+    );
     let want = refused(Kind::Text, words());
     are_told(
         &rt,
@@ -249,14 +229,13 @@ fn texts_that_are_none(rt: HostRuntime) -> Result<(), Fail> {
         LETTERS,
         &[(416, &[0xff])],
         want,
-    )?;
-    Ok(())
+    );
 }
 
 // Of the faults of a body the least is told, whichever column it is of.
 #[test]
-fn two_columns(rt: HostRuntime) -> Result<(), Fail> {
-    let rows: [(&str, Edits, Kind); 5] = [
+fn two_columns(rt: HostRuntime) {
+    static ROWS: [(&str, Edits, Kind); 5] = [
         ("an index", &[(704, &[9])], Kind::Index),
         ("a text", &[(744, &[0xff])], Kind::Text),
         (
@@ -275,22 +254,19 @@ fn two_columns(rt: HostRuntime) -> Result<(), Fail> {
             Kind::Layout,
         ),
     ];
-    for (what, edits, kind) in rows {
-        let before = Told {
-            dictionaries: "0: 'a' 'b' 'c'",
-            ..read_to(480, "schema dictionary:0", "k: utf8")
-        };
-        let parts: [&[u8]; 3] = [&MIXED, &letters::ABC, &MIXED_ROWS];
-        are_told(&rt, rt.alloc(), what, &parts, edits, refused(kind, before))?;
-    }
-    Ok(())
+    let before = Told {
+        dictionaries: "0: 'a' 'b' 'c'",
+        ..read_to(480, "schema dictionary:0", "k: utf8")
+    };
+    let parts: [&[u8]; 3] = [&MIXED, &letters::ABC, &MIXED_ROWS];
+    each_is_refused(&rt, rt.alloc(), &parts, &ROWS, before);
 }
 
 // What the metadata decide is told before the body comes.
 #[test]
-fn the_byte_that_decides_a_refusal(rt: HostRuntime) -> Result<(), Fail> {
+fn the_byte_that_decides_a_refusal(rt: HostRuntime) {
     let alloc = rt.alloc();
-    let rows: [(&[&[u8]], Edits, usize, Kind, u64); 6] = [
+    static ROWS: [(&[&[u8]], Edits, usize, Kind, u64); 6] = [
         (&[&BATCH], &[], 152, Kind::Order, 0),
         (
             &[&SCHEMA, &columns::COMPRESSED],
@@ -304,18 +280,17 @@ fn the_byte_that_decides_a_refusal(rt: HostRuntime) -> Result<(), Fail> {
         (LETTERS, &[(328, &BELOW_ZERO)], 400, Kind::Rows, 200),
         (LETTERS, &[(416, &[0xff])], 424, Kind::Text, 200),
     ];
-    for (parts, edits, count, kind, place) in rows {
-        let bytes = stream(alloc, parts, edits)?;
+    for &(parts, edits, count, kind, place) in &ROWS {
+        let bytes = stream(&rt, alloc, parts, edits);
         let fault = Fault { kind, place };
         let limits = Limits::standard();
         assert_eq!(rt; first_fault(alloc, limits, &bytes), Some((count, fault)));
     }
-    Ok(())
 }
 
 #[test]
 fn kinds_have_their_numbers(rt: HostRuntime) {
-    let numbers = [
+    static NUMBERED: [(Kind, u8); 13] = [
         (Kind::Continuation, 1),
         (Kind::MetadataSize, 2),
         (Kind::Header, 5),
@@ -330,7 +305,7 @@ fn kinds_have_their_numbers(rt: HostRuntime) {
         (Kind::Truncated, 18),
         (Kind::Memory, 19),
     ];
-    for (kind, number) in numbers {
+    for &(kind, number) in &NUMBERED {
         assert_eq!(rt; kind.number(), number, "{kind:?}");
     }
 }

@@ -1,15 +1,7 @@
 // What a store has for an id, and in which order.
 
-use super::making::{dictionary, number, numbers};
-use crate::{Store, StoreFault};
-use std::alloc::Global;
-use std::test::Fail;
-
-// Takes a dictionary of one number for the id.
-fn put(alloc: Global, store: &mut Store, id: i64, value: u8) -> Result<(), Fail> {
-    store.replace(id, dictionary(alloc, numbers(alloc, &[value])?)?)?;
-    Ok(())
-}
+use super::making::{held, number, put_numbers};
+use arrow_dict::{Store, StoreFault};
 
 // The first number of the id's dictionary.
 fn first(store: &Store, id: i64) -> Option<i128> {
@@ -26,28 +18,27 @@ fn a_new_store_has_nothing(rt: HostRuntime) {
 }
 
 #[test]
-fn what_is_replaced_is_what_is_got(rt: HostRuntime) -> Result<(), Fail> {
+fn what_is_replaced_is_what_is_got(rt: HostRuntime) {
     let alloc = rt.alloc();
     let mut store = Store::new(alloc);
-    put(alloc, &mut store, 7, 70)?;
-    put(alloc, &mut store, 8, 80)?;
+    put_numbers(&rt, alloc, &mut store, 7, &[70]);
+    put_numbers(&rt, alloc, &mut store, 8, &[80]);
     assert_eq!(rt; first(&store, 7), Some(70));
-    store.replace(7, dictionary(alloc, numbers(alloc, &[71, 72])?)?)?;
+    put_numbers(&rt, alloc, &mut store, 7, &[71, 72]);
     assert_eq!(rt; first(&store, 7), Some(71));
-    assert_eq!(rt; store.get(7).ok_or("it is there")?.len(), 2);
+    assert_eq!(rt; held(&rt, &store, 7).len(), 2);
     assert_eq!(rt; first(&store, 8), Some(80));
     assert_eq!(rt; first(&store, 9), None);
     assert_eq!(rt; store.entries().len(), 2);
-    Ok(())
 }
 
 #[test]
-fn ids_far_apart(rt: HostRuntime) -> Result<(), Fail> {
+fn ids_far_apart(rt: HostRuntime) {
     let alloc = rt.alloc();
     let mut store = Store::new(alloc);
     let ids = [i64::MAX, -1, 0, i64::MIN, 4294967296, 1, -4294967296];
     for (k, id) in ids.iter().enumerate() {
-        put(alloc, &mut store, *id, k as u8)?;
+        put_numbers(&rt, alloc, &mut store, *id, &[k as u8]);
     }
     for (k, id) in ids.iter().enumerate() {
         assert_eq!(rt; first(&store, *id), Some(k as i128), "of {id}");
@@ -60,12 +51,11 @@ fn ids_far_apart(rt: HostRuntime) -> Result<(), Fail> {
         assert_eq!(rt; entry.0, *want);
     }
     assert_eq!(rt; store.entries().len(), rising.len());
-    Ok(())
 }
 
 // Ids are in order, whatever the order in which they came.
 #[test]
-fn every_order_of_three_ids(rt: HostRuntime) -> Result<(), Fail> {
+fn every_order_of_three_ids(rt: HostRuntime) {
     let alloc = rt.alloc();
     for ids in [
         [-5, 3, 9],
@@ -77,7 +67,7 @@ fn every_order_of_three_ids(rt: HostRuntime) -> Result<(), Fail> {
     ] {
         let mut store = Store::new(alloc);
         for id in ids {
-            put(alloc, &mut store, id, (id + 5) as u8)?;
+            put_numbers(&rt, alloc, &mut store, id, &[(id + 5) as u8]);
         }
         assert_eq!(rt; store.entries().len(), 3);
         for (entry, want) in store.entries().iter().zip([-5, 3, 9].iter()) {
@@ -85,25 +75,23 @@ fn every_order_of_three_ids(rt: HostRuntime) -> Result<(), Fail> {
             assert_eq!(rt; number(&entry.1, 0), Some((*want + 5) as i128));
         }
     }
-    Ok(())
 }
 
 #[test]
-fn a_cleared_store_begins_anew(rt: HostRuntime) -> Result<(), Fail> {
+fn a_cleared_store_begins_anew(rt: HostRuntime) {
     let alloc = rt.alloc();
     let mut store = Store::new(alloc);
-    put(alloc, &mut store, 7, 70)?;
-    put(alloc, &mut store, 8, 80)?;
+    put_numbers(&rt, alloc, &mut store, 7, &[70]);
+    put_numbers(&rt, alloc, &mut store, 8, &[80]);
     store.clear();
     assert!(rt; store.entries().is_empty());
     assert!(rt; store.get(7).is_none());
-    put(alloc, &mut store, 8, 81)?;
+    put_numbers(&rt, alloc, &mut store, 8, &[81]);
     assert_eq!(rt; first(&store, 8), Some(81));
-    Ok(())
 }
 
 #[test]
-fn faults_are_told(rt: HostRuntime) -> Result<(), Fail> {
+fn faults_are_told(rt: HostRuntime) {
     for (fault, number, text) in [
         (StoreFault::NoBase, 1, "no dictionary to append to"),
         (
@@ -114,7 +102,7 @@ fn faults_are_told(rt: HostRuntime) -> Result<(), Fail> {
         (StoreFault::Memory, 3, "out of memory"),
     ] {
         assert_eq!(rt; fault.number(), number);
-        assert_eq!(rt; format!(in rt.alloc(); "{fault}")?.as_str(), text);
+        let told = format!(in rt.alloc(); "{fault}").expect(&rt, "memory");
+        assert_eq!(rt; told.as_str(), text);
     }
-    Ok(())
 }

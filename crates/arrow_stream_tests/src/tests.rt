@@ -16,7 +16,7 @@ mod telling;
 mod updates;
 mod values;
 
-use crate::laws;
+use arrow_stream::laws;
 
 #[test]
 fn the_laws_can_be_called() {

@@ -8,15 +8,13 @@ ghost use Rattle.arrow_array.specs.Column.{ValueList};
 ghost use Rattle.arrow_array.specs.Layout.{IsText, buffer_count};
 ghost use Rattle.arrow_array.specs.Listed.{listed};
 
-use crate::{Store, StoreFault};
 use arrow_array::layout::is_laid;
 use arrow_array::{Array, ByteRange, Dictionary};
+use arrow_dict::{Store, StoreFault};
 use arrow_types::{BitWidth, DataType, Field};
 use bytes::Bytes;
-use std::alloc::{AllocError, Global};
-use std::test::Fail;
-
-pub(super) const NO_COLUMN: &str = "the parts are as they should be";
+use std::alloc::Global;
+use std::process::Abort;
 
 // Signed numbers of 8 bits.
 pub(super) fn int8() -> DataType {
@@ -58,45 +56,42 @@ fn is_simple(data_type: &DataType) -> bool
 }
 
 // A column of `len` slots without nulls.
-fn column(
-    alloc: Global,
-    data_type: DataType,
-    len: usize,
-    bytes: &[u8],
-) -> Result<Option<Array>, AllocError> {
+fn column(rt: &impl Abort, alloc: Global, data_type: DataType, len: usize, bytes: &[u8]) -> Array {
     let field = field(alloc, data_type);
-    let body = Bytes::copy_from_slice(alloc, bytes)?;
+    let body = Bytes::copy_from_slice(alloc, bytes).expect(rt, "memory");
     let range = ByteRange {
         start: 0,
         end: bytes.len(),
     };
     let buffers = [ByteRange::EMPTY, range];
-    if len > 2147483647
-        || !is_simple(&field.data_type)
-        || !is_laid(&field.data_type, None, len, body.as_slice(), &buffers, &[])
-    {
-        return Ok(None);
-    }
-    let column = Array::from_parts(alloc, &field, len, &body, &buffers, Vec::new(alloc), None)?;
-    Ok(Some(column))
+    assert!(rt; len <= 2147483647);
+    assert!(rt; is_simple(&field.data_type));
+    assert!(rt; is_laid(&field.data_type, None, len, body.as_slice(), &buffers, &[]));
+    let children = Vec::new(alloc);
+    Array::from_parts(alloc, &field, len, &body, &buffers, children, None).expect(rt, "memory")
 }
 
 // Numbers of 8 bits.
-pub(super) fn numbers(alloc: Global, numbers: &[u8]) -> Result<Array, Fail> {
-    Ok(column(alloc, int8(), numbers.len(), numbers)?.ok_or(NO_COLUMN)?)
+fn numbers(rt: &impl Abort, alloc: Global, numbers: &[u8]) -> Array {
+    column(rt, alloc, int8(), numbers.len(), numbers)
 }
 
 // Nulls, which lie in no body.
-pub(super) fn nulls(alloc: Global, len: usize) -> Result<Array, Fail> {
-    Ok(column(alloc, DataType::Null, len, &[])?.ok_or(NO_COLUMN)?)
+pub(super) fn nulls(rt: &impl Abort, alloc: Global, len: usize) -> Array {
+    column(rt, alloc, DataType::Null, len, &[])
 }
 
-// The dictionary of the values of a column.
-pub(super) fn dictionary(alloc: Global, values: Array) -> Result<Dictionary, Fail> {
-    if values.encoding().is_some() || values.data_type().has_encoding_below() {
-        return Err(Fail::from(NO_COLUMN));
-    }
-    Ok(Dictionary::from_array(alloc, values)?)
+// Takes a dictionary of the values of a column for the id.
+pub(super) fn put(rt: &impl Abort, alloc: Global, store: &mut Store, id: i64, values: Array) {
+    assert!(rt; values.encoding().is_none());
+    assert!(rt; !values.data_type().has_encoding_below());
+    let dictionary = Dictionary::from_array(alloc, values).expect(rt, "memory");
+    store.replace(id, dictionary).expect(rt, "memory");
+}
+
+// Takes a dictionary of numbers for the id.
+pub(super) fn put_numbers(rt: &impl Abort, alloc: Global, store: &mut Store, id: i64, of: &[u8]) {
+    put(rt, alloc, store, id, numbers(rt, alloc, of));
 }
 
 // Whether values may be appended to what the id has.
@@ -114,15 +109,30 @@ fn may_append(store: &Store, id: i64, values: &Array) -> bool
 
 // The fault of values that are appended, if there is one.
 pub(super) fn appended(
+    rt: &impl Abort,
     alloc: Global,
     store: &mut Store,
     id: i64,
     values: Array,
-) -> Result<Option<StoreFault>, Fail> {
-    if !may_append(store, id, &values) {
-        return Err(Fail::from(NO_COLUMN));
-    }
-    Ok(store.append(alloc, id, values).err())
+) -> Option<StoreFault> {
+    assert!(rt; may_append(store, id, &values));
+    store.append(alloc, id, values).err()
+}
+
+// The fault of numbers that are appended, if there is one.
+pub(super) fn appended_numbers(
+    rt: &impl Abort,
+    alloc: Global,
+    store: &mut Store,
+    id: i64,
+    more: &[u8],
+) -> Option<StoreFault> {
+    appended(rt, alloc, store, id, numbers(rt, alloc, more))
+}
+
+// The dictionary of an id that has one.
+pub(super) fn held<'a>(rt: &impl Abort, store: &'a Store, id: i64) -> &'a Dictionary {
+    store.get(id).expect(rt, "it is there")
 }
 
 // The number that value `i` is.

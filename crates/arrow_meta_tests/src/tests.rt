@@ -3,25 +3,25 @@
 //! A row changes bytes of a metadata at places counted from its first byte.
 
 use crate::vectors::{FOUR_FIELDS, LETTERS, NESTED, ONE_BATCH, ONE_FIELD, SHARED_ID};
-use crate::{BatchKind, Header, Message, MetaFault, decode, judge, laws, tree};
+use arrow_meta::{BatchKind, Header, Message, MetaFault, decode, judge, laws, tree};
 use arrow_types::{
     BitWidth, Buffer, DataType, DateUnit, Encoding, Field, FieldNode, IndexType, Limits, Schema,
     TimeUnit,
 };
-use std::alloc::{AllocError, Global};
-use std::test::Fail;
+use std::alloc::Global;
+use std::process::Abort;
 
 type Edits = &'static [(usize, u8)];
 
 /// The bytes with some changed.
-fn edited(alloc: Global, bytes: &[u8], edits: &[(usize, u8)]) -> Result<Vec<u8>, AllocError> {
-    let mut edited = Vec::from_slice(alloc, bytes)?;
+fn edited(rt: &impl Abort, alloc: Global, bytes: &[u8], edits: &[(usize, u8)]) -> Vec<u8> {
+    let mut edited = Vec::from_slice(alloc, bytes).expect(rt, "memory");
     for (place, byte) in edits {
         if let Some(old) = edited.get_mut(*place) {
             *old = *byte;
         }
     }
-    Ok(edited)
+    edited
 }
 
 fn fault_in(alloc: Global, bytes: &[u8], limits: &Limits) -> Option<MetaFault> {
@@ -63,7 +63,7 @@ const COMPRESSED: Option<MetaFault> = Some(MetaFault::Compressed {
     body_len: 24,
 });
 
-const FAULTS: [(&str, &[u8], Edits, Option<MetaFault>); 50] = [
+static FAULTS: [(&str, &[u8], Edits, Option<MetaFault>); 50] = [
     ("nothing changed", ONE_FIELD, &[], None),
     (
         "a name that is not UTF-8",
@@ -265,12 +265,12 @@ const FAULTS: [(&str, &[u8], Edits, Option<MetaFault>); 50] = [
 ];
 
 #[test]
-fn the_least_fault_is_answered(rt: HostRuntime) -> Result<(), Fail> {
-    for (name, bytes, edits, fault) in FAULTS {
-        let bytes = edited(rt.alloc(), bytes, edits)?;
+fn the_least_fault_is_answered(rt: HostRuntime) {
+    for (name, bytes, edits, fault) in &FAULTS {
+        let bytes = edited(&rt, rt.alloc(), bytes, edits);
         assert_eq!(rt;
             fault_in(rt.alloc(), &bytes, &Limits::standard()),
-            fault,
+            *fault,
             "{name}"
         );
     }
@@ -299,39 +299,34 @@ fn the_least_fault_is_answered(rt: HostRuntime) -> Result<(), Fail> {
     for i in 0..8 {
         assert_eq!(rt; faults[i].number(), numbers[i]);
     }
-    Ok(())
 }
 
-fn field(
-    alloc: Global,
-    name: &str,
-    nullable: bool,
-    data_type: DataType,
-) -> Result<Field, AllocError> {
-    Ok(Field {
-        name: String::from_str(alloc, name)?,
+fn field(rt: &impl Abort, alloc: Global, name: &str, nullable: bool, data_type: DataType) -> Field {
+    Field {
+        name: String::from_str(alloc, name).expect(rt, "memory"),
         nullable,
         data_type,
         dictionary: None,
-    })
+    }
 }
 
 /// Whether the one-field schema with some bytes changed has this field.
 fn has_column(
+    rt: &impl Abort,
     alloc: Global,
     edits: &[(usize, u8)],
     name: &str,
     nullable: bool,
     data_type: DataType,
-) -> Result<bool, AllocError> {
-    let bytes = edited(alloc, ONE_FIELD, edits)?;
-    let column = field(alloc, name, nullable, data_type)?;
-    let Some(schema) = schema_in(alloc, &bytes) else {
-        return Ok(false);
-    };
-    match schema.fields().first() {
-        Some(first) => Ok(schema.fields().len() == 1 && *first == column),
-        None => Ok(false),
+) -> bool {
+    let bytes = edited(rt, alloc, ONE_FIELD, edits);
+    let column = field(rt, alloc, name, nullable, data_type);
+    match schema_in(alloc, &bytes) {
+        Some(schema) => match schema.fields() {
+            [only] => *only == column,
+            _ => false,
+        },
+        None => false,
     }
 }
 
@@ -346,7 +341,7 @@ const UINT32: DataType = DataType::Int {
 };
 
 #[test]
-fn a_type_without_a_unit_is_read(rt: HostRuntime) -> Result<(), Fail> {
+fn a_type_without_a_unit_is_read(rt: HostRuntime) {
     let alloc = rt.alloc();
     let rows: [(Edits, DataType); 12] = [
         (&[], INT32),
@@ -363,14 +358,13 @@ fn a_type_without_a_unit_is_read(rt: HostRuntime) -> Result<(), Fail> {
         (&[(97, 13)], DataType::Struct(Vec::new(alloc))),
     ];
     for (edits, data_type) in rows {
-        let held = has_column(alloc, edits, "n", true, data_type)?;
+        let held = has_column(&rt, alloc, edits, "n", true, data_type);
         assert!(rt; held, "{edits:?}");
     }
-    Ok(())
 }
 
 #[test]
-fn a_type_with_a_unit_is_read(rt: HostRuntime) -> Result<(), Fail> {
+fn a_type_with_a_unit_is_read(rt: HostRuntime) {
     let alloc = rt.alloc();
     let rows: [(Edits, DataType); 8] = [
         (&[(97, 8), (118, 0)], DataType::Date(DateUnit::Millisecond)),
@@ -398,34 +392,32 @@ fn a_type_with_a_unit_is_read(rt: HostRuntime) -> Result<(), Fail> {
         ),
     ];
     for (edits, data_type) in rows {
-        let held = has_column(alloc, edits, "n", true, data_type)?;
+        let held = has_column(&rt, alloc, edits, "n", true, data_type);
         assert!(rt; held, "{edits:?}");
     }
-    Ok(())
 }
 
 #[test]
-fn absent_parts_have_their_defaults(rt: HostRuntime) -> Result<(), Fail> {
+fn absent_parts_have_their_defaults(rt: HostRuntime) {
     let alloc = rt.alloc();
-    assert!(rt; has_column(alloc, &[(96, 0)], "n", false, INT32)?);
-    assert!(rt; has_column(alloc, &[(74, 0)], "n", false, INT32)?);
-    assert!(rt; has_column(alloc, &[(112, 10)], "\n", true, INT32)?);
-    assert!(rt; has_column(alloc, &[(72, 0)], "", true, INT32)?);
-    assert!(rt; has_column(alloc, &[(82, 0)], "n", true, INT32)?);
-    let bytes = edited(alloc, ONE_FIELD, &[(46, 0)])?;
+    assert!(rt; has_column(&rt, alloc, &[(96, 0)], "n", false, INT32));
+    assert!(rt; has_column(&rt, alloc, &[(74, 0)], "n", false, INT32));
+    assert!(rt; has_column(&rt, alloc, &[(112, 10)], "\n", true, INT32));
+    assert!(rt; has_column(&rt, alloc, &[(72, 0)], "", true, INT32));
+    assert!(rt; has_column(&rt, alloc, &[(82, 0)], "n", true, INT32));
+    let bytes = edited(&rt, alloc, ONE_FIELD, &[(46, 0)]);
     assert_eq!(rt;
         schema_in(alloc, &bytes).map(|schema| schema.fields().len()),
         Some(0)
     );
-    let bytes = edited(alloc, ONE_FIELD, &[(32, 8)])?;
+    let bytes = edited(&rt, alloc, ONE_FIELD, &[(32, 8)]);
     assert_eq!(rt; body_len_in(alloc, &bytes), Some(8));
     laws::one_meaning();
     laws::one_answer();
-    Ok(())
 }
 
-fn four_fields(alloc: Global) -> Result<Vec<Field>, AllocError> {
-    let mut key = field(alloc, "k", true, DataType::Utf8)?;
+fn four_fields(rt: &impl Abort, alloc: Global) -> Vec<Field> {
+    let mut key = field(rt, alloc, "k", true, DataType::Utf8);
     key.dictionary = Some(Encoding {
         id: 0,
         index: IndexType {
@@ -434,33 +426,37 @@ fn four_fields(alloc: Global) -> Result<Vec<Field>, AllocError> {
         },
         ordered: false,
     });
-    let item = field(alloc, "item", true, INT32)?;
-    let list = field(alloc, "l", false, DataType::List(Box::new(alloc, item)?))?;
+    let item = Box::new(alloc, field(rt, alloc, "item", true, INT32)).expect(rt, "memory");
     let byte = DataType::Int {
         bits: BitWidth::Eight,
         signed: false,
     };
     let mut members = Vec::new(alloc);
-    members.push(field(alloc, "m", false, byte)?)?;
-    let zone = Some(String::from_str(alloc, "UTC")?);
-    let time = DataType::Timestamp(TimeUnit::Microsecond, zone);
+    let member = field(rt, alloc, "m", false, byte);
+    members.push(member).expect(rt, "memory");
+    let zone = String::from_str(alloc, "UTC").expect(rt, "memory");
+    let time = DataType::Timestamp(TimeUnit::Microsecond, Some(zone));
     let mut fields = Vec::new(alloc);
-    fields.push(key)?;
-    fields.push(list)?;
-    fields.push(field(alloc, "s", true, DataType::Struct(members))?)?;
-    fields.push(field(alloc, "t", true, time)?)?;
-    Ok(fields)
+    for column in [
+        key,
+        field(rt, alloc, "l", false, DataType::List(item)),
+        field(rt, alloc, "s", true, DataType::Struct(members)),
+        field(rt, alloc, "t", true, time),
+    ] {
+        fields.push(column).expect(rt, "memory");
+    }
+    fields
 }
 
 #[test]
-fn children_and_dictionaries_are_read(rt: HostRuntime) -> Result<(), Fail> {
+fn children_and_dictionaries_are_read(rt: HostRuntime) {
     let alloc = rt.alloc();
-    let four = schema_in(alloc, FOUR_FIELDS).ok_or("four fields are refused")?;
-    assert!(rt; *four.fields() == *four_fields(alloc)?);
+    let four = schema_in(alloc, FOUR_FIELDS).expect(&rt, "four fields");
+    assert!(rt; *four.fields() == *four_fields(&rt, alloc));
     // one type for the id: both fields Utf8, the second one's index type absent, then its dictionary ordered
     let edits = [(217, 5), (258, 0), (284, 1), (279, 0xff)];
-    let bytes = edited(alloc, SHARED_ID, &edits[..3])?;
-    let shared = schema_in(alloc, &bytes).ok_or("a shared id is refused")?;
+    let bytes = edited(&rt, alloc, SHARED_ID, &edits[..3]);
+    let shared = schema_in(alloc, &bytes).expect(&rt, "a shared id");
     assert_eq!(rt; shared.dictionary_ids(), [7].as_slice());
     let index = |bits| IndexType { bits, signed: true };
     let encodings = [
@@ -481,25 +477,24 @@ fn children_and_dictionaries_are_read(rt: HostRuntime) -> Result<(), Fail> {
             Some(encodings[i])
         );
     }
-    let bytes = edited(alloc, SHARED_ID, &edits)?;
-    let apart = schema_in(alloc, &bytes).ok_or("two ids are refused")?;
+    let bytes = edited(&rt, alloc, SHARED_ID, &edits);
+    let apart = schema_in(alloc, &bytes).expect(&rt, "two ids");
     assert_eq!(rt;
         apart.dictionary_ids(),
         [7, -72_057_594_037_927_929].as_slice()
     );
-    Ok(())
 }
 
 #[test]
-fn record_batches_are_read(rt: HostRuntime) -> Result<(), Fail> {
+fn record_batches_are_read(rt: HostRuntime) {
     let alloc = rt.alloc();
     let limits = Limits::standard();
-    let tree = tree(alloc, ONE_BATCH, &limits).map_err(|_| "a record batch has no tree")?;
+    let tree = tree(alloc, ONE_BATCH, &limits).expect(&rt, "a tree");
     assert!(rt; !tree.is_schema());
-    let message = judge(alloc, tree, &limits).map_err(|_| "a record batch is refused")?;
+    let message = judge(alloc, tree, &limits).expect(&rt, "a record batch");
     assert_eq!(rt; (message.version, message.body_len), (4, 24));
     let Header::Batch(batch) = message.header else {
-        return Err("no record batch".into());
+        panic!(rt; "no record batch");
     };
     assert_eq!(rt; batch.length, 3);
     let nodes = [FieldNode {
@@ -518,11 +513,10 @@ fn record_batches_are_read(rt: HostRuntime) -> Result<(), Fail> {
         },
     ];
     assert_eq!(rt; batch.buffers.as_slice(), buffers.as_slice());
-    Ok(())
 }
 
 #[test]
-fn dictionary_batches_are_read(rt: HostRuntime) -> Result<(), Fail> {
+fn dictionary_batches_are_read(rt: HostRuntime) {
     let alloc = rt.alloc();
     let limits = Limits::standard();
     for (edits, id, delta) in [
@@ -530,10 +524,10 @@ fn dictionary_batches_are_read(rt: HostRuntime) -> Result<(), Fail> {
         (&[(76, 1)], 0, true),
         (&[(76, 2), (71, 0x80)], i64::MIN, true),
     ] {
-        let bytes = edited(alloc, LETTERS, edits)?;
-        let message = decode(alloc, &bytes, &limits).map_err(|_| "a dictionary is refused")?;
+        let bytes = edited(&rt, alloc, LETTERS, edits);
+        let message = decode(alloc, &bytes, &limits).expect(&rt, "a dictionary");
         let Header::Dictionary(got_id, got_delta, values) = message.header else {
-            return Err("no dictionary batch".into());
+            panic!(rt; "no dictionary batch");
         };
         assert_eq!(rt; (got_id, got_delta, values.length), (id, delta, 3));
         assert_eq!(rt; (values.nodes.len(), values.buffers.len()), (1, 3));
@@ -545,29 +539,34 @@ fn dictionary_batches_are_read(rt: HostRuntime) -> Result<(), Fail> {
             }
         );
     }
-    Ok(())
+}
+
+// Puts bytes behind the others.
+fn push(rt: &impl Abort, bytes: &mut Vec<u8>, more: &[u8]) {
+    bytes.extend_from_slice(more).expect(rt, "memory");
 }
 
 /// A schema of one column: structs nested `depth` deep. Each but the lowest has a vector of `width` children that
 /// are one and the same table.
-fn shared_fields(alloc: Global, depth: u32, width: u8) -> Result<Vec<u8>, AllocError> {
-    let mut bytes = Vec::from_slice(alloc, &ONE_FIELD[..68])?;
+fn shared_fields(rt: &impl Abort, alloc: Global, depth: u32, width: u8) -> Vec<u8> {
+    let mut bytes = edited(rt, alloc, &ONE_FIELD[..68], &[]);
     // the vtable of all fields, with type code and children; the first field stands at 88
-    bytes.extend_from_slice(b"\x10\0\x0c\0\0\0\0\0\x04\0\0\0\0\0\x08\0\0\0\0\0")?;
+    let vtable = b"\x10\0\x0c\0\0\0\0\0\x04\0\0\0\0\0\x08\0\0\0\0\0";
+    push(rt, &mut bytes, vtable);
     let mut back: u32 = 20;
     for level in 0..depth {
-        bytes.extend_from_slice(&back.to_le_bytes())?;
-        bytes.extend_from_slice(b"\x0d\0\0\0\x04\0\0\0")?;
+        push(rt, &mut bytes, &back.to_le_bytes());
+        push(rt, &mut bytes, b"\x0d\0\0\0\x04\0\0\0");
         let children = if level + 1 < depth { width } else { 0 };
-        bytes.extend_from_slice(&[children, 0, 0, 0])?;
-        bytes.extend_from_slice(b"\x08\0\0\0\x04\0\0\0")?;
+        push(rt, &mut bytes, &[children, 0, 0, 0]);
+        push(rt, &mut bytes, b"\x08\0\0\0\x04\0\0\0");
         back = back.wrapping_add(24);
     }
-    Ok(bytes)
+    bytes
 }
 
 #[test]
-fn each_visit_counts(rt: HostRuntime) -> Result<(), Fail> {
+fn each_visit_counts(rt: HostRuntime) {
     let alloc = rt.alloc();
     let limits = Limits::standard();
     for (depth, width, fault) in [
@@ -576,20 +575,19 @@ fn each_visit_counts(rt: HostRuntime) -> Result<(), Fail> {
         (32, 1, None),
         (33, 1, METADATA),
     ] {
-        let bytes = shared_fields(alloc, depth, width)?;
+        let bytes = shared_fields(&rt, alloc, depth, width);
         assert_eq!(rt; fault_in(alloc, &bytes, &limits), fault, "{depth} {width}");
     }
     // names and a zone of 12 bytes together
     for (most, fault) in [(12, None), (11, METADATA)] {
-        let limits = Limits::new(most, 0, 0).ok_or("no limits")?;
+        let limits = Limits::new(most, 0, 0).expect(&rt, "limits");
         assert_eq!(rt; fault_in(alloc, FOUR_FIELDS, &limits), fault, "{most}");
     }
-    let limits = Limits::new(1, 23, 0).ok_or("no limits")?;
+    let limits = Limits::new(1, 23, 0).expect(&rt, "limits");
     assert_eq!(rt;
         fault_in(alloc, ONE_BATCH, &limits),
         Some(MetaFault::BodyLength)
     );
-    Ok(())
 }
 
 // With one growth refused, whichever it is, the fault is Memory, and the same call succeeds after it.

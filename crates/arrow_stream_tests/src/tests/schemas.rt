@@ -1,14 +1,15 @@
 // Schema messages, and what stands in their place.
 
-use super::telling::{Edits, NOTHING, Told, are_told, cut_off, is_told, read_to, refused, stream};
-use crate::Kind;
+use super::telling::{
+    Edits, NOTHING, Told, are_told, cut_off, each_is_refused, is_told, read_to, refused, stream,
+};
 use crate::frames::{BATCH, END_MARKER, SCHEMA};
+use arrow_stream::Kind;
 use arrow_types::Limits;
-use std::test::Fail;
 
 #[test]
-fn a_type_is_read(rt: HostRuntime) -> Result<(), Fail> {
-    let rows: [(&str, Edits, &str); 7] = [
+fn a_type_is_read(rt: HostRuntime) {
+    static ROWS: [(&str, Edits, &str); 7] = [
         ("nothing changed", &[], "n: int32"),
         ("is_signed is 0", &[(144, &[0])], "n: uint32"),
         (
@@ -21,29 +22,27 @@ fn a_type_is_read(rt: HostRuntime) -> Result<(), Fail> {
         ("type code Utf8", &[(105, &[5])], "n: utf8"),
         ("type code Bool", &[(105, &[6])], "n: bool"),
     ];
-    for (what, edits, column) in rows {
+    for &(what, edits, column) in &ROWS {
         let want = read_to(152, "schema", column);
-        are_told(&rt, rt.alloc(), what, &[&SCHEMA], edits, want)?;
+        are_told(&rt, rt.alloc(), what, &[&SCHEMA], edits, want);
     }
-    Ok(())
 }
 
 #[test]
-fn a_name_and_nullable_are_read(rt: HostRuntime) -> Result<(), Fail> {
-    let rows: [(&str, Edits, &str); 2] = [
+fn a_name_and_nullable_are_read(rt: HostRuntime) {
+    static ROWS: [(&str, Edits, &str); 2] = [
         ("a line feed", &[(120, &[0x0a])], "\n: int32"),
         ("nullable is 0", &[(104, &[0])], "n: int32 not null"),
     ];
-    for (what, edits, column) in rows {
+    for &(what, edits, column) in &ROWS {
         let want = read_to(152, "schema", column);
-        are_told(&rt, rt.alloc(), what, &[&SCHEMA], edits, want)?;
+        are_told(&rt, rt.alloc(), what, &[&SCHEMA], edits, want);
     }
-    Ok(())
 }
 
 #[test]
-fn a_schema_is_refused(rt: HostRuntime) -> Result<(), Fail> {
-    let rows: [(&str, Edits, Kind); 11] = [
+fn a_schema_is_refused(rt: HostRuntime) {
+    static ROWS: [(&str, Edits, Kind); 11] = [
         (
             "a byte of the continuation",
             &[(3, &[0xfe])],
@@ -76,27 +75,22 @@ fn a_schema_is_refused(rt: HostRuntime) -> Result<(), Fail> {
         ("type code FloatingPoint", &[(105, &[3])], Kind::Unsupported),
         ("24 bits", &[(140, &[0x18])], Kind::Schema),
     ];
-    for (what, edits, kind) in rows {
-        let want = refused(kind, NOTHING);
-        are_told(&rt, rt.alloc(), what, &[&SCHEMA], edits, want)?;
-    }
-    Ok(())
+    each_is_refused(&rt, rt.alloc(), &[&SCHEMA], &ROWS, NOTHING);
 }
 
 #[test]
-fn a_body_is_skipped(rt: HostRuntime) -> Result<(), Fail> {
+fn a_body_is_skipped(rt: HostRuntime) {
     let edits: Edits = &[(40, &[8])];
     let whole: [&[u8]; 2] = [&SCHEMA, &[0xff; 8]];
     let read = read_to(160, "schema", "n: int32");
-    are_told(&rt, rt.alloc(), "a whole body", &whole, edits, read)?;
+    are_told(&rt, rt.alloc(), "a whole body", &whole, edits, read);
     let part: [&[u8]; 2] = [&SCHEMA, &[0; 7]];
     let waiting = cut_off(159, NOTHING);
-    are_told(&rt, rt.alloc(), "a part of a body", &part, edits, waiting)?;
-    Ok(())
+    are_told(&rt, rt.alloc(), "a part of a body", &part, edits, waiting);
 }
 
 #[test]
-fn a_stream_without_a_schema_is_refused(rt: HostRuntime) -> Result<(), Fail> {
+fn a_stream_without_a_schema_is_refused(rt: HostRuntime) {
     let rows: [(&str, &[u8], Kind); 4] = [
         ("eight bytes FF", &[0xff; 8], Kind::MetadataSize),
         ("no continuation", &SCHEMA[4..], Kind::Continuation),
@@ -109,15 +103,14 @@ fn a_stream_without_a_schema_is_refused(rt: HostRuntime) -> Result<(), Fail> {
     ];
     for (what, message, kind) in rows {
         let want = refused(kind, NOTHING);
-        are_told(&rt, rt.alloc(), what, &[message], &[], want)?;
+        are_told(&rt, rt.alloc(), what, &[message], &[], want);
     }
-    are_told(&rt, rt.alloc(), "nothing", &[], &[], NOTHING)?;
-    Ok(())
+    are_told(&rt, rt.alloc(), "nothing", &[], &[], NOTHING);
 }
 
 #[test]
-fn a_second_message_is_refused(rt: HostRuntime) -> Result<(), Fail> {
-    let rows: [(&str, &[u8], Edits, Kind); 6] = [
+fn a_second_message_is_refused(rt: HostRuntime) {
+    static ROWS: [(&str, &[u8], Edits, Kind); 6] = [
         ("a second schema", &SCHEMA, &[], Kind::Order),
         ("order before type", &SCHEMA, &[(257, &[3])], Kind::Order),
         (
@@ -140,18 +133,17 @@ fn a_second_message_is_refused(rt: HostRuntime) -> Result<(), Fail> {
             Kind::BodyLength,
         ),
     ];
-    for (what, message, edits, kind) in rows {
+    for &(what, message, edits, kind) in &ROWS {
         let want = refused(kind, read_to(152, "schema", "n: int32"));
-        are_told(&rt, rt.alloc(), what, &[&SCHEMA, message], edits, want)?;
+        are_told(&rt, rt.alloc(), what, &[&SCHEMA, message], edits, want);
     }
-    Ok(())
 }
 
 #[test]
-fn the_front_of_a_message_waits(rt: HostRuntime) -> Result<(), Fail> {
+fn the_front_of_a_message_waits(rt: HostRuntime) {
     let alloc = rt.alloc();
     let first = cut_off(100, NOTHING);
-    are_told(&rt, alloc, "a schema", &[&SCHEMA[..100]], &[], first)?;
+    are_told(&rt, alloc, "a schema", &[&SCHEMA[..100]], &[], first);
     let read = read_to(152, "schema", "n: int32");
     let rows: [(&str, &[u8]); 3] = [
         ("an end marker", &END_MARKER[..7]),
@@ -160,26 +152,24 @@ fn the_front_of_a_message_waits(rt: HostRuntime) -> Result<(), Fail> {
     ];
     for (what, front) in rows {
         let want = cut_off(front.len() as u64, read);
-        are_told(&rt, alloc, what, &[&SCHEMA, front], &[], want)?;
+        are_told(&rt, alloc, what, &[&SCHEMA, front], &[], want);
     }
-    Ok(())
 }
 
 #[test]
-fn the_end_marker_ends_a_stream(rt: HostRuntime) -> Result<(), Fail> {
+fn the_end_marker_ends_a_stream(rt: HostRuntime) {
     let alloc = rt.alloc();
     let ended = read_to(160, "schema end", "n: int32");
     let whole: [&[u8]; 2] = [&SCHEMA, &END_MARKER];
-    are_told(&rt, alloc, "nothing behind it", &whole, &[], ended)?;
+    are_told(&rt, alloc, "nothing behind it", &whole, &[], ended);
     let more: [&[u8]; 3] = [&SCHEMA, &END_MARKER, &[1, 2, 3]];
-    are_told(&rt, alloc, "bytes behind it", &more, &[], ended)?;
-    Ok(())
+    are_told(&rt, alloc, "bytes behind it", &more, &[], ended);
 }
 
 #[test]
-fn limits_are_kept(rt: HostRuntime) -> Result<(), Fail> {
+fn limits_are_kept(rt: HostRuntime) {
     let alloc = rt.alloc();
-    let body = stream(alloc, &[&SCHEMA, &[0; 8]], &[(40, &[8])])?;
+    let body = stream(&rt, alloc, &[&SCHEMA, &[0; 8]], &[(40, &[8])]);
     let read = read_to(152, "schema", "n: int32");
     let longer = Told { place: 160, ..read };
     let rows = [
@@ -201,8 +191,7 @@ fn limits_are_kept(rt: HostRuntime) -> Result<(), Fail> {
         ),
     ];
     for (what, max_metadata, max_body, bytes, want) in rows {
-        let limits = Limits::new(max_metadata, max_body, 0).ok_or("within the ceilings")?;
-        is_told(&rt, alloc, what, limits, bytes, want)?;
+        let limits = Limits::new(max_metadata, max_body, 0).expect(&rt, "within the ceilings");
+        is_told(&rt, alloc, what, limits, bytes, want);
     }
-    Ok(())
 }

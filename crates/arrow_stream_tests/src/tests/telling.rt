@@ -1,9 +1,9 @@
 // What a stream is answered with, in whatever pieces it comes.
 
-use super::answers::Answers;
-use crate::{Fault, Kind, StreamReader};
+use super::answers::{Answers, taken};
+use arrow_stream::{Fault, Kind, StreamReader};
 use arrow_types::Limits;
-use std::alloc::{AllocError, Global};
+use std::alloc::Global;
 use std::process::Abort;
 
 // Bytes that are put at places of a stream.
@@ -82,13 +82,14 @@ pub(super) fn cut_off(held: u64, before: Told<'_>) -> Told<'_> {
 
 // The stream of these parts, with some bytes changed.
 pub(super) fn stream(
+    rt: &impl Abort,
     alloc: Global,
     parts: &[&[u8]],
     edits: &[(usize, &[u8])],
-) -> Result<Vec<u8>, AllocError> {
+) -> Vec<u8> {
     let mut bytes = Vec::new(alloc);
     for part in parts {
-        bytes.extend_from_slice(part)?;
+        bytes.extend_from_slice(part).expect(rt, "memory");
     }
     for (place, new) in edits {
         for (k, byte) in new.iter().enumerate() {
@@ -97,7 +98,23 @@ pub(super) fn stream(
             }
         }
     }
-    Ok(bytes)
+    bytes
+}
+
+// That a call with this piece is answered so.
+pub(super) fn takes(
+    rt: &impl Abort,
+    reader: &mut StreamReader,
+    piece: &[u8],
+    want: Result<(usize, &'static str), Fault>,
+) {
+    let len = piece.len();
+    assert_eq!(rt; taken(reader, piece), want, "of {len} bytes");
+}
+
+// That these are the answers.
+pub(super) fn are_answers(rt: &impl Abort, what: &str, answers: &Answers, want: Told<'_>) {
+    assert_eq!(rt; answers.told(), want, "{what}");
 }
 
 // That a stream is answered so in one piece, in pieces of one byte, and cut in two at every place.
@@ -108,24 +125,30 @@ pub(super) fn is_told(
     limits: Limits,
     bytes: &[u8],
     want: Told<'_>,
-) -> Result<(), AllocError> {
+) {
     let mut reader = StreamReader::new(alloc, limits);
-    let mut answers = Answers::new(alloc);
-    for byte in bytes.chunks(1) {
-        answers.give(&mut reader, byte)?;
-    }
-    answers.finish(&reader)?;
+    let answers = Answers::to_each(rt, alloc, &mut reader, bytes);
     assert_eq!(rt; answers.told(), want, "{what}, byte by byte");
     for cut in 0..bytes.len() {
-        reader.restart();
         let (front, back) = bytes.split_at(cut);
-        let mut answers = Answers::new(alloc);
-        answers.give(&mut reader, front)?;
-        answers.give(&mut reader, back)?;
-        answers.finish(&reader)?;
-        assert_eq!(rt; answers.told(), want, "{what}, cut at {cut}");
+        is_told_anew(rt, alloc, what, &mut reader, front, back, want);
     }
-    Ok(())
+}
+
+// That a reader that begins anew answers two pieces of a stream so.
+fn is_told_anew(
+    rt: &impl Abort,
+    alloc: Global,
+    what: &str,
+    reader: &mut StreamReader,
+    front: &[u8],
+    back: &[u8],
+    want: Told<'_>,
+) {
+    reader.restart();
+    let answers = Answers::to(rt, alloc, reader, front, back);
+    let cut = front.len();
+    assert_eq!(rt; answers.told(), want, "{what}, cut at {cut}");
 }
 
 // That the stream of these parts, with some bytes changed, is answered so.
@@ -136,9 +159,35 @@ pub(super) fn are_told(
     parts: &[&[u8]],
     edits: &[(usize, &[u8])],
     want: Told<'_>,
-) -> Result<(), AllocError> {
-    let bytes = stream(alloc, parts, edits)?;
-    is_told(rt, alloc, what, Limits::standard(), &bytes, want)
+) {
+    let bytes = stream(rt, alloc, parts, edits);
+    is_told(rt, alloc, what, Limits::standard(), &bytes, want);
+}
+
+// That the stream of these parts is answered so, whichever row's bytes are changed.
+pub(super) fn each_is_told(
+    rt: &impl Abort,
+    alloc: Global,
+    parts: &[&[u8]],
+    rows: &[(&str, Edits)],
+    want: Told<'_>,
+) {
+    for (what, edits) in rows {
+        are_told(rt, alloc, what, parts, edits, want);
+    }
+}
+
+// That the last of these parts is refused behind the others, with the kind of each row where its bytes are changed.
+pub(super) fn each_is_refused(
+    rt: &impl Abort,
+    alloc: Global,
+    parts: &[&[u8]],
+    rows: &[(&str, Edits, Kind)],
+    before: Told<'_>,
+) {
+    for (what, edits, kind) in rows {
+        are_told(rt, alloc, what, parts, edits, refused(*kind, before));
+    }
 }
 
 // That a stream of frames is answered so that is cut off anywhere: what stands before each place between two frames, and
@@ -148,7 +197,7 @@ pub(super) fn are_beginnings_told(
     alloc: Global,
     bytes: &[u8],
     places: &[Told<'_>],
-) -> Result<(), AllocError> {
+) {
     let mut reader = StreamReader::new(alloc, Limits::standard());
     let mut want = NOTHING;
     for count in 0..bytes.len() {
@@ -159,20 +208,16 @@ pub(super) fn are_beginnings_told(
         }
         let held = (count as u64).saturating_sub(want.place);
         let want = if held == 0 { want } else { cut_off(held, want) };
-        reader.restart();
-        let mut answers = Answers::new(alloc);
-        answers.give(&mut reader, &bytes[..count])?;
-        answers.finish(&reader)?;
-        assert_eq!(rt; answers.told(), want, "the first {count} bytes");
+        let front = &bytes[..count];
+        is_told_anew(rt, alloc, "a beginning", &mut reader, front, &[], want);
     }
-    Ok(())
 }
 
 // The first fault of a stream that comes byte by byte, and the number of bytes that had come by then.
 pub(super) fn first_fault(alloc: Global, limits: Limits, bytes: &[u8]) -> Option<(usize, Fault)> {
     let mut reader = StreamReader::new(alloc, limits);
     for (k, byte) in bytes.chunks(1).enumerate() {
-        if let Err(fault) = reader.read(byte) {
+        if let Err(fault) = taken(&mut reader, byte) {
             return Some((k.saturating_add(1), fault));
         }
     }

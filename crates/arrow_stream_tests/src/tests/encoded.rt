@@ -7,7 +7,6 @@ use crate::frames::encoded::{
     SIZE_ROWS, SIZES, THREE_SIZES, TWO_GROUPS,
 };
 use crate::frames::letters::ABC;
-use std::test::Fail;
 
 const A_TO_C: &str = "0: 'a' 'b' 'c'";
 
@@ -26,16 +25,15 @@ fn one_batch(
 }
 
 #[test]
-fn beside_a_plain_column(rt: HostRuntime) -> Result<(), Fail> {
+fn beside_a_plain_column(rt: HostRuntime) {
     let want = one_batch(760, "k: utf8", "3: 'c' 'a' null: 'x' null 'y'", A_TO_C);
     let parts: [&[u8]; 4] = [&MIXED, &ABC, &MIXED_ROWS, &END_MARKER];
-    are_told(&rt, rt.alloc(), "two columns", &parts, &[], want)?;
-    Ok(())
+    are_told(&rt, rt.alloc(), "two columns", &parts, &[], want);
 }
 
 // Two columns share a dictionary, by indices of different types.
 #[test]
-fn of_two_ids(rt: HostRuntime) -> Result<(), Fail> {
+fn of_two_ids(rt: HostRuntime) {
     let want = Told {
         rows: "2: 'dog' 'cat': 'red' null: null 'dog'",
         dictionaries: "-2: 'red'; 5: 'cat' 'dog'",
@@ -46,29 +44,26 @@ fn of_two_ids(rt: HostRuntime) -> Result<(), Fail> {
         )
     };
     let parts: [&[u8]; 5] = [&SHARED, &ANIMALS, &COLORS, &SHARED_ROWS, &END_MARKER];
-    are_told(&rt, rt.alloc(), "three columns", &parts, &[], want)?;
-    Ok(())
+    are_told(&rt, rt.alloc(), "three columns", &parts, &[], want);
 }
 
 // A value may be null: then the index is there, and what it refers to is none.
 #[test]
-fn of_numbers(rt: HostRuntime) -> Result<(), Fail> {
+fn of_numbers(rt: HostRuntime) {
     let want = one_batch(584, "k: int32", "3: 900 null 7", "0: 7 null 900");
     let parts: [&[u8]; 4] = [&SIZES, &THREE_SIZES, &SIZE_ROWS, &END_MARKER];
-    are_told(&rt, rt.alloc(), "sizes", &parts, &[], want)?;
-    Ok(())
+    are_told(&rt, rt.alloc(), "sizes", &parts, &[], want);
 }
 
 #[test]
-fn of_lists(rt: HostRuntime) -> Result<(), Fail> {
+fn of_lists(rt: HostRuntime) {
     let want = one_batch(720, "g: another type", "3: [] [1;2;] null", "0: [1;2;] []");
     let parts: [&[u8]; 4] = [&GROUPS, &TWO_GROUPS, &GROUP_ROWS, &END_MARKER];
-    are_told(&rt, rt.alloc(), "groups", &parts, &[], want)?;
-    Ok(())
+    are_told(&rt, rt.alloc(), "groups", &parts, &[], want);
 }
 
 #[test]
-fn below_lists_and_structs(rt: HostRuntime) -> Result<(), Fail> {
+fn below_lists_and_structs(rt: HostRuntime) {
     let want = one_batch(
         1008,
         "l: another type",
@@ -76,6 +71,5 @@ fn below_lists_and_structs(rt: HostRuntime) -> Result<(), Fail> {
         A_TO_C,
     );
     let parts: [&[u8]; 4] = [&BELOW, &ABC, &BELOW_ROWS, &END_MARKER];
-    are_told(&rt, rt.alloc(), "two columns", &parts, &[], want)?;
-    Ok(())
+    are_told(&rt, rt.alloc(), "two columns", &parts, &[], want);
 }

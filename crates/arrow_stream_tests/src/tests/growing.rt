@@ -1,15 +1,14 @@
 // A dictionary that grows between two batches and is replaced before a third.
 
-use super::answers::word_of;
 use super::telling::{
-    NOTHING, Told, are_beginnings_told, first_fault, is_told, read_to, refused, stream,
+    NOTHING, Told, are_beginnings_told, first_fault, is_told, read_to, refused, stream, takes,
 };
 use crate::frames::END_MARKER;
 use crate::frames::letters::{ABC, ACDE, DE, FIRST, SCHEMA, SECOND, THIRD};
-use crate::{Fault, Kind, StreamReader};
+use arrow_stream::{Fault, Kind, StreamReader};
 use arrow_types::Limits;
-use std::alloc::{AllocError, Global};
-use std::test::Fail;
+use std::alloc::Global;
+use std::process::Abort;
 
 const A_TO_C: &str = "0: 'a' 'b' 'c'";
 
@@ -57,7 +56,7 @@ fn places() -> [Told<'static>; 9] {
     ]
 }
 
-fn growing(alloc: Global) -> Result<Vec<u8>, AllocError> {
+fn growing(rt: &impl Abort, alloc: Global) -> Vec<u8> {
     let parts: [&[u8]; 8] = [
         &SCHEMA,
         &ABC,
@@ -68,31 +67,29 @@ fn growing(alloc: Global) -> Result<Vec<u8>, AllocError> {
         &THIRD,
         &END_MARKER,
     ];
-    stream(alloc, &parts, &[])
+    stream(rt, alloc, &parts, &[])
 }
 
 #[test]
-fn the_whole_stream(rt: HostRuntime) -> Result<(), Fail> {
+fn the_whole_stream(rt: HostRuntime) {
     let alloc = rt.alloc();
-    let bytes = growing(alloc)?;
+    let bytes = growing(&rt, alloc);
     assert_eq!(rt; bytes.len(), 1376);
     let want = places()[8];
-    is_told(&rt, alloc, "all of it", Limits::standard(), &bytes, want)?;
-    Ok(())
+    is_told(&rt, alloc, "all of it", Limits::standard(), &bytes, want);
 }
 
 #[test]
-fn each_beginning(rt: HostRuntime) -> Result<(), Fail> {
-    let bytes = growing(rt.alloc())?;
-    are_beginnings_told(&rt, rt.alloc(), &bytes, &places())?;
-    Ok(())
+fn each_beginning(rt: HostRuntime) {
+    let bytes = growing(&rt, rt.alloc());
+    are_beginnings_told(&rt, rt.alloc(), &bytes, &places());
 }
 
 // A dictionary is applied with the last byte of its message, and not before.
 #[test]
-fn around_the_end_of_a_delta(rt: HostRuntime) -> Result<(), Fail> {
+fn around_the_end_of_a_delta(rt: HostRuntime) {
     let alloc = rt.alloc();
-    let bytes = growing(alloc)?;
+    let bytes = growing(&rt, alloc);
     let truncated = Told {
         end: Err(Fault {
             kind: Kind::Truncated,
@@ -102,18 +99,14 @@ fn around_the_end_of_a_delta(rt: HostRuntime) -> Result<(), Fail> {
         ..places()[3]
     };
     for (count, want) in [(815, truncated), (816, places()[4])] {
-        let part = bytes.get(..count).ok_or("the stream is longer")?;
-        is_told(&rt, alloc, "a part", Limits::standard(), part, want)?;
+        let part = bytes.get(..count).expect(&rt, "the stream is longer");
+        is_told(&rt, alloc, "a part", Limits::standard(), part, want);
     }
-    Ok(())
 }
 
 #[test]
-fn what_each_call_takes(rt: HostRuntime) -> Result<(), Fail> {
-    let bytes = growing(rt.alloc())?;
-    let mut reader = StreamReader::new(rt.alloc(), Limits::standard());
-    let mut rest = bytes.as_slice();
-    for (count, word) in [
+fn what_each_call_takes(rt: HostRuntime) {
+    static CALLS: [(usize, &str); 9] = [
         (200, "schema"),
         (224, "dictionary"),
         (168, "batch"),
@@ -123,32 +116,28 @@ fn what_each_call_takes(rt: HostRuntime) -> Result<(), Fail> {
         (160, "batch"),
         (8, "end"),
         (0, "nothing"),
-    ] {
-        match reader.read(rest) {
-            Ok((taken, item)) => {
-                assert_eq!(rt; taken, count);
-                assert_eq!(rt; word_of(&item), word);
-                rest = rest.get(taken..).unwrap_or(&[]);
-            }
-            Err(fault) => assert_eq!(rt; Err(fault), Ok(()), "{word}"),
-        }
+    ];
+    let bytes = growing(&rt, rt.alloc());
+    let mut reader = StreamReader::new(rt.alloc(), Limits::standard());
+    let mut rest = bytes.as_slice();
+    for &(count, word) in &CALLS {
+        takes(&rt, &mut reader, rest, Ok((count, word)));
+        rest = rest.get(count..).unwrap_or(&[]);
     }
     assert_eq!(rt; rest.len(), 0);
-    Ok(())
 }
 
 // Five values are too many where four rows are allowed, and the metadata say so.
 #[test]
-fn more_values_than_rows_are_allowed(rt: HostRuntime) -> Result<(), Fail> {
+fn more_values_than_rows_are_allowed(rt: HostRuntime) {
     let alloc = rt.alloc();
-    let bytes = growing(alloc)?;
-    let limits = Limits::new(67_108_864, 1 << 36, 4).ok_or("within the ceilings")?;
+    let bytes = growing(&rt, alloc);
+    let limits = Limits::new(67_108_864, 1 << 36, 4).expect(&rt, "within the ceilings");
     let want = refused(Kind::Rows, places()[3]);
-    is_told(&rt, alloc, "four rows", limits, &bytes, want)?;
+    is_told(&rt, alloc, "four rows", limits, &bytes, want);
     let fault = Fault {
         kind: Kind::Rows,
         place: 592,
     };
     assert_eq!(rt; first_fault(alloc, limits, &bytes), Some((792, fault)));
-    Ok(())
 }

@@ -1,0 +1,7 @@
+//! Tests of `arrow_meta`, in a crate of their own so that the library is not proved once more with them.
+#![tactic(auto)]
+
+#[cfg(test)]
+mod tests;
+#[cfg(test)]
+mod vectors;
