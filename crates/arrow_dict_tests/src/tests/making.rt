@@ -119,15 +119,17 @@ pub(super) fn appended(
     store.append(alloc, id, values).err()
 }
 
-// The fault of numbers that are appended, if there is one.
-pub(super) fn appended_numbers(
+// That numbers are appended with this fault, or with none.
+pub(super) fn appends(
     rt: &impl Abort,
     alloc: Global,
     store: &mut Store,
     id: i64,
     more: &[u8],
-) -> Option<StoreFault> {
-    appended(rt, alloc, store, id, numbers(rt, alloc, more))
+    fault: Option<StoreFault>,
+) {
+    let found = appended(rt, alloc, store, id, numbers(rt, alloc, more));
+    assert_eq!(rt; found, fault, "of {id}");
 }
 
 // The dictionary of an id that has one.
@@ -142,4 +144,12 @@ pub(super) fn number(dictionary: &Dictionary, i: usize) -> Option<i128> {
     }
     let (values, place) = dictionary.value(i);
     values.int_at(place)
+}
+
+// That the values of a dictionary are just these numbers.
+pub(super) fn has_numbers(rt: &impl Abort, dictionary: &Dictionary, want: &[u8]) {
+    assert_eq!(rt; dictionary.len(), want.len());
+    for (i, one) in want.iter().enumerate() {
+        assert_eq!(rt; number(dictionary, i), Some(*one as i128), "value {i}");
+    }
 }

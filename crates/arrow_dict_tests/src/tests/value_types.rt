@@ -48,17 +48,22 @@ fn schema(rt: &impl Abort, alloc: Global) -> Schema {
     Schema::new(alloc, fields).expect(rt, "a schema")
 }
 
+// That the field of an id's values is of this type, and else as a field of values is.
+fn names(rt: &impl Abort, alloc: Global, fields: &ValueFields, id: i64, want: DataType) {
+    let found = fields.get(id).expect(rt, "a field names it");
+    assert!(rt; *found == field(alloc, want), "of {id}");
+    assert!(rt; found.dictionary.is_none(), "of {id}");
+    assert!(rt; found.name.is_empty() && found.nullable, "of {id}");
+}
+
 #[test]
 fn types_on_every_level(rt: HostRuntime) {
     let alloc = rt.alloc();
     let fields = ValueFields::of(alloc, &schema(&rt, alloc)).expect(&rt, "memory");
     let lists = list(&rt, alloc, field(alloc, int8()));
-    for (id, want) in [(5, DataType::Utf8), (-2, int8()), (9, lists)] {
-        let found = fields.get(id).expect(&rt, "a field names it");
-        assert!(rt; *found == field(alloc, want), "of {id}");
-        assert!(rt; found.dictionary.is_none(), "of {id}");
-        assert!(rt; found.name.is_empty() && found.nullable, "of {id}");
-    }
+    names(&rt, alloc, &fields, 5, DataType::Utf8);
+    names(&rt, alloc, &fields, -2, int8());
+    names(&rt, alloc, &fields, 9, lists);
     for id in [0, 2, -5, i64::MIN, i64::MAX] {
         assert!(rt; fields.get(id).is_none(), "of {id}");
     }
