@@ -199,13 +199,15 @@ module _ (report : Report) (old : Shows) (before : Option (List ℕ)) (number : 
       taken = i.taken ++ take n rest;
       whole = whole_next;
       told = λ first t es x.
-      let y = i.told first t es x in
-      let u = t ++ i.taken in
-      let entry : Entry = record { given = given item; end = length u + n } in
-      let fs = y.0 ++ entry ∷ [] in
-      let next = told_next report first held number' now new u rest y.0 n item is_open limits y.1 (gives u y.0 y.1.stands) sent.0 sent.1 held' sent.2.0 in
-      (fs, told_at report first held' number'' new (u ++ take n rest) (t ++ (i.taken ++ take n rest)) fs (append_assoc t i.taken (take n rest))
-      (subst (λ m. IsTold report first held' m new (u ++ take n rest) fs) (sym count) next));
+          let y = i.told first t es x in
+          let u = t ++ i.taken in
+          let entry : Entry = record { given = given item; end = length u + n } in
+          let fs = y.0 ++ entry ∷ [] in
+          let next = told_next report first held number' now new u rest y.0 n item is_open limits y.1 (gives u y.0 y.1.stands) sent.0 sent.1 held' sent.2.0 in (
+            fs,
+            told_at report first held' number'' new (u ++ take n rest) (t ++ (i.taken ++ take n rest)) fs (append_assoc t i.taken (take n rest))
+                (subst (λ m. IsTold report first held' m new (u ++ take n rest) fs) (sym count) next),
+          );
       limits = limits ∙ i.limits;
     }
 
@@ -270,19 +272,22 @@ module _ (report : Report) (old : Shows) (before : Option (List ℕ)) (number : 
       let u = t ++ i.taken in
       let whole : u ++ rest ≡ t ++ piece = append_assoc t i.taken rest ∙ ap (λ z. t ++ z) i.whole in
       elim (refuses u y.0 y.1.stands) [
-        | inl m ↦ subst (λ f. PieceTold report first failed t piece (Err (told f)) held failed number' new) (sym m.fault_is) (record {
-          taken = i.taken;
-          rest = rest;
-          whole = i.whole;
-          entries = y.0;
-          text = y.1.text;
-          stands = subst (λ r. Stands r u y.0) (sym m.same) y.1.stands;
-          is = subst (λ (r : Shows). IsTextOf report r.at.state.schema (tables_of y.0) y.1.text) (sym m.same) y.1.is;
-          wrote = begun_all first held y.1.text y.1.wrote;
-        }, refl)
+        | inl m ↦ subst (λ f. PieceTold report first failed t piece (Err (told f)) held failed number' new) (sym m.fault_is) (
+          record {
+            taken = i.taken;
+            rest = rest;
+            whole = i.whole;
+            entries = y.0;
+            text = y.1.text;
+            stands = subst (λ r. Stands r u y.0) (sym m.same) y.1.stands;
+            is = subst (λ (r : Shows). IsTextOf report r.at.state.schema (tables_of y.0) y.1.text) (sym m.same) y.1.is;
+            wrote = begun_all first held y.1.text y.1.wrote;
+          },
+          refl,
+        )
         | inr r ↦
-          let f_is : fault ≡ record { kind = kind_of r.refusal; place = new.at.place } = λ i. record { kind = r.kind i; place = r.place i } in
-          subst (λ f. PieceTold report first failed t piece (Err (told f)) held failed number' new) (sym f_is)
-          (subst (λ z. PieceTold report first failed t piece (Err z) held failed number' new) (sym (told_refusal r.refusal new.at.place))
-          ((y.0, told_at report first held number' new (u ++ rest) (t ++ piece) y.0 whole (told_still report first held number' now new u rest y.0 limits y.1 r.stands)), refl, (r.refusal, r.verdict, refl)))
+            let f_is : fault ≡ record { kind = kind_of r.refusal; place = new.at.place } = λ i. record { kind = r.kind i; place = r.place i } in
+            subst (λ f. PieceTold report first failed t piece (Err (told f)) held failed number' new) (sym f_is)
+            (subst (λ z. PieceTold report first failed t piece (Err z) held failed number' new) (sym (told_refusal r.refusal new.at.place))
+            ((y.0, told_at report first held number' new (u ++ rest) (t ++ piece) y.0 whole (told_still report first held number' now new u rest y.0 limits y.1 r.stands)), refl, (r.refusal, r.verdict, refl)))
       ]

@@ -13,9 +13,11 @@ returns-in_default g c =
     let start = c.loop-start.start in
     let before = g.S.Sink.contents c.args.output.now in
     let held = g.S.Sink.contents c.loop-start.output in
-    let sent = batch_rows c.args.number batch 0 start in
-    (subst (AcceptsBeginning before held) (rows_join c.args.number batch start batch.rows 0 (omega arith) i.0)
-    (begun_longer before held sent (batch_rows c.args.number batch start batch.rows) (begun_all before held sent i.1)), i.2)
+    let sent = batch_rows c.args.number batch 0 start in (
+      subst (AcceptsBeginning before held) (rows_join c.args.number batch start batch.rows 0 (omega arith) i.0)
+          (begun_longer before held sent (batch_rows c.args.number batch start batch.rows) (begun_all before held sent i.1)),
+      i.2,
+    )
 
 pub returns-in-Err : goal.returns-in-Err
 returns-in-Err g c =

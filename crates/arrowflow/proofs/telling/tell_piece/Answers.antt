@@ -43,10 +43,12 @@ loop-taken-preserved-in_default g c =
     let rest = l.rest.now in
     let new = c.read.new.self in
     let is_open = open_by_item l.reader.at.verdict some.taken some.field-0-1 some.item some.field-0-1-is (λ d. (some.ensures.done d).0) (λ k b. (_, (some.ensures.failed k b).0)) in
-    let next : (t : List ℕ) (es : List Entry) → Stands l.reader t es → GivesNext rest some.taken some.item new t es = λ t es at. rw some.field-0-1-is at (some.ensures.reads t es at) in
-    (subst (IsTelling c.args.report c.args.reader.now (g.S.Sink.contents c.args.output.now) c.args.number.now c.args.piece.now new (g.S.Sink.contents c.tell_item.new.output) c.tell_item.new.number) (sym (take_rest rest some.taken))
-    (telling_next c.args.report c.args.reader.now (g.S.Sink.contents c.args.output.now) c.args.number.now c.args.piece.now l.reader (g.S.Sink.contents l.output) l.number rest l.invariant.0 new some.ensures.limits
-    some.taken some.item is_open next _ _ (g.S.Sink.failed l.output) _ c.in-Ok.ensures.sent c.in-Ok.ensures.counted), c.in-Ok.ensures.sent.2.1 ∙ l.invariant.1)
+    let next : (t : List ℕ) (es : List Entry) → Stands l.reader t es → GivesNext rest some.taken some.item new t es = λ t es at. rw some.field-0-1-is at (some.ensures.reads t es at) in (
+      subst (IsTelling c.args.report c.args.reader.now (g.S.Sink.contents c.args.output.now) c.args.number.now c.args.piece.now new (g.S.Sink.contents c.tell_item.new.output) c.tell_item.new.number) (sym (take_rest rest some.taken))
+          (telling_next c.args.report c.args.reader.now (g.S.Sink.contents c.args.output.now) c.args.number.now c.args.piece.now l.reader (g.S.Sink.contents l.output) l.number rest l.invariant.0 new some.ensures.limits
+          some.taken some.item is_open next _ _ (g.S.Sink.failed l.output) _ c.in-Ok.ensures.sent c.in-Ok.ensures.counted),
+      c.in-Ok.ensures.sent.2.1 ∙ l.invariant.1,
+    )
 
 pub loop-taken-preserved : goal.loop-taken-preserved
 loop-taken-preserved g c =
@@ -55,10 +57,12 @@ loop-taken-preserved g c =
     let rest = l.rest.now in
     let new = c.read.new.self in
     let is_open = open_by_item l.reader.at.verdict some.taken some.field-0-1 some.item some.field-0-1-is (λ d. (some.ensures.done d).0) (λ k b. (_, (some.ensures.failed k b).0)) in
-    let next : (t : List ℕ) (es : List Entry) → Stands l.reader t es → GivesNext rest some.taken some.item new t es = λ t es at. rw some.field-0-1-is at (some.ensures.reads t es at) in
-    (subst (IsTelling c.args.report c.args.reader.now (g.S.Sink.contents c.args.output.now) c.args.number.now c.args.piece.now new (g.S.Sink.contents c.tell_item.new.output) c.tell_item.new.number) (sym (take_rest rest some.taken))
-    (telling_next c.args.report c.args.reader.now (g.S.Sink.contents c.args.output.now) c.args.number.now c.args.piece.now l.reader (g.S.Sink.contents l.output) l.number rest l.invariant.0 new some.ensures.limits
-    some.taken some.item is_open next _ _ (g.S.Sink.failed l.output) _ c.in-Ok.ensures.sent c.in-Ok.ensures.counted), c.in-Ok.ensures.sent.2.1 ∙ l.invariant.1)
+    let next : (t : List ℕ) (es : List Entry) → Stands l.reader t es → GivesNext rest some.taken some.item new t es = λ t es at. rw some.field-0-1-is at (some.ensures.reads t es at) in (
+      subst (IsTelling c.args.report c.args.reader.now (g.S.Sink.contents c.args.output.now) c.args.number.now c.args.piece.now new (g.S.Sink.contents c.tell_item.new.output) c.tell_item.new.number) (sym (take_rest rest some.taken))
+          (telling_next c.args.report c.args.reader.now (g.S.Sink.contents c.args.output.now) c.args.number.now c.args.piece.now l.reader (g.S.Sink.contents l.output) l.number rest l.invariant.0 new some.ensures.limits
+          some.taken some.item is_open next _ _ (g.S.Sink.failed l.output) _ c.in-Ok.ensures.sent c.in-Ok.ensures.counted),
+      c.in-Ok.ensures.sent.2.1 ∙ l.invariant.1,
+    )
 
 pub returns-in-Ok-default-None-clause-told : goal.returns-in-Ok-default-None-clause-told
 returns-in-Ok-default-None-clause-told g c first t es x =
