@@ -169,34 +169,81 @@ fn streams_cut_off(rt: HostRuntime) {
     );
 }
 
-/// The bytes with another one at a place.
-fn changed(rt: &impl Abort, alloc: Global, bytes: &[u8], place: usize, byte: u8) -> Vec<u8> {
-    let mut bytes = Vec::from_slice(alloc, bytes).expect(rt, "memory");
-    *bytes.get_mut(place).expect(rt, "a place in the stream") = byte;
+/// The stream of one batch with other bytes at a place.
+fn changed(rt: &impl Abort, alloc: Global, place: usize, words: &[u8]) -> Vec<u8> {
+    let mut bytes = Vec::from_slice(alloc, ONE_BATCH.as_slice()).expect(rt, "memory");
+    for (k, word) in words.iter().enumerate() {
+        *bytes
+            .get_mut(place.saturating_add(k))
+            .expect(rt, "a place in the stream") = *word;
+    }
     bytes
 }
 
+/// A body of 2^36 bytes, said in the field for its length.
+const LARGEST_BODY: [u8; 8] = [0, 0, 0, 0, 16, 0, 0, 0];
+
+/// A body of one byte more.
+const TOO_LARGE_BODY: [u8; 8] = [1, 0, 0, 0, 16, 0, 0, 0];
+
+/// Other bytes at a place of the stream of one batch, and what is shown of it then.
+static CHANGES: [(usize, &[u8], &str); 18] = [
+    (152, &[0], "batch,n\n1 fault at byte 152: Continuation"),
+    (
+        328,
+        &[0],
+        "batch,n\n0,1\n0,\n0,3\n1 fault at byte 328: Continuation",
+    ),
+    (199, &[0xff], "batch,n\n1 fault at byte 152: BodyLength"),
+    (160, &[0], "batch,n\n1 fault at byte 152: Metadata"),
+    (160, &[0x8e], "batch,n\n1 fault at byte 152: Metadata"),
+    (268, &[0xff; 4], "batch,n\n1 fault at byte 152: Metadata"),
+    (231, &[0x80], "batch,n\n1 fault at byte 152: Rows"),
+    (224, &[4], "batch,n\n1 fault at byte 152: Layout"),
+    (248, &[4], "batch,n\n1 fault at byte 152: Layout"),
+    (244, &[0], "batch,n\n1 fault at byte 152: Layout"),
+    (268, &[1], "batch,n\n1 fault at byte 152: Layout"),
+    (256, &[0], "batch,n\n1 fault at byte 152: Layout"),
+    (256, &[0xff; 8], NUMBERS),
+    (280, &[0], "batch,n\n1 fault at byte 152: Layout"),
+    (288, &[0x10], "batch,n\n1 fault at byte 152: Layout"),
+    (304, &[0x07], "batch,n\n1 fault at byte 152: Layout"),
+    (304, &[0x0d], NUMBERS),
+    (
+        192,
+        &TOO_LARGE_BODY,
+        "batch,n\n1 fault at byte 152: BodyLength",
+    ),
+];
+
 #[test]
-fn refused_messages_end_a_stream(rt: HostRuntime) {
+fn one_change_of_a_batch(rt: HostRuntime) {
     let alloc = rt.alloc();
-    let changes = [
-        (152, 0, "batch,n\n1 fault at byte 152: Continuation"),
-        (
-            328,
-            0,
-            "batch,n\n0,1\n0,\n0,3\n1 fault at byte 328: Continuation",
-        ),
-        (199, 0xff, "batch,n\n1 fault at byte 152: BodyLength"),
-        (256, 0, "batch,n\n1 fault at byte 152: Layout"),
-    ];
-    for (place, byte, text) in changes {
-        let bytes = changed(&rt, alloc, ONE_BATCH.as_slice(), place, byte);
+    for (place, words, text) in &CHANGES {
+        let bytes = changed(&rt, alloc, *place, words);
         assert_eq!(rt;
             told_of(&rt, alloc, Call::Show, &bytes).as_str(),
-            text,
+            *text,
             "byte {place}"
         );
     }
+}
+
+#[test]
+fn more_changes_of_a_batch(rt: HostRuntime) {
+    let alloc = rt.alloc();
+    let mut valid = changed(&rt, alloc, 280, &[0]);
+    *valid.get_mut(256).expect(&rt, "the null count") = 0;
+    assert_eq!(rt;
+        told_of(&rt, alloc, Call::Show, &valid).as_str(),
+        "batch,n\n0,1\n0,0\n0,3\n"
+    );
+    let large = changed(&rt, alloc, 192, &LARGEST_BODY);
+    let cut = large.get(..314).expect(&rt, "so many bytes");
+    assert_eq!(rt;
+        told_of(&rt, alloc, Call::Show, cut).as_str(),
+        "batch,n\n1 fault at byte 152: Truncated"
+    );
     let mut twice = Vec::from_slice(alloc, &ONE_BATCH[..152]).expect(&rt, "memory");
     twice
         .extend_from_slice(ONE_BATCH.as_slice())
