@@ -8,7 +8,7 @@ ghost use Rattle.arrowflow.specs.Shown.{text_in};
 
 use crate::lines::{end_line, message_line};
 use crate::report::Report;
-use crate::sending::{flush, send_rows, send_text};
+use crate::sending::{send_rows, send_text};
 use crate::tool_fault::ToolFault;
 use arrow_csv::header;
 use arrow_sink::Sink;
