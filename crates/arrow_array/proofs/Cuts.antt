@@ -51,11 +51,6 @@ slot_in offsets bytes text len j start stop whole before order after low high =
     let last = place_of offsets len in
     (λ i. slice_range (whole i) (low i) (high i)) ∙ part_of_range bytes first last (place_of offsets j) (place_of offsets (j + 1)) before order after
 
--- how many bytes all slots have
-pub length_all : (bytes text : List ℕ) (first last : ℕ) → text ≡ slice_range bytes first last → last ≤ length bytes → length text ≡ last - first
-length_all bytes text first last whole inside =
-    ap length whole ∙ omega (arith, inside, length-take (last - first) (drop first bytes), length-drop first bytes)
-
 -- whether a part is a text
 pub part_decides : (bs : List ℕ) (i j : ℕ) (r : Bool) → IsUtf8 bs → i < j → j ≤ length bs → (IsTrue r ↔ (IsCharBoundary bs i × IsCharBoundary bs j)) → IsTrue r ↔ IsUtf8 (slice_range bs i j)
 part_decides bs i j r whole order inside cuts = (

@@ -4,6 +4,7 @@ use Rattle.std.proofs.lemmas.Bool.{false≢true}
 use Rattle.std.proofs.lemmas.List.{take-map, drop-map}
 use Rattle.std.specs.List.{AllByRecursion, range_with_len}
 use Rattle.std.specs.Prelude.{slice_range, option_map}
+use Rattle.std.proofs.lemmas.Bool.{or_parts}
 use Rattle.arrow_bits.specs.Numbers.{int_of}
 use Rattle.arrow_types.specs.Field.{Fields, none, more, TypeShape}
 use Rattle.arrow_types.specs.Schema.{has_encoding}
@@ -103,11 +104,6 @@ pub index_resolves : (values : List PlainValue) (z : ℤ) → IsIndex (length va
 index_resolves values (pos n) h = entry_found values n h
 index_resolves values (negsuc n) h = absurd h
 
--- no part of a choice
-neither : (a b : Bool) → a || b ≡ false → (a ≡ false) × (b ≡ false)
-neither false b h = (refl, h)
-neither true b h = absurd (false≢true (sym h))
-
 no_encoding : (e : Option Encoding) → is_some e ≡ false → e ≡ None
 no_encoding None h = refl
 no_encoding (Some e) h = absurd (false≢true (sym h))
@@ -119,8 +115,8 @@ children_plain none [] typed known flat = refl
 children_plain none (c ∷ cs) typed known flat = absurd typed
 children_plain (more head children rest) [] typed known flat = absurd typed
 children_plain (more head children rest) (c ∷ cs) typed known flat =
-    let others = neither (is_some head.encoding || has_encoding children) (has_encoding rest) flat in
-    let own = neither (is_some head.encoding) (has_encoding children) others.0 in
+    let others = or_parts (is_some head.encoding || has_encoding children) (has_encoding rest) flat in
+    let own = or_parts (is_some head.encoding) (has_encoding children) others.0 in
     let here = known.0.plain (typed.1 ∙ no_encoding head.encoding own.0) (ap (λ (t : TypeShape). has_encoding t.children) typed.0 ∙ own.1) in
     λ i. here i ∷ children_plain rest cs typed.2 known.1 others.1 i
 

@@ -19,11 +19,6 @@ child_smaller c child h = omega (arith, most_le-levels c.data_type.children (chi
 pub parts_smaller : (c : Column) (cs : List Column) → AreOf c.data_type.children cs → parts_measure cs < slot_measure c
 parts_smaller c cs h = omega (arith, most_le-levels c.data_type.children cs h)
 
-pub part_smaller : (cs : List Column) (k : ℕ) (d : Column) → k < length cs → slot_measure (get_or cs k d) < parts_measure cs
-part_smaller [] k d h = absurd (omega arith)
-part_smaller (c ∷ cs) zero d h = omega arith
-part_smaller (c ∷ cs) (suc k) d h = omega (arith, part_smaller cs k d (omega arith))
-
 pub items_agree : (c d : Column) (i j start end from to : ℕ) (a b : Column) (r : Bool) → HasItems c i start end a → HasItems d j from to b
     → (IsTrue r ↔ (values_from a.raw start end ≡ values_from b.raw from to)) → IsTrue r ↔ (value_at c.raw i ≡ value_at d.raw j)
 items_agree c d i j start end from to a b r h g s = (
@@ -59,11 +54,6 @@ pub at_row_of : (cs : List Column) (i k : ℕ) (d : Column) → k < length cs �
 at_row_of [] i k d h = absurd (omega arith)
 at_row_of (c ∷ cs) i zero d h = refl
 at_row_of (c ∷ cs) i (suc k) d h = at_row_of cs i k d (omega arith)
-
-pub longer_at : (n : ℕ) (cs : List Column) (k : ℕ) (d : Column) → HaveSlot n cs → k < length cs → n < length (get_or cs k d).raw
-longer_at n [] k d h l = absurd (omega arith)
-longer_at n (c ∷ cs) zero d h l = omega (arith, h.0)
-longer_at n (c ∷ cs) (suc k) d h l = longer_at n cs k d h.1 (omega arith)
 
 pub longer : (n i : ℕ) (cs : List Column) → i < n → AllByRecursion (λ (d : Column). n ≤ length d.raw) cs → HaveSlot i cs
 longer n i [] l h = tt

@@ -31,10 +31,6 @@ starts_of_push parts s = map_push (λ (x : Segment). x.start) parts s
 
 pub ruleset segments = (joined_push, segments_push, length-append, starts_push, columns_push, starts_of_push)
 
-pub length-starts_from : (k : ℕ) (cs : List Column) → length (starts_from k cs) ≡ length cs
-length-starts_from k [] = refl
-length-starts_from k (c ∷ cs) = omega (arith, length-starts_from (k + length c.raw) cs)
-
 pub first_start : (k : ℕ) (cs : List Column) (i : ℕ) → i < length (joined cs) → (0 < length (starts_from k cs)) × (get_or (starts_from k cs) 0 0 ≡ k)
 first_start k [] i h = absurd (omega arith)
 first_start k (c ∷ cs) i h = (omega arith, refl)

@@ -1,5 +1,5 @@
 -- Batches: columns of a schema (Message.fbs, table "RecordBatch").
-use Rattle.std.specs.Prelude.{◌≡◌, ℕ, List, map, length, Result, Ok, Err, refl}
+use Rattle.std.specs.Prelude.{◌≡◌, ℕ, List, map, length, Result, Ok, Err, refl, codes}
 use Rattle.std.specs.Coded.{Coded, code_by, coded×, coded_ℕ, coded_list}
 use Rattle.std.specs.List.{AllByRecursion, range_with_len}
 use Rattle.arrow_types.specs.Field.{Fields, width}
@@ -30,10 +30,6 @@ pub record IsTable (t : Table) : Type 0 where
   pub typed : AreOf t.schema t.columns
   pub long : HaveRows t.rows t.columns
 
--- the rows: of each column the resolved value. Without columns a row has no values.
-abbrev pub rows_of : Table → List (List PlainValue)
-rows_of t = map (λ i. resolved_row_of t.columns i) (range_with_len 0 t.rows)
-
 -- An answer to a schema, columns and a number of rows: the batch of just these where no fault applies, else the first
 -- fault that does. The last two faults apply to no columns at all: an array with an index that has no value is never
 -- made, and nothing grows.
@@ -52,3 +48,11 @@ number_of ColumnType = 2
 number_of ColumnLength = 3
 number_of IndexRange = 4
 number_of Memory = 5
+
+-- the words of a fault
+abbrev pub words_of : BatchFault → List ℕ
+words_of ColumnCount = codes "not one column for each field"
+words_of ColumnType = codes "a column of another type than its field"
+words_of ColumnLength = codes "a column with another number of slots than rows"
+words_of IndexRange = codes "an index without a value"
+words_of Memory = codes "out of memory"

@@ -43,14 +43,21 @@ impl BatchFault {
 }
 
 impl fmt::Display for BatchFault {
+    ghost use Rattle.std.specs.Prelude.{Some};
+    ghost use Rattle.arrow_array.specs.Batch.{words_of};
+
+    ghost output = { λ f. Some (words_of f) };
+
     fn fmt<W: fmt::Write>(&self, f: &mut fmt::Formatter<W>) -> fmt::Result {
-        f.write_str(match self {
-            BatchFault::ColumnCount => "not one column for each field",
-            BatchFault::ColumnType => "a column of another type than its field",
-            BatchFault::ColumnLength => "a column with another number of slots than rows",
-            BatchFault::IndexRange => "an index without a value",
-            BatchFault::Memory => "out of memory",
-        })
+        match self {
+            BatchFault::ColumnCount => f.write_str("not one column for each field"),
+            BatchFault::ColumnType => f.write_str("a column of another type than its field"),
+            BatchFault::ColumnLength => f.write_str(
+                "a column with another number of slots than rows",
+            ),
+            BatchFault::IndexRange => f.write_str("an index without a value"),
+            BatchFault::Memory => f.write_str("out of memory"),
+        }
     }
 }
 

@@ -6,7 +6,9 @@ ghost use Rattle.arrow_array.specs.Node.{bytes_of, IsInside};
 /// The bytes of a body from `start` up to `end`, counted from its first byte.
 #[derive(Clone, Copy, Debug)]
 pub struct ByteRange {
+    /// The place of the first byte.
     pub start: usize,
+    /// The place behind the last one.
     pub end: usize,
 }
 

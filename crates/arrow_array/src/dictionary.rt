@@ -1,6 +1,6 @@
 //! Dictionaries: values of one type that columns refer to by number.
 
-ghost use Rattle.std.specs.Prelude.{◌≡◌, ◌≤◌, ◌<◌, ◌+◌, ◌^◌, ◌++◌, ◌↔◌, length, IfOk, IsTrue, None, false, OnOk, OnErr, [], ◌∷◌};
+ghost use Rattle.std.specs.Prelude.{◌≡◌, ◌≤◌, ◌<◌, ◌+◌, ◌^◌, ◌++◌, ◌↔◌, length, IfOk, IsTrue, None, false, OnOk, OnErr, []};
 ghost use Rattle.arrow_types.specs.Schema.{has_encoding};
 ghost use Rattle.arrow_types.specs.View.{type_view};
 ghost use Rattle.arrow_array.specs.Column.{HasValue, IsValueList};

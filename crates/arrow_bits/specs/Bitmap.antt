@@ -3,8 +3,8 @@ use Rattle.std.specs.Prelude.{ℕ, ◌/◌, ◌%◌, ◌==◌, ◌≡◌, ◌≤
 use Rattle.std.specs.List.{range_with_len}
 use Rattle.std.specs.Int.{bit_at, div_ceil}
 
--- bit j: bit j mod 8, from the least significant, of byte j div 8 (Columnar Format, "Validity bitmaps"). Past the end of
--- the bytes it is not set.
+-- Bit j of bytes whose bits are counted from the lowest of the first byte, eight to a byte (Columnar Format, "Validity
+-- bitmaps"). Past the end of the bytes it is not set.
 unfoldable pub bit_of : List ℕ → ℕ → Bool
 bit_of bytes j = bit_at (slice_index bytes (j / 8)) (j % 8) == 1
 

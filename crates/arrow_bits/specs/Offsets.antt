@@ -8,7 +8,7 @@ use Rattle.arrow_bits.specs.Numbers.{number_at, signed_at}
 abbrev pub offset_at : List ℕ → ℕ → ℤ
 offset_at bytes j = signed_at bytes (4 * j) 4
 
--- `len + 1` offsets stand there, the first is 0 or more, none is below the one before it, and the last is at most `top`
+-- there are `len + 1` offsets that begin at 0 or above, do not fall and stay within `top`
 -- (Columnar Format, "Variable-size Binary Layout")
 pub record AreOffsets (bytes : List ℕ) (len top : ℕ) : Type 0 where
   pub there : 4 * (len + 1) ≤ length bytes

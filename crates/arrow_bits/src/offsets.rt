@@ -31,8 +31,7 @@ impl<'a> Model for Offsets<'a> {
 
 #[tactic(auto, using(crate::proofs::Rising::length_offsets, crate::proofs::Rising::offset_found))]
 impl<'a> Offsets<'a> {
-    /// Whether `len + 1` signed 32-bit offsets stand there, the first is 0 or more, none is below the one before it, and
-    /// the last is `top` or less.
+    /// Whether there are `len + 1` signed offsets of 32 bits that begin at 0 or above, do not fall and stay within `top`.
     ///
     /// `len` counts slots. `top` counts what the offsets lead into, bytes or slots of a child, and may be more than an
     /// offset can hold. Neighbours are compared sixteen at a time.

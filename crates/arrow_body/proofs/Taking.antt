@@ -1,5 +1,7 @@
 -- What is left of nodes and buffers, field by field.
 use Rattle.std.proofs.Common.{◌≡◌, ◌≤◌, ◌<◌, ◌+◌, ◌-◌, ◌↔◌, ℕ, zero, suc, List, [], ◌∷◌, length, drop, get_or, Option, Some, None, refl, sym, ap, ◌∙◌, subst, arith, length-drop}
+use Rattle.std.proofs.lemmas.List.{drop-drop}
+use Rattle.arrow_types.proofs.Fields.{fewer_below}
 use Rattle.arrow_types.specs.Field.{Fields, Head, more, count}
 use Rattle.arrow_types.specs.View.{field_view, fields_view}
 use Rattle.arrow_types.specs.declared.field.Encoding.{Encoding}
@@ -7,23 +9,6 @@ use Rattle.arrow_types.specs.declared.field.Field.{Field}
 use Rattle.arrow_types.specs.declared.node.FieldNode.{FieldNode}
 use Rattle.arrow_types.specs.declared.node.Buffer.{Buffer}
 use Rattle.arrow_body.specs.Taken.{AllNodes, AreThere, IfFlattened, below, flattened, own_buffers, taken_nodes, taken_buffers}
-
--- the fields from one on
-pub fields_from : (fs : List Field) (i : ℕ) (f : Field) → i < length fs → f ≡ get_or fs i f → fields_view (drop i fs) ≡ more (field_view f).head (field_view f).children (fields_view (drop (i + 1) fs))
-fields_from [] i f h is = absurd (omega arith)
-fields_from (x ∷ fs) zero f h is = ap (λ (y : Field). more (field_view y).head (field_view y).children (fields_view fs)) (sym is)
-fields_from (x ∷ fs) (suc i) f h is =
-    let next : suc (i + 1) ≡ suc i + 1 = omega arith in
-    fields_from fs i f (omega arith) is ∙ ap (λ n. more (field_view f).head (field_view f).children (fields_view (drop n (x ∷ fs)))) next
-
-drop_none : {A : Type 0} (n : ℕ) → drop {A = A} n [] ≡ []
-drop_none zero = refl
-drop_none (suc n) = refl
-
-pub drop_twice : {A : Type 0} (a b : ℕ) (xs : List A) → drop a (drop b xs) ≡ drop (b + a) xs
-drop_twice a zero xs = let same : a ≡ 0 + a = omega arith in ap (λ n. drop n xs) same
-drop_twice a (suc b) [] = drop_none a ∙ sym (drop_none (suc b + a))
-drop_twice a (suc b) (x ∷ xs) = let next : suc (b + a) ≡ suc b + a = omega arith in drop_twice a b xs ∙ ap (λ n. drop n (x ∷ xs)) next
 
 pub nodes_below : (e : Option Encoding) (children : Fields) → taken_nodes (below e children) ≡ flattened e (taken_nodes children)
 nodes_below None children = refl
@@ -37,26 +22,21 @@ count_below : (e : Option Encoding) (children : Fields) → count (below e child
 count_below None children = omega arith
 count_below (Some e) children = omega arith
 
-count_from : (fs : List Field) (i : ℕ) → count (fields_view (drop i fs)) ≤ count (fields_view fs)
-count_from fs zero = omega arith
-count_from [] (suc i) = omega arith
-count_from (x ∷ fs) (suc i) = omega (arith, count_from fs i)
-
--- fewer fields stand below one of them
-pub fewer_below : (fs : List Field) (i : ℕ) (f : Field) → fields_view (drop i fs) ≡ more (field_view f).head (field_view f).children (fields_view (drop (i + 1) fs))
+-- fewer fields that are taken stand below one of them
+pub fewer_taken : (fs : List Field) (i : ℕ) (f : Field) → i < length fs → f ≡ get_or fs i f
     → count (below (field_view f).head.encoding (field_view f).children) < count (fields_view fs)
-fewer_below fs i f step = omega (arith, count_below (field_view f).head.encoding (field_view f).children, count_from fs i, ap count step)
+fewer_taken fs i f h is = omega (arith, count_below (field_view f).head.encoding (field_view f).children, fewer_below fs i f h is)
 
 -- what one field takes: its own node and buffers, and those of what stands below it
 pub node_after : (h : Head) (c : Fields) (ns rest : List FieldNode) → rest ≡ drop (taken_nodes (below h.encoding c)) (drop 1 ns) → rest ≡ drop (1 + flattened h.encoding (taken_nodes c)) ns
-node_after h c ns rest is = is ∙ drop_twice (taken_nodes (below h.encoding c)) 1 ns ∙ ap (λ n. drop (1 + n) ns) (nodes_below h.encoding c)
+node_after h c ns rest is = is ∙ drop-drop (taken_nodes (below h.encoding c)) 1 ns ∙ ap (λ n. drop (1 + n) ns) (nodes_below h.encoding c)
 
 pub buffer_after : (h : Head) (c : Fields) (bs rest : List Buffer) → rest ≡ drop (taken_buffers (below h.encoding c)) (drop (own_buffers h) bs) → rest ≡ drop (own_buffers h + flattened h.encoding (taken_buffers c)) bs
-buffer_after h c bs rest is = is ∙ drop_twice (taken_buffers (below h.encoding c)) (own_buffers h) bs ∙ ap (λ n. drop (own_buffers h + n) bs) (buffers_below h.encoding c)
+buffer_after h c bs rest is = is ∙ drop-drop (taken_buffers (below h.encoding c)) (own_buffers h) bs ∙ ap (λ n. drop (own_buffers h + n) bs) (buffers_below h.encoding c)
 
 -- what is left behind one field and those that follow is what is left behind all
 pub nodes_left : (h : Head) (c rest : Fields) (ns ns' : List FieldNode) → ns' ≡ drop (taken_nodes (below h.encoding c)) (drop 1 ns) → drop (taken_nodes rest) ns' ≡ drop (taken_nodes (more h c rest)) ns
-nodes_left h c rest ns ns' is = ap (drop (taken_nodes rest)) (node_after h c ns ns' is) ∙ drop_twice (taken_nodes rest) (1 + flattened h.encoding (taken_nodes c)) ns
+nodes_left h c rest ns ns' is = ap (drop (taken_nodes rest)) (node_after h c ns ns' is) ∙ drop-drop (taken_nodes rest) (1 + flattened h.encoding (taken_nodes c)) ns
 
 -- the fields that follow have what is left exactly where all have what was there
 pub there_after : (h : Head) (c rest : Fields) (ns ns' : List FieldNode) (bs bs' : List Buffer) → 1 ≤ length ns → own_buffers h ≤ length bs → AreThere (below h.encoding c) (drop 1 ns) (drop (own_buffers h) bs)
@@ -70,8 +50,8 @@ there_after h c rest ns ns' bs bs' one own there is is' =
     let left : 1 + flattened h.encoding (taken_nodes c) ≤ length ns = omega (arith, there.0, nodes_below h.encoding c, length-drop 1 ns) in
     let left' : own_buffers h + flattened h.encoding (taken_buffers c) ≤ length bs = omega (arith, there.1, buffers_below h.encoding c, length-drop (own_buffers h) bs) in (
       (λ t. (omega (arith, t.0), omega (arith, t.1)), λ t. (omega (arith, t.0), omega (arith, t.1))),
-      ap (drop (taken_nodes rest)) a ∙ drop_twice (taken_nodes rest) (1 + flattened h.encoding (taken_nodes c)) ns,
-      ap (drop (taken_buffers rest)) b ∙ drop_twice (taken_buffers rest) (own_buffers h + flattened h.encoding (taken_buffers c)) bs,
+      ap (drop (taken_nodes rest)) a ∙ drop-drop (taken_nodes rest) (1 + flattened h.encoding (taken_nodes c)) ns,
+      ap (drop (taken_buffers rest)) b ∙ drop-drop (taken_buffers rest) (own_buffers h + flattened h.encoding (taken_buffers c)) bs,
     )
 
 -- what is there for a field, and for what stands below it
@@ -100,11 +80,6 @@ all_after P h c rest ns ns' bs bs' here inner is is' =
       λ x. (here, (all_below P h.encoding c (drop 1 ns) (drop (own_buffers h) bs)).1 inner, subst (λ y. AllNodes P rest y (drop (own_buffers h + flattened h.encoding (taken_buffers c)) bs)) a (subst (λ y. AllNodes P rest ns' y) b x)),
       λ w. subst (λ y. AllNodes P rest ns' y) (sym b) (subst (λ y. AllNodes P rest y (drop (own_buffers h + flattened h.encoding (taken_buffers c)) bs)) (sym a) w.2),
     )
-
--- where it fails of what stands below, it fails
-pub not_all_below : (P : Head → Fields → List FieldNode → List Buffer → Type 0) (h : Head) (c rest : Fields) (ns : List FieldNode) (bs : List Buffer)
-    → (AllNodes P (below h.encoding c) (drop 1 ns) (drop (own_buffers h) bs) → ⊥) → AllNodes P (more h c rest) ns bs → ⊥
-not_all_below P h c rest ns bs never all = never ((all_below P h.encoding c (drop 1 ns) (drop (own_buffers h) bs)).0 all.1)
 
 -- what is known of all fields is known of what stands below one, and of those that follow
 pub all_inside : (P : Head → Fields → List FieldNode → List Buffer → Type 0) (h : Head) (c rest : Fields) (ns : List FieldNode) (bs : List Buffer)

@@ -1,5 +1,5 @@
 -- When nodes, buffers and a body are columns of the fields (Columnar Format, "RecordBatch message").
-use Rattle.std.specs.Prelude.{◌≡◌, ◌+◌, ◌⊎◌, ℕ, ℤ, pos, negsuc, ◌≤ℤ◌, not, nat_eq, if◌then◌else◌, List, [], ◌∷◌, length, map, take, drop, get_or, ⊤, Option, None, Some, count_by, IsTrue, is_some, false}
+use Rattle.std.specs.Prelude.{◌≡◌, ◌+◌, ◌⊎◌, ℕ, ℤ, pos, negsuc, ◌≤ℤ◌, not, nat_eq, if◌then◌else◌, List, [], ◌∷◌, length, map, take, drop, get_or, ⊤, Option, None, Some, count_by, IsTrue, is_some, false, codes}
 use Rattle.std.specs.List.{AllByRecursion}
 use Rattle.arrow_bits.specs.Bitmap.{bits_of}
 use Rattle.arrow_types.specs.DataType.{Tag, null}
@@ -141,3 +141,10 @@ number_of Layout = 1
 number_of Text = 2
 number_of Index = 3
 number_of Memory = 4
+
+-- the words of a fault
+abbrev pub words_of : BodyFault → List ℕ
+words_of Layout = codes "nodes and buffers that do not fit the body"
+words_of Text = codes "a text that is not UTF-8"
+words_of Index = codes "an index without a value"
+words_of Memory = codes "out of memory"

@@ -45,13 +45,18 @@ impl BodyFault {
 }
 
 impl fmt::Display for BodyFault {
+    ghost use Rattle.std.specs.Prelude.{Some};
+    ghost use Rattle.arrow_body.specs.Sound.{words_of};
+
+    ghost output = { λ f. Some (words_of f) };
+
     fn fmt<W: fmt::Write>(&self, f: &mut fmt::Formatter<W>) -> fmt::Result {
-        f.write_str(match self {
-            BodyFault::Layout => "nodes and buffers that do not fit the body",
-            BodyFault::Text => "a text that is not UTF-8",
-            BodyFault::Index => "an index without a value",
-            BodyFault::Memory => "out of memory",
-        })
+        match self {
+            BodyFault::Layout => f.write_str("nodes and buffers that do not fit the body"),
+            BodyFault::Text => f.write_str("a text that is not UTF-8"),
+            BodyFault::Index => f.write_str("an index without a value"),
+            BodyFault::Memory => f.write_str("out of memory"),
+        }
     }
 }
 

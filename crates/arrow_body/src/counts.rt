@@ -2,7 +2,6 @@
 
 ghost use Rattle.std.specs.Prelude.{◌≡◌, ◌↔◌, IsTrue, drop, take};
 ghost use Rattle.std.specs.List.{AllByRecursion};
-ghost use Rattle.arrow_types.specs.Field.{count};
 ghost use Rattle.arrow_types.specs.View.{fields_view};
 ghost use Rattle.arrow_body.specs.Sound.{lengths_of};
 ghost use Rattle.arrow_body.specs.Taken.{taken_nodes};

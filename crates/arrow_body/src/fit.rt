@@ -1,6 +1,6 @@
 //! Whether dictionaries have the types of the fields that refer to them.
 
-ghost use Rattle.std.specs.Prelude.{◌≡◌, ◌↔◌, IsTrue};
+ghost use Rattle.std.specs.Prelude.{◌↔◌, IsTrue};
 ghost use Rattle.arrow_types.specs.View.{field_view, fields_view};
 ghost use Rattle.arrow_body.specs.Sound.{AreFit, IsNodeFit};
 

@@ -1,6 +1,6 @@
 //! Whether the indices of a body have their values.
 
-ghost use Rattle.std.specs.Prelude.{◌≡◌, ◌↔◌, IsTrue, [], ◌∷◌};
+ghost use Rattle.std.specs.Prelude.{◌↔◌, IsTrue, [], ◌∷◌};
 ghost use Rattle.arrow_types.specs.Field.{fields_of};
 ghost use Rattle.arrow_types.specs.View.{field_view, fields_view};
 ghost use Rattle.arrow_body.specs.Sound.{AreIndexed, AreLaid, IsNodeIndexed, IsNodeLaid};

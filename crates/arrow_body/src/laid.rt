@@ -1,6 +1,6 @@
 //! Whether nodes and buffers lie in the body as the types of their fields ask for.
 
-ghost use Rattle.std.specs.Prelude.{◌≡◌, ◌≤◌, ◌↔◌, IsTrue, length, map, drop, [], ◌∷◌};
+ghost use Rattle.std.specs.Prelude.{◌≡◌, ◌≤◌, ◌↔◌, IsTrue, length, map, [], ◌∷◌};
 ghost use Rattle.std.specs.List.{AllByRecursion};
 ghost use Rattle.arrow_array.specs.Layout.{IsLaid, buffer};
 ghost use Rattle.arrow_array.specs.Node.{bytes_of, IsInside};

@@ -1,8 +1,7 @@
 //! What fields take of nodes and buffers.
 
 ghost use Rattle.std.specs.Prelude.{◌≡◌, ◌≤◌, MatchOption, length, drop};
-ghost use Rattle.arrow_types.specs.Field.{count};
-ghost use Rattle.arrow_types.specs.View.{field_view, fields_view, type_view};
+ghost use Rattle.arrow_types.specs.View.{field_view, fields_view};
 ghost use Rattle.arrow_body.specs.Taken.{AreThere, below, own_buffers, taken_buffers, taken_nodes};
 
 use arrow_array::layout::buffer_count;

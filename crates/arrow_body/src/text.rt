@@ -1,6 +1,6 @@
 //! Whether the texts of a body are UTF-8.
 
-ghost use Rattle.std.specs.Prelude.{◌≡◌, ◌≤◌, ◌↔◌, IsTrue, None, length, map, [], ◌∷◌};
+ghost use Rattle.std.specs.Prelude.{◌≤◌, ◌↔◌, IsTrue, None, length, map, [], ◌∷◌};
 ghost use Rattle.std.specs.List.{AllByRecursion};
 ghost use Rattle.arrow_array.specs.Layout.{IsLaid, IsText};
 ghost use Rattle.arrow_array.specs.Node.{bytes_of, IsInside};

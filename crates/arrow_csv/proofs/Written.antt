@@ -9,11 +9,6 @@ use Rattle.arrow_array.specs.Column.{Column}
 use Rattle.arrow_array.specs.Same.{HaveSlot}
 use Rattle.arrow_csv.specs.Records.{batch_rows, row_record}
 
--- each column has the slot of a row
-pub have_row : (rows i : ℕ) (cs : List Column) → HaveRows rows cs → i < rows → HaveSlot i cs
-have_row rows i [] h l = tt
-have_row rows i (c ∷ cs) h l = (omega (arith, h.0), have_row rows i cs h.1 l)
-
 -- a writer that wrote the rows before row i
 pub record HasWritten (written : Option (List ℕ)) (setup : WriterBuilder) (fields : ℕ) (wrote : Bool) (number : ℕ) (batch : Table) (start i end : ℕ) : Type 0 where
   pub text : List ℕ

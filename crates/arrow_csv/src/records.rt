@@ -1,9 +1,7 @@
 //! The records of a schema and of the rows of batches.
 
-ghost use Rattle.std.specs.Prelude.{◌≡◌, ◌≤◌, ◌<◌, ◌∷◌, ◌++◌, IfOk, OnOk, decimal, length};
-ghost use Rattle.arrow_array.specs.Column.{AreOf, resolved_row_of};
+ghost use Rattle.std.specs.Prelude.{◌≡◌, ◌≤◌, ◌<◌, ◌∷◌, IfOk, OnOk};
 ghost use Rattle.arrow_array.specs.Same.{HaveSlot};
-ghost use Rattle.arrow_types.specs.View.{fields_view};
 ghost use Rattle.csv.specs.Records.{fields_of};
 ghost use Rattle.arrow_csv.specs.Records.{batch_rows, column_texts, header_record};
 

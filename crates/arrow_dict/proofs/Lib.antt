@@ -2,5 +2,4 @@ pub mod Placing
 pub mod Places
 pub mod Appending
 pub mod Naming
-pub mod Fields
 pub mod Kept

@@ -34,10 +34,6 @@ first_alone : (o : Option TypeShape) → first_of o None ≡ o
 first_alone (Some t) = refl
 first_alone None = refl
 
--- nothing more
-pub same_none : (ds : List DictionaryField) → NameSame ds (ds ++ [])
-same_none ds id = sym (named_append ds [] id ∙ first_alone (value_type_of ds id))
-
 type_there : (o : Option TypeShape) (t : TypeShape) (p : Option TypeShape) → o ≡ Some t → o ≡ first_of o p
 type_there (Some u) t p is = refl
 type_there None t p is = cc

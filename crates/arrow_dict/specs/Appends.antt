@@ -1,5 +1,5 @@
 -- What becomes of values that are to go behind those of a dictionary (Message.fbs, table "DictionaryBatch", field "isDelta").
-use Rattle.std.specs.Prelude.{◌≡◌, ◌≤◌, ◌<◌, ◌+◌, ℕ, ℤ, List, ◌++◌, length, Some, None, Result, Ok, Err}
+use Rattle.std.specs.Prelude.{◌≡◌, ◌≤◌, ◌<◌, ◌+◌, ℕ, ℤ, List, ◌++◌, length, Some, None, Result, Ok, Err, codes}
 use Rattle.arrow_array.specs.Column.{Column, ValueList}
 use Rattle.arrow_array.specs.Listed.{listed}
 use Rattle.arrow_dict.specs.Dictionaries.{placed}
@@ -47,3 +47,9 @@ abbrev pub number_of : StoreFault → ℕ
 number_of NoBase = 1
 number_of TooLong = 2
 number_of Memory = 3
+
+-- the words of a fault
+abbrev pub words_of : StoreFault → List ℕ
+words_of NoBase = codes "no dictionary to append to"
+words_of TooLong = codes "more than 2,147,483,647 values in a dictionary"
+words_of Memory = codes "out of memory"

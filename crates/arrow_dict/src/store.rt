@@ -38,12 +38,17 @@ impl StoreFault {
 }
 
 impl fmt::Display for StoreFault {
+    ghost use Rattle.std.specs.Prelude.{Some};
+    ghost use Rattle.arrow_dict.specs.Appends.{words_of};
+
+    ghost output = { λ f. Some (words_of f) };
+
     fn fmt<W: fmt::Write>(&self, f: &mut fmt::Formatter<W>) -> fmt::Result {
-        f.write_str(match self {
-            StoreFault::NoBase => "no dictionary to append to",
-            StoreFault::TooLong => "more than 2,147,483,647 values in a dictionary",
-            StoreFault::Memory => "out of memory",
-        })
+        match self {
+            StoreFault::NoBase => f.write_str("no dictionary to append to"),
+            StoreFault::TooLong => f.write_str("more than 2,147,483,647 values in a dictionary"),
+            StoreFault::Memory => f.write_str("out of memory"),
+        }
     }
 }
 
@@ -119,8 +124,8 @@ impl Store {
     /// Puts the values of the array behind those of the id's dictionary, of which none is copied (Columnar Format,
     /// "Dictionary Messages", of delta dictionaries). After a fault nothing has changed.
     pub fn append(&mut self, alloc: Global, id: i64, values: Array) -> Result<(), StoreFault>
-        requires plain { values.encoding ≡ None }
         requires typed { (d : ValueList) → listed self.old id ≡ Some d → values.data_type ≡ d.data_type }
+        requires plain { (d : ValueList) → listed self.old id ≡ Some d → values.encoding ≡ None }
         ensures { Appends self.old id values result self.new }
     {
         let Ok(at) = self.place_of(id) else {

@@ -3,7 +3,7 @@ ghost use Rattle.std.specs.Prelude.{◌≡◌, ◌≤◌, ◌^◌, IfOk, IfSome,
 ghost use Rattle.arrow_flatbuf.specs.Place.{number_at, behind};
 ghost use Rattle.arrow_flatbuf.specs.Table.{TableAt, table_at, field_place};
 ghost use Rattle.arrow_flatbuf.specs.Text.{text_at};
-ghost use Rattle.arrow_flatbuf.specs.Vector.{VectorAt, vector_at};
+ghost use Rattle.arrow_flatbuf.specs.Vector.{vector_at};
 ghost use Rattle.arrow_flatbuf.specs.Answers.{Answers};
 
 use crate::place::{number_at, target_at};

@@ -18,7 +18,7 @@ use Rattle.arrow_meta.specs.Parts.{nth, parts, is_there}
 use Rattle.arrow_meta.specs.SchemaMeaning.{schema_fields}
 use Rattle.arrow_meta.specs.Trees.{Tree, leaf, table, tables, Trees}
 use Rattle.arrow_meta.specs.Within.{IsShallow}
-use Rattle.arrow_meta.proofs.Misfits.{or_right}
+use Rattle.std.proofs.lemmas.Bool.{or_right, or_parts}
 use Rattle.arrow_meta.proofs.Shallow.{schema_levels, schema_count}
 
 -- the conditions by their truth values: schema, unsupported, misfit and shares are parts of those of kinds 8 and 9
@@ -127,16 +127,6 @@ either : (b : Bool) → (b ≡ true) ⊎ (b ≡ false)
 either true = inl refl
 either false = inr refl
 
--- want of memory is told of no fault but kind 9
-only_shared : (max : ℕ) (x : Tree) → PassedBy max (parts x) → Judges (Err Memory) max x
-only_shared max x p f h = elim (either (is_schema (parts x))) [
-  | inl schema ↦ elim (either (shares_an_id (header_of (parts x)))) [
-    | inl shares ↦ (let e = p.shared schema shares in let same : f ≡ Schema (body_of (parts x)) = cc in ap number_of same)
-    | inr apart ↦ absurd (let e = p.unshared apart in cc)
-  ]
-  | inr other ↦ absurd (let e = p.no_schema other in cc)
-]
-
 -- the fields' own faults, by their truth values
 abbrev fields_chain : Bool → Bool → Bool → Bool → Option SchemaFault
 fields_chain deep many nested differ =
@@ -159,10 +149,6 @@ fields_agree false true c true h = absurd (cc)
 fields_agree false false true true h = absurd (cc)
 fields_agree false false false true h = absurd (cc)
 
-or_false : (a b : Bool) → (a || b) ≡ false → b ≡ false
-or_false true b h = absurd (true≢false h)
-or_false false b h = h
-
 misfit_parts : (x : Tree) → any_in is_misfit (parts x) ≡ true → any is_misfit x ≡ true
 misfit_parts (leaf x) h = absurd (true≢false (sym h))
 misfit_parts (table kind xs) h = or_right (is_misfit kind xs) (any_in is_misfit xs) h
@@ -178,13 +164,13 @@ fields_fault x fault shallow supported h =
     let deep : levels fields ≤ 32 = omega (arith, schema_levels x 2, shallow.levels_within) in
     let many : count fields ≤ 65536 = omega (arith, schema_count x 2, shallow.visits_within) in
     fields_differ (nat_lt 32 (levels fields)) (nat_lt 65536 (count fields)) (is_nested fields) (types_differ (dictionary_fields fields)) fault
-    (le-ltb 32 (levels fields) deep) (le-ltb 65536 (count fields) many) (or_false (any is_unsupported header) (is_nested fields) supported) h
+    (le-ltb 32 (levels fields) deep) (le-ltb 65536 (count fields) many) ((or_parts (any is_unsupported header) (is_nested fields) supported).1) h
 
 -- a fault of the building
-late : (e : MetaFault) (max : ℕ) (x : Tree) → PassedBy max (parts x) → IsShallow x → is_schema (parts x) ≡ true → Late e (body_of (parts x)) (parts (header_of (parts x))) → Judges (Err e) max x
-late e max x p shallow schema (inl memory) = subst (λ f. Judges (Err f) max x) (sym memory) (only_shared max x p)
-late e max x p shallow schema (inr (inl misfit)) = absurd (true≢false (sym (misfit_parts (header_of (parts x)) misfit) ∙ p.fits schema))
-late e max x p shallow schema (inr (inr found)) =
+late : (e : MetaFault) (max : ℕ) (x : Tree) → least (conditions false max (parts x)) ≡ None → PassedBy max (parts x) → IsShallow x → is_schema (parts x) ≡ true → Late e (body_of (parts x)) (parts (header_of (parts x))) → Judges (Err e) max x
+late e max x none_found p shallow schema (inl memory) = subst (λ f. Judges (Err f) max x) (sym memory) none_found
+late e max x none_found p shallow schema (inr (inl misfit)) = absurd (true≢false (sym (misfit_parts (header_of (parts x)) misfit) ∙ p.fits schema))
+late e max x none_found p shallow schema (inr (inr found)) =
     let which = fields_fault x found.0 shallow (p.supported schema) found.1 in
     let same : e ≡ Schema (body_of (parts x)) = found.2 ∙ ap (meta_fault (body_of (parts x))) which.0 in
     subst (λ f. Judges (Err f) max x) (sym same) (p.shared schema which.1)
@@ -200,9 +186,9 @@ built (Ok m) max x shallow none_found h =
     ] in
     record { sound = sound; same = h.0 }
 built (Err e) max x shallow none_found (inl memory) =
-    subst (λ f. Judges (Err f) max x) (sym memory) (only_shared max x (passed_by max (parts x) none_found))
+    subst (λ f. Judges (Err f) max x) (sym memory) none_found
 built (Err e) max x shallow none_found (inr h) =
-    late e max x (passed_by max (parts x) none_found) shallow (eq-eqb (code_of (parts x)) 1 h.0) h.1
+    late e max x none_found (passed_by max (parts x) none_found) shallow (eq-eqb (code_of (parts x)) 1 h.0) h.1
 
 -- the body's length that a fault gives
 abbrev tells : MetaFault → ℕ → Type 0
@@ -232,7 +218,7 @@ length_none false false true true s e m sh g n k h = absurd (cc)
 length_none false false false true s e m sh g n k h = absurd (cc)
 
 good_length : (max n : ℕ) → is_bad_length max n ≡ false → n ≤ max
-good_length max n h = ltb-false max n (or_false (nat_lt 9223372036854775807 n) (nat_lt max n) h)
+good_length max n h = ltb-false max n ((or_parts (nat_lt 9223372036854775807 n) (nat_lt max n) h).1)
 
 given_length : (max : ℕ) (xs : Trees) (f : MetaFault) (given : ℕ) → fault_of max xs ≡ Some f → tells f given → given ≤ max
 given_length max xs f given h t =

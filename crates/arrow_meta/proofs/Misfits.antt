@@ -7,19 +7,12 @@ use Rattle.arrow_meta.specs.declared.kinds.Kind.TheVariants as kinds
 use Rattle.arrow_meta.specs.declared.fields.Refusal.{Refusal}
 use Rattle.arrow_meta.specs.declared.fields.Refusal.TheVariants.{Misfit, Memory}
 use Rattle.arrow_meta.specs.Builds.{Refuses, size, size_all, field_by}
+use Rattle.std.proofs.lemmas.Bool.{or_left, or_right}
 use Rattle.arrow_meta.specs.Codes.{type_code}
 use Rattle.arrow_meta.specs.Conditions.{any, any_in, is_misfit, children_fit}
 use Rattle.arrow_meta.specs.Parts.{nth, number_at}
 use Rattle.arrow_meta.specs.SchemaMeaning.{fields_in}
 use Rattle.arrow_meta.specs.Trees.{table, Trees, none, more}
-
-pub or_left : (a b : Bool) → a ≡ true → (a || b) ≡ true
-or_left true b h = refl
-or_left false b h = absurd (true≢false (sym h))
-
-pub or_right : (a b : Bool) → b ≡ true → (a || b) ≡ true
-or_right true b h = refl
-or_right false b h = h
 
 -- what is found in field i is found in the row
 pub any_nth : (test : Kind → Trees → Bool) (i : ℕ) (xs : Trees) → any test (nth i xs) ≡ true → any_in test xs ≡ true
@@ -49,7 +42,3 @@ size_positive (more x xs) = omega arith
 
 pub joined_same : (n n' : List ℕ) (b b' : Bool) (e e' : Option Encoding) (k k' : TypeShape) → n ≡ n' → b ≡ b' → e ≡ e' → k ≡ k' → field_by n b e k ≡ field_by n' b' e' k'
 joined_same n n' b b' e e' k k' p q r s = cc
-
-pub empty_list : {X : Type 0} (xs : List X) → length xs ≡ 0 → xs ≡ []
-empty_list [] h = refl
-empty_list (x ∷ xs) h = absurd (omega (arith, h))

@@ -28,11 +28,6 @@ field_get kind t ss i d e h =
     let at : 0 + i ≡ i = omega arith in
     spots_get (shapes_of kind) t 0 i (get_or ss i d) got ∙ ap (λ (n : ℕ). Some (spot (get_or ss i d) t n)) at
 
--- how many fields there are
-pub length-fields : (ss : List Shape) (t : TableAt) (i : ℕ) → length (spots_from ss t i) ≡ length ss
-length-fields [] t i = refl
-length-fields (s ∷ ss) t i = ap suc (length-fields ss t (i + 1))
-
 -- element j of a vector
 pub element_get : (kind : Kind) (p n j : ℕ) → j < n → slice_get (elements kind p n) j ≡ Some (record { shape = shapes.Table kind; place = Some (p + j * 4) })
 element_get kind p zero j h = absurd (omega arith)

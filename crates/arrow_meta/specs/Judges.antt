@@ -1,10 +1,10 @@
 -- What a tree, and the bytes of a metadata, are answered with.
-use Rattle.std.specs.Prelude.{◌≡◌, ◌≤◌, ◌⊎◌, ℕ, List, Result, Ok, Err, Some}
+use Rattle.std.specs.Prelude.{◌≡◌, ◌≤◌, ◌⊎◌, ℕ, false, List, Result, Ok, Err, Some, None}
 use Rattle.arrow_types.specs.Limits.{LimitNumbers}
 use Rattle.arrow_meta.specs.declared.fault.MetaFault.{MetaFault}
 use Rattle.arrow_meta.specs.declared.fault.MetaFault.TheVariants.{Metadata, Unsupported, Schema, Compressed, Memory}
 use Rattle.arrow_meta.specs.declared.message.Message.{Message}
-use Rattle.arrow_meta.specs.Faults.{fault_of, number_of}
+use Rattle.arrow_meta.specs.Faults.{conditions, fault_of, least}
 use Rattle.arrow_meta.specs.Lies.{LiesAtRoot}
 use Rattle.arrow_meta.specs.Means.{PlainMessage, Means, message_view}
 use Rattle.arrow_meta.specs.Parts.{parts}
@@ -12,10 +12,10 @@ use Rattle.arrow_meta.specs.Trees.{Tree}
 use Rattle.arrow_meta.specs.Within.{IsWithin}
 
 -- An answer to a tree: the message that it means, else its least fault. Want of memory is told only of a tree of
--- which no fault holds, or a schema's fault of kind 9.
+-- which no fault holds, or no other than that fields of one dictionary id have unequal types.
 abbrev pub Judges : Result Message MetaFault → ℕ → Tree → Type 0
 Judges (Ok m) max_body x = Means max_body x (message_view m)
-Judges (Err Memory) max_body x = (f : MetaFault) → fault_of max_body (parts x) ≡ Some f → number_of f ≡ 9
+Judges (Err Memory) max_body x = least (conditions false max_body (parts x)) ≡ None
 Judges (Err fault) max_body x = fault_of max_body (parts x) ≡ Some fault
 
 -- A body's length that is answered, with a message or with a fault, is at most the limit.

@@ -40,7 +40,8 @@ pub fn decode(alloc: Global, bytes: &[u8], limits: &Limits) -> Result<Message, M
 /// The tree is taken: its names and zones move into the schema, and with a fault it is dropped. Here
 /// `Metadata` says that a table which must be there is absent, and `BodyLength` looks at `max_body`
 /// alone, since where the body ends in its stream is not known. `Memory` is answered only where no
-/// fault holds, or only that fields of one dictionary id have unequal types or another of `Schema`.
+/// fault holds, or none but that fields of one dictionary id have unequal types: those are compared
+/// when the schema is built, which takes memory before.
 pub fn judge(alloc: Global, tree: MessageTree, limits: &Limits) -> Result<Message, MetaFault>
     ensures judged { Judges result limits.now.max_body tree }
     ensures length { LengthFits result limits.now.max_body }

@@ -1,6 +1,5 @@
 //! The tree of a message: what its metadata hold, before any of it is judged.
 use crate::kinds::Kind;
-use crate::parts::number_at;
 use std::marker::Model;
 
 /// What stands in a field that holds no table.
@@ -51,21 +50,4 @@ impl Model for MessageTree {
     ghost view = { λ t. plain t.root };
 
     ghost invariant = { λ t. IsShallow (plain t.root) };
-}
-
-impl MessageTree {
-    ghost use Rattle.std.specs.Prelude.{◌≡◌};
-    ghost use Rattle.arrow_meta.specs.Faults.{is_schema};
-    ghost use Rattle.arrow_meta.specs.Parts.{parts as parts_of};
-
-    /// Whether the header's code is that of a schema, whatever else the message holds.
-    pub fn is_schema(&self) -> bool
-        ensures schema { result ≡ is_schema (parts_of self.now) }
-    {
-        match &self.root {
-            Tree::Table(_, parts) => number_at(parts, 1, 0) == 1,
-            Tree::Leaf(_) => false,
-            Tree::Tables(_) => false,
-        }
-    }
 }

@@ -12,6 +12,10 @@ use std::fmt;
 pub struct SinkFault;
 
 impl fmt::Display for SinkFault {
+    ghost use Rattle.std.specs.Prelude.{Some, codes};
+
+    ghost output = { λ _. Some (codes "the output failed") };
+
     fn fmt<W: fmt::Write>(&self, f: &mut fmt::Formatter<W>) -> fmt::Result {
         f.write_str("the output failed")
     }

@@ -5,6 +5,7 @@ use Rattle.std.specs.List.{AllByRecursion}
 use Rattle.std.specs.Ordering.{int_eq}
 use Rattle.std.proofs.lemmas.Bool.{cases_Bool}
 use Rattle.std.proofs.lemmas.Bool.Decides.{Decides-int_eq}
+use Rattle.std.proofs.lemmas.Bool.{or_parts}
 use Rattle.arrow_types.specs.DataType.{Tag}
 use Rattle.arrow_types.specs.Field.{Fields, Head, none, more, fields_of, FieldShape, TypeShape}
 use Rattle.arrow_types.specs.Schema.{DictionaryField, IsSchema, dictionary_fields, dictionary_of, has_encoding, is_nested}
@@ -45,10 +46,6 @@ module _ (P : DictionaryField → Type 0) where
 abbrev own_at : Option Encoding → Tag → Fields → List DictionaryField
 own_at o t c = elim o [ None ↦ [] | Some e ↦ record { id = e.id; value_type = record { tag = t; children = c } } ∷ [] ]
 
-or_false : (a b : Bool) → (a || b) ≡ false → (a ≡ false) × (b ≡ false)
-or_false true b e = absurd (cc)
-or_false false b e = (refl, e)
-
 -- NO ENCODING BELOW A DICTIONARY
 
 abbrev IsFlat : DictionaryField → Type 0
@@ -61,8 +58,8 @@ own_flat (Some x) t c e = (e, tt)
 all_flat : (f : Fields) → is_nested f ≡ false → AllByRecursion IsFlat (dictionary_fields f)
 all_flat none n = tt
 all_flat (more h c r) n =
-    let own = or_false (is_some h.encoding && has_encoding c || is_nested c) (is_nested r) n in
-    let both = or_false (is_some h.encoding && has_encoding c) (is_nested c) own.0 in
+    let own = or_parts (is_some h.encoding && has_encoding c || is_nested c) (is_nested r) n in
+    let both = or_parts (is_some h.encoding && has_encoding c) (is_nested c) own.0 in
     all_both IsFlat (dictionary_of h c ++ dictionary_fields c) (dictionary_fields r)
     (all_both IsFlat (dictionary_of h c) (dictionary_fields c) (own_flat h.encoding h.tag c both.0) (all_flat c both.1)) (all_flat r own.1)
 
@@ -95,8 +92,8 @@ flat_node ds (Some x) t e = absurd (cc)
 pub flat_fit : (ds : List (ℤ × ValueList)) (f : Fields) → has_encoding f ≡ false → AreFit ds f
 flat_fit ds none e = tt
 flat_fit ds (more h c r) e =
-    let own = or_false (is_some h.encoding || has_encoding c) (has_encoding r) e in
-    let both = or_false (is_some h.encoding) (has_encoding c) own.0 in (
+    let own = or_parts (is_some h.encoding || has_encoding c) (has_encoding r) e in
+    let both = or_parts (is_some h.encoding) (has_encoding c) own.0 in (
       record { typed = flat_node ds h.encoding (record { tag = h.tag; children = c }) both.0; flat = λ _. both.1 },
       if_flattened h.encoding (AreFit ds c) (flat_fit ds c both.1),
       flat_fit ds r own.1,
@@ -122,8 +119,8 @@ flat_below (Some x) c e h = e
 typed_fit : (ds : List (ℤ × ValueList)) (f : Fields) → is_nested f ≡ false → AllByRecursion (IsTyped ds) (dictionary_fields f) → AreFit ds f
 typed_fit ds none n h = tt
 typed_fit ds (more h c r) n all =
-    let own = or_false (is_some h.encoding && has_encoding c || is_nested c) (is_nested r) n in
-    let both = or_false (is_some h.encoding && has_encoding c) (is_nested c) own.0 in
+    let own = or_parts (is_some h.encoding && has_encoding c || is_nested c) (is_nested r) n in
+    let both = or_parts (is_some h.encoding && has_encoding c) (is_nested c) own.0 in
     let first = all_left (IsTyped ds) (dictionary_of h c ++ dictionary_fields c) (dictionary_fields r) all in
     let next = all_right (IsTyped ds) (dictionary_of h c ++ dictionary_fields c) (dictionary_fields r) all in
     let here = all_left (IsTyped ds) (dictionary_of h c) (dictionary_fields c) first in
@@ -185,7 +182,3 @@ one_value_field schema id f h = ap (λ x. fields_of (x ∷ [])) h.is ∙ sym (ap
 
 pub found_fit : (o : Option TypeShape) (f : FieldShape) → IsFound o f → ((t : TypeShape) → o ≡ Some t → has_encoding t.children ≡ false) → AreFit [] (fields_of (f ∷ []))
 found_fit o f h flat = subst (λ x. AreFit [] (fields_of (x ∷ []))) (sym h.is) (value_fit [] h.type (flat h.type h.named))
-
--- of a schema that is known
-pub none_flat : (id : ℤ) (t : TypeShape) → value_type_of (dictionary_fields none) id ≡ Some t → has_encoding t.children ≡ false
-none_flat id t e = absurd (cc)

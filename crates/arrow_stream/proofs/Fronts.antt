@@ -76,11 +76,3 @@ front_place {p = p} {b = b} (goes_on {n = n} x xs) =
     let i = front_place xs in
     let len : length (drop n b) + n ≡ length b = simp length-drop (omega (arith, First-within x)) in
     i ∙ omega arith
-
--- where a front is open, its rest waits
-pub front_waits : {l : LimitNumbers} {s : StreamState} {p : ℕ} {b : List ℕ} {es : List Entry} {e : Standing} →
-    Front l s p b es e → e.verdict ≡ Open → First l e.state e.place e.rest waits
-front_waits (rests x) o = x
-front_waits (fails x) o = absurd (cc)
-front_waits (closes x) o = absurd (cc)
-front_waits (goes_on x xs) o = front_waits xs o

@@ -14,11 +14,6 @@ use Rattle.arrow_meta.specs.Means.{PlainBatch}
 use Rattle.arrow_stream.specs.declared.kind.Refusal.TheVariants.{Layout, Text, Index}
 use Rattle.arrow_stream.specs.Batch.{AreLong, Holds, IsLayout, columns, bad_layout, bad_text, bad_index}
 
--- a number that is not negative is what it counts
-pub counted : (z : ℤ) → pos 0 ≤ℤ z → nat_abs z ≡ count_of z
-counted (pos n) h = refl
-counted (negsuc n) h = absurd (search rules)
-
 -- the columns have the length of the batch, of which these are the nodes and this is the count
 pub are_long : (fields : Fields) (rows : PlainBatch) (ns : List FieldNode) (n : ℕ) → ns ≡ rows.nodes → n ≡ count_of rows.length →
     AllByRecursion (λ (k : ℕ). k ≡ n) (lengths_of fields ns) ↔ AreLong fields rows

@@ -2,6 +2,7 @@
 use Rattle.std.proofs.Common.{◌≡◌, ℕ, ◌≤◌, Bool, true, false, cond, List, ◌+◌, length, refl, sym, ap, ◌∙◌, subst, arith, inl, inr, Option, Some, None, Result, Ok, Err}
 use Rattle.std.specs.Prelude.{◌||◌, ◌&&◌, ◌==◌, not, nat_lt, is_some}
 use Rattle.std.proofs.lemmas.Bool.{ltb-false}
+use Rattle.std.proofs.lemmas.Bool.{or_parts}
 use Rattle.arrow_types.specs.Limits.{LimitNumbers}
 use Rattle.arrow_meta.specs.declared.fault.BatchKind.{BatchKind}
 use Rattle.arrow_meta.specs.declared.fault.MetaFault.{MetaFault}
@@ -42,10 +43,6 @@ answered : (f : Option MetaFault) (t : PlainMessage) (m : Message) → Ok m ≡ 
 answered None t m e = (refl, (cc))
 answered (Some f) t m e = absurd (cc)
 
-or_false : (a b : Bool) → (a || b) ≡ false → b ≡ false
-or_false true b e = absurd (cc)
-or_false false b e = e
-
 -- where no fault holds, the body's length is within the limit
 length_holds : (a b c d e f g : Bool) (n : ℕ) (k : BatchKind) →
     cond a (Some faults.Metadata) (cond b (Some faults.Version) (cond c (Some faults.Header) (cond d (Some faults.BodyLength) (cond e (Some (faults.Unsupported n)) (cond f (Some (faults.Schema n)) (cond g (Some (faults.Compressed k n)) None)))))) ≡ None →
@@ -63,7 +60,7 @@ tree_small max x m e =
     let d = length_holds (any_in lacks_table xs) (not (version_of xs == 4)) (not (has_header xs)) (is_bad_length max (body_of xs))
     (is_schema xs && is_unsupported_schema (header_of xs)) (is_schema xs && (any is_misfit (header_of xs) || shares_an_id (header_of xs)))
     (not (is_schema xs) && is_there (nth 3 (batch_parts xs))) (body_of xs) (batch_kind xs) w.0 in
-    let within = ltb-false max (body_of xs) (or_false (nat_lt 9223372036854775807 (body_of xs)) (nat_lt max (body_of xs)) d) in
+    let within = ltb-false max (body_of xs) (or_parts (nat_lt 9223372036854775807 (body_of xs)) (nat_lt max (body_of xs)) d).1 in
     let same : m.body_len ≡ body_of xs = ap (λ (u : Message). u.body_len) w.1 in
     omega arith
 

@@ -74,11 +74,6 @@ module _ (s : StreamState) (rows : PlainBatch) (body : List ℕ) where
         flat = ap (λ (x : TypeShape). has_encoding x.children) one.typed ∙ flat;
       }
 
-  -- what refuses the body of a dictionary batch
-  pub values_refused : (id : ℤ) (stop : Stop) → HoldsNone body [] (value_fields s.schema id) rows stop → HeldValues s id rows body (Err stop)
-  values_refused id (Refused k) h = h
-  values_refused id Memory h = tt
-
   -- refuses the batch
   pub update_refused : (id : ℤ) (delta : Bool) (stop : Stop) → HeldValues s id rows body (Err stop) → Updates s id delta rows body (Err stop) s
   update_refused id delta (Refused k) h = (dictionary_comes h refl, refl)

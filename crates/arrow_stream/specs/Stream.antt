@@ -5,6 +5,7 @@ use Rattle.arrow_stream.specs.declared.kind.Kind.TheVariants.{Memory, NoSchema, 
 use Rattle.arrow_stream.specs.declared.kind.Refusal.{Refusal}
 use Rattle.arrow_stream.specs.declared.fault.Fault.{Fault}
 use Rattle.arrow_stream.specs.declared.item.Item.{Item}
+use Rattle.arrow_stream.specs.declared.item.Item.TheVariants.{End}
 use Rattle.arrow_stream.specs.declared.reader.Verdict.{Verdict}
 use Rattle.arrow_stream.specs.declared.reader.Verdict.TheVariants.{Open, Done, Bad}
 use Rattle.arrow_stream.specs.Kind.{kind_of}
@@ -78,6 +79,11 @@ MemoryAlone old new fault = fault.kind ≡ Memory → WantsMemory old fault new
 abbrev pub Takes : List ℕ → ℕ × Option Item → Type 0
 Takes piece (n, None) = n ≤ length piece
 Takes piece (n, Some item) = (0 < n) × (n ≤ length piece)
+
+-- whether the stream goes on: the end marker ends it, another item does not, and where no item came it is as it was
+abbrev pub GoesOn : Option Item → Verdict → Verdict → Type 0
+GoesOn None old new = new ≡ old
+GoesOn (Some item) old new = (new ≡ Open) ⊎ ((item ≡ End) × (new ≡ Done))
 
 -- what a stream answers that ends with this verdict, rest and place of the rest, behind a schema or not
 abbrev pub ended_by : Verdict → Bool → List ℕ → ℕ → Result (Unit {0}) Fault

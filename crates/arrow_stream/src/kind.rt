@@ -30,7 +30,7 @@ pub(crate) enum Refusal {
 pub enum Kind {
     /// 1: the first four bytes of a message are not `FF FF FF FF`.
     Continuation,
-    /// 2: the metadata's size is negative or over `max_metadata`, or the metadata would end past place 2^62.
+    /// 2: a size of the metadata below 0 or above `max_metadata`, or with which they go on behind place 2^62.
     MetadataSize,
     /// 3: something of the metadata that is looked at is not readable, a table that must be there is absent,
     /// or a fixed limit is passed: 32 levels, 65,536 fields, or `max_metadata` bytes of names and zones.

@@ -7,9 +7,10 @@ pub fn one_front()
     ensures single { OneFront }
 {}
 
-/// The items of a longer list begin with those of a shorter one, and where the shorter one has ended, by a
-/// refusal or by its end marker, so has the longer one, at the same place.
+/// A list of bytes has one front, and the items of a longer list begin with those of a shorter one; where the shorter
+/// one has ended, by a refusal or by its end marker, so has the longer one, at the same place.
 pub fn front_grows()
+    ensures single { OneFront }
     ensures grows { MoreBytes }
 {}
 

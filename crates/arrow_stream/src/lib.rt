@@ -5,11 +5,12 @@
 //! says which columns a body holds, and on `arrow_dict`, which keeps the dictionaries. It adds what hangs on the stream:
 //! the frame around the metadata, the place where a message stands, the order of messages, and what was read before.
 //!
-//! [`StreamReader`] keeps the bytes of one unfinished message and nothing of what it took before. What it is
-//! measured by is a relation over whole lists of bytes: `First` (`specs/Frame.antt`) says what stands at the front
-//! of a list, one message, the end marker, a refusal or less than that, and `Front` (`specs/Front.antt`) says the
-//! same of all messages, one behind the other; what a batch says by its body stands in `specs/Batch.antt`. `Stands` (`specs/Stream.antt`) says at which bytes a reader stands.
-//! So a reader's answers hang on the bytes alone and on no cut between them: [`laws`] says it in three sentences.
+//! [`StreamReader`] keeps the bytes of one unfinished message and nothing of what it took before. What it is measured by
+//! is a relation over whole lists of bytes: `First` (`specs/Frame.antt`) says what stands at the front of a list, one
+//! message, the end marker, a refusal or less than that, and `Front` (`specs/Front.antt`) says the same of all messages,
+//! one behind the other; what a batch says by its body stands in `specs/Batch.antt`. `Stands` (`specs/Stream.antt`) says
+//! at which bytes a reader stands. So a reader's answers hang on the bytes alone and on no cut between them: the
+//! functions of [`laws`] say so.
 #![tactic(auto)]
 
 mod body;

@@ -4,7 +4,7 @@ ghost use Rattle.std.specs.Prelude.{◌≡◌, ◌+◌, ◌≤◌, [], length, o
 ghost use Rattle.arrow_stream.specs.declared.reader.Verdict.TheVariants.{Open, Done, Bad};
 ghost use Rattle.arrow_stream.specs.declared.kind.Refusal.{Refusal as Refused};
 ghost use Rattle.arrow_stream.specs.Kind.{kind_of};
-ghost use Rattle.arrow_stream.specs.Stream.{ReadsOn, Stands, Takes, MemoryAlone, ended_so, fresh};
+ghost use Rattle.arrow_stream.specs.Stream.{GoesOn, ReadsOn, Stands, Takes, MemoryAlone, ended_so, fresh};
 
 use crate::fault::Fault;
 use crate::item::Item;
@@ -97,6 +97,7 @@ impl StreamReader {
         ensures takes { IfOk result (λ taken. Takes piece.now taken) }
         ensures reads { ReadsOn self.old piece.now result self.new }
         ensures memory { IfErr result (MemoryAlone self.old self.new) }
+        ensures goes_on { IfOk result (λ taken. GoesOn taken.1 self.old.at.verdict self.new.at.verdict) }
         ensures limits { self.new.limits ≡ self.old.limits }
         ensures failed { (k : Refused) → self.old.at.verdict ≡ Bad k
             → (result ≡ Err (record { kind = kind_of k; place = self.old.at.place }))
@@ -122,6 +123,7 @@ impl StreamReader {
         ensures takes { IfOk result (λ taken. Takes piece.now taken) }
         ensures reads { ReadsOn self.old piece.now result self.new }
         ensures memory { IfErr result (MemoryAlone self.old self.new) }
+        ensures goes_on { IfOk result (λ taken. GoesOn taken.1 self.old.at.verdict self.new.at.verdict) }
         ensures limits { self.new.limits ≡ self.old.limits }
     {
         let before = self.work.held.len();
@@ -190,6 +192,7 @@ impl StreamReader {
     /// body together, and grow with what has come, whatever a message declares.
     pub fn held(&self) -> u64
         ensures held { result ≡ length self.now.at.rest }
+        ensures closed { (self.now.at.verdict ≡ Open → ⊥) → result ≡ 0 }
         ensures bound { result ≤ 8 + self.now.limits.max_metadata + self.now.limits.max_body }
     {
         self.work.held.len() as u64

@@ -1,6 +1,6 @@
 //! One message at a time, from bytes that come in pieces.
 
-ghost use Rattle.std.specs.Prelude.{◌≡◌, ℕ, ◌+◌, ◌^◌, ◌<◌, ◌≤◌, [], ◌++◌, length, Ok};
+ghost use Rattle.std.specs.Prelude.{◌≡◌, ◌+◌, ◌^◌, ◌<◌, ◌≤◌, [], ◌++◌, length, Ok};
 ghost use Rattle.arrow_stream.specs.declared.prefix.Prefix.TheVariants as prefixes;
 ghost use Rattle.arrow_stream.specs.Frame.{HasPrefix, HasMetadata};
 ghost use Rattle.arrow_stream.specs.State.{nothing_yet};

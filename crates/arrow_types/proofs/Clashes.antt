@@ -17,7 +17,7 @@ never true = refl
 never false = refl
 
 -- a clash goes both ways
-clash_both_ways : (d e : DictionaryField) → clash d e ≡ clash e d
+pub clash_both_ways : (d e : DictionaryField) → clash d e ≡ clash e d
 clash_both_ways d e =
     ap (λ b. b && not (is_equal type_code d.value_type e.value_type)) (int_eq_equiv.symm d.id e.id)
     ∙ ap (λ b. int_eq e.id d.id && not b) ((is_equal_equivalence type_code).symm d.value_type e.value_type)
@@ -72,7 +72,7 @@ any_from p [] j e at h = cc
 any_from p (d ∷ ds) zero e at h = let same : d ≡ e = cc in or_left (p d) (list_any p ds) (ap p same ∙ h)
 any_from p (d ∷ ds) (suc j) e at h = or_right (p d) (list_any p ds) (any_from p ds j e at h)
 
-any_same : (p q : DictionaryField → Bool) → ((d : DictionaryField) → p d ≡ q d) → (ds : List DictionaryField) → list_any p ds ≡ list_any q ds
+pub any_same : (p q : DictionaryField → Bool) → ((d : DictionaryField) → p d ≡ q d) → (ds : List DictionaryField) → list_any p ds ≡ list_any q ds
 any_same p q e [] = refl
 any_same p q e (d ∷ ds) = ap (λ b. b || list_any p ds) (e d) ∙ ap (λ b. q d || b) (any_same p q e ds)
 

@@ -3,6 +3,7 @@ pub mod Counts
 pub mod Fields
 pub mod Ids
 pub mod Look
+pub mod Pairs
 pub mod Places
 pub mod Scan
 pub mod Schemas

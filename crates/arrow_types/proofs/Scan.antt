@@ -14,10 +14,6 @@ pub record Scanned (ds : List DictionaryField) (ids : List ℤ) (places : ℤ �
   pub found : (q : ℤ) → places q ≡ place_of q ds
   pub agree : types_differ ds ≡ false
 
--- before the first field
-pub scanned_none : (places : ℤ → Option ℕ) → ((q : ℤ) → places q ≡ None) → Scanned [] [] places
-scanned_none places none = record { listed = refl; found = none; agree = refl }
-
 ids_append : (ds : List DictionaryField) (d : DictionaryField) → ids_of (ds ++ d ∷ []) ≡ ids_of ds ++ d.id ∷ []
 ids_append ds d = map-append (λ (e : DictionaryField). e.id) ds (d ∷ [])
 

@@ -1,7 +1,9 @@
 -- What the encoded fields of the program say, and what is made of them.
-use Rattle.std.specs.Prelude.{◌≡◌, ℤ, true, List, map, Option, Some, None, Vec}
+use Rattle.std.specs.Prelude.{◌≡◌, ℤ, Bool, true, false, ◌||◌, List, map, Option, Some, None, Vec}
+use Rattle.std.specs.List.{list_any}
 use Rattle.std.specs.declared.alloc.Global.{Global}
-use Rattle.arrow_types.specs.Schema.{DictionaryField, types_differ, AreIdsOfOneType}
+use Rattle.arrow_types.specs.Field.{Head, Fields, none, more, FieldShape}
+use Rattle.arrow_types.specs.Schema.{DictionaryField, dictionary_of, clash, types_differ, AreIdsOfOneType}
 use Rattle.arrow_types.specs.View.{type_view}
 use Rattle.arrow_types.specs.declared.dictionaries.Encoded.{Encoded}
 
@@ -15,3 +17,27 @@ encoded_views es = map encoded_view es
 abbrev pub GivesIds : Option (Vec ℤ Global) → List DictionaryField → Type 0
 GivesIds None ds = types_differ ds ≡ true
 GivesIds (Some v) ds = AreIdsOfOneType v.items ds
+
+-- whether the field with this head clashes with d
+abbrev pub head_clashes : DictionaryField → Head → Fields → Bool
+head_clashes d head children = list_any (clash d) (dictionary_of head children)
+
+-- whether one of the fields, on any level, does
+abbrev pub some_clash : DictionaryField → Fields → Bool
+some_clash d none = false
+some_clash d (more head children rest) = head_clashes d head children || some_clash d children || some_clash d rest
+
+abbrev pub field_clashes : DictionaryField → FieldShape → Bool
+field_clashes d f = head_clashes d f.head f.children || some_clash d f.children
+
+-- whether the field with this head clashes with one of all
+abbrev pub head_differs : Fields → Head → Fields → Bool
+head_differs all head children = list_any (λ d. some_clash d all) (dictionary_of head children)
+
+-- whether one of the fields, on any level, does
+abbrev pub some_differ : Fields → Fields → Bool
+some_differ all none = false
+some_differ all (more head children rest) = head_differs all head children || some_differ all children || some_differ all rest
+
+abbrev pub field_differs : Fields → FieldShape → Bool
+field_differs all f = head_differs all f.head f.children || some_differ all f.children

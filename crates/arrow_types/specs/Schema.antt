@@ -1,5 +1,5 @@
 -- What makes fields a schema (Schema.fbs, table "Schema"), and which fault applies to fields that are none.
-use Rattle.std.specs.Prelude.{◌≡◌, ◌≤◌, ℕ, ℤ, Bool, false, not, ◌||◌, ◌&&◌, List, [], ◌∷◌, ◌++◌, map, filter, slice_get, Option, Some, None, is_some, Result, Ok, Err, nat_lt, if◌then◌else◌}
+use Rattle.std.specs.Prelude.{◌≡◌, ◌≤◌, ℕ, ℤ, Bool, false, not, ◌||◌, ◌&&◌, List, [], ◌∷◌, ◌++◌, map, filter, slice_get, Option, Some, None, is_some, Result, Ok, Err, nat_lt, if◌then◌else◌, codes}
 use Rattle.std.specs.List.{list_any}
 use Rattle.std.specs.Ordering.{int_eq}
 use Rattle.arrow_types.specs.Equality.{is_equal}
@@ -91,10 +91,10 @@ fault_of s =
     (if types_differ (dictionary_fields s) then Some SharedIdTypesDiffer else None)))
 
 -- An answer to fields: the schema of just these where no fault applies, else the first fault that does. Want of
--- memory is told only of fields to which none of the first three faults applies.
+-- memory is told only of fields to which no fault applies.
 abbrev pub Judges : Result Fields SchemaFault → Fields → Type 0
 Judges (Ok schema) s = (fault_of s ≡ None) × (schema ≡ s)
-Judges (Err Memory) s = IsBounded s
+Judges (Err Memory) s = fault_of s ≡ None
 Judges (Err fault) s = fault_of s ≡ Some fault
 
 -- the number of a fault
@@ -104,3 +104,11 @@ number_of TooManyFields = 2
 number_of NestedDictionary = 3
 number_of SharedIdTypesDiffer = 4
 number_of Memory = 5
+
+-- the words of a fault
+abbrev pub words_of : SchemaFault → List ℕ
+words_of TooDeep = codes "more than 32 levels of fields"
+words_of TooManyFields = codes "more than 65,536 fields"
+words_of NestedDictionary = codes "a dictionary below a dictionary"
+words_of SharedIdTypesDiffer = codes "two value types for one dictionary id"
+words_of Memory = codes "out of memory"

@@ -1,4 +1,4 @@
-//! The types of values: the first profile of the standard's `Schema.fbs`, table `Type`.
+//! The types of values: those members of the standard's union `Type` (`Schema.fbs`) that are read here.
 
 ghost use Rattle.std.specs.Prelude.{◌≡◌, ◌↔◌, IsTrue, IfOk};
 ghost use Rattle.arrow_types.specs.DataType.{bits_of, time_width_of, date_width_of};
@@ -14,9 +14,13 @@ use std::alloc::{AllocError, Global};
 /// How many bits a whole number takes (`Schema.fbs`, table `Int`, field `bitWidth`).
 #[derive(Clone, Copy, Debug, PartialEq, Eq)]
 pub enum BitWidth {
+    /// 8 bits.
     Eight,
+    /// 16 bits.
     Sixteen,
+    /// 32 bits.
     ThirtyTwo,
+    /// 64 bits.
     SixtyFour,
 }
 
@@ -58,9 +62,13 @@ impl DateUnit {
 /// What a time of day or a timestamp counts (`Schema.fbs`, enum `TimeUnit`).
 #[derive(Clone, Copy, Debug, PartialEq, Eq)]
 pub enum TimeUnit {
+    /// Seconds.
     Second,
+    /// Thousandths of a second.
     Millisecond,
+    /// Millionths of a second.
     Microsecond,
+    /// Thousand-millionths of a second.
     Nanosecond,
 }
 
@@ -87,7 +95,7 @@ pub enum DataType {
     Null,
     /// Truth values, a bit each.
     Bool,
-    /// Whole numbers of 8 to 64 bits.
+    /// Whole numbers of this width, with a sign or without one.
     Int { bits: BitWidth, signed: bool },
     /// Byte strings of any length.
     Binary,

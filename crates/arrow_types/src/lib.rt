@@ -12,6 +12,7 @@
 
 mod data_type;
 mod dictionaries;
+mod differing;
 mod dismantle;
 mod field;
 mod limits;

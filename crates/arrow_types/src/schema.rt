@@ -4,6 +4,7 @@ ghost use Rattle.std.specs.Prelude.{◌≡◌, ◌↔◌, IsTrue, IfOk};
 ghost use Rattle.arrow_types.specs.View.{fields_view};
 
 use crate::dictionaries::ids_of;
+use crate::differing::types_differ;
 use crate::dismantle::dismantle;
 use crate::field::{Field, copy_fields, same_fields};
 use crate::nesting::are_nested;
@@ -24,7 +25,7 @@ pub enum SchemaFault {
     NestedDictionary,
     /// Two fields give one dictionary id and have unequal value types.
     SharedIdTypesDiffer,
-    /// A growth was refused while the ids were compared. None of the first three faults applies.
+    /// A growth was refused. None of the other faults applies.
     Memory,
 }
 
@@ -46,14 +47,21 @@ impl SchemaFault {
 }
 
 impl fmt::Display for SchemaFault {
+    ghost use Rattle.std.specs.Prelude.{Some};
+    ghost use Rattle.arrow_types.specs.Schema.{words_of};
+
+    ghost output = { λ f. Some (words_of f) };
+
     fn fmt<W: fmt::Write>(&self, f: &mut fmt::Formatter<W>) -> fmt::Result {
-        f.write_str(match self {
-            SchemaFault::TooDeep => "more than 32 levels of fields",
-            SchemaFault::TooManyFields => "more than 65,536 fields",
-            SchemaFault::NestedDictionary => "a dictionary below a dictionary",
-            SchemaFault::SharedIdTypesDiffer => "two value types for one dictionary id",
-            SchemaFault::Memory => "out of memory",
-        })
+        match self {
+            SchemaFault::TooDeep => f.write_str("more than 32 levels of fields"),
+            SchemaFault::TooManyFields => f.write_str("more than 65,536 fields"),
+            SchemaFault::NestedDictionary => f.write_str("a dictionary below a dictionary"),
+            SchemaFault::SharedIdTypesDiffer => f.write_str(
+                "two value types for one dictionary id",
+            ),
+            SchemaFault::Memory => f.write_str("out of memory"),
+        }
     }
 }
 
@@ -61,8 +69,8 @@ impl Error for SchemaFault {}
 
 /// The columns of a stream's batches (`Schema.fbs`, table `Schema`).
 ///
-/// A schema has at most 32 levels and 65,536 fields, no dictionary below a dictionary, and one value type for each
-/// dictionary id. Nobody who holds one has to test that again.
+/// Its fields keep to the limits of 32 levels and 65,536 fields; none of its dictionaries stands below another, and those
+/// of one id have one value type. Nobody who holds a schema has to test that again.
 #[derive(Debug, Drop)]
 pub struct Schema {
     fields: Vec<Field>,
@@ -97,7 +105,8 @@ impl Schema {
     /// The schema of these columns, or the fault with the least number of those that apply.
     ///
     /// Fields deeper than 32 levels are not looked at below that, and the time grows as n log n with the number of
-    /// fields. Memory is taken for the dictionary ids alone.
+    /// fields. Memory is taken for the dictionary ids alone; where it is refused, the types of shared ids are compared
+    /// without any, in a time that grows with the square of the number of dictionary-encoded fields.
     pub fn new(alloc: Global, fields: Vec<Field>) -> Result<Schema, SchemaFault>
         ensures { Judges result (fields_view fields.items) }
     {
@@ -117,6 +126,7 @@ impl Schema {
                 dictionary_ids,
             }),
             Ok(None) => Err(SchemaFault::SharedIdTypesDiffer),
+            Err(_) if types_differ(&fields) => Err(SchemaFault::SharedIdTypesDiffer),
             Err(_) => Err(SchemaFault::Memory),
         }
     }

@@ -37,9 +37,6 @@ pub record IsFeeding (first : Shows) (handed : List Table) (piece : List ℕ) (n
   pub feeds : Feeds first handed taken now handed'
   pub limits : now.limits ≡ first.limits
 
-pub fed_nothing : (r : Shows) (h : List Table) → Feeds r h [] r h
-fed_nothing r h t es at = record { more = []; stands = stands_at (sym (append-nil t)) (sym (append-nil es)) at; tables = sym (append-nil h) }
-
 -- with no item a reader stands behind the whole piece, whatever it took
 pub taken_all : (now new : Shows) (piece : List ℕ) (n : ℕ) (t : List ℕ) (es : List Entry) → TakesOn now piece n new t es → Stands new (t ++ piece) es
 taken_all now new piece n t es x = by now.at.verdict refl
@@ -161,16 +158,3 @@ pub ended_same : (o : Verdict) (seen : Bool) (rest held : List ℕ) (place : ℕ
 ended_same Open seen rest held place h = ap (λ y. ended_by Open seen y place) (sym (h refl))
 ended_same Done seen rest held place h = refl
 ended_same (Bad k) seen rest held place h = refl
-
-pub received : (l : LimitNumbers) (bytes : List ℕ) (new : Shows) (h : List Table) (ending : Ending) → HandsOut bytes h new → new.limits ≡ l → ending ≡ ending_by (ended_so new.at) → Receives l bytes h new.at.state.dictionaries ending
-received l bytes new h ending out k e =
-    let at = out.stands in
-    let standing : Standing = record { state = new.at.state; place = new.at.place; rest = at.rest; verdict = new.at.verdict } in
-    record {
-      entries = out.entries;
-      standing = standing;
-      front = subst (λ y. FrontOf y bytes out.entries standing) k at.front;
-      tables = out.tables;
-      dictionaries_are = refl;
-      ended = e ∙ ap ending_by (ended_same new.at.verdict (is_some new.at.state.schema) at.rest new.at.rest new.at.place at.held);
-    }

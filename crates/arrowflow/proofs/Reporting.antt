@@ -41,11 +41,6 @@ module _ (report : Report) (limits : LimitNumbers) (bytes : List ℕ) (left firs
     wrote = x.wrote;
   }
 
-  -- the input failed
-  pub input_failed : (held : Option (List ℕ)) (number failed : ℕ) (r : Shows) (es : List Entry) → r.limits ≡ limits → failed ≡ start → IsTold report first held number r bytes es
-      → Reports report limits bytes left first start (Err (Input 0)) held failed
-  input_failed held number failed r es same count x = (refl, (standing_of r x.stands.rest, written held number r es same x), count)
-
   -- what was written goes on by a text, or by a beginning of one
   more_written : (e : Standing) (held held' : Option (List ℕ)) (text : List ℕ) (w : IsWritten report limits bytes e first held) → IsTextOf report e.state.schema (tables_of w.entries) (w.text ++ text) → Appends held held' text → IsWritten report limits bytes e first held'
   more_written e held held' text w is h = record { entries = w.entries; front = w.front; text = w.text ++ text; is = is; wrote = Appends-trans first held held' w.text text w.wrote h }

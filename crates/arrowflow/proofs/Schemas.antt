@@ -43,7 +43,7 @@ abbrev state_in : Result (StreamState × Given) Refusal → StreamState
 state_in (Ok p) = p.0
 state_in (Err k) = nothing_yet
 
-abbrev given_in : Result (StreamState × Given) Refusal → Given
+abbrev pub given_in : Result (StreamState × Given) Refusal → Given
 given_in (Ok p) = p.1
 given_in (Err k) = schema_given
 

@@ -3,7 +3,8 @@ use Rattle.std.proofs.Common.{◌≡◌, ◌≤◌, ◌+◌, ◌-◌, ℕ, zero,
 use Rattle.std.specs.List.{flat_map, range_with_len}
 use Rattle.std.specs.Io.KnownBytes.{Appends}
 use Rattle.std.proofs.KnownBytes.{Appends-nil, Appends-trans}
-use Rattle.std.proofs.lemmas.List.{take_all}
+use Rattle.std.proofs.Math.Seq.{take-append-add}
+use Rattle.std.proofs.lemmas.List.{length-append, take-append-le, take_all}
 use Rattle.arrow_array.specs.Batch.{Table}
 use Rattle.arrow_csv.specs.Records.{batch_rows, row_record}
 use Rattle.arrow_csv.proofs.Written.{rows_next}
@@ -33,19 +34,6 @@ rows_join number batch mid end i low high = by (mid - i) i refl low
         ∙ ap (λ x. row ++ x) (by k (i + 1) next (omega (arith, e)))
         ∙ sym (rows_next number batch i end (omega (arith, e)))
 
-take_front : (s t : List ℕ) (n : ℕ) → n ≤ length s → take n (s ++ t) ≡ take n s
-take_front s t zero h = refl
-take_front [] t (suc n) h = absurd (omega arith)
-take_front (x ∷ s) t (suc n) h = ap (λ y. x ∷ y) (take_front s t n (omega arith))
-
-take_behind : (s t : List ℕ) (n : ℕ) → take (length s + n) (s ++ t) ≡ s ++ take n t
-take_behind [] t n = let e : 0 + n ≡ n = omega arith in ap (λ m. take m t) e
-take_behind (x ∷ s) t n = let e : suc (length s) + n ≡ suc (length s + n) = omega arith in ap (λ m. take m (x ∷ (s ++ t))) e ∙ ap (λ y. x ∷ y) (take_behind s t n)
-
-length_both : (s t : List ℕ) → length (s ++ t) ≡ length s + length t
-length_both [] t = omega arith
-length_both (x ∷ s) t = let i = length_both s t in omega (arith, i)
-
 -- all of a text is a beginning of it
 pub begun_all : (a b : Option (List ℕ)) (text : List ℕ) → Appends a b text → AcceptsBeginning a b text
 begun_all a b text h = (length text, omega arith, subst (Appends a b) (sym (take_all (length text) text (omega arith))) h)
@@ -57,11 +45,11 @@ begun_nothing a text = (0, omega arith, Appends-nil a)
 -- a beginning behind a text is one of both
 pub begun_behind : (a b c : Option (List ℕ)) (s t : List ℕ) → Appends a b s → AcceptsBeginning b c t → AcceptsBeginning a c (s ++ t)
 begun_behind a b c s t h (n, within, g) =
-    (length s + n, omega (arith, within, length_both s t), subst (Appends a c) (sym (take_behind s t n)) (Appends-trans a b c s (take n t) h g))
+    (length s + n, omega (arith, within, length-append s t), subst (Appends a c) (sym (take-append-add s t n)) (Appends-trans a b c s (take n t) h g))
 
 -- a beginning of a text is one of a longer one
 pub begun_longer : (a b : Option (List ℕ)) (s t : List ℕ) → AcceptsBeginning a b s → AcceptsBeginning a b (s ++ t)
-begun_longer a b s t (n, within, g) = (n, omega (arith, within, length_both s t), subst (Appends a b) (sym (take_front s t n within)) g)
+begun_longer a b s t (n, within, g) = (n, omega (arith, within, length-append s t), subst (Appends a b) (sym (take-append-le n s t within)) g)
 
 -- a text was not sent to its end: behind one that was sent, and before one that was not
 pub cut_between : (f : ToolFault) (a b c : Option (List ℕ)) (n m k : ℕ) (s t u whole : List ℕ) → Appends a b s → m ≡ n → s ++ t ++ u ≡ whole → Sends b m t (Err f) c k → Sends a n whole (Err f) c k

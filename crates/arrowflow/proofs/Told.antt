@@ -3,12 +3,14 @@ use Rattle.std.proofs.Common.{◌≡◌, ℕ, ◌+◌, Bool, true, false, List, 
 use Rattle.std.specs.Io.KnownBytes.{Appends}
 use Rattle.std.proofs.KnownBytes.{Appends-trans}
 use Rattle.std.proofs.lemmas.Bool.{false≢true}
+use Rattle.std.proofs.lemmas.List.{length-append}
 use Rattle.arrow_types.specs.Limits.{LimitNumbers}
 use Rattle.arrow_array.specs.Batch.{Table}
 use Rattle.arrow_csv.specs.Records.{stream_text}
 use Rattle.arrow_sink.specs.Sinks.{AcceptsBeginning}
 use Rattle.arrow_stream.specs.declared.fault.Fault.{Fault}
 use Rattle.arrow_stream.specs.declared.item.Item.{Item}
+use Rattle.arrow_stream.specs.declared.item.Item.TheVariants.{End}
 use Rattle.arrow_stream.specs.declared.kind.Refusal.{Refusal}
 use Rattle.arrow_stream.specs.declared.reader.Verdict.{Verdict}
 use Rattle.arrow_stream.specs.declared.reader.Verdict.TheVariants.{Open, Done, Bad}
@@ -16,7 +18,7 @@ use Rattle.arrow_stream.specs.Frame.{BodySays, schema_comes, dictionary_comes, b
 use Rattle.arrow_stream.specs.Front.{Entry, Standing, Front, FrontOf, rests, fails, closes, goes_on}
 use Rattle.arrow_stream.specs.Kind.{kind_of}
 use Rattle.arrow_stream.specs.State.{StreamState, Given, ended, schema_given, dictionary_given, batch_given}
-use Rattle.arrow_stream.specs.Stream.{Shows, Stands, GivesNext, TakesOn, Refuses, WantsMemory}
+use Rattle.arrow_stream.specs.Stream.{Shows, Stands, GoesOn, GivesNext, TakesOn, Refuses, WantsMemory}
 use Rattle.arrow_stream.specs.Views.{given}
 use Rattle.arrow_stream.proofs.Fronts.{more_bytes}
 use Rattle.arrow_stream.proofs.Streams.{ended_stands}
@@ -32,7 +34,7 @@ use Rattle.arrowflow.proofs.Feeding.{taken_all}
 use Rattle.arrowflow.proofs.First.{state_stays}
 use Rattle.arrowflow.proofs.Found.{told_refusal}
 use Rattle.arrowflow.proofs.Growing.{one_table, text_grows}
-use Rattle.arrowflow.proofs.Schemas.{front_behind}
+use Rattle.arrowflow.proofs.Schemas.{front_behind, given_in}
 use Rattle.arrowflow.proofs.Sent.{begun_all, begun_behind}
 
 -- a reader whose answer is that of no end and no refusal is open
@@ -51,6 +53,13 @@ took n o = Ok (n, o)
 
 pub open_by_item : (v : Verdict) (n : ℕ) (o : Option Item) (item : Item) → o ≡ Some item → (v ≡ Done → took n o ≡ took 0 None) → ((k : Refusal) → v ≡ Bad k → (f : Fault) × (took n o ≡ Err f)) → v ≡ Open
 open_by_item v n o item is done failed = open_by v (λ d. let q : o ≡ None = ap item_in (done d) in absurd (cc)) (λ k b. let q : o ≡ None = ap item_in (failed k b).1 in absurd (cc))
+
+-- behind an item that is not the end marker the stream goes on
+pub open_behind : (old new : Verdict) (o : Option Item) (item : Item) → o ≡ Some item → GoesOn o old new → (item ≡ End → ⊥) → new ≡ Open
+open_behind old new o item is goes never = elim (subst (λ x. GoesOn x old new) is goes) [
+  | inl open_still ↦ open_still
+  | inr at_end ↦ absurd (never at_end.0)
+]
 
 -- ---- what stays
 
@@ -74,10 +83,6 @@ is_end ended = true
 is_end schema_given = false
 is_end (dictionary_given id) = false
 is_end (batch_given b) = false
-
-abbrev given_in : Result (StreamState × Given) Refusal → Given
-given_in (Ok p) = p.1
-given_in (Err k) = schema_given
 
 -- no body gives the end
 body_gives_no_end : {s : StreamState} {c : _} {b : List ℕ} {r : Result (StreamState × Given) Refusal} → BodySays s c b r → is_end (given_in r) ≡ false
@@ -120,10 +125,6 @@ text_more Messages c x number text added old o new k is more = tt
 text_more Rows c {es} {e} {f} x number text added old o new k is more =
     ap (λ y. y ++ added) is ∙ ap (λ y. stream_text e.state.schema (tables_of es) ++ y) (more ∙ ap (λ m. text_in f.state.schema m x.given) k) ∙ sym (text_grows c x old o new)
 
-length_tables : (s t : List Table) → length (s ++ t) ≡ length s + length t
-length_tables [] t = omega arith
-length_tables (x ∷ s) t = let i = length_tables s t in omega (arith, i)
-
 module _ (report : Report) (first held : Option (List ℕ)) (number : ℕ) (now new : Shows) (u rest : List ℕ) (es : List Entry) (n : ℕ) (item : Item) (is_open : now.at.verdict ≡ Open) (limits : new.limits ≡ now.limits)
     (x : IsTold report first held number now u es) (gives : GivesNext rest n item new u es) (added : List ℕ) (is_added : IsAdded report new.at.state.schema number (given item) added) where
   abbrev pub entry : Entry
@@ -140,7 +141,7 @@ module _ (report : Report) (first held : Option (List ℕ)) (number : ℕ) (now 
     stands = gives.stands;
     is = new_text;
     wrote = Appends-trans first held held' x.text added x.wrote h;
-    counted = ap (λ m. m + length (table_in (given item))) x.counted ∙ sym (ap length (one_table es entry) ∙ length_tables (tables_of es) (table_in (given item)));
+    counted = ap (λ m. m + length (table_in (given item))) x.counted ∙ sym (ap length (one_table es entry) ∙ length-append (tables_of es) (table_in (given item)));
   }
 
   pub cut_next : (held' : Option (List ℕ)) → AcceptsBeginning held held' added → IsCutOff report first held' new u rest

@@ -9,7 +9,7 @@ use Rattle.arrow_sink.specs.Sinks.{AcceptsBeginning}
 use Rattle.arrow_stream.specs.declared.fault.Fault.{Fault}
 use Rattle.arrow_stream.specs.declared.kind.Refusal.{Refusal}
 use Rattle.arrow_stream.specs.declared.reader.Verdict.{Verdict}
-use Rattle.arrow_stream.specs.declared.reader.Verdict.TheVariants.{Done, Bad}
+use Rattle.arrow_stream.specs.declared.reader.Verdict.TheVariants.{Done, Bad, Open}
 use Rattle.arrow_stream.specs.Front.{Entry, Standing, FrontOf}
 use Rattle.arrow_stream.specs.Kind.{kind_of}
 use Rattle.arrow_stream.specs.State.{Given}
@@ -119,7 +119,7 @@ Reports report limits bytes left before failed (Ok done) after failed' =
 Reports report limits bytes left before failed (Err (Stream fault)) after failed' =
     (e : Standing) × IsWritten report limits bytes e before after × EndsBadly left e fault × (failed' ≡ failed)
 Reports report limits bytes left before failed (Err (Input number)) after failed' =
-    (number ≡ 0) × ((e : Standing) × IsWritten report limits bytes e before after) × (failed' ≡ failed)
+    (number ≡ 0) × ((e : Standing) × (e.verdict ≡ Open) × IsWritten report limits bytes e before after) × (failed' ≡ failed)
 Reports report limits bytes left before failed (Err Output) after failed' =
     IsBegun report limits bytes before after × (failed' ≡ failed + 1)
 Reports report limits bytes left before failed (Err Memory) after failed' =

@@ -57,12 +57,22 @@ impl From<clap::Error> for ArgFault {
 }
 
 impl From<AllocError> for ArgFault {
+    ghost use Rattle.std.specs.Prelude.{◌≡◌};
+    ghost use Rattle.arrowflow.specs.declared.command_line.ArgFault.TheVariants.{Memory};
+
+    ghost from_gives = { λ _ f. f ≡ Memory };
+
     fn from(_error: AllocError) -> ArgFault {
         ArgFault::Memory
     }
 }
 
 impl<T: Drop> From<AllocFailed<T>> for ArgFault {
+    ghost use Rattle.std.specs.Prelude.{◌≡◌};
+    ghost use Rattle.arrowflow.specs.declared.command_line.ArgFault.TheVariants.{Memory};
+
+    ghost from_gives = { λ _ f. f ≡ Memory };
+
     fn from(_error: AllocFailed<T>) -> ArgFault {
         ArgFault::Memory
     }

@@ -1,6 +1,7 @@
 //! Streams told as they come: their messages, or their rows.
 
 ghost use Rattle.std.specs.Prelude.{◌≡◌, ◌<◌, ◌-◌, ◌^◌, [], OnOk, length};
+ghost use Rattle.arrow_stream.specs.declared.reader.Verdict.TheVariants.{Open};
 ghost use Rattle.arrow_stream.specs.Stream.{Stands};
 ghost use Rattle.arrowflow.specs.Reports.{ReportsInput};
 ghost use Rattle.arrowflow.specs.declared.report.Report.TheVariants.{Messages, Rows};
@@ -99,6 +100,7 @@ fn report_pieces<R: Read, S: Sink>(
 ) -> Result<(), ToolFault>
     requires failed { S.failed output.old < 2 ^ 64 - 1 }
     requires start { Stands reader.old [] [] }
+    requires open { reader.old.at.verdict ≡ Open }
     requires room { 0 < length room.old }
     ensures written { ReportsInput report reader.old.limits (R.remaining input.old) (R.remaining input.new)
         (S.contents output.old) (S.failed output.old) result (S.contents output.new) (S.failed output.new) }

@@ -1,6 +1,6 @@
 //! The text of the schema of an input.
 
-ghost use Rattle.std.specs.Prelude.{◌≡◌, ◌<◌, [], length, IfOk};
+ghost use Rattle.std.specs.Prelude.{◌≡◌, ◌<◌, [], length};
 ghost use Rattle.arrow_stream.specs.declared.reader.Verdict.TheVariants.{Open};
 ghost use Rattle.arrow_stream.specs.Stream.{Stands};
 ghost use Rattle.arrowflow.specs.SchemaCall.{AnswersInput, FindsIn};

@@ -2,7 +2,7 @@
 
 ghost use Rattle.std.specs.Prelude.{◌≡◌, ◌+◌, ◌≤◌, ◌++◌, OnOk, IfOk, string_bytes};
 ghost use Rattle.arrow_types.specs.Field.{levels, field_levels};
-ghost use Rattle.arrow_types.specs.View.{field_view, fields_view, type_view};
+ghost use Rattle.arrow_types.specs.View.{field_view, fields_view};
 ghost use Rattle.arrowflow.specs.SchemaText.{indentation, field_line, fields_text, schema_lines};
 
 use crate::escapes::push_escaped;

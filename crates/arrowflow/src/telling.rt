@@ -1,6 +1,7 @@
 //! A stream told message by message.
 
-ghost use Rattle.std.specs.Prelude.{◌≡◌, ◌<◌, ◌+◌, ◌-◌, ◌^◌, OnOk, length, ⊤};
+ghost use Rattle.std.specs.Prelude.{◌≡◌, ◌<◌, ◌+◌, ◌-◌, ◌^◌, Ok, OnOk, false, length, ⊤};
+ghost use Rattle.arrow_stream.specs.declared.reader.Verdict.TheVariants.{Open};
 ghost use Rattle.arrow_stream.specs.Views.{given};
 ghost use Rattle.arrowflow.specs.Reports.{EndTold, IsAdded, Sends, SendsSome, TellsPiece};
 ghost use Rattle.arrowflow.specs.Session.{table_in};
@@ -29,6 +30,7 @@ pub(crate) fn tell_piece<S: Sink>(
     ensures told { TellsPiece report reader.old (S.contents output.old) (S.failed output.old) number.old piece.now
         result reader.new (S.contents output.new) (S.failed output.new) number.new }
     ensures limits { reader.new.limits ≡ reader.old.limits }
+    ensures open { reader.old.at.verdict ≡ Open → result ≡ Ok false → reader.new.at.verdict ≡ Open }
 {
     let mut rest = piece;
     loop {

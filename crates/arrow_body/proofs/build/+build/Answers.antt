@@ -4,7 +4,8 @@ use Rattle.arrow_types.specs.View.{field_view, fields_view}
 use Rattle.arrow_array.specs.Parts.{node_column, values_in}
 use Rattle.arrow_body.specs.Sound.{AreFit, IsSound, columns_of, dictionary_for, own_bytes, slots_at}
 use Rattle.arrow_body.proofs.Columns.{columns_step, field_encoding, field_type, fit_inside, sound_inside, sound_next}
-use Rattle.arrow_body.proofs.Taking.{fewer_below, fields_from}
+use Rattle.arrow_body.proofs.Taking.{fewer_taken}
+use Rattle.arrow_types.proofs.Fields.{fields_from}
 use Rattle.arrow_body.proofs.build.+build.Goals as goal
 
 pub build-requires : goal.build-requires
@@ -18,7 +19,7 @@ build-requires t c =
     let body = c.args.body.now in
     let ds = c.args.dictionaries.entries.now in
     let step = fields_from c.args.fields.now c.loop-field.field-index f c.loop-field-test.true c.field-item.is in
-    let fewer = fewer_below c.args.fields.now c.loop-field.field-index f step in
+    let fewer = fewer_taken c.args.fields.now c.loop-field.field-index f c.loop-field-test.true c.field-item.is in
     let sound = sound_inside body ds h ch rest ns bs (subst (λ v. IsSound body ds v ns bs) step c.loop-field.invariant.sound) in
     let fit = subst (AreFit ds) step c.loop-field.invariant.fit in (
       omega (arith, c.decreases, fewer, ap count c.below.ensures),

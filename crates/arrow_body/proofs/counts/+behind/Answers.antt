@@ -2,14 +2,15 @@ use Rattle.std.proofs.Common.{◌+◌, drop, ap, sym, ◌∙◌, arith}
 use Rattle.arrow_types.specs.Field.{count}
 use Rattle.arrow_types.specs.View.{field_view, fields_view}
 use Rattle.arrow_body.specs.Taken.{taken_nodes}
-use Rattle.arrow_body.proofs.Taking.{fields_from, fewer_below, nodes_left}
+use Rattle.arrow_body.proofs.Taking.{fewer_taken, nodes_left}
+use Rattle.arrow_types.proofs.Fields.{fields_from}
 use Rattle.arrow_body.proofs.counts.+behind.Goals as goal
 
 pub behind-rest-requires : goal.behind-rest-requires
 behind-rest-requires t c =
     let f = c.field-item.result in
     let step = fields_from c.args.fields.now c.loop-field.field-index f c.loop-field-test.true c.field-item.is in
-    let fewer = fewer_below c.args.fields.now c.loop-field.field-index f step in
+    let fewer = fewer_taken c.args.fields.now c.loop-field.field-index f c.loop-field-test.true c.field-item.is in
     (omega (arith, c.decreases, fewer, ap count c.below.ensures), tt)
 
 pub loop-field-preserved : goal.loop-field-preserved

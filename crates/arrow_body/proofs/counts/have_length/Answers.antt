@@ -2,7 +2,8 @@ use Rattle.std.proofs.Common.{◌≡◌, ◌+◌, drop, sym, subst, arith}
 use Rattle.std.specs.List.{AllByRecursion}
 use Rattle.arrow_types.specs.View.{field_view, fields_view}
 use Rattle.arrow_body.specs.Sound.{lengths_of, slots_at}
-use Rattle.arrow_body.proofs.Taking.{fields_from, node_after}
+use Rattle.arrow_body.proofs.Taking.{node_after}
+use Rattle.arrow_types.proofs.Fields.{fields_from}
 use Rattle.arrow_body.proofs.counts.have_length.Goals as goal
 
 pub loop-field-preserved : goal.loop-field-preserved

@@ -3,7 +3,8 @@ use Rattle.arrow_types.specs.Field.{count}
 use Rattle.arrow_types.specs.View.{field_view, fields_view}
 use Rattle.arrow_body.specs.Sound.{IsNodeLaid}
 use Rattle.arrow_body.specs.Taken.{AllNodes, AreThere}
-use Rattle.arrow_body.proofs.Taking.{all_after, fewer_below, fields_from, there_after, there_parts}
+use Rattle.arrow_body.proofs.Taking.{all_after, fewer_taken, there_after, there_parts}
+use Rattle.arrow_types.proofs.Fields.{fields_from}
 use Rattle.arrow_body.proofs.laid.+laid.Goals as goal
 
 pub are_laid-requires : goal.are_laid-requires
@@ -15,7 +16,7 @@ are_laid-requires t c =
     let ns = c.loop-field.rest.nodes.now in
     let bs = c.loop-field.rest.buffers.now in
     let step = fields_from c.args.fields.now c.loop-field.field-index f c.loop-field-test.true c.field-item.is in
-    let fewer = fewer_below c.args.fields.now c.loop-field.field-index f step in
+    let fewer = fewer_taken c.args.fields.now c.loop-field.field-index f c.loop-field-test.true c.field-item.is in
     let parts = there_parts h ch rest ns bs (subst (λ v. AreThere v ns bs) step c.loop-field.invariant.there) in
     (omega (arith, c.decreases, fewer, ap count c.below.ensures), rw (c.below.ensures, c.inside-inner.ensures.nodes, c.inside-inner.ensures.buffers) parts.2)
 

@@ -3,7 +3,8 @@ use Rattle.std.specs.List.{AllByRecursion}
 use Rattle.arrow_types.specs.View.{field_view, fields_view}
 use Rattle.arrow_body.specs.Sound.{lengths_of, slots_at}
 use Rattle.arrow_body.specs.Taken.{AreThere}
-use Rattle.arrow_body.proofs.Taking.{fields_from, node_after, there_after, there_parts}
+use Rattle.arrow_body.proofs.Taking.{node_after, there_after, there_parts}
+use Rattle.arrow_types.proofs.Fields.{fields_from}
 use Rattle.arrow_body.proofs.laid.are_longer.Goals as goal
 
 pub loop-field-preserved : goal.loop-field-preserved

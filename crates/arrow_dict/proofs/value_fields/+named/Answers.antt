@@ -3,7 +3,7 @@ use Rattle.arrow_types.specs.Field.{count}
 use Rattle.arrow_types.specs.Schema.{dictionary_fields, dictionary_of}
 use Rattle.arrow_types.specs.View.{field_view, fields_view}
 use Rattle.arrow_dict.specs.ValueTypes.{NameSame}
-use Rattle.arrow_dict.proofs.Fields.{fewer_below, fields_from}
+use Rattle.arrow_types.proofs.Fields.{fewer_below, fields_from}
 use Rattle.arrow_dict.proofs.Naming.{same_step}
 use Rattle.arrow_dict.proofs.value_fields.+named.Goals as goal
 

@@ -1,5 +1,6 @@
 use Rattle.std.proofs.Common.{◌≡◌, ◌+◌, ◌<◌, ◌∷◌, [], not, ap, sym, ◌∙◌, length, rules, arith, map}
 use Rattle.std.specs.Vec.Iter.{into_iter_items}
+use Rattle.std.proofs.lemmas.List.{nil_from_length}
 use Rattle.arrow_types.specs.Field.{width, fields_of}
 use Rattle.arrow_types.specs.View.{field_view, fields_view, type_view}
 use Rattle.arrow_types.proofs.Fields.{width-fields_view}
@@ -10,7 +11,7 @@ use Rattle.arrow_meta.specs.Parts.{nth, parts, number_at, flag_at, text_in}
 use Rattle.arrow_meta.specs.SchemaMeaning.{fields_in, fields_at, tag_by, encoding_in}
 use Rattle.arrow_meta.specs.Views.{plain, plain_all}
 use Rattle.arrow_meta.proofs.FieldTables.{shapes_in, shapes_from}
-use Rattle.arrow_meta.proofs.Misfits.{refuses_more, misfit_here, misfit_below, size_nth, size_positive, empty_list, joined_same}
+use Rattle.arrow_meta.proofs.Misfits.{refuses_more, misfit_here, misfit_below, size_nth, size_positive, joined_same}
 use Rattle.arrow_meta.proofs.TableFields.{fields_at_nth}
 use Rattle.arrow_meta.proofs.fields.+fields.Goals as goal
 
@@ -62,6 +63,6 @@ fields_of-field-requires t c =
 
 pub fields_of-returns : goal.fields_of-returns
 fields_of-returns t c =
-    let e : into_iter_items c.loop-table.table-iterator ≡ [] = empty_list _ (sym c.loop-table.table-iterator.rest.ok.0 ∙ c.in-None.ensures.steps.0) in
+    let e : into_iter_items c.loop-table.table-iterator ≡ [] = nil_from_length _ (sym c.loop-table.table-iterator.rest.ok.0 ∙ c.in-None.ensures.steps.0) in
     let all : map field_view c.loop-table.fields.items ≡ shapes_in c.args.tables.items = search (rules, e, c.loop-table.invariant.4) in
     record { built = ap fields_of all ∙ shapes_from c.args.tables.items }

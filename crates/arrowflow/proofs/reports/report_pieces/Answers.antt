@@ -1,4 +1,4 @@
-use Rattle.std.proofs.Common.{◌≡◌, ◌<◌, [], ◌++◌, take, length, refl, sym, ap, ◌∙◌, subst, append-nil, arith}
+use Rattle.std.proofs.Common.{◌≡◌, ◌<◌, [], ◌++◌, take, length, Ok, refl, sym, ap, ◌∙◌, subst, append-nil, arith}
 use Rattle.std.specs.Io.KnownBytes.{Consumes}
 use Rattle.std.proofs.KnownBytes.{Consumes-nil, Consumes-trans}
 use Rattle.arrowflow.proofs.Reporting.{told_nothing, end_flushed, end_reported, piece_reported, marker_flushed}
@@ -6,7 +6,7 @@ use Rattle.arrowflow.proofs.reports.report_pieces.Goals as goal
 
 pub loop-init : goal.loop-init
 loop-init g c =
-    ([], Consumes-nil (g.R.Read.remaining c.args.input.now), ([], told_nothing c.args.report (g.S.Sink.contents c.args.output.now) c.args.reader.now c.requires.start), refl, refl)
+    ([], Consumes-nil (g.R.Read.remaining c.args.input.now), ([], told_nothing c.args.report (g.S.Sink.contents c.args.output.now) c.args.reader.now c.requires.start), refl, refl, c.requires.open)
 
 pub returns-in-Ok-tell_end-clause-written : goal.returns-in-Ok-tell_end-clause-written
 returns-in-Ok-tell_end-clause-written g c =
@@ -72,4 +72,4 @@ pub loop-preserved : goal.loop-preserved
 loop-preserved g c =
     let inv = c.loop.invariant in
     let told = c.in-Ok-false.ensures.told (g.S.Sink.contents c.args.output.now) inv.0 inv.2.0 inv.2.1 in
-    (inv.0 ++ take c.in-Ok.count c.read.new.buf, Consumes-trans _ _ _ _ _ inv.1 c.in-Ok.ensures.bytes.0, told.0, told.1 ∙ inv.3, c.in-Ok-false.ensures.limits ∙ inv.4)
+    (inv.0 ++ take c.in-Ok.count c.read.new.buf, Consumes-trans _ _ _ _ _ inv.1 c.in-Ok.ensures.bytes.0, told.0, told.1 ∙ inv.3, c.in-Ok-false.ensures.limits ∙ inv.4, c.in-Ok-false.ensures.open inv.5 (ap Ok c.in-Ok-false.field-0-test))

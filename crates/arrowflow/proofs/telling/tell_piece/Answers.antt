@@ -5,11 +5,11 @@ use Rattle.arrow_stream.specs.State.{ended}
 use Rattle.arrow_stream.specs.Stream.{Stands, GivesNext, TakesOn, Refuses, WantsMemory}
 use Rattle.arrow_stream.specs.Views.{given}
 use Rattle.arrowflow.specs.Reports.{PieceTold}
-use Rattle.arrowflow.proofs.Told.{IsTelling, open_by_item, telling_nothing, telling_next, telling_cut, telling_ended, telling_all, telling_refused}
+use Rattle.arrowflow.proofs.Told.{IsTelling, open_behind, open_by_item, telling_nothing, telling_next, telling_cut, telling_ended, telling_all, telling_refused}
 use Rattle.arrowflow.proofs.telling.tell_piece.Goals as goal
 
 pub loop-taken-init : goal.loop-taken-init
-loop-taken-init g c = (telling_nothing c.args.report c.args.reader.now (g.S.Sink.contents c.args.output.now) c.args.number.now c.args.piece.now, refl)
+loop-taken-init g c = (telling_nothing c.args.report c.args.reader.now (g.S.Sink.contents c.args.output.now) c.args.number.now c.args.piece.now, refl, λ o. o)
 
 pub returns-in-Err-tell_item-clause-told : goal.returns-in-Err-tell_item-clause-told
 returns-in-Err-tell_item-clause-told g c first t es x =
@@ -48,6 +48,7 @@ loop-taken-preserved-in_default g c =
           (telling_next c.args.report c.args.reader.now (g.S.Sink.contents c.args.output.now) c.args.number.now c.args.piece.now l.reader (g.S.Sink.contents l.output) l.number rest l.invariant.0 new some.ensures.limits
           some.taken some.item is_open next _ _ (g.S.Sink.failed l.output) _ c.in-Ok.ensures.sent c.in-Ok.ensures.counted),
       c.in-Ok.ensures.sent.2.1 ∙ l.invariant.1,
+      λ o. open_behind l.reader.at.verdict new.at.verdict some.field-0-1 some.item some.field-0-1-is some.ensures.goes_on c.in_default.not-End,
     )
 
 pub loop-taken-preserved : goal.loop-taken-preserved
@@ -62,6 +63,7 @@ loop-taken-preserved g c =
           (telling_next c.args.report c.args.reader.now (g.S.Sink.contents c.args.output.now) c.args.number.now c.args.piece.now l.reader (g.S.Sink.contents l.output) l.number rest l.invariant.0 new some.ensures.limits
           some.taken some.item is_open next _ _ (g.S.Sink.failed l.output) _ c.in-Ok.ensures.sent c.in-Ok.ensures.counted),
       c.in-Ok.ensures.sent.2.1 ∙ l.invariant.1,
+      λ o. open_behind l.reader.at.verdict new.at.verdict some.field-0-1 some.item some.field-0-1-is some.ensures.goes_on c.in_default.not-End,
     )
 
 pub returns-in-Ok-default-None-clause-told : goal.returns-in-Ok-default-None-clause-told

@@ -23,6 +23,12 @@ append-requires-clause-typed c =
     let at = at_passed ds c.args.self.now c.args.id c.in-Ok.at c.self.view_is c.ranges.id c.in-Ok.ensures in
     c.requires.typed c.index_mut.result.now.1 (rw (← c.self.view_is) (found ds c.args.id c.in-Ok.at c.index_mut.result.now c.self.invariant at c.index_mut.ensures.value))
 
+pub append-requires-clause-plain : goal.append-requires-clause-plain
+append-requires-clause-plain c =
+    let ds = c.self.inside.entries.items in
+    let at = at_passed ds c.args.self.now c.args.id c.in-Ok.at c.self.view_is c.ranges.id c.in-Ok.ensures in
+    c.requires.plain c.index_mut.result.now.1 (rw (← c.self.view_is) (found ds c.args.id c.in-Ok.at c.index_mut.result.now c.self.invariant at c.index_mut.ensures.value))
+
 -- the ids stay as they were
 pub invariant_of-self-2 : goal.invariant_of-self-2
 invariant_of-self-2 c =
