@@ -114,11 +114,6 @@ pub(super) fn appended(
     store.append(alloc, id, values).err()
 }
 
-// The dictionary of an id that has one.
-pub(super) fn held<'a>(rt: &impl Abort, store: &'a Store, id: i64) -> &'a Dictionary {
-    store.get(id).expect(rt, "it is there")
-}
-
 // The number that value `i` is.
 pub(super) fn number(dictionary: &Dictionary, i: usize) -> Option<i128> {
     if i >= dictionary.len() {

@@ -21,6 +21,8 @@ pub(super) enum Step {
     Get(i64),
     // Tells how many values the id has.
     Count(i64),
+    // Tells the type of the values of the id.
+    Type(i64),
     // Tells all ids and their values.
     All,
 }
@@ -50,6 +52,7 @@ fn take(rt: &(impl Abort + AllocGlobal), store: &mut Store, step: Step, text: &m
         Step::Clear => store.clear(),
         Step::Get(id) => push_values(rt, text, store.get(id)),
         Step::Count(id) => push_count(rt, text, store.get(id)),
+        Step::Type(id) => push_type(rt, text, store.get(id)),
         Step::All => push_all(rt, text, store.entries()),
     }
 }
@@ -73,6 +76,14 @@ fn push_count(rt: &impl Abort, text: &mut String, dictionary: Option<&Dictionary
     begin(rt, text);
     match dictionary {
         Some(dictionary) => write!(text, "{} values", dictionary.len()).expect(rt, "memory"),
+        None => text.push_str("none").expect(rt, "memory"),
+    }
+}
+
+fn push_type(rt: &impl Abort, text: &mut String, dictionary: Option<&Dictionary>) {
+    begin(rt, text);
+    match dictionary {
+        Some(dictionary) => write!(text, "{:?}", dictionary.data_type()).expect(rt, "memory"),
         None => text.push_str("none").expect(rt, "memory"),
     }
 }

@@ -1,8 +1,9 @@
 // What a store has for an id, and in which order.
 
-use super::making::{held, int8};
 use super::steps::{Step, push_numbers, told};
+use arrow_array::Dictionary;
 use arrow_dict::{Store, StoreFault};
+use std::process::Abort;
 
 // The three entries that come in every order.
 const LOW: Step = Step::Put(-5, &[0]);
@@ -133,44 +134,53 @@ fn steps_from_a_new_store(rt: HostRuntime) {
 // Two dictionaries, deltas of the first, and what is told of these.
 static BASES: [Step; 2] = [Step::Put(3, &[10, 20]), Step::Put(4, &[99])];
 
-static DELTAS: [Step; 4] = [
+static DELTAS: [Step; 5] = [
     Step::Append(3, &[30, 40, 50]),
     Step::Append(3, &[60]),
     Step::Get(3),
     Step::Get(4),
+    Step::Type(3),
 ];
+
+// The answers to these steps, and the values of the copy.
+const DELTAS_TOLD: &str = "appended; appended; [10 20 30 40 50 60]; [99]; \
+    Int { bits: Eight, signed: true }[10 20]";
+
+fn copied(rt: &(impl Abort + AllocGlobal), store: &Store, id: i64) -> Dictionary {
+    let dictionary = store.get(id).expect(rt, "it is there");
+    dictionary.copy(rt.alloc()).expect(rt, "memory")
+}
 
 // A delta goes behind what the id has, and a copy from before does not change.
 #[test]
 fn a_delta_goes_behind(rt: HostRuntime) {
     let mut store = Store::new(rt.alloc());
     let mut text = told(&rt, &mut store, &BASES);
-    let before = held(&rt, &store, 3).copy(rt.alloc()).expect(&rt, "memory");
-    let after = told(&rt, &mut store, &DELTAS);
-    assert_eq!(rt;
-        after.as_str(),
-        "appended; appended; [10 20 30 40 50 60]; [99]"
-    );
+    let before = copied(&rt, &store, 3);
+    text.push_str(told(&rt, &mut store, &DELTAS).as_str())
+        .expect(&rt, "memory");
     push_numbers(&rt, &mut text, &before);
-    assert_eq!(rt; text.as_str(), "[10 20]");
-    assert!(rt; *held(&rt, &store, 3).data_type() == int8());
+    assert_eq!(rt; text.as_str(), DELTAS_TOLD);
 }
 
-static FAULTS: [(StoreFault, u8, &str); 3] = [
-    (StoreFault::NoBase, 1, "no dictionary to append to"),
+// The faults, and their numbers and words.
+static FAULTS: [(StoreFault, &str); 3] = [
+    (StoreFault::NoBase, "1 no dictionary to append to"),
     (
         StoreFault::TooLong,
-        2,
-        "more than 2,147,483,647 values in a dictionary",
+        "2 more than 2,147,483,647 values in a dictionary",
     ),
-    (StoreFault::Memory, 3, "out of memory"),
+    (StoreFault::Memory, "3 out of memory"),
 ];
+
+fn worded(rt: &(impl Abort + AllocGlobal), fault: StoreFault) -> String {
+    format!(in rt.alloc(); "{} {fault}", fault.number()).expect(rt, "memory")
+}
 
 #[test]
 fn faults_are_told(rt: HostRuntime) {
-    for &(fault, number, text) in &FAULTS {
-        assert_eq!(rt; fault.number(), number);
-        let told = format!(in rt.alloc(); "{fault}").expect(&rt, "memory");
-        assert_eq!(rt; told.as_str(), text);
+    for &(fault, want) in &FAULTS {
+        let got = worded(&rt, fault);
+        assert_eq!(rt; got.as_str(), want);
     }
 }

@@ -38,7 +38,7 @@ fn structure(rt: &impl Abort, alloc: Global) -> DataType {
 }
 
 // A column of texts of id 5, a list of structs, lists of id 9, and truths.
-fn schema(rt: &impl Abort, alloc: Global) -> Schema {
+fn columns(rt: &impl Abort, alloc: Global) -> Vec<Field> {
     let mut fields = Vec::new(alloc);
     let texts = encoded(rt, alloc, 5, DataType::Utf8);
     fields.push(texts).expect(rt, "memory");
@@ -49,7 +49,13 @@ fn schema(rt: &impl Abort, alloc: Global) -> Schema {
     fields.push(lists).expect(rt, "memory");
     let truths = field(alloc, DataType::Bool);
     fields.push(truths).expect(rt, "memory");
-    Schema::new(alloc, fields).expect(rt, "a schema")
+    fields
+}
+
+// The fields of the values of these columns' dictionaries.
+fn value_fields(rt: &(impl Abort + AllocGlobal), columns: Vec<Field>) -> ValueFields {
+    let schema = Schema::new(rt.alloc(), columns).expect(rt, "a schema");
+    ValueFields::of(rt.alloc(), &schema).expect(rt, "memory")
 }
 
 // The ids and the fields of their values, which have no name and no encoding.
@@ -82,9 +88,7 @@ fn told(rt: &(impl Abort + AllocGlobal), fields: &ValueFields, id: i64) -> Strin
 
 #[test]
 fn types_on_every_level(rt: HostRuntime) {
-    let alloc = rt.alloc();
-    let schema = schema(&rt, alloc);
-    let fields = ValueFields::of(alloc, &schema).expect(&rt, "memory");
+    let fields = value_fields(&rt, columns(&rt, rt.alloc()));
     for (id, want) in &NAMED {
         let got = told(&rt, &fields, *id);
         assert_eq!(rt; got.as_str(), *want, "of {id}");
@@ -93,12 +97,10 @@ fn types_on_every_level(rt: HostRuntime) {
 
 #[test]
 fn a_schema_without_dictionaries(rt: HostRuntime) {
-    let alloc = rt.alloc();
-    let mut columns = Vec::new(alloc);
+    let mut columns = Vec::new(rt.alloc());
     columns
-        .push(field(alloc, DataType::Utf8))
+        .push(field(rt.alloc(), DataType::Utf8))
         .expect(&rt, "memory");
-    let schema = Schema::new(alloc, columns).expect(&rt, "a schema");
-    let fields = ValueFields::of(alloc, &schema).expect(&rt, "memory");
+    let fields = value_fields(&rt, columns);
     assert!(rt; fields.get(0).is_none());
 }
