@@ -1,6 +1,6 @@
 //! Stores and value fields against answers that are written out.
 
-mod appending;
 mod making;
+mod steps;
 mod stores;
 mod value_types;

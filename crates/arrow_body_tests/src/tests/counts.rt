@@ -1,83 +1,108 @@
 // How many nodes fields take, and how many slots they have.
 
-ghost use Rattle.std.specs.Prelude.{◌≡◌, vec_len};
-
-use super::reading::{field, indices, int32, list, structure};
+use super::fields::{INDEX, Kind, fields_of};
+use super::reading::{Pairs, nodes_of_pairs};
 use arrow_body::{have_length, nodes_of};
-use arrow_types::{DataType, Field, FieldNode};
 use std::process::Abort;
 
-const fn node(length: i64) -> FieldNode {
-    FieldNode {
-        length,
-        null_count: 0,
-    }
-}
+// A list of numbers and indices: two nodes and one.
+const TWO: [Kind; 4] = [Kind::List, Kind::Number, INDEX, Kind::Text];
 
-// The nodes of the columns below, and two more.
-fn nodes() -> [FieldNode; 8] {
-    [
-        node(3),
-        node(8),
-        node(3),
-        node(3),
-        node(4),
-        node(5),
-        node(9),
-        node(9),
-    ]
-}
+// The same, and a struct of a struct of a truth value: three nodes.
+const THREE: [Kind; 7] = [
+    Kind::List,
+    Kind::Number,
+    INDEX,
+    Kind::Text,
+    Kind::Struct(1),
+    Kind::Struct(1),
+    Kind::Truth,
+];
 
-// A list of numbers, indices and a struct of a struct of a truth value: two nodes, one and three.
-fn fields(rt: &(impl Abort + AllocGlobal)) -> Vec<Field>
-    ensures { vec_len result ≡ 3 }
-{
-    let mut fields = Vec::new(rt.alloc());
-    fields
-        .push(list(rt, field(rt, int32())))
-        .expect(rt, "memory");
-    fields.push(indices(rt)).expect(rt, "memory");
-    let truths = field(rt, DataType::Bool);
-    fields
-        .push(structure(rt, structure(rt, truths)))
-        .expect(rt, "memory");
-    fields
+// The nodes of these fields, and two more.
+const NODES: [(i64, i64); 8] = [
+    (3, 0),
+    (8, 0),
+    (3, 0),
+    (3, 0),
+    (4, 0),
+    (5, 0),
+    (9, 0),
+    (9, 0),
+];
+
+// Fields, the nodes that are there, and the nodes that they take.
+static TAKEN: [(&[Kind], Pairs<'static>, Pairs<'static>); 6] = [
+    (
+        &THREE,
+        &NODES,
+        &[(3, 0), (8, 0), (3, 0), (3, 0), (4, 0), (5, 0)],
+    ),
+    (&[Kind::List, Kind::Number], &NODES, &[(3, 0), (8, 0)]),
+    (&[INDEX, Kind::Text], &NODES, &[(3, 0)]),
+    (
+        &THREE,
+        &[(3, 0), (8, 0), (3, 0), (3, 0)],
+        &[(3, 0), (8, 0), (3, 0), (3, 0)],
+    ),
+    (&THREE, &[], &[]),
+    (&[], &NODES, &[]),
+];
+
+fn takes(rt: &(impl Abort + AllocGlobal), of: &[Kind], nodes: Pairs<'_>, want: Pairs<'_>) {
+    let fields = fields_of(rt, of);
+    let nodes = nodes_of_pairs(rt, nodes);
+    let want = nodes_of_pairs(rt, want);
+    assert_eq!(rt; nodes_of(&fields, &nodes), want.as_slice());
 }
 
 #[test]
 fn the_nodes_that_fields_take(rt: HostRuntime) {
-    let fields = fields(&rt);
-    let nodes = nodes();
-    assert_eq!(rt; nodes_of(&fields, &nodes).len(), 6);
-    assert!(rt; nodes_of(&fields, &nodes) == &nodes[..6]);
-    assert!(rt; nodes_of(&fields[..1], &nodes) == &nodes[..2]);
-    assert!(rt; nodes_of(&fields[1..2], &nodes) == &nodes[..1]);
-    assert!(rt; nodes_of(&fields, &nodes[..4]) == &nodes[..4]);
-    assert!(rt; nodes_of(&fields, &[]).is_empty());
-    assert!(rt; nodes_of(&[], &nodes).is_empty());
+    for (of, nodes, want) in &TAKEN {
+        takes(&rt, of, nodes, want);
+    }
 }
 
-// Only the own nodes of the fields count, not those below.
+// Fields, their nodes, a number of rows, and whether the fields have it.
+static LENGTHS: [(&[Kind], Pairs<'static>, usize, bool); 11] = [
+    // Only the own nodes of the fields count, not those below.
+    (&THREE, &NODES, 3, true),
+    (&THREE, &NODES, 2, false),
+    (&THREE, &[(3, 0), (8, 0), (3, 0), (3, 0)], 3, true),
+    (&THREE, &[(3, 0), (8, 0), (3, 0)], 3, false),
+    (&TWO, &[(3, 0), (8, 0), (3, 0)], 3, true),
+    (
+        &THREE,
+        &[(3, 0), (8, 0), (3, 0), (4, 0), (4, 0), (5, 0)],
+        3,
+        false,
+    ),
+    (
+        &TWO,
+        &[(3, 0), (8, 0), (3, 0), (4, 0), (4, 0), (5, 0)],
+        3,
+        true,
+    ),
+    // A missing node and one of a negative length count as no slots.
+    (&THREE, &[], 0, true),
+    (&THREE, &[], 1, false),
+    (&THREE, &[(-3, 0)], 0, true),
+    (&[], &[], 7, true),
+];
+
+fn has_length(rt: &(impl Abort + AllocGlobal), of: &[Kind], nodes: Pairs<'_>, rows: usize) -> bool {
+    let fields = fields_of(rt, of);
+    let nodes = nodes_of_pairs(rt, nodes);
+    have_length(&fields, &nodes, rows)
+}
+
 #[test]
 fn columns_of_one_length(rt: HostRuntime) {
-    let fields = fields(&rt);
-    let nodes = nodes();
-    assert!(rt; have_length(&fields, &nodes, 3));
-    assert!(rt; !have_length(&fields, &nodes, 2));
-    assert!(rt; have_length(&fields, &nodes[..4], 3));
-    assert!(rt; !have_length(&fields, &nodes[..3], 3));
-    assert!(rt; have_length(&fields[..2], &nodes[..3], 3));
-    let uneven = [node(3), node(8), node(3), node(4), node(4), node(5)];
-    assert!(rt; !have_length(&fields, &uneven, 3));
-    assert!(rt; have_length(&fields[..2], &uneven, 3));
-}
-
-// A missing node and one of a negative length count as no slots.
-#[test]
-fn columns_without_slots(rt: HostRuntime) {
-    let fields = fields(&rt);
-    assert!(rt; have_length(&fields, &[], 0));
-    assert!(rt; !have_length(&fields, &[], 1));
-    assert!(rt; have_length(&fields, &[node(-3)], 0));
-    assert!(rt; have_length(&[], &[], 7));
+    for (of, nodes, rows, want) in &LENGTHS {
+        assert_eq!(rt;
+            has_length(&rt, of, nodes, *rows),
+            *want,
+            "{nodes:?} {rows}"
+        );
+    }
 }

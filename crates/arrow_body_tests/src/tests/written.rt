@@ -1,9 +1,9 @@
-// Nodes and buffers, written one after the other, and what their columns show.
+// Bodies whose buffers are written one after the other.
 
-use super::reading::{Pairs, loaded, one};
+use super::fields::{Kind, fields_of};
+use super::reading::{Pairs, loaded};
 use arrow_array::{Array, Dictionary};
 use arrow_body::BodyFault;
-use arrow_types::Field;
 use std::process::Abort;
 
 // A buffer of these bytes, or of these numbers, of four bytes each.
@@ -28,9 +28,9 @@ impl Held<'_> {
 }
 
 // The columns, or the fault.
-pub(super) fn columns(
+pub(super) fn written(
     rt: &(impl Abort + AllocGlobal),
-    fields: &[Field],
+    of: &[Kind],
     nodes: Pairs<'_>,
     held: &[Held<'_>],
     dictionaries: &[(i64, Dictionary)],
@@ -45,55 +45,17 @@ pub(super) fn columns(
         let length = i64::try_from(length).expect(rt, "few bytes");
         buffers.push((start, length)).expect(rt, "memory");
     }
-    loaded(rt, fields, nodes, &buffers, &body, dictionaries)
+    let fields = fields_of(rt, of);
+    loaded(rt, &fields, nodes, &buffers, &body, dictionaries)
 }
 
-// The one column, or the fault.
-pub(super) fn column(
+// The dictionary of the values in the one column.
+pub(super) fn dictionary(
     rt: &(impl Abort + AllocGlobal),
-    of: Field,
-    nodes: Pairs<'_>,
-    held: &[Held<'_>],
-    dictionaries: &[(i64, Dictionary)],
-) -> Result<Array, BodyFault> {
-    match columns(rt, &one(rt, of), nodes, held, dictionaries) {
-        Ok(mut arrays) => Ok(arrays.pop().expect(rt, "one field has a column")),
-        Err(fault) => Err(fault),
-    }
-}
-
-// The number in a slot.
-pub(super) fn number(column: &Array, j: usize) -> Option<i128> {
-    if j < column.len() {
-        column.int_at(j)
-    } else {
-        None
-    }
-}
-
-// The text in a slot.
-pub(super) fn text(column: &Array, j: usize) -> Option<&str> {
-    if j < column.len() {
-        column.text_at(j)
-    } else {
-        None
-    }
-}
-
-// The first and the end of the items of a slot.
-pub(super) fn items(column: &Array, j: usize) -> Option<(usize, usize)> {
-    if j < column.len() {
-        column.list_at(j).map(|(start, end, _)| (start, end))
-    } else {
-        None
-    }
-}
-
-// The values that a slot refers to, and the place among them.
-pub(super) fn behind(column: &Array, j: usize) -> Option<(&Array, usize)> {
-    if j < column.len() {
-        column.resolved(j)
-    } else {
-        None
-    }
+    columns: Result<Vec<Array>, BodyFault>,
+) -> Dictionary {
+    let mut columns = columns.expect(rt, "the body is sound");
+    let values = columns.pop().expect(rt, "there is a column");
+    assert!(rt; values.encoding().is_none() && !values.data_type().has_encoding_below());
+    Dictionary::from_array(rt.alloc(), values).expect(rt, "memory")
 }

@@ -72,7 +72,7 @@ fn column(rt: &impl Abort, alloc: Global, data_type: DataType, len: usize, bytes
 }
 
 // Numbers of 8 bits.
-fn numbers(rt: &impl Abort, alloc: Global, numbers: &[u8]) -> Array {
+pub(super) fn numbers(rt: &impl Abort, alloc: Global, numbers: &[u8]) -> Array {
     column(rt, alloc, int8(), numbers.len(), numbers)
 }
 
@@ -87,11 +87,6 @@ pub(super) fn put(rt: &impl Abort, alloc: Global, store: &mut Store, id: i64, va
     assert!(rt; !values.data_type().has_encoding_below());
     let dictionary = Dictionary::from_array(alloc, values).expect(rt, "memory");
     store.replace(id, dictionary).expect(rt, "memory");
-}
-
-// Takes a dictionary of numbers for the id.
-pub(super) fn put_numbers(rt: &impl Abort, alloc: Global, store: &mut Store, id: i64, of: &[u8]) {
-    put(rt, alloc, store, id, numbers(rt, alloc, of));
 }
 
 // Whether values may be appended to what the id has.
@@ -119,24 +114,6 @@ pub(super) fn appended(
     store.append(alloc, id, values).err()
 }
 
-// That numbers are appended with this fault, or with none.
-pub(super) fn appends(
-    rt: &impl Abort,
-    alloc: Global,
-    store: &mut Store,
-    id: i64,
-    more: &[u8],
-    fault: Option<StoreFault>,
-) {
-    let found = appended(rt, alloc, store, id, numbers(rt, alloc, more));
-    assert_eq!(rt; found, fault, "of {id}");
-}
-
-// The dictionary of an id that has one.
-pub(super) fn held<'a>(rt: &impl Abort, store: &'a Store, id: i64) -> &'a Dictionary {
-    store.get(id).expect(rt, "it is there")
-}
-
 // The number that value `i` is.
 pub(super) fn number(dictionary: &Dictionary, i: usize) -> Option<i128> {
     if i >= dictionary.len() {
@@ -144,12 +121,4 @@ pub(super) fn number(dictionary: &Dictionary, i: usize) -> Option<i128> {
     }
     let (values, place) = dictionary.value(i);
     values.int_at(place)
-}
-
-// That the values of a dictionary are just these numbers.
-pub(super) fn has_numbers(rt: &impl Abort, dictionary: &Dictionary, want: &[u8]) {
-    assert_eq!(rt; dictionary.len(), want.len());
-    for (i, one) in want.iter().enumerate() {
-        assert_eq!(rt; number(dictionary, i), Some(*one as i128), "value {i}");
-    }
 }

@@ -27,56 +27,80 @@ fn list(rt: &impl Abort, alloc: Global, item: Field) -> DataType {
     DataType::List(Box::new(alloc, item).expect(rt, "memory"))
 }
 
-// A column of texts of id 5, a list of structs of numbers of id -2 and of texts of id 5, lists of id 9, and truths.
-fn schema(rt: &impl Abort, alloc: Global) -> Schema {
+// A struct of numbers of id -2 and of texts of id 5.
+fn structure(rt: &impl Abort, alloc: Global) -> DataType {
     let mut parts = Vec::new(alloc);
     let numbers = encoded(rt, alloc, -2, int8());
     parts.push(numbers).expect(rt, "memory");
     let texts = encoded(rt, alloc, 5, DataType::Utf8);
     parts.push(texts).expect(rt, "memory");
-    let rows = list(rt, alloc, field(alloc, DataType::Struct(parts)));
-    let lists = list(rt, alloc, field(alloc, int8()));
-    let mut fields = Vec::new(alloc);
-    for column in [
-        encoded(rt, alloc, 5, DataType::Utf8),
-        field(alloc, rows),
-        encoded(rt, alloc, 9, lists),
-        field(alloc, DataType::Bool),
-    ] {
-        fields.push(column).expect(rt, "memory");
-    }
-    Schema::new(alloc, fields).expect(rt, "a schema")
+    DataType::Struct(parts)
 }
 
-// That the field of an id's values is of this type, and else as a field of values is.
-fn names(rt: &impl Abort, alloc: Global, fields: &ValueFields, id: i64, want: DataType) {
-    let found = fields.get(id).expect(rt, "a field names it");
-    assert!(rt; *found == field(alloc, want), "of {id}");
-    assert!(rt; found.dictionary.is_none(), "of {id}");
-    assert!(rt; found.name.is_empty() && found.nullable, "of {id}");
+// A column of texts of id 5, a list of structs, lists of id 9, and truths.
+fn columns(rt: &impl Abort, alloc: Global) -> Vec<Field> {
+    let mut fields = Vec::new(alloc);
+    let texts = encoded(rt, alloc, 5, DataType::Utf8);
+    fields.push(texts).expect(rt, "memory");
+    let rows = list(rt, alloc, field(alloc, structure(rt, alloc)));
+    fields.push(field(alloc, rows)).expect(rt, "memory");
+    let lists = list(rt, alloc, field(alloc, int8()));
+    let lists = encoded(rt, alloc, 9, lists);
+    fields.push(lists).expect(rt, "memory");
+    let truths = field(alloc, DataType::Bool);
+    fields.push(truths).expect(rt, "memory");
+    fields
+}
+
+// The fields of the values of these columns' dictionaries.
+fn value_fields(rt: &(impl Abort + AllocGlobal), columns: Vec<Field>) -> ValueFields {
+    let schema = Schema::new(rt.alloc(), columns).expect(rt, "a schema");
+    ValueFields::of(rt.alloc(), &schema).expect(rt, "memory")
+}
+
+// The ids and the fields of their values, which have no name and no encoding.
+static NAMED: [(i64, &str); 8] = [
+    (
+        5,
+        "Some(Field { name: \"\", nullable: true, data_type: Utf8, dictionary: None })",
+    ),
+    (
+        -2,
+        "Some(Field { name: \"\", nullable: true, data_type: \
+         Int { bits: Eight, signed: true }, dictionary: None })",
+    ),
+    (
+        9,
+        "Some(Field { name: \"\", nullable: true, data_type: List(Field { \
+         name: \"\", nullable: true, data_type: Int { bits: Eight, signed: true }, \
+         dictionary: None }), dictionary: None })",
+    ),
+    (0, "None"),
+    (2, "None"),
+    (-5, "None"),
+    (i64::MIN, "None"),
+    (i64::MAX, "None"),
+];
+
+fn told(rt: &(impl Abort + AllocGlobal), fields: &ValueFields, id: i64) -> String {
+    format!(in rt.alloc(); "{:?}", fields.get(id)).expect(rt, "memory")
 }
 
 #[test]
 fn types_on_every_level(rt: HostRuntime) {
-    let alloc = rt.alloc();
-    let fields = ValueFields::of(alloc, &schema(&rt, alloc)).expect(&rt, "memory");
-    let lists = list(&rt, alloc, field(alloc, int8()));
-    names(&rt, alloc, &fields, 5, DataType::Utf8);
-    names(&rt, alloc, &fields, -2, int8());
-    names(&rt, alloc, &fields, 9, lists);
-    for id in [0, 2, -5, i64::MIN, i64::MAX] {
-        assert!(rt; fields.get(id).is_none(), "of {id}");
+    let fields = value_fields(&rt, columns(&rt, rt.alloc()));
+    for (id, want) in &NAMED {
+        let got = told(&rt, &fields, *id);
+        assert_eq!(rt; got.as_str(), *want, "of {id}");
     }
 }
 
 #[test]
 fn a_schema_without_dictionaries(rt: HostRuntime) {
-    let alloc = rt.alloc();
-    let mut columns = Vec::new(alloc);
+    let mut columns = Vec::new(rt.alloc());
     columns
-        .push(field(alloc, DataType::Utf8))
+        .push(field(rt.alloc(), DataType::Utf8))
         .expect(&rt, "memory");
-    let schema = Schema::new(alloc, columns).expect(&rt, "a schema");
-    let fields = ValueFields::of(alloc, &schema).expect(&rt, "memory");
+    let fields = value_fields(&rt, columns);
     assert!(rt; fields.get(0).is_none());
 }
