@@ -157,28 +157,11 @@ fn lists_and_structs(rt: HostRuntime) {
     }
 }
 
-// Two columns, and a word for each slot of the first: which slots of the second are equal to it.
-static SAME: [(Leaf<'static>, Leaf<'static>, &str); 2] = [
-    (TEXTS, TEXTS, "=-- -=- --="),
-    (NULLS, TRUTH_VALUES, "--=- --=- --=- --=-"),
-];
-
+// A word for each slot of the first column: which slots of the second are equal to it.
 #[test]
 fn equal_slots(rt: HostRuntime) {
-    for (row, (column, other, want)) in SAME.iter().enumerate() {
-        are_same(&rt, row, column, other, want);
-    }
-}
-
-// The same of columns with children.
-static NESTED_SAME: [(Nested<'static>, Nested<'static>, &str); 2] = [
-    (LISTS, LISTS, "=-- -=- --="),
-    (STRUCTS, STRUCTS, "=- -="),
-];
-
-#[test]
-fn equal_lists_and_structs(rt: HostRuntime) {
-    for (row, (column, other, want)) in NESTED_SAME.iter().enumerate() {
-        are_nested_same(&rt, row, column, other, want);
-    }
+    are_same(&rt, &TEXTS, &TEXTS, "=-- -=- --=");
+    are_same(&rt, &NULLS, &TRUTH_VALUES, "--=- --=- --=- --=-");
+    are_nested_same(&rt, &LISTS, &LISTS, "=-- -=- --=");
+    are_nested_same(&rt, &STRUCTS, &STRUCTS, "=- -=");
 }

@@ -78,7 +78,13 @@ static EQUAL: [(&[&str], &[&str], bool); 12] = [
 ];
 
 // That two dictionaries are equal, or that they are not.
-fn are_equal(rt: &impl Abort, row: usize, one: &Dictionary, other: &Dictionary, want: bool) {
+pub(super) fn are_equal(
+    rt: &impl Abort,
+    row: usize,
+    one: &Dictionary,
+    other: &Dictionary,
+    want: bool,
+) {
     assert_eq!(rt; *one == *other, want, "row {row}");
     assert_eq!(rt; *one != *other, !want, "row {row}");
 }

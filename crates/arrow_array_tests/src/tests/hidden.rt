@@ -124,7 +124,6 @@ fn strings_and_truth_values_beside_a_null(rt: HostRuntime) {
     for (row, (column, want)) in COLUMNS.iter().enumerate() {
         shows(&rt, row, column, want);
     }
-    are_same(&rt, 0, &STRINGS, &TEXTS, "--- -=- ---");
 }
 
 // Columns with a child of five numbers, and what they show. The null list hides 2 and 3, and no list has the last two;
@@ -181,14 +180,9 @@ const TWO_LISTS: Nested<'static> = (
 );
 
 // What a null hides makes no difference: a null is equal to another one alone.
-static SAME: [(Nested<'static>, Nested<'static>, &str); 2] = [
-    (TWO_STRUCTS, TWO_LISTS, "-- -="),
-    (TWO_STRUCTS, TWO_STRUCTS, "=- -="),
-];
-
 #[test]
 fn nulls_over_other_values_are_equal(rt: HostRuntime) {
-    for (row, (column, other, want)) in SAME.iter().enumerate() {
-        are_nested_same(&rt, row, column, other, want);
-    }
+    are_same(&rt, &STRINGS, &TEXTS, "--- -=- ---");
+    are_nested_same(&rt, &TWO_STRUCTS, &TWO_LISTS, "-- -=");
+    are_nested_same(&rt, &TWO_STRUCTS, &TWO_STRUCTS, "=- -=");
 }

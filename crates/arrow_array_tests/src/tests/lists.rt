@@ -1,5 +1,6 @@
 // Dictionaries of lists, and the columns that refer to them.
 
+use super::dictionaries::are_equal;
 use super::forms::{Form, Nested, nested, referring};
 use super::making::{NO_COLUMN, dictionary, one};
 use super::told::{are_values_told, is_told};
@@ -63,13 +64,24 @@ static DICTIONARIES: [(&[u8], &[u8], bool); 3] = [
     (&[0, 0, 1, 3, 4, 6], &[1, 2, 3, 4, 5, 6], false),
 ];
 
+// That the dictionary of these lists is equal to another one, or that it is not.
+fn are_lists_equal(
+    rt: &(impl Abort + AllocGlobal),
+    row: usize,
+    (offsets, items): (&[u8], &[u8]),
+    other: &Dictionary,
+    want: bool,
+) {
+    let whole = dictionary(rt, one(rt, lists(rt, offsets, items)));
+    are_equal(rt, row, &whole, other, want);
+    are_equal(rt, row, other, &whole, want);
+}
+
 // Equal lists are equal values, whatever the segments that hold them.
 #[test]
 fn equal_dictionaries_of_lists(rt: HostRuntime) {
     let parts = five_lists(&rt);
-    for (offsets, items, want) in &DICTIONARIES {
-        let whole = dictionary(&rt, one(&rt, lists(&rt, offsets, items)));
-        assert_eq!(rt; whole == parts, *want);
-        assert_eq!(rt; parts == whole, *want);
+    for (row, (offsets, items, want)) in DICTIONARIES.iter().enumerate() {
+        are_lists_equal(&rt, row, (offsets, items), &parts, *want);
     }
 }

@@ -11,29 +11,26 @@ const MEMORY: &str = "memory";
 // That slots of two columns without children are equal where the text says it.
 pub(super) fn are_same(
     rt: &(impl Abort + AllocGlobal),
-    row: usize,
     column: &Leaf<'_>,
     other: &Leaf<'_>,
     want: &str,
 ) {
-    is_same_told(rt, row, &leaf(rt, column), &leaf(rt, other), want);
+    is_same_told(rt, &leaf(rt, column), &leaf(rt, other), want);
 }
 
 // That slots of two columns with children are equal where the text says it.
 pub(super) fn are_nested_same(
     rt: &(impl Abort + AllocGlobal),
-    row: usize,
     column: &Nested<'_>,
     other: &Nested<'_>,
     want: &str,
 ) {
-    is_same_told(rt, row, &nested(rt, column), &nested(rt, other), want);
+    is_same_told(rt, &nested(rt, column), &nested(rt, other), want);
 }
 
 // Which slots of two columns are equal: a word for each slot of the first, with a sign for each slot of the other.
 fn is_same_told(
     rt: &(impl Abort + AllocGlobal),
-    row: usize,
     column: &Option<Array>,
     other: &Option<Array>,
     want: &str,
@@ -42,7 +39,7 @@ fn is_same_told(
     if let (Some(column), Some(other)) = (column, other) {
         push_all_same(rt, &mut text, column, other);
     }
-    assert_eq!(rt; text.as_str(), want, "row {row}");
+    assert_eq!(rt; text.as_str(), want);
 }
 
 fn push_all_same(rt: &impl Abort, text: &mut String, column: &Array, other: &Array) {

@@ -10,7 +10,7 @@ use std::process::Abort;
 const MEMORY: &str = "memory";
 
 // All that a column shows, or that there is none.
-pub(super) fn told(rt: &(impl Abort + AllocGlobal), column: &Option<Array>) -> String {
+fn told(rt: &(impl Abort + AllocGlobal), column: &Option<Array>) -> String {
     let mut text = String::new(rt.alloc());
     match column {
         Some(column) => {
