@@ -7,5 +7,7 @@ mod forms;
 mod hidden;
 mod lists;
 mod making;
+mod same;
+mod told;
 mod utf8;
 mod values;

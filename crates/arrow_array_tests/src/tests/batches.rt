@@ -1,5 +1,6 @@
 // Batches, and why columns make none.
 
+use super::forms::{Form, INT32, data_type};
 use super::making::{column, field, indices, int32, one, range};
 use arrow_array::{Array, Batch, BatchFault, ByteRange};
 use arrow_types::{DataType, Schema};
@@ -39,13 +40,14 @@ fn zeros(rt: &(impl Abort + AllocGlobal), name: &str, len: usize) -> Array {
     column.expect(rt, "eight numbers at most")
 }
 
-// The fault of columns of so many slots each, if there is one.
+// The fault of columns of so many slots each under a schema of one column, if there is one.
 fn fault_of(
     rt: &(impl Abort + AllocGlobal),
-    schema: Rc<Schema>,
+    (form, encoded): (Form, bool),
     lens: &[usize],
     rows: usize,
 ) -> Option<BatchFault> {
+    let schema = schema(rt, one(rt, data_type(rt, form)), encoded);
     let mut columns = Vec::new(rt.alloc());
     for len in lens {
         columns.push(zeros(rt, "any", *len)).expect(rt, "memory");
@@ -76,27 +78,23 @@ fn a_batch_without_columns_has_rows(rt: HostRuntime) {
     assert!(rt; batch.columns().is_empty());
 }
 
+// The type of the schema's one column, whether it is dictionary-encoded, the slots of each column of numbers that is
+// given, the rows that are asked for, and the fault.
+static FAULTS: [(Form, bool, &[usize], usize, Option<BatchFault>); 6] = [
+    (INT32, false, &[3], 3, None),
+    (INT32, false, &[3], 2, Some(BatchFault::ColumnLength)),
+    (INT32, false, &[], 3, Some(BatchFault::ColumnCount)),
+    (INT32, false, &[3, 3], 2, Some(BatchFault::ColumnCount)),
+    (Form::Utf8, false, &[3], 2, Some(BatchFault::ColumnType)),
+    (INT32, true, &[3], 3, Some(BatchFault::ColumnType)),
+];
+
 #[test]
 fn the_least_fault_is_told(rt: HostRuntime) {
-    let numbers = schema(&rt, one(&rt, int32()), false);
-    for (lens, rows, want) in [
-        ([3].as_slice(), 3, None),
-        ([3].as_slice(), 2, Some(BatchFault::ColumnLength)),
-        ([].as_slice(), 3, Some(BatchFault::ColumnCount)),
-        ([3, 3].as_slice(), 2, Some(BatchFault::ColumnCount)),
-    ] {
-        assert_eq!(rt;
-            fault_of(&rt, numbers.clone().expect(&rt, "memory"), lens, rows),
-            want
-        );
+    for (row, (form, encoded, lens, rows, want)) in FAULTS.iter().enumerate() {
+        let fault = fault_of(&rt, (*form, *encoded), lens, *rows);
+        assert_eq!(rt; fault, *want, "row {row}");
     }
-    let texts = schema(&rt, one(&rt, DataType::Utf8), false);
-    assert_eq!(rt; fault_of(&rt, texts, &[3], 2), Some(BatchFault::ColumnType));
-    let encoded = schema(&rt, one(&rt, int32()), true);
-    assert_eq!(rt;
-        fault_of(&rt, encoded, &[3], 3),
-        Some(BatchFault::ColumnType)
-    );
 }
 
 #[test]

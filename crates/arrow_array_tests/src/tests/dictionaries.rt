@@ -1,8 +1,9 @@
 // Dictionaries of one and of several segments, and the columns that refer to them.
 
-use super::forms::{leaf, referring};
-use super::making::{NO_COLUMN, append, dictionary, int32, one, range};
-use arrow_array::{Array, ByteRange, Dictionary, SlotValue};
+use super::forms::{Form, INT32, leaf, referring};
+use super::making::{NO_COLUMN, append, dictionary, one};
+use super::told::{are_values_told, is_told, is_value_told};
+use arrow_array::{Array, Dictionary};
 use arrow_types::DataType;
 use std::process::Abort;
 
@@ -17,12 +18,8 @@ fn letters(rt: &(impl Abort + AllocGlobal), letters: &str) -> Array {
     let offsets = body.len();
     body.extend_from_slice(letters.as_bytes())
         .expect(rt, "memory");
-    let buffers = [
-        ByteRange::EMPTY,
-        range(0, offsets),
-        range(offsets, body.len()),
-    ];
-    leaf(rt, DataType::Utf8, count, &body, &buffers).expect(rt, NO_COLUMN)
+    let ranges = [(0, 0), (0, offsets), (offsets, body.len())];
+    leaf(rt, &(Form::Utf8, &body, (count, &ranges))).expect(rt, NO_COLUMN)
 }
 
 // A dictionary of letters, segment by segment.
@@ -34,100 +31,110 @@ fn spelled(rt: &(impl Abort + AllocGlobal), segments: &[&str]) -> Dictionary {
     dictionary(rt, parts)
 }
 
-// The letter that value `i` is.
-fn letter(dictionary: &Dictionary, i: usize) -> Option<&str> {
-    if i >= dictionary.len() {
-        return None;
-    }
-    let (values, place) = dictionary.value(i);
-    values.text_at(place)
+// The letters of each segment of a dictionary, and what it shows. Segments without values stand between others, and at
+// both ends.
+static SPELLED: [(&[&str], &str); 4] = [
+    (
+        &["abc", "de"],
+        "5 values of Utf8: at 0 of 3: text 'a' = 'a', at 1 of 3: text 'b' = 'b', \
+         at 2 of 3: text 'c' = 'c', at 0 of 2: text 'd' = 'd', at 1 of 2: text 'e' = 'e'",
+    ),
+    (
+        &["", "ab", "", "", "c", "def", "g", "", "h", ""],
+        "8 values of Utf8: at 0 of 2: text 'a' = 'a', at 1 of 2: text 'b' = 'b', \
+         at 0 of 1: text 'c' = 'c', at 0 of 3: text 'd' = 'd', at 1 of 3: text 'e' = 'e', \
+         at 2 of 3: text 'f' = 'f', at 0 of 1: text 'g' = 'g', at 0 of 1: text 'h' = 'h'",
+    ),
+    (&[""], "0 values (none) of Utf8"),
+    (&["a"], "1 values of Utf8: at 0 of 1: text 'a' = 'a'"),
+];
+
+// That the dictionary of these letters shows this.
+fn is_spelled(rt: &(impl Abort + AllocGlobal), segments: &[&str], want: &str) {
+    are_values_told(rt, &spelled(rt, segments), want);
 }
 
 #[test]
-fn values_of_two_segments(rt: HostRuntime) {
-    let dictionary = spelled(&rt, &["abc", "de"]);
-    assert_eq!(rt; dictionary.len(), 5);
-    for (i, want) in [(0, "a"), (1, "b"), (2, "c"), (3, "d"), (4, "e")] {
-        assert_eq!(rt; letter(&dictionary, i), Some(want), "value {i}");
+fn values_of_segments(rt: HostRuntime) {
+    for (segments, want) in &SPELLED {
+        is_spelled(&rt, segments, want);
     }
-    assert!(rt; 3 < dictionary.len());
-    let (values, place) = dictionary.value(3);
-    assert_eq!(rt; values.len(), 2);
-    assert_eq!(rt; place, 0);
-    assert!(rt; *dictionary.data_type() == DataType::Utf8);
 }
 
-// Segments without values stand between others, and at both ends.
-#[test]
-fn values_beside_empty_segments(rt: HostRuntime) {
-    let parts = ["", "ab", "", "", "c", "def", "g", "", "h", ""];
-    let dictionary = spelled(&rt, &parts);
-    assert_eq!(rt; dictionary.len(), 8);
-    for (i, want) in [
-        (0, "a"),
-        (1, "b"),
-        (2, "c"),
-        (3, "d"),
-        (4, "e"),
-        (5, "f"),
-        (6, "g"),
-        (7, "h"),
-    ] {
-        assert_eq!(rt; letter(&dictionary, i), Some(want), "value {i}");
-    }
+// The segments of two dictionaries, and whether they are equal.
+static EQUAL: [(&[&str], &[&str], bool); 12] = [
+    (&["abcde"], &["abc", "de"], true),
+    (&["abcde"], &["a", "bcde"], true),
+    (&["a", "bcde"], &["abc", "de"], true),
+    (&["abcde"], &["abcde", ""], true),
+    (&["abcde", ""], &["abc", "de"], true),
+    (&["abcde"], &["abc", "df"], false),
+    (&["abc", "df"], &["abc", "de"], false),
+    (&["abcde"], &["abc", "d"], false),
+    (&["abc", "d"], &["abc", "de"], false),
+    (&["abcde"], &["abc", "def"], false),
+    (&["abc", "def"], &["abc", "de"], false),
+    (&["a"], &[""], false),
+];
+
+// That two dictionaries are equal, or that they are not.
+pub(super) fn are_equal(
+    rt: &impl Abort,
+    row: usize,
+    one: &Dictionary,
+    other: &Dictionary,
+    want: bool,
+) {
+    assert_eq!(rt; *one == *other, want, "row {row}");
+    assert_eq!(rt; *one != *other, !want, "row {row}");
+}
+
+// That the dictionaries of these letters are equal, or that they are not.
+fn are_spelled_equal(
+    rt: &(impl Abort + AllocGlobal),
+    row: usize,
+    one: &[&str],
+    other: &[&str],
+    want: bool,
+) {
+    are_equal(rt, row, &spelled(rt, one), &spelled(rt, other), want);
 }
 
 #[test]
 fn equality_of_values(rt: HostRuntime) {
-    let whole = spelled(&rt, &["abcde"]);
-    let parts = spelled(&rt, &["abc", "de"]);
-    assert!(rt; whole == parts);
-    for (segments, want) in [
-        (["a", "bcde"], true),
-        (["abcde", ""], true),
-        (["abc", "df"], false),
-        (["abc", "d"], false),
-        (["abc", "def"], false),
-    ] {
-        let other = spelled(&rt, &segments);
-        assert_eq!(rt; whole == other, want);
-        assert_eq!(rt; other == parts, want);
+    for (row, (one, other, want)) in EQUAL.iter().enumerate() {
+        are_spelled_equal(&rt, row, one, other, *want);
     }
 }
 
 #[test]
-fn empty_dictionaries(rt: HostRuntime) {
-    let empty = spelled(&rt, &[""]);
-    assert!(rt; empty.is_empty());
-    assert_eq!(rt; empty.len(), 0);
+fn an_empty_dictionary_of_another_type(rt: HostRuntime) {
     let other = Dictionary::empty(rt.alloc(), DataType::Null);
-    assert!(rt; other.is_empty() && other == empty);
-    let some = spelled(&rt, &["a"]);
-    assert!(rt; !some.is_empty() && some != empty);
+    are_values_told(&rt, &other, "0 values (none) of Null");
+    are_equal(&rt, 0, &other, &spelled(&rt, &[""]), true);
 }
 
-// Two columns of the most slots that a column can have. The nulls of type Null lie in no body.
+// Values of two columns of the most slots that a column can have, and where they stand.
+static MANY: [(usize, &str); 4] = [
+    (0, "at 0 of 2147483647: null = null"),
+    (2147483646, "at 2147483646 of 2147483647: null = null"),
+    (2147483647, "at 0 of 2147483647: null = null"),
+    (4294967293, "at 2147483646 of 2147483647: null = null"),
+];
+
+// The nulls of type Null lie in no body.
+fn nulls(rt: &(impl Abort + AllocGlobal)) -> Array {
+    let nulls = leaf(rt, &(Form::Null, &[], (2147483647, &[])));
+    nulls.expect(rt, NO_COLUMN)
+}
+
 #[test]
 fn nulls_without_bytes(rt: HostRuntime) {
-    let mut parts = Vec::new(rt.alloc());
-    for _ in 0..2 {
-        let nulls = leaf(&rt, DataType::Null, 2147483647, &[], &[]).expect(&rt, NO_COLUMN);
-        assert_eq!(rt; nulls.len(), 2147483647);
-        parts.push(nulls).expect(&rt, "memory");
-    }
-    let dictionary = dictionary(&rt, parts);
+    let mut dictionary = dictionary(&rt, one(&rt, nulls(&rt)));
+    append(&rt, &mut dictionary, nulls(&rt));
     assert_eq!(rt; dictionary.len(), 4294967294);
-    for (i, want) in [
-        (0, 0),
-        (2147483646, 2147483646),
-        (2147483647, 0),
-        (4294967293, 2147483646),
-    ] {
-        assert!(rt; i < dictionary.len());
-        let (values, place) = dictionary.value(i);
-        assert_eq!(rt; place, want, "value {i}");
-        assert!(rt; place < values.len());
-        assert!(rt; values.is_null(place), "value {i}");
+    for (i, want) in &MANY {
+        is_value_told(&rt, &dictionary, *i, want);
     }
 }
 
@@ -136,100 +143,85 @@ fn nulls_without_bytes(rt: HostRuntime) {
 fn a_copy_stays_as_it_was(rt: HostRuntime) {
     let first = spelled(&rt, &["abc"]);
     let copy = first.copy(rt.alloc()).expect(&rt, "memory");
-    assert!(rt; copy == first);
+    are_equal(&rt, 0, &copy, &first, true);
     let mut grown = first;
     append(&rt, &mut grown, letters(&rt, "de"));
     assert_eq!(rt; grown.len(), 5);
     assert_eq!(rt; copy.len(), 3);
-    assert_eq!(rt; letter(&grown, 4), Some("e"));
-    assert!(rt; copy != grown);
+    is_value_told(&rt, &grown, 4, "at 1 of 2: text 'e' = 'e'");
+    are_equal(&rt, 1, &copy, &grown, false);
 }
 
-// The text that slot `i` stands for.
-fn text_behind(column: &Array, i: usize) -> Option<&str> {
-    if i >= column.len() {
-        return None;
-    }
-    let (values, place) = column.resolved(i)?;
-    if place < values.len() {
-        values.text_at(place)
-    } else {
-        None
+// The bitmap and the indices of a column, the letters of its dictionary where it is given one, and what it shows.
+static INDICES: [(&[u8], &[u8], Option<&[&str]>, &str); 7] = [
+    (
+        &[0xfb],
+        &[4, 0, 9, 2],
+        Some(&["abc", "de"]),
+        "len 4: int 4 at 1 of 2: text 'e' = 'e', int 0 at 0 of 3: text 'a' = 'a', null = null, \
+         int 2 at 2 of 3: text 'c' = 'c' | Utf8 of dictionary 0, 5 values of Utf8",
+    ),
+    (&[], &[3], Some(&["abc"]), "no column"),
+    (
+        &[0xfe],
+        &[3],
+        Some(&["abc"]),
+        "len 1: null = null | Utf8 of dictionary 0, 3 values of Utf8",
+    ),
+    (&[], &[0xff], Some(&["abc"]), "no column"),
+    (
+        &[0xfe],
+        &[0xff],
+        Some(&["abc"]),
+        "len 1: null = null | Utf8 of dictionary 0, 3 values of Utf8",
+    ),
+    (
+        &[0],
+        &[7, 8],
+        None,
+        "len 2: null = null, null = null | Utf8 of dictionary 0, 0 values (none) of Utf8",
+    ),
+    (&[], &[0], None, "no column"),
+];
+
+fn spelled_or_none(
+    rt: &(impl Abort + AllocGlobal),
+    segments: Option<&[&str]>,
+) -> Option<Dictionary> {
+    match segments {
+        Some(segments) => Some(spelled(rt, segments)),
+        None => None,
     }
 }
 
-// The text that slot `i` shows.
-fn text_shown(column: &Array, i: usize) -> Option<&str> {
-    if i >= column.len() {
-        return None;
-    }
-    match column.slot(i) {
-        SlotValue::Text(text) => Some(text),
-        _ => None,
-    }
+// That a column of these indices shows this.
+fn refers(
+    rt: &(impl Abort + AllocGlobal),
+    row: usize,
+    (validity, numbers): (&[u8], &[u8]),
+    segments: Option<&[&str]>,
+    want: &str,
+) {
+    let values = spelled_or_none(rt, segments);
+    let column = referring(rt, Form::Utf8, validity, numbers, values);
+    is_told(rt, row, &column, want);
 }
 
 #[test]
-fn indices_into_segments(rt: HostRuntime) {
-    let letters = Some(spelled(&rt, &["abc", "de"]));
-    let column = referring(&rt, DataType::Utf8, &[0xfb], &[4, 0, 9, 2], letters);
-    let column = column.expect(&rt, NO_COLUMN);
-    for (i, number, want) in [
-        (0, Some(4), Some("e")),
-        (1, Some(0), Some("a")),
-        (2, None, None),
-        (3, Some(2), Some("c")),
-    ] {
-        assert!(rt; i < column.len());
-        assert_eq!(rt; column.int_at(i), number, "slot {i}");
-        assert_eq!(rt; column.is_null(i), number.is_none(), "slot {i}");
-        assert_eq!(rt; text_behind(&column, i), want, "slot {i}");
-        assert_eq!(rt; text_shown(&column, i), want, "slot {i}");
-        assert!(rt; column.text_at(i).is_none(), "slot {i}");
+fn indices_of_letters(rt: HostRuntime) {
+    for (row, (validity, numbers, segments, want)) in INDICES.iter().enumerate() {
+        refers(&rt, row, (validity, numbers), *segments, want);
     }
-    assert!(rt; *column.data_type() == DataType::Utf8);
-    let encoding = column.encoding().expect(&rt, "there is an encoding");
-    assert_eq!(rt; encoding.id, 0);
-    let dictionary = column.dictionary().expect(&rt, "there is a dictionary");
-    assert_eq!(rt; dictionary.len(), 5);
-}
-
-#[test]
-fn indices_without_values(rt: HostRuntime) {
-    for number in [3, 0xff] {
-        for (validity, is_column) in [([].as_slice(), false), ([0xfe].as_slice(), true)] {
-            let letters = Some(spelled(&rt, &["abc"]));
-            let column = referring(&rt, DataType::Utf8, validity, &[number], letters);
-            assert_eq!(rt;
-                column.is_some(),
-                is_column,
-                "index {number}, null: {is_column}"
-            );
-        }
-    }
-    let nulls = referring(&rt, DataType::Utf8, &[0], &[7, 8], None).expect(&rt, NO_COLUMN);
-    assert!(rt; 1 < nulls.len());
-    assert!(rt; nulls.is_null(0) && nulls.is_null(1) && nulls.resolved(0).is_none());
-    let dictionary = nulls.dictionary().expect(&rt, "there is a dictionary");
-    assert!(rt; dictionary.is_empty());
-    assert!(rt; referring(&rt, DataType::Utf8, &[], &[0], None).is_none());
 }
 
 // A value of a dictionary may be null: the index is there all the same.
 #[test]
 fn indices_of_null_values(rt: HostRuntime) {
     let body = [2, 0, 0, 0, 0, 0, 0, 0, 7, 0, 0, 0];
-    let values = leaf(&rt, int32(), 2, &body, &[range(0, 1), range(4, 12)]);
+    let values = leaf(&rt, &(INT32, &body, (2, &[(0, 1), (4, 12)])));
     let values = dictionary(&rt, one(&rt, values.expect(&rt, NO_COLUMN)));
-    let column = referring(&rt, int32(), &[], &[0, 1], Some(values)).expect(&rt, NO_COLUMN);
-    for (i, want) in [(0, None), (1, Some(7))] {
-        assert!(rt; i < column.len());
-        assert_eq!(rt; column.int_at(i), Some(i as i128));
-        let (values, place) = column.resolved(i).expect(&rt, "the index is there");
-        assert!(rt; place < values.len());
-        assert_eq!(rt; values.int_at(place), want);
-    }
-    assert!(rt; 1 < column.len());
-    assert!(rt; matches!(column.slot(0), SlotValue::Null));
-    assert!(rt; matches!(column.slot(1), SlotValue::Int(7)));
+    let column = referring(&rt, INT32, &[], &[0, 1], Some(values));
+    let want = "len 2: int 0 at 0 of 2: null = null, int 1 at 1 of 2: int 7 = 7 \
+         | Int of dictionary 0, 2 values of Int";
+    is_told(&rt, 0, &column, want);
 }

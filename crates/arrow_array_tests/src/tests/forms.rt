@@ -1,35 +1,98 @@
 // Columns of the forms that several tests ask for.
 
-use super::making::{NO_COLUMN, column, field, indices, int32, one, range};
+use super::making::{column, field, indices, int32, one, range};
 use arrow_array::{Array, ByteRange, Dictionary};
-use arrow_types::DataType;
+use arrow_types::{BitWidth, DataType, DateUnit, TimeUnit};
 use bytes::Bytes;
 use std::process::Abort;
 
-// A column of a type without children, if its parts are as they should be.
-pub(super) fn leaf(
-    rt: &(impl Abort + AllocGlobal),
-    data_type: DataType,
-    len: usize,
-    body: &[u8],
-    buffers: &[ByteRange],
-) -> Option<Array> {
-    let body = Bytes::copy_from_slice(rt.alloc(), body).expect(rt, "memory");
-    column(
-        rt,
-        &field(rt, "x", data_type),
-        len,
-        &body,
-        buffers,
-        Vec::new(rt.alloc()),
-        None,
-    )
+// How many slots a column has, and where its buffers begin and end in its body.
+pub(super) type Parts<'a> = (usize, &'a [(usize, usize)]);
+
+// A column without children: its type, its body and its parts.
+pub(super) type Leaf<'a> = (Form, &'a [u8], Parts<'a>);
+
+// A column of lists or structs: its type, its body, its parts and those of its child of numbers.
+pub(super) type Nested<'a> = (Form, &'a [u8], Parts<'a>, Parts<'a>);
+
+// The types of the tables.
+#[derive(Clone, Copy)]
+pub(super) enum Form {
+    Null,
+    Bool,
+    Int(BitWidth, bool),
+    Binary,
+    Utf8,
+    Date(DateUnit),
+    Time(TimeUnit),
+    Timestamp(TimeUnit),
+    // Lists of numbers of 32 bits.
+    List,
+    // Structs of one number of 32 bits.
+    Struct,
 }
 
-// A column of a type by indices of 8 bits.
+// Signed numbers of 32 bits.
+pub(super) const INT32: Form = Form::Int(BitWidth::ThirtyTwo, true);
+
+pub(super) fn data_type(rt: &(impl Abort + AllocGlobal), form: Form) -> DataType {
+    match form {
+        Form::Null => DataType::Null,
+        Form::Bool => DataType::Bool,
+        Form::Int(bits, signed) => DataType::Int { bits, signed },
+        Form::Binary => DataType::Binary,
+        Form::Utf8 => DataType::Utf8,
+        Form::Date(unit) => DataType::Date(unit),
+        Form::Time(unit) => DataType::Time(unit),
+        Form::Timestamp(unit) => DataType::Timestamp(unit, None),
+        Form::List => {
+            let item = field(rt, "item", int32());
+            DataType::List(Box::new(rt.alloc(), item).expect(rt, "memory"))
+        }
+        Form::Struct => DataType::Struct(one(rt, field(rt, "item", int32()))),
+    }
+}
+
+fn ranges(rt: &(impl Abort + AllocGlobal), places: &[(usize, usize)]) -> Vec<ByteRange> {
+    let mut ranges = Vec::new(rt.alloc());
+    for (start, end) in places {
+        ranges.push(range(*start, *end)).expect(rt, "memory");
+    }
+    ranges
+}
+
+// A column without children, if its parts are as they should be.
+pub(super) fn leaf(rt: &(impl Abort + AllocGlobal), column: &Leaf<'_>) -> Option<Array> {
+    let (form, body, parts) = *column;
+    let body = Bytes::copy_from_slice(rt.alloc(), body).expect(rt, "memory");
+    node(rt, form, &body, parts, Vec::new(rt.alloc()))
+}
+
+// A column of lists or structs of numbers, if its parts and those of its child are as they should be.
+pub(super) fn nested(rt: &(impl Abort + AllocGlobal), column: &Nested<'_>) -> Option<Array> {
+    let (form, body, parts, numbers) = *column;
+    let body = Bytes::copy_from_slice(rt.alloc(), body).expect(rt, "memory");
+    match node(rt, INT32, &body, numbers, Vec::new(rt.alloc())) {
+        Some(child) => node(rt, form, &body, parts, one(rt, child)),
+        None => None,
+    }
+}
+
+fn node(
+    rt: &(impl Abort + AllocGlobal),
+    form: Form,
+    body: &Bytes,
+    (len, places): Parts<'_>,
+    children: Vec<Array>,
+) -> Option<Array> {
+    let whole = field(rt, "x", data_type(rt, form));
+    column(rt, &whole, len, body, &ranges(rt, places), children, None)
+}
+
+// A column by indices of 8 bits, if they are as they should be.
 pub(super) fn referring(
     rt: &(impl Abort + AllocGlobal),
-    data_type: DataType,
+    form: Form,
     validity: &[u8],
     numbers: &[u8],
     dictionary: Option<Dictionary>,
@@ -37,81 +100,9 @@ pub(super) fn referring(
     let mut body = Vec::from_slice(rt.alloc(), validity).expect(rt, "memory");
     body.extend_from_slice(numbers).expect(rt, "memory");
     let (marks, end) = (validity.len(), body.len());
-    let encoded = indices(rt, "k", data_type);
+    let body = Bytes::from_vec(body).expect(rt, "memory");
+    let encoded = indices(rt, "k", data_type(rt, form));
     let buffers = [range(0, marks), range(marks, end)];
-    column(
-        rt,
-        &encoded,
-        numbers.len(),
-        &Bytes::from_vec(body).expect(rt, "memory"),
-        &buffers,
-        Vec::new(rt.alloc()),
-        dictionary,
-    )
-}
-
-// The type of lists of numbers of 32 bits.
-pub(super) fn list_type(rt: &(impl Abort + AllocGlobal)) -> DataType {
-    let item = field(rt, "item", int32());
-    DataType::List(Box::new(rt.alloc(), item).expect(rt, "memory"))
-}
-
-// Puts each number in four bytes.
-pub(super) fn put_all(rt: &impl Abort, body: &mut Vec<u8>, numbers: &[u8]) {
-    for number in numbers {
-        body.extend_from_slice(&[*number, 0, 0, 0])
-            .expect(rt, "memory");
-    }
-}
-
-// A column of the numbers that stand in the range, as the one child of another.
-fn numbers_of(
-    rt: &(impl Abort + AllocGlobal),
-    body: &Bytes,
-    len: usize,
-    values: ByteRange,
-) -> Vec<Array> {
-    let item = field(rt, "item", int32());
-    let buffers = [ByteRange::EMPTY, values];
-    let child = column(rt, &item, len, body, &buffers, Vec::new(rt.alloc()), None);
-    one(rt, child.expect(rt, NO_COLUMN))
-}
-
-// A column of lists of numbers of 32 bits, with these offsets.
-pub(super) fn lists(
-    rt: &(impl Abort + AllocGlobal),
-    validity: &[u8],
-    offsets: &[u8],
-    numbers: &[u8],
-) -> Array {
-    let mut body = Vec::from_slice(rt.alloc(), validity).expect(rt, "memory");
-    let marks = body.len();
-    put_all(rt, &mut body, offsets);
-    let places = body.len();
-    put_all(rt, &mut body, numbers);
-    let end = body.len();
-    let body = Bytes::from_vec(body).expect(rt, "memory");
-    let children = numbers_of(rt, &body, numbers.len(), range(places, end));
-    let whole = field(rt, "l", list_type(rt));
-    let buffers = [range(0, marks), range(marks, places)];
-    let len = offsets.len().saturating_sub(1);
-    column(rt, &whole, len, &body, &buffers, children, None).expect(rt, NO_COLUMN)
-}
-
-// A column of `len` structs of one number of 32 bits.
-pub(super) fn structs(
-    rt: &(impl Abort + AllocGlobal),
-    len: usize,
-    validity: &[u8],
-    numbers: &[u8],
-) -> Array {
-    let mut body = Vec::from_slice(rt.alloc(), validity).expect(rt, "memory");
-    let marks = body.len();
-    put_all(rt, &mut body, numbers);
-    let end = body.len();
-    let body = Bytes::from_vec(body).expect(rt, "memory");
-    let children = numbers_of(rt, &body, numbers.len(), range(marks, end));
-    let fields = one(rt, field(rt, "item", int32()));
-    let whole = field(rt, "s", DataType::Struct(fields));
-    column(rt, &whole, len, &body, &[range(0, marks)], children, None).expect(rt, NO_COLUMN)
+    let (len, children) = (numbers.len(), Vec::new(rt.alloc()));
+    column(rt, &encoded, len, &body, &buffers, children, dictionary)
 }

@@ -1,146 +1,188 @@
 // What null slots hide, spare bits, and children that are longer than they have to be.
+//
+// Each column has a bitmap FD: its second slot is null, and all spare bits are set.
 
-use super::forms::{leaf, lists, structs};
-use super::making::{NO_COLUMN, range};
-use arrow_array::SlotValue;
-use arrow_types::{BitWidth, DataType, DateUnit, TimeUnit};
+use super::forms::{Form, Leaf, Nested, Parts};
+use super::same::{are_nested_same, are_same};
+use super::told::{nested_shows, shows};
+use arrow_types::{BitWidth, DateUnit, TimeUnit};
 use std::process::Abort;
 
-// The numbers of three slots, of which the second is null, in a bitmap with all spare bits set. The values are the
-// bytes 1 to 24.
-fn three(rt: &(impl Abort + AllocGlobal), data_type: DataType) -> [Option<i128>; 3] {
-    let body = [
-        0xfd, 1, 2, 3, 4, 5, 6, 7, 8, 9, 10, 11, 12, 13, 14, 15, 16, 17, 18, 19, 20, 21, 22, 23, 24,
-    ];
-    let buffers = [range(0, 1), range(1, 25)];
-    let column = leaf(rt, data_type, 3, &body, &buffers).expect(rt, NO_COLUMN);
-    assert!(rt; column.len() == 3 && column.is_null(1));
-    [column.int_at(0), column.int_at(1), column.int_at(2)]
+// The bitmap, and the bytes 1 to 24 as the values.
+const COUNTED: &[u8] = &[
+    0xfd, 1, 2, 3, 4, 5, 6, 7, 8, 9, 10, 11, 12, 13, 14, 15, 16, 17, 18, 19, 20, 21, 22, 23, 24,
+];
+
+const THREE_NUMBERS: Parts<'static> = (3, &[(0, 1), (1, 25)]);
+
+// Types of numbers, and what the first and the last of three slots hold.
+static NUMBERS: [(Form, i64, i64); 18] = [
+    (Form::Int(BitWidth::Eight, false), 1, 3),
+    (Form::Int(BitWidth::Eight, true), 1, 3),
+    (Form::Int(BitWidth::Sixteen, false), 0x0201, 0x0605),
+    (Form::Int(BitWidth::Sixteen, true), 0x0201, 0x0605),
+    (
+        Form::Int(BitWidth::ThirtyTwo, false),
+        0x04030201,
+        0x0c0b0a09,
+    ),
+    (Form::Int(BitWidth::ThirtyTwo, true), 0x04030201, 0x0c0b0a09),
+    (
+        Form::Int(BitWidth::SixtyFour, false),
+        0x0807060504030201,
+        0x1817161514131211,
+    ),
+    (
+        Form::Int(BitWidth::SixtyFour, true),
+        0x0807060504030201,
+        0x1817161514131211,
+    ),
+    (Form::Date(DateUnit::Day), 0x04030201, 0x0c0b0a09),
+    (
+        Form::Date(DateUnit::Millisecond),
+        0x0807060504030201,
+        0x1817161514131211,
+    ),
+    (Form::Time(TimeUnit::Second), 0x04030201, 0x0c0b0a09),
+    (Form::Time(TimeUnit::Millisecond), 0x04030201, 0x0c0b0a09),
+    (
+        Form::Time(TimeUnit::Microsecond),
+        0x0807060504030201,
+        0x1817161514131211,
+    ),
+    (
+        Form::Time(TimeUnit::Nanosecond),
+        0x0807060504030201,
+        0x1817161514131211,
+    ),
+    (
+        Form::Timestamp(TimeUnit::Second),
+        0x0807060504030201,
+        0x1817161514131211,
+    ),
+    (
+        Form::Timestamp(TimeUnit::Millisecond),
+        0x0807060504030201,
+        0x1817161514131211,
+    ),
+    (
+        Form::Timestamp(TimeUnit::Microsecond),
+        0x0807060504030201,
+        0x1817161514131211,
+    ),
+    (
+        Form::Timestamp(TimeUnit::Nanosecond),
+        0x0807060504030201,
+        0x1817161514131211,
+    ),
+];
+
+// That a column of the type shows these numbers, and a null between them.
+fn are_numbers(rt: &(impl Abort + AllocGlobal), row: usize, form: Form, first: i64, last: i64) {
+    let want = format!(in rt.alloc();
+        "len 3: int {first} = {first}, null = null, int {last} = {last}"
+    );
+    shows(
+        rt,
+        row,
+        &(form, COUNTED, THREE_NUMBERS),
+        &want.expect(rt, "memory"),
+    );
 }
 
 #[test]
-fn integers_beside_a_null(rt: HostRuntime) {
-    for (bits, first, last) in [
-        (BitWidth::Eight, 1, 3),
-        (BitWidth::Sixteen, 0x0201, 0x0605),
-        (BitWidth::ThirtyTwo, 0x04030201, 0x0c0b0a09),
-        (BitWidth::SixtyFour, 0x0807060504030201, 0x1817161514131211),
-    ] {
-        for signed in [false, true] {
-            let numbers = three(&rt, DataType::Int { bits, signed });
-            assert_eq!(rt; numbers, [Some(first), None, Some(last)]);
-        }
+fn numbers_beside_a_null(rt: HostRuntime) {
+    for (row, (form, first, last)) in NUMBERS.iter().enumerate() {
+        are_numbers(&rt, row, *form, *first, *last);
     }
 }
 
+// Under the null are two bytes that are no UTF-8.
+const LETTERS: &[u8] = &[
+    0xfd, 0, 0, 0, 0, 1, 0, 0, 0, 3, 0, 0, 0, 4, 0, 0, 0, 0x61, 0xff, 0xff, 0x64,
+];
+
+const STRINGS: Leaf<'static> = (Form::Binary, LETTERS, (3, &[(0, 1), (1, 17), (17, 21)]));
+
+const TEXTS: Leaf<'static> = (Form::Utf8, LETTERS, (3, &[(0, 1), (1, 17), (17, 21)]));
+
+// Columns, and what they show. Under the null truth value is a bit that is set.
+static COLUMNS: [(Leaf<'static>, &str); 3] = [
+    (
+        STRINGS,
+        "len 3: bytes [97] = [97], null = null, bytes [100] = [100]",
+    ),
+    (TEXTS, "len 3: text 'a' = 'a', null = null, text 'd' = 'd'"),
+    (
+        (Form::Bool, &[0xfd, 0xfb], (3, &[(0, 1), (1, 2)])),
+        "len 3: bool true = true, null = null, bool false = false",
+    ),
+];
+
 #[test]
-fn dates_and_times_beside_a_null(rt: HostRuntime) {
-    let half = [Some(0x04030201), None, Some(0x0c0b0a09)];
-    let whole = [Some(0x0807060504030201), None, Some(0x1817161514131211)];
-    for (data_type, want) in [
-        (DataType::Date(DateUnit::Day), half),
-        (DataType::Date(DateUnit::Millisecond), whole),
-        (DataType::Time(TimeUnit::Second), half),
-        (DataType::Time(TimeUnit::Millisecond), half),
-        (DataType::Time(TimeUnit::Microsecond), whole),
-        (DataType::Time(TimeUnit::Nanosecond), whole),
-        (DataType::Timestamp(TimeUnit::Second, None), whole),
-        (DataType::Timestamp(TimeUnit::Millisecond, None), whole),
-        (DataType::Timestamp(TimeUnit::Microsecond, None), whole),
-        (DataType::Timestamp(TimeUnit::Nanosecond, None), whole),
-    ] {
-        assert_eq!(rt; three(&rt, data_type), want);
+fn strings_and_truth_values_beside_a_null(rt: HostRuntime) {
+    for (row, (column, want)) in COLUMNS.iter().enumerate() {
+        shows(&rt, row, column, want);
     }
 }
 
-// The bytes 61, none and 64. Under the null are two bytes that are no UTF-8.
-#[test]
-fn byte_strings_and_texts_beside_a_null(rt: HostRuntime) {
-    let body = [
-        0xfd, 0, 0, 0, 0, 1, 0, 0, 0, 3, 0, 0, 0, 4, 0, 0, 0, 0x61, 0xff, 0xff, 0x64,
-    ];
-    let buffers = [range(0, 1), range(1, 17), range(17, 21)];
-    let strings = leaf(&rt, DataType::Binary, 3, &body, &buffers).expect(&rt, NO_COLUMN);
-    let texts = leaf(&rt, DataType::Utf8, 3, &body, &buffers).expect(&rt, NO_COLUMN);
-    for (j, bytes, text) in [
-        (0, Some([0x61].as_slice()), Some("a")),
-        (1, None, None),
-        (2, Some([0x64].as_slice()), Some("d")),
-    ] {
-        assert!(rt; j < strings.len() && j < texts.len());
-        assert_eq!(rt; strings.bytes_at(j), bytes, "slot {j}");
-        assert_eq!(rt; texts.text_at(j), text, "slot {j}");
-        assert_eq!(rt; texts.is_null(j), j == 1, "slot {j}");
-        assert_eq!(rt; strings.same_slot(j, &texts, j), j == 1, "slot {j}");
-    }
-    assert!(rt; 2 < strings.len());
-    assert!(rt; matches!(strings.slot(2), SlotValue::Bytes(_)));
-}
+// Columns with a child of five numbers, and what they show. The null list hides 2 and 3, and no list has the last two;
+// the null struct hides 2.
+static NESTED: [(Nested<'static>, &str); 2] = [
+    (
+        (
+            Form::List,
+            &[
+                0xfd, 0, 0, 0, 0, 1, 0, 0, 0, 3, 0, 0, 0, 3, 0, 0, 0, 1, 0, 0, 0, 2, 0, 0, 0, 3, 0,
+                0, 0, 4, 0, 0, 0, 5, 0, 0, 0,
+            ],
+            (3, &[(0, 1), (1, 17)]),
+            (5, &[(0, 0), (17, 37)]),
+        ),
+        "len 3: list 0..1 [ int 1 ] = 0..1 of 5, null = null, list 3..3 [ ] = 3..3 of 5 \
+         | items: len 5: int 1 = 1, int 2 = 2, int 3 = 3, int 4 = 4, int 5 = 5",
+    ),
+    (
+        (
+            Form::Struct,
+            &[
+                0xfd, 1, 0, 0, 0, 2, 0, 0, 0, 3, 0, 0, 0, 4, 0, 0, 0, 5, 0, 0, 0,
+            ],
+            (3, &[(0, 1)]),
+            (5, &[(0, 0), (1, 21)]),
+        ),
+        "len 3: = struct 0 of 1 fields, null = null, = struct 2 of 1 fields \
+         | field 0: len 5: int 1 = 1, int 2 = 2, int 3 = 3, int 4 = 4, int 5 = 5",
+    ),
+];
 
-// The truth values true, none and false. Under the null is a bit that is set.
 #[test]
-fn truth_values_beside_a_null(rt: HostRuntime) {
-    let buffers = [range(0, 1), range(1, 2)];
-    let column = leaf(&rt, DataType::Bool, 3, &[0xfd, 0xfb], &buffers).expect(&rt, NO_COLUMN);
-    for (j, want) in [(0, Some(true)), (1, None), (2, Some(false))] {
-        assert!(rt; j < column.len());
-        assert_eq!(rt; column.bool_at(j), want, "slot {j}");
-        assert_eq!(rt; column.is_null(j), want.is_none(), "slot {j}");
-    }
-    assert!(rt; 2 < column.len());
-    assert!(rt; matches!(column.slot(0), SlotValue::Bool(true)));
-    assert!(rt; matches!(column.slot(1), SlotValue::Null));
-    assert!(rt; matches!(column.slot(2), SlotValue::Bool(false)));
-}
-
-// The lists of 1, none, and the empty list, in a child of five numbers. The null hides 2 and 3, and no list has the
-// last two.
-#[test]
-fn items_under_a_null_list(rt: HostRuntime) {
-    let lists = lists(&rt, &[0xfd], &[0, 1, 3, 3], &[1, 2, 3, 4, 5]);
-    for (j, want) in [(0, Some((0, 1))), (1, None), (2, Some((3, 3)))] {
-        assert!(rt; j < lists.len());
-        let range = lists.list_at(j).map(|(start, end, _)| (start, end));
-        assert_eq!(rt; range, want, "slot {j}");
-        assert_eq!(rt; lists.is_null(j), want.is_none(), "slot {j}");
-    }
-    assert!(rt; 2 < lists.len());
-    assert!(rt; matches!(lists.slot(2), SlotValue::List(3, 3, _)));
-    let items = lists.items().expect(&rt, "lists have items");
-    assert_eq!(rt; items.len(), 5);
-    for (k, want) in [(0, 1), (1, 2), (2, 3), (3, 4), (4, 5)] {
-        assert!(rt; k < items.len());
-        assert_eq!(rt; items.int_at(k), Some(want), "item {k}");
+fn values_under_a_null_list_or_struct(rt: HostRuntime) {
+    for (row, (column, want)) in NESTED.iter().enumerate() {
+        nested_shows(&rt, row, column, want);
     }
 }
 
-// The structs of 1, none, and that of 3, with a child of five numbers. The null hides 2.
-#[test]
-fn fields_under_a_null_struct(rt: HostRuntime) {
-    let structs = structs(&rt, 3, &[0xfd], &[1, 2, 3, 4, 5]);
-    assert_eq!(rt; structs.len(), 3);
-    for (j, want) in [(0, false), (1, true), (2, false)] {
-        assert!(rt; j < structs.len());
-        assert_eq!(rt; structs.is_null(j), want, "slot {j}");
-    }
-    assert!(rt; 2 < structs.len());
-    assert!(rt; matches!(structs.slot(1), SlotValue::Null));
-    assert!(rt; matches!(structs.slot(2), SlotValue::Struct(_, 2)));
-    let numbers = structs.field(0).expect(&rt, "the struct has a field");
-    assert_eq!(rt; numbers.len(), 5);
-    for (k, want) in [(0, 1), (1, 2), (2, 3), (3, 4), (4, 5)] {
-        assert!(rt; k < numbers.len());
-        assert_eq!(rt; numbers.int_at(k), Some(want), "slot {k}");
-    }
-}
+const TWO_STRUCTS: Nested<'static> = (
+    Form::Struct,
+    &[0xfd, 1, 0, 0, 0, 1, 0, 0, 0],
+    (2, &[(0, 1)]),
+    (2, &[(0, 0), (1, 9)]),
+);
+
+const TWO_LISTS: Nested<'static> = (
+    Form::List,
+    &[
+        0xfd, 0, 0, 0, 0, 1, 0, 0, 0, 2, 0, 0, 0, 1, 0, 0, 0, 1, 0, 0, 0,
+    ],
+    (2, &[(0, 1), (1, 13)]),
+    (2, &[(0, 0), (13, 21)]),
+);
 
 // What a null hides makes no difference: a null is equal to another one alone.
 #[test]
 fn nulls_over_other_values_are_equal(rt: HostRuntime) {
-    let structs = structs(&rt, 2, &[0xfd], &[1, 1]);
-    let lists = lists(&rt, &[0xfd], &[0, 1, 2], &[1, 1]);
-    assert!(rt; 1 < structs.len() && 1 < lists.len());
-    assert!(rt; structs.same_slot(1, &lists, 1));
-    assert!(rt; !structs.same_slot(0, &lists, 0));
-    assert!(rt; !structs.same_slot(0, &structs, 1));
+    are_same(&rt, &STRINGS, &TEXTS, "--- -=- ---");
+    are_nested_same(&rt, &TWO_STRUCTS, &TWO_LISTS, "-- -=");
+    are_nested_same(&rt, &TWO_STRUCTS, &TWO_STRUCTS, "=- -=");
 }

@@ -24,77 +24,61 @@ fn are_utf8(
     }
 }
 
-#[test]
-fn texts_of_one_byte_letters(rt: HostRuntime) {
-    for places in [
-        [0, 1, 3, 3, 6].as_slice(),
-        [2, 3].as_slice(),
-        [0].as_slice(),
-        [].as_slice(),
-    ] {
-        let are_texts = are_utf8(&rt, &[], places, b"abcdef");
-        assert_eq!(rt; are_texts, Some(true), "{places:?}");
-    }
-}
-
 // U+00E9, U+20AC and U+1F600: two, three and four bytes.
-const LETTERS: [u8; 9] = [0xc3, 0xa9, 0xe2, 0x82, 0xac, 0xf0, 0x9f, 0x98, 0x80];
+const LETTERS: &[u8] = &[0xc3, 0xa9, 0xe2, 0x82, 0xac, 0xf0, 0x9f, 0x98, 0x80];
+
+// A text, bytes that are none, a text, and a byte that is none.
+const OTHERS: &[u8] = &[0x61, 0xff, 0xfe, 0xc3, 0xa9, 0x80];
+
+// A bitmap, offsets and bytes, and whether the slots are texts.
+static SLOTS: [(&[u8], &[u8], &[u8], bool); 36] = [
+    // Letters of one byte.
+    (&[], &[0, 1, 3, 3, 6], b"abcdef", true),
+    (&[], &[2, 3], b"abcdef", true),
+    (&[], &[0], b"abcdef", true),
+    (&[], &[], b"abcdef", true),
+    // Longer letters.
+    (&[], &[0, 2, 5, 9], LETTERS, true),
+    (&[], &[0, 9], LETTERS, true),
+    (&[], &[2, 5], LETTERS, true),
+    // Together the slots are a text, but one ends and the next one begins inside a letter.
+    (&[], &[0, 1, 9], LETTERS, false),
+    (&[], &[1, 9], LETTERS, false),
+    (&[], &[0, 1], LETTERS, false),
+    (&[], &[0, 3, 9], LETTERS, false),
+    (&[], &[3, 9], LETTERS, false),
+    (&[], &[0, 3], LETTERS, false),
+    (&[], &[0, 4, 9], LETTERS, false),
+    (&[], &[4, 9], LETTERS, false),
+    (&[], &[0, 4], LETTERS, false),
+    (&[], &[0, 6, 9], LETTERS, false),
+    (&[], &[6, 9], LETTERS, false),
+    (&[], &[0, 6], LETTERS, false),
+    (&[], &[0, 7, 9], LETTERS, false),
+    (&[], &[7, 9], LETTERS, false),
+    (&[], &[0, 7], LETTERS, false),
+    (&[], &[0, 8, 9], LETTERS, false),
+    (&[], &[8, 9], LETTERS, false),
+    (&[], &[0, 8], LETTERS, false),
+    // The null slot alone begins or ends inside a letter, or a slot of no bytes stands there.
+    (&[0b1001], &[0, 2, 3, 5, 9], LETTERS, true),
+    (&[0b1011], &[0, 2, 3, 5, 9], LETTERS, false),
+    (&[0b1101], &[0, 2, 3, 5, 9], LETTERS, false),
+    (&[0b1001], &[0, 2, 3, 3, 9], LETTERS, false),
+    (&[0b010], &[0, 3, 3, 9], LETTERS, true),
+    (&[0b101], &[3, 3, 5, 9], LETTERS, true),
+    // Under the null are bytes that are no text, and before the first slot and behind the last are such.
+    (&[0b101], &[0, 1, 3, 5], OTHERS, true),
+    (&[0b111], &[0, 1, 3, 5], OTHERS, false),
+    (&[0b101], &[0, 1, 3, 4], OTHERS, false),
+    (&[], &[3, 5], OTHERS, true),
+    (&[], &[3, 6], OTHERS, false),
+];
 
 #[test]
-fn texts_of_longer_letters(rt: HostRuntime) {
-    for places in [
-        [0, 2, 5, 9].as_slice(),
-        [0, 9].as_slice(),
-        [2, 5].as_slice(),
-    ] {
-        let are_texts = are_utf8(&rt, &[], places, &LETTERS);
-        assert_eq!(rt; are_texts, Some(true), "{places:?}");
-    }
-}
-
-// Together the slots are a text, but one ends and the next one begins inside a letter.
-#[test]
-fn letters_cut_in_two(rt: HostRuntime) {
-    for place in [1, 3, 4, 6, 7, 8] {
-        for places in [
-            [0, place, 9].as_slice(),
-            [place, 9].as_slice(),
-            [0, place].as_slice(),
-        ] {
-            let are_texts = are_utf8(&rt, &[], places, &LETTERS);
-            assert_eq!(rt; are_texts, Some(false), "{places:?}");
-        }
-    }
-}
-
-// The null slot alone begins or ends inside a letter, or a slot of no bytes stands there.
-#[test]
-fn letters_cut_by_nulls_and_by_nothing(rt: HostRuntime) {
-    for (validity, places, want) in [
-        (0b1001, [0, 2, 3, 5, 9].as_slice(), true),
-        (0b1011, [0, 2, 3, 5, 9].as_slice(), false),
-        (0b1101, [0, 2, 3, 5, 9].as_slice(), false),
-        (0b1001, [0, 2, 3, 3, 9].as_slice(), false),
-        (0b010, [0, 3, 3, 9].as_slice(), true),
-        (0b101, [3, 3, 5, 9].as_slice(), true),
-    ] {
-        let are_texts = are_utf8(&rt, &[validity], places, &LETTERS);
-        assert_eq!(rt; are_texts, Some(want), "{validity:b} {places:?}");
-    }
-}
-
-// Under the null are bytes that are no text, and before the first slot and behind the last are such.
-#[test]
-fn other_bytes_under_a_null(rt: HostRuntime) {
-    let bytes = [0x61, 0xff, 0xfe, 0xc3, 0xa9, 0x80];
-    for (validity, places, want) in [
-        ([0b101].as_slice(), [0, 1, 3, 5].as_slice(), true),
-        ([0b111].as_slice(), [0, 1, 3, 5].as_slice(), false),
-        ([0b101].as_slice(), [0, 1, 3, 4].as_slice(), false),
-        ([].as_slice(), [3, 5].as_slice(), true),
-        ([].as_slice(), [3, 6].as_slice(), false),
-    ] {
-        let are_texts = are_utf8(&rt, validity, places, &bytes);
-        assert_eq!(rt; are_texts, Some(want), "{validity:?} {places:?}");
+fn texts_and_other_bytes(rt: HostRuntime) {
+    for (row, (validity, places, bytes, want)) in SLOTS.iter().enumerate() {
+        let are_texts = are_utf8(&rt, validity, places, bytes);
+        assert_eq!(rt; are_texts, Some(*want), "row {row}");
     }
 }

@@ -33,33 +33,33 @@ fn list_of(rt: &(impl Abort + AllocGlobal), numbers: &[i128]) -> Value {
     Value::List(items)
 }
 
-#[test]
-fn values_of_different_kinds_differ(rt: HostRuntime) {
-    let values = one_of_each(&rt);
-    let others = one_of_each(&rt);
-    for i in 0..values.len() {
-        let copy = values[i].copy(rt.alloc()).expect(&rt, "memory");
-        for (j, other) in others.iter().enumerate() {
-            assert_eq!(rt; values[i] == *other, i == j, "{i} and {j}");
-            assert_eq!(rt; copy == *other, i == j, "{i} and {j}");
-        }
+// That a value is equal to the one of number `i` alone.
+fn is_equal_to_one(rt: &impl Abort, value: &Value, values: &[Value], i: usize) {
+    for (j, other) in values.iter().enumerate() {
+        assert_eq!(rt; *value == *other, i == j, "{i} and {j}");
     }
 }
 
 #[test]
+fn values_of_different_kinds_differ(rt: HostRuntime) {
+    let values = one_of_each(&rt);
+    let others = one_of_each(&rt);
+    for (i, value) in values.iter().enumerate() {
+        is_equal_to_one(&rt, value, &others, i);
+        let copy = value.copy(rt.alloc()).expect(&rt, "memory");
+        is_equal_to_one(&rt, &copy, &others, i);
+    }
+}
+
+static LISTS: [&[i128]; 4] = [&[1, 2], &[1, 3], &[1], &[]];
+
+#[test]
 fn lists_differ_in_one_item(rt: HostRuntime) {
     let mut lists = Vec::new(rt.alloc());
-    for numbers in [
-        [1, 2].as_slice(),
-        [1, 3].as_slice(),
-        [1].as_slice(),
-        [].as_slice(),
-    ] {
+    for numbers in &LISTS {
         lists.push(list_of(&rt, numbers)).expect(&rt, "memory");
     }
-    for i in 0..lists.len() {
-        for j in 0..lists.len() {
-            assert_eq!(rt; lists[i] == lists[j], i == j, "{i} and {j}");
-        }
+    for (i, list) in lists.iter().enumerate() {
+        is_equal_to_one(&rt, list, &lists, i);
     }
 }
