@@ -144,14 +144,23 @@ static BEGINNINGS: [(usize, &str); 14] = [
     (1376, ALL),
 ];
 
+fn assert_beginning(
+    rt: &impl Abort,
+    reader: &mut StreamReader,
+    alloc: Global,
+    end: usize,
+    expected: &str,
+) {
+    let bytes = GROWING.get(..end).expect(rt, "so many bytes");
+    assert_received_twice(rt, reader, alloc, bytes, expected);
+}
+
 #[test]
 fn beginnings_of_the_stream(rt: HostRuntime) {
     let alloc = rt.alloc();
     let mut reader = StreamReader::new(alloc, Limits::standard());
-    let stream = GROWING.as_slice();
     for (end, expected) in &BEGINNINGS {
-        let bytes = stream.get(..*end).expect(&rt, "a beginning");
-        assert_received_twice(&rt, &mut reader, alloc, bytes, expected);
+        assert_beginning(&rt, &mut reader, alloc, *end, expected);
     }
 }
 
@@ -163,13 +172,23 @@ static CHANGES: [(&[Edit], &str); 4] = [
     (&[(1369, &[0])], "abc ea ce 0:acde Continuation at 1368"),
 ];
 
+fn assert_change(
+    rt: &impl Abort,
+    reader: &mut StreamReader,
+    alloc: Global,
+    edits: &[Edit],
+    expected: &str,
+) {
+    let bytes = edited(rt, alloc, GROWING.as_slice(), edits);
+    assert_received_twice(rt, reader, alloc, &bytes, expected);
+}
+
 #[test]
 fn a_fault_ends_the_connection(rt: HostRuntime) {
     let alloc = rt.alloc();
     let mut reader = StreamReader::new(alloc, Limits::standard());
     for (edits, expected) in &CHANGES {
-        let bytes = edited(&rt, alloc, GROWING.as_slice(), edits);
-        assert_received_twice(&rt, &mut reader, alloc, &bytes, expected);
+        assert_change(&rt, &mut reader, alloc, edits, expected);
     }
 }
 
@@ -188,14 +207,25 @@ static JOINED: [(&[Part], &str, u64); 2] = [
     (&[(&GROWING, 0, 1376), (&[1, 2, 3], 0, 3)], ALL, 1376),
 ];
 
+fn assert_joined(
+    rt: &impl Abort,
+    reader: &mut StreamReader,
+    alloc: Global,
+    parts: &[Part],
+    answer: (&str, u64),
+) {
+    let (expected, place) = answer;
+    let bytes = joined(rt, alloc, parts);
+    assert_received_twice(rt, reader, alloc, &bytes, expected);
+    assert_eq!(rt; reader.place(), place);
+}
+
 #[test]
 fn bytes_behind_the_end_marker(rt: HostRuntime) {
     let alloc = rt.alloc();
     let mut reader = StreamReader::new(alloc, Limits::standard());
     for (parts, expected, place) in &JOINED {
-        let bytes = joined(&rt, alloc, parts);
-        assert_received_twice(&rt, &mut reader, alloc, &bytes, expected);
-        assert_eq!(rt; reader.place(), *place);
+        assert_joined(&rt, &mut reader, alloc, parts, (expected, *place));
     }
 }
 
@@ -211,15 +241,26 @@ static IN_TURN: [(usize, usize, &str, bool); 7] = [
     (0, 1376, ALL, true),
 ];
 
+fn assert_part(
+    rt: &impl Abort,
+    reader: &mut StreamReader,
+    alloc: Global,
+    part: (usize, usize),
+    answer: (&str, bool),
+) {
+    let (expected, has_schema) = answer;
+    let bytes = GROWING.get(part.0..part.1).expect(rt, "a part");
+    assert_received(rt, reader, alloc, (bytes, &[]), expected);
+    assert_eq!(rt; reader.schema().is_some(), has_schema);
+}
+
 #[test]
 fn one_reader_after_the_other_stream(rt: HostRuntime) {
     let alloc = rt.alloc();
     let mut reader = StreamReader::new(alloc, Limits::standard());
-    let stream = GROWING.as_slice();
     for (start, end, expected, has_schema) in &IN_TURN {
-        let bytes = stream.get(*start..*end).expect(&rt, "a part");
-        assert_received(&rt, &mut reader, alloc, (bytes, &[]), expected);
-        assert_eq!(rt; reader.schema().is_some(), *has_schema);
+        let answer = (*expected, *has_schema);
+        assert_part(&rt, &mut reader, alloc, (*start, *end), answer);
     }
 }
 
