@@ -1,8 +1,10 @@
 //! Buffers that were laid out by hand from the FlatBuffers internals document, and the metadata of
 //! two Arrow messages, each with the answers that stand in them.
 
+ghost use Rattle.std.specs.Prelude.{◌≤◌};
+
 use super::*;
-use std::test::Fail;
+use std::process::Abort;
 
 // The root table at 12 has its vtable at 4, and one field of two bytes, 0x012a, at 16.
 const PLAIN: &[u8] = b"\x0c\0\0\0\x06\0\x08\0\x04\0\0\0\x08\0\0\0\x2a\x01\0\0";
@@ -14,7 +16,7 @@ fn first_number(bytes: &[u8]) -> Option<Result<Option<u64>, Unreadable>> {
 
 // What stands in field 0 of the root table, as a number of two bytes; None where there is no root
 // table.
-const NUMBERS: [(&str, &[u8], Option<Result<Option<u64>, Unreadable>>); 17] = [
+static NUMBERS: [(&str, &[u8], Option<Result<Option<u64>, Unreadable>>); 17] = [
     ("plain", PLAIN, Some(Ok(Some(0x012a)))),
     (
         "the size that the vtable gives the table is 0",
@@ -96,8 +98,8 @@ const NUMBERS: [(&str, &[u8], Option<Result<Option<u64>, Unreadable>>); 17] = [
 
 #[test]
 fn a_field_is_where_the_vtable_says(rt: HostRuntime) {
-    for (name, bytes, answer) in NUMBERS {
-        assert_eq!(rt; first_number(bytes), answer, "{name}");
+    for (name, bytes, answer) in &NUMBERS {
+        assert_eq!(rt; first_number(bytes), *answer, "{name}");
     }
 }
 
@@ -107,7 +109,7 @@ fn first_text(bytes: &[u8]) -> Result<Option<&str>, Unreadable> {
 }
 
 // What stands in field 0 of the root table, as a text.
-const TEXTS: [(&str, &[u8], Result<Option<&str>, Unreadable>); 12] = [
+static TEXTS: [(&str, &[u8], Result<Option<&str>, Unreadable>); 12] = [
     (
         "a zero byte behind",
         b"\x0c\0\0\0\x06\0\x08\0\x04\0\0\0\x08\0\0\0\x04\0\0\0\x03\0\0\0n\xc3\xa9\0",
@@ -172,8 +174,8 @@ const TEXTS: [(&str, &[u8], Result<Option<&str>, Unreadable>); 12] = [
 
 #[test]
 fn a_text_is_counted_and_utf8(rt: HostRuntime) {
-    for (name, bytes, answer) in TEXTS {
-        assert_eq!(rt; first_text(bytes), answer, "{name}");
+    for (name, bytes, answer) in &TEXTS {
+        assert_eq!(rt; first_text(bytes), *answer, "{name}");
     }
 }
 
@@ -186,7 +188,7 @@ fn first_len(bytes: &[u8]) -> Result<Option<usize>, Unreadable> {
 }
 
 // How many elements of four bytes the vector in field 0 of the root table has.
-const LENGTHS: [(&str, &[u8], Result<Option<usize>, Unreadable>); 7] = [
+static LENGTHS: [(&str, &[u8], Result<Option<usize>, Unreadable>); 7] = [
     (
         "two elements",
         b"\x0c\0\0\0\x06\0\x08\0\x04\0\0\0\x08\0\0\0\x04\0\0\0\x02\0\0\0\x01\0\0\0\x02\0\0\0",
@@ -226,8 +228,8 @@ const LENGTHS: [(&str, &[u8], Result<Option<usize>, Unreadable>); 7] = [
 
 #[test]
 fn a_vector_lies_inside_with_all_elements(rt: HostRuntime) {
-    for (name, bytes, answer) in LENGTHS {
-        assert_eq!(rt; first_len(bytes), answer, "{name}");
+    for (name, bytes, answer) in &LENGTHS {
+        assert_eq!(rt; first_len(bytes), *answer, "{name}");
     }
 }
 
@@ -236,22 +238,32 @@ fn a_vector_lies_inside_with_all_elements(rt: HostRuntime) {
 const SHARED: &[u8] =
     b"\x0c\0\0\0\x06\0\x08\0\x04\0\0\0\x08\0\0\0\x04\0\0\0\x03\0\0\0\x0c\0\0\0\x08\0\0\0\0\0\0\0\x20\0\0\0\x2a\x01\0\0";
 
+// The table that a field of another names.
+fn below<'a>(rt: &impl Abort, table: &Table<'a>, field: u16) -> Table<'a> {
+    let below = table.table(field).expect(rt, "a table inside");
+    below.expect(rt, "the table's field")
+}
+
+// A table has this number in a field, and no such field where there is none.
+fn assert_number(rt: &impl Abort, table: &Table, field: u16, width: usize, answer: Option<u64>)
+    requires low { 1 ≤ width }
+    requires high { width ≤ 8 }
+{
+    assert_eq!(rt; table.scalar(field, width), Ok(answer), "field {field}");
+    assert_eq!(rt; table.has(field), answer.is_some(), "field {field}");
+}
+
 #[test]
-fn tables_and_vtables_are_shared(rt: HostRuntime) -> Result<(), Fail> {
-    let root = Root::open(SHARED).ok_or(Unreadable)?;
-    let tables = root.vector(0, 4)?.ok_or(Unreadable)?;
+fn tables_and_vtables_are_shared(rt: HostRuntime) {
+    let root = Root::open(SHARED).expect(&rt, "a root table");
+    let vector = root.vector(0, 4).expect(&rt, "a vector inside");
+    let tables = vector.expect(&rt, "the vector's field");
     assert_eq!(rt; tables.len(), 3);
-    for (index, answer) in [Ok(Some(0x012a)), Ok(Some(0x012a)), Err(Unreadable)]
-        .into_iter()
-        .enumerate()
-    {
-        let number = match tables.table(index) {
-            Ok(table) => table.scalar(0, 2),
-            Err(unreadable) => Err(unreadable),
-        };
-        assert_eq!(rt; number, answer, "at {index}");
-    }
-    Ok(())
+    let first = tables.table(0).expect(&rt, "the first table");
+    assert_number(&rt, &first, 0, 2, Some(0x012a));
+    let second = tables.table(1).expect(&rt, "the second table");
+    assert_number(&rt, &second, 0, 2, Some(0x012a));
+    assert!(rt; tables.table(2).is_err());
 }
 
 // The metadata of the schema message of one nullable field, "n", of signed numbers of 32 bits.
@@ -268,33 +280,29 @@ const SCHEMA: &[u8] = &[
 ];
 
 #[test]
-fn a_schema_message(rt: HostRuntime) -> Result<(), Fail> {
-    let message = Root::open(SCHEMA).ok_or(Unreadable)?;
-    for (field, width, answer) in [
-        (0, 2, Some(4)),
-        (1, 1, Some(1)),
-        (3, 8, Some(0)),
-        (4, 4, None),
-    ] {
-        assert_eq!(rt; message.scalar(field, width)?, answer, "message, {field}");
-        assert_eq!(rt; message.has(field), answer.is_some(), "message, {field}");
-    }
-    let schema = message.table(2)?.ok_or(Unreadable)?;
-    assert_eq!(rt; schema.scalar(0, 2)?, Some(0));
-    let fields = schema.vector(1, 4)?.ok_or(Unreadable)?;
+fn a_schema_message(rt: HostRuntime) {
+    let message = Root::open(SCHEMA).expect(&rt, "a root table");
+    assert_number(&rt, &message, 0, 2, Some(4));
+    assert_number(&rt, &message, 1, 1, Some(1));
+    assert_number(&rt, &message, 3, 8, Some(0));
+    assert_number(&rt, &message, 4, 4, None);
+    let schema = below(&rt, &message, 2);
+    assert_number(&rt, &schema, 0, 2, Some(0));
+    let fields = schema.vector(1, 4).expect(&rt, "a vector inside");
+    let fields = fields.expect(&rt, "the fields");
     assert_eq!(rt; fields.len(), 1);
     assert!(rt; !fields.is_empty());
-    let field = fields.table(0)?;
-    assert_eq!(rt; field.text(0)?, Some("n"));
-    assert_eq!(rt; field.scalar(1, 1)?, Some(1));
-    assert_eq!(rt; field.scalar(2, 1)?, Some(2));
-    let int = field.table(3)?.ok_or(Unreadable)?;
-    assert_eq!(rt; int.scalar(0, 4)?, Some(32));
-    assert_eq!(rt; int.scalar(1, 1)?, Some(1));
-    assert!(rt; field.table(4)?.is_none());
-    let children = field.vector(5, 4)?.ok_or(Unreadable)?;
-    assert!(rt; children.is_empty());
-    Ok(())
+    let field = fields.table(0).expect(&rt, "a field");
+    assert_eq!(rt; field.text(0), Ok(Some("n")));
+    assert_number(&rt, &field, 1, 1, Some(1));
+    assert_number(&rt, &field, 2, 1, Some(2));
+    let int = below(&rt, &field, 3);
+    assert_number(&rt, &int, 0, 4, Some(32));
+    assert_number(&rt, &int, 1, 1, Some(1));
+    let encoding = field.table(4).expect(&rt, "no table outside");
+    assert!(rt; encoding.is_none());
+    let children = field.vector(5, 4).expect(&rt, "a vector inside");
+    assert!(rt; children.expect(&rt, "the children").is_empty());
 }
 
 // The metadata of a record batch of three rows, 1, null and 3, of that schema.
@@ -310,29 +318,33 @@ const BATCH: &[u8] = &[
     0x08, 0x00, 0x00, 0x00, 0x00, 0x00, 0x00, 0x00, 0x0c, 0x00, 0x00, 0x00, 0x00, 0x00, 0x00, 0x00,
 ];
 
-#[test]
-fn a_record_batch_message(rt: HostRuntime) -> Result<(), Fail> {
-    let message = Root::open(BATCH).ok_or(Unreadable)?;
-    assert_eq!(rt; message.scalar(1, 1)?, Some(3));
-    assert_eq!(rt; message.scalar(3, 8)?, Some(24));
-    let batch = message.table(2)?.ok_or(Unreadable)?;
-    assert_eq!(rt; batch.scalar(0, 8)?, Some(3));
-    assert!(rt; !batch.has(3));
-    for (field, pairs) in [(1, [(3, 1)].as_slice()), (2, [(0, 1), (8, 12)].as_slice())] {
-        let structs = batch.vector(field, 16)?.ok_or(Unreadable)?;
-        assert_eq!(rt; structs.len(), pairs.len(), "field {field}");
-        for (index, &(first, second)) in pairs.iter().enumerate() {
-            assert_eq!(rt;
-                structs.number(index, 0, 8),
-                first,
-                "field {field}, {index}"
-            );
-            assert_eq!(rt;
-                structs.number(index, 8, 8),
-                second,
-                "field {field}, {index}"
-            );
-        }
+// The vector in a field has these pairs of numbers of eight bytes.
+fn assert_pairs(rt: &impl Abort, table: &Table, field: u16, pairs: &[(u64, u64)]) {
+    let vector = table.vector(field, 16).expect(rt, "a vector inside");
+    let structs = vector.expect(rt, "the vector's field");
+    assert_eq!(rt; structs.len(), pairs.len(), "field {field}");
+    for (index, (first, second)) in pairs.iter().enumerate() {
+        assert_eq!(rt;
+            structs.number(index, 0, 8),
+            *first,
+            "field {field}, {index}"
+        );
+        assert_eq!(rt;
+            structs.number(index, 8, 8),
+            *second,
+            "field {field}, {index}"
+        );
     }
-    Ok(())
+}
+
+#[test]
+fn a_record_batch_message(rt: HostRuntime) {
+    let message = Root::open(BATCH).expect(&rt, "a root table");
+    assert_number(&rt, &message, 1, 1, Some(3));
+    assert_number(&rt, &message, 3, 8, Some(24));
+    let batch = below(&rt, &message, 2);
+    assert_number(&rt, &batch, 0, 8, Some(3));
+    assert!(rt; !batch.has(3));
+    assert_pairs(&rt, &batch, 1, &[(3, 1)]);
+    assert_pairs(&rt, &batch, 2, &[(0, 1), (8, 12)]);
 }

@@ -1,6 +1,8 @@
 //! What no clause says: that texts are the ones that are meant, and that calls succeed.
 
 mod command_line;
+mod edits;
+mod failures;
 mod growing;
 mod inputs;
 mod reports;
@@ -9,3 +11,4 @@ mod schema_lines;
 mod session;
 mod sinks;
 mod streams;
+mod told;

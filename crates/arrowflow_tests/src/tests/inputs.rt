@@ -6,9 +6,16 @@ use std::io::Read;
 /// Gives its bytes one by one, and fails once at a place.
 #[derive(Drop)]
 pub(super) struct Trickle<'a> {
-    pub(super) bytes: &'a [u8],
+    bytes: &'a [u8],
     pub(super) at: usize,
-    pub(super) cut: Option<usize>,
+    cut: Option<usize>,
+}
+
+impl<'a> Trickle<'a> {
+    /// An input at its first byte, which fails at this place.
+    pub(super) fn new(bytes: &'a [u8], cut: Option<usize>) -> Trickle<'a> {
+        Trickle { bytes, at: 0, cut }
+    }
 }
 
 impl<'a> Read for Trickle<'a> {

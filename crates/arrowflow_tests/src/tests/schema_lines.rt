@@ -2,165 +2,226 @@
 
 use arrow_types::{BitWidth, DataType, DateUnit, Encoding, Field, IndexType, Schema, TimeUnit};
 use arrowflow::schema_lines_of;
-use std::alloc::{AllocError, Global};
-use std::test::Fail;
+use std::alloc::Global;
+use std::process::Abort;
 
-const INT32: DataType = DataType::Int {
+const INT32: IndexType = IndexType {
     bits: BitWidth::ThirtyTwo,
     signed: true,
 };
 
-fn field(alloc: Global, name: &str, data_type: DataType) -> Result<Field, AllocError> {
-    Ok(Field {
-        name: String::from_str(alloc, name)?,
+fn field(rt: &impl Abort, alloc: Global, name: &str, data_type: DataType) -> Field {
+    Field {
+        name: String::from_str(alloc, name).expect(rt, "memory"),
         nullable: true,
         data_type,
         dictionary: None,
-    })
+    }
 }
 
-fn required(alloc: Global, name: &str, data_type: DataType) -> Result<Field, AllocError> {
-    Ok(Field {
-        nullable: false,
-        ..field(alloc, name, data_type)?
-    })
+/// A column of timestamps in a zone.
+fn zoned(rt: &impl Abort, alloc: Global, name: &str, unit: TimeUnit, zone: &str) -> Field {
+    let zone = String::from_str(alloc, zone).expect(rt, "memory");
+    field(rt, alloc, name, DataType::Timestamp(unit, Some(zone)))
 }
 
-fn encoded(
-    alloc: Global,
-    id: i64,
-    bits: BitWidth,
-    signed: bool,
-    ordered: bool,
-) -> Result<Field, AllocError> {
-    Ok(Field {
-        dictionary: Some(Encoding {
-            id,
-            index: IndexType { bits, signed },
-            ordered,
-        }),
-        ..field(alloc, "k", DataType::Utf8)?
-    })
+/// A column of texts that stand in a dictionary.
+fn encoded(rt: &impl Abort, alloc: Global, encoding: Encoding) -> Field {
+    let mut column = field(rt, alloc, "k", DataType::Utf8);
+    column.dictionary = Some(encoding);
+    column
 }
 
-fn zoned(alloc: Global, unit: TimeUnit, zone: &str) -> Result<DataType, AllocError> {
-    Ok(DataType::Timestamp(unit, Some(String::from_str(alloc, zone)?)))
+/// A column that is never null.
+fn required(column: Field) -> Field {
+    let mut column = column;
+    column.nullable = false;
+    column
+}
+
+/// A column of lists of this item.
+fn list(rt: &impl Abort, alloc: Global, name: &str, item: Field) -> Field {
+    let item = Box::new(alloc, item).expect(rt, "memory");
+    field(rt, alloc, name, DataType::List(item))
+}
+
+/// A column of structs of this part.
+fn structs_of(rt: &impl Abort, alloc: Global, name: &str, part: Field) -> Field {
+    let parts = vec![in alloc; part].expect(rt, "memory");
+    field(rt, alloc, name, DataType::Struct(parts))
 }
 
 /// The text of the schema of these columns.
-fn text_of(alloc: Global, columns: Vec<Field>) -> Result<String, Fail> {
-    let schema = Schema::new(alloc, columns).map_err(|_| "schema")?;
-    Ok(schema_lines_of(alloc, &schema)?)
+fn text_of(rt: &impl Abort, alloc: Global, columns: Vec<Field>) -> String {
+    let schema = Schema::new(alloc, columns).expect(rt, "a schema");
+    schema_lines_of(alloc, &schema).expect(rt, "memory")
 }
 
+/// The schema of one column has this text.
+fn assert_line(rt: &impl Abort, alloc: Global, column: Field, expected: &str) {
+    let columns = vec![in alloc; column].expect(rt, "memory");
+    let text = text_of(rt, alloc, columns);
+    assert_eq!(rt; text.as_str(), expected);
+}
+
+/// A column of this type has this name of a type in its line.
+fn assert_named(rt: &impl Abort, alloc: Global, data_type: DataType, name: &str) {
+    let expected = format!(in alloc; "a: {name}\n").expect(rt, "memory");
+    assert_line(rt, alloc, field(rt, alloc, "a", data_type), &expected);
+}
+
+// Widths of integers, and the names of those with a sign and without.
+static INTEGERS: [(BitWidth, &str, &str); 4] = [
+    (BitWidth::Eight, "int8", "uint8"),
+    (BitWidth::Sixteen, "int16", "uint16"),
+    (BitWidth::ThirtyTwo, "int32", "uint32"),
+    (BitWidth::SixtyFour, "int64", "uint64"),
+];
+
 #[test]
-fn each_type_has_its_name(rt: HostRuntime) -> Result<(), Fail> {
+fn integers_have_their_names(rt: HostRuntime) {
     let alloc = rt.alloc();
-    let mut columns = Vec::new(alloc);
-    columns.push(field(alloc, "a", DataType::Null)?)?;
-    columns.push(field(alloc, "a", DataType::Bool)?)?;
-    for bits in [
-        BitWidth::Eight,
-        BitWidth::Sixteen,
-        BitWidth::ThirtyTwo,
-        BitWidth::SixtyFour,
-    ] {
-        columns.push(field(alloc, "a", DataType::Int { bits, signed: true })?)?;
-        columns.push(field(
+    for (bits, signed_name, unsigned_name) in &INTEGERS {
+        let bits = *bits;
+        assert_named(
+            &rt,
             alloc,
-            "a",
+            DataType::Int { bits, signed: true },
+            signed_name,
+        );
+        assert_named(
+            &rt,
+            alloc,
             DataType::Int {
                 bits,
                 signed: false,
             },
-        )?)?;
+            unsigned_name,
+        );
     }
-    columns.push(field(alloc, "a", DataType::Binary)?)?;
-    columns.push(field(alloc, "a", DataType::Utf8)?)?;
-    columns.push(field(alloc, "a", DataType::Date(DateUnit::Day))?)?;
-    columns.push(field(alloc, "a", DataType::Date(DateUnit::Millisecond))?)?;
-    for unit in [
-        TimeUnit::Second,
-        TimeUnit::Millisecond,
-        TimeUnit::Microsecond,
-        TimeUnit::Nanosecond,
-    ] {
-        columns.push(field(alloc, "a", DataType::Time(unit))?)?;
-        columns.push(field(alloc, "a", DataType::Timestamp(unit, None))?)?;
+}
+
+// Units of time, and the names of times of day and of timestamps.
+static TIMES: [(TimeUnit, &str, &str); 4] = [
+    (TimeUnit::Second, "time[s]", "timestamp[s]"),
+    (TimeUnit::Millisecond, "time[ms]", "timestamp[ms]"),
+    (TimeUnit::Microsecond, "time[us]", "timestamp[us]"),
+    (TimeUnit::Nanosecond, "time[ns]", "timestamp[ns]"),
+];
+
+#[test]
+fn times_have_their_names(rt: HostRuntime) {
+    let alloc = rt.alloc();
+    for (unit, time, timestamp) in &TIMES {
+        assert_named(&rt, alloc, DataType::Time(*unit), time);
+        assert_named(&rt, alloc, DataType::Timestamp(*unit, None), timestamp);
     }
-    columns.push(field(alloc, "a", zoned(alloc, TimeUnit::Second, "")?)?)?;
-    columns.push(field(alloc, "a", DataType::Struct(Vec::new(alloc)))?)?;
-    let names =
-        "null bool int8 uint8 int16 uint16 int32 uint32 int64 uint64 binary utf8 date[day] date[ms] time[s] timestamp[s] time[ms] timestamp[ms] time[us] timestamp[us] time[ns] timestamp[ns] timestamp[s,_] struct";
-    let mut expected = String::new(alloc);
-    for name in names.split(' ') {
-        expected.push_str("a: ")?;
-        for ch in name.chars() {
-            expected.push(if ch == '_' { ' ' } else { ch })?;
-        }
-        expected.push('\n')?;
-    }
-    assert_eq!(rt; text_of(alloc, columns)?, expected);
-    Ok(())
 }
 
 #[test]
-fn children_stand_below_their_parent(rt: HostRuntime) -> Result<(), Fail> {
+fn other_types_have_their_names(rt: HostRuntime) {
     let alloc = rt.alloc();
-    let item = field(alloc, "item", INT32)?;
-    let part = required(
+    assert_named(&rt, alloc, DataType::Null, "null");
+    assert_named(&rt, alloc, DataType::Bool, "bool");
+    assert_named(&rt, alloc, DataType::Binary, "binary");
+    assert_named(&rt, alloc, DataType::Utf8, "utf8");
+    assert_named(&rt, alloc, DataType::Date(DateUnit::Day), "date[day]");
+    assert_named(
+        &rt,
         alloc,
-        "m",
+        DataType::Date(DateUnit::Millisecond),
+        "date[ms]",
+    );
+    assert_named(&rt, alloc, DataType::Struct(Vec::new(alloc)), "struct");
+    let zoned = zoned(&rt, alloc, "a", TimeUnit::Second, "");
+    assert_line(&rt, alloc, zoned, "a: timestamp[s, ]\n");
+}
+
+/// A dictionary, a list, a struct and a timestamp.
+fn nested_columns(rt: &impl Abort, alloc: Global) -> Vec<Field> {
+    let small = DataType::Int {
+        bits: BitWidth::Eight,
+        signed: false,
+    };
+    let part = required(field(rt, alloc, "m", small));
+    let words = Encoding {
+        id: 0,
+        index: INT32,
+        ordered: false,
+    };
+    let item = field(
+        rt,
+        alloc,
+        "item",
         DataType::Int {
+            bits: BitWidth::ThirtyTwo,
+            signed: true,
+        },
+    );
+    let columns = vec![in alloc;
+        encoded(rt, alloc, words),
+        required(list(rt, alloc, "l", item)),
+        structs_of(rt, alloc, "s", part),
+        zoned(rt, alloc, "t", TimeUnit::Microsecond, "UTC"),
+    ];
+    columns.expect(rt, "memory")
+}
+
+#[test]
+fn children_stand_below_their_parent(rt: HostRuntime) {
+    let alloc = rt.alloc();
+    let text = text_of(&rt, alloc, nested_columns(&rt, alloc));
+    let expected =
+        "k: dictionary<int32, utf8> id 0\nl: list not null\n  item: int32\ns: struct\n  m: uint8 not null\nt: timestamp[us, UTC]\n";
+    assert_eq!(rt; text.as_str(), expected);
+    let text = text_of(&rt, alloc, Vec::new(alloc));
+    assert_eq!(rt; text.as_str(), "");
+}
+
+#[test]
+fn lists_of_lists(rt: HostRuntime) {
+    let alloc = rt.alloc();
+    let mut deep = field(&rt, alloc, "", DataType::Null);
+    for _ in 1..32 {
+        deep = list(&rt, alloc, "", deep);
+    }
+    let columns = vec![in alloc; deep].expect(&rt, "memory");
+    let text = text_of(&rt, alloc, columns);
+    assert_eq!(rt; text.len(), 31 * 32 + 31 * 7 + 7);
+    assert!(rt; text.as_str().starts_with(": list\n  : list\n    : list\n"));
+}
+
+#[test]
+fn dictionaries_have_their_ids(rt: HostRuntime) {
+    let alloc = rt.alloc();
+    let lowest = Encoding {
+        id: i64::MIN,
+        index: IndexType {
             bits: BitWidth::Eight,
             signed: false,
         },
-    )?;
-    let columns = vec![in alloc;
-        encoded(alloc, 0, BitWidth::ThirtyTwo, true, false)?,
-        required(alloc, "l", DataType::List(Box::new(alloc, item)?))?,
-        field(alloc, "s", DataType::Struct(vec![in alloc; part]?))?,
-        field(alloc, "t", zoned(alloc, TimeUnit::Microsecond, "UTC")?)?,
-    ]?;
-    let expected =
-        "k: dictionary<int32, utf8> id 0\nl: list not null\n  item: int32\ns: struct\n  m: uint8 not null\nt: timestamp[us, UTC]\n";
-    assert_eq!(rt; text_of(alloc, columns)?.as_str(), expected);
-    let mut deep = field(alloc, "", DataType::Null)?;
-    for _ in 1..32 {
-        deep = field(alloc, "", DataType::List(Box::new(alloc, deep)?))?;
-    }
-    let text = text_of(alloc, vec![in alloc; deep]?)?;
-    assert_eq!(rt; text.len(), 31 * 32 + 31 * 7 + 7);
-    assert!(rt; text.as_str().starts_with(": list\n  : list\n    : list\n"));
-    assert_eq!(rt; text_of(alloc, Vec::new(alloc))?.as_str(), "");
-    Ok(())
+        ordered: true,
+    };
+    let line = "k: dictionary<uint8, utf8> id -9223372036854775808 ordered\n";
+    assert_line(&rt, alloc, encoded(&rt, alloc, lowest), line);
+    let wide = Encoding {
+        id: 7,
+        index: IndexType {
+            bits: BitWidth::SixtyFour,
+            signed: true,
+        },
+        ordered: true,
+    };
+    let line = "k: dictionary<int64, utf8> id 7 ordered not null\n";
+    assert_line(&rt, alloc, required(encoded(&rt, alloc, wide)), line);
 }
 
 #[test]
-fn dictionaries_and_escapes(rt: HostRuntime) -> Result<(), Fail> {
+fn names_and_zones_are_escaped(rt: HostRuntime) {
     let alloc = rt.alloc();
-    let lowest = encoded(alloc, i64::MIN, BitWidth::Eight, false, true)?;
-    let both = Field {
-        nullable: false,
-        ..encoded(alloc, 7, BitWidth::SixtyFour, true, true)?
-    };
-    let text = text_of(alloc, vec![in alloc; lowest, both]?)?;
-    assert_eq!(rt;
-        text.as_str(),
-        "k: dictionary<uint8, utf8> id -9223372036854775808 ordered\nk: dictionary<int64, utf8> id 7 ordered not null\n"
-    );
     let name = "\u{0}\t\n\u{1f} ~\u{7f}\u{80}\\x\"é€😀";
-    let columns = vec![in alloc;
-        field(alloc, name, DataType::Null)?,
-        field(
-            alloc,
-            "z",
-            zoned(alloc, TimeUnit::Nanosecond, "a\\b\u{1b}")?
-        )?,
-    ]?;
-    assert_eq!(rt;
-        text_of(alloc, columns)?.as_str(),
-        "\\x00\\x09\\x0a\\x1f ~\\x7f\u{80}\\x5cx\"é€😀: null\nz: timestamp[ns, a\\x5cb\\x1b]\n"
-    );
-    Ok(())
+    let line = "\\x00\\x09\\x0a\\x1f ~\\x7f\u{80}\\x5cx\"é€😀: null\n";
+    assert_line(&rt, alloc, field(&rt, alloc, name, DataType::Null), line);
+    let zoned = zoned(&rt, alloc, "z", TimeUnit::Nanosecond, "a\\b\u{1b}");
+    assert_line(&rt, alloc, zoned, "z: timestamp[ns, a\\x5cb\\x1b]\n");
 }

@@ -1,0 +1,98 @@
+//! What a call tells of an input: the text that it gives, and behind it the status and the line of its fault.
+
+use super::inputs::Trickle;
+use arrow_sink::Counted;
+use arrow_types::Limits;
+use arrowflow::{ToolFault, check, schema_text, show};
+use std::alloc::{AllocError, Global};
+use std::io::Read;
+use std::process::Abort;
+
+/// Which of the calls.
+#[derive(Clone, Copy)]
+pub(super) enum Call {
+    Schema,
+    Check,
+    Show,
+}
+
+/// Appends the status and the line of a fault.
+fn push_fault(text: &mut String, alloc: Global, fault: &ToolFault) -> Result<(), AllocError> {
+    let line = fault.line(alloc, "in", "out")?;
+    write!(text, "{} {line}", fault.status())
+}
+
+/// What stands in the output, and behind it the fault.
+pub(super) fn written(
+    rt: &impl Abort,
+    alloc: Global,
+    taken: &[u8],
+    answer: &Result<(), ToolFault>,
+) -> String {
+    let taken = str::from_utf8(taken).expect(rt, "the output is text");
+    let mut text = String::from_str(alloc, taken).expect(rt, "memory");
+    if let Err(fault) = answer {
+        push_fault(&mut text, alloc, fault).expect(rt, "memory");
+    }
+    text
+}
+
+/// The text of a schema as bytes.
+fn schema_bytes<R: Read>(
+    alloc: Global,
+    input: &mut R,
+    limits: &Limits,
+) -> (Vec<u8>, Result<(), ToolFault>) {
+    match schema_text(alloc, input, limits) {
+        Ok(text) => (text.into_bytes(), Ok(())),
+        Err(fault) => (Vec::new(alloc), Err(fault)),
+    }
+}
+
+/// What a call tells of an input.
+pub(super) fn told<R: Read>(
+    rt: &impl Abort,
+    alloc: Global,
+    call: Call,
+    input: &mut R,
+    limits: &Limits,
+) -> String {
+    let (taken, answer) = match call {
+        Call::Schema => schema_bytes(alloc, input, limits),
+        Call::Check => {
+            let (output, answer) = check(alloc, input, Counted::new(Vec::new(alloc)), limits);
+            (output.into_inner(), answer)
+        }
+        Call::Show => {
+            let (output, answer) = show(alloc, input, Counted::new(Vec::new(alloc)), limits);
+            (output.into_inner(), answer)
+        }
+    };
+    written(rt, alloc, &taken, &answer)
+}
+
+/// A call tells this text of an input.
+pub(super) fn assert_told_of<R: Read>(
+    rt: &impl Abort,
+    alloc: Global,
+    call: Call,
+    input: &mut R,
+    expected: &str,
+) {
+    let text = told(rt, alloc, call, input, &Limits::standard());
+    assert_eq!(rt; text.as_str(), expected);
+}
+
+/// A call tells this text of the bytes, in one piece and in pieces of one byte.
+pub(super) fn assert_told(
+    rt: &impl Abort,
+    alloc: Global,
+    call: Call,
+    bytes: &[u8],
+    expected: &str,
+) {
+    let mut whole = bytes;
+    assert_told_of(rt, alloc, call, &mut whole, expected);
+    let mut bit_by_bit = Trickle::new(bytes, None);
+    assert_told_of(rt, alloc, call, &mut bit_by_bit, expected);
+}
