@@ -2,6 +2,7 @@
 
 use super::forms::{Form, INT32, leaf, referring};
 use super::making::{NO_COLUMN, append, dictionary, one};
+use super::same::is_same_told;
 use super::told::{are_values_told, is_told, is_value_told};
 use arrow_array::{Array, Dictionary};
 use arrow_types::DataType;
@@ -224,4 +225,14 @@ fn indices_of_null_values(rt: HostRuntime) {
     let want = "len 2: int 0 at 0 of 2: null = null, int 1 at 1 of 2: int 7 = 7 \
          | Int of dictionary 0, 2 values of Int";
     is_told(&rt, 0, &column, want);
+}
+
+// Slots by indices are equal where their indices are, whatever the dictionaries say.
+#[test]
+fn equal_indices(rt: HostRuntime) {
+    let letters = Some(spelled(&rt, &["ab"]));
+    let column = referring(&rt, Form::Utf8, &[0xfb], &[1, 0, 9, 1], letters);
+    let others = Some(spelled(&rt, &["xyz"]));
+    let other = referring(&rt, Form::Utf8, &[], &[0, 1], others);
+    is_same_told(&rt, &column, &other, "-= =- -- -=");
 }

@@ -29,7 +29,7 @@ pub(super) fn are_nested_same(
 }
 
 // Which slots of two columns are equal: a word for each slot of the first, with a sign for each slot of the other.
-fn is_same_told(
+pub(super) fn is_same_told(
     rt: &(impl Abort + AllocGlobal),
     column: &Option<Array>,
     other: &Option<Array>,
