@@ -6,10 +6,12 @@
 mod answers;
 mod calls;
 mod columns;
+mod deciding;
 mod encoded;
 mod growing;
 mod indices;
 mod layouts;
+mod limits;
 mod refusals;
 mod schemas;
 mod telling;

@@ -37,7 +37,7 @@ pub(super) struct Answers {
     // The rows of each batch when it was handed out.
     rows: String,
     batches: Vec<Batch>,
-    // The rows of all batches at the end.
+    // The rows of all batches when they were last looked at.
     last_rows: String,
     schema: String,
     dictionaries: String,
@@ -137,14 +137,20 @@ impl Answers {
         }
     }
 
-    // Looks at the reader where nothing more will come, and at the batches once more.
-    pub(super) fn finish(&mut self, rt: &impl Abort, reader: &StreamReader) {
+    // Looks at the batches once more.
+    pub(super) fn look_again(&mut self, rt: &impl Abort) {
+        self.last_rows.clear();
         for batch in &self.batches {
             push_rows(rt, &mut self.last_rows, batch);
         }
         if self.last_rows != self.rows {
             self.push_word(rt, "rows-changed");
         }
+    }
+
+    // Looks at the reader where nothing more will come, and at the batches.
+    pub(super) fn finish(&mut self, rt: &impl Abort, reader: &StreamReader) {
+        self.look_again(rt);
         if let Some(schema) = reader.schema() {
             match schema.fields().first() {
                 Some(field) => push_column(rt, &mut self.schema, field),

@@ -1,7 +1,8 @@
 // Batches of columns without dictionaries.
 
+use super::telling::Ending::{CutOff, Whole};
 use super::telling::{
-    Edits, NOTHING, Told, are_beginnings_told, are_told, cut_off, each_is_told, read_to, stream,
+    NOTHING, NUMBERS, READ, Streams, TEXT, Told, are_beginnings_told, are_told, stream,
 };
 use crate::frames::columns::{
     BITS, FOUR_BITS, LIST_ROWS, LISTS, MANY, MANY_ROWS, NO_COLUMNS, NO_TEXTS, STRUCT_ROWS, STRUCTS,
@@ -9,169 +10,235 @@ use crate::frames::columns::{
 };
 use crate::frames::{BATCH, END_MARKER, SCHEMA};
 
-// A batch that was read, with the end marker behind it.
-fn one_batch(place: u64, schema: &'static str, rows: &'static str) -> Told<'static> {
+// A batch of numbers was read.
+const ONE_BATCH: Told<'static> = Told {
+    items: "schema batch",
+    rows: "3: 1 null 3",
+    place: 328,
+    ..NUMBERS
+};
+
+// What was read of a batch with the end marker behind it.
+const ENDED: Told<'static> = Told {
+    items: "schema batch end",
+    ..READ
+};
+
+// The end marker stands behind a batch of numbers.
+const ENDED_NUMBERS: Told<'static> = Told {
+    schema: "n: int32",
+    place: 336,
+    ..ENDED
+};
+
+// The end marker stands behind a batch of structs.
+const ENDED_STRUCTS: Told<'static> = Told {
+    schema: "s: another type",
+    place: 432,
+    ..ENDED
+};
+
+// What stands at each place between two frames of a stream of one batch.
+static PLACES: [Told<'static>; 4] = [
+    NOTHING,
+    NUMBERS,
+    ONE_BATCH,
     Told {
-        rows,
-        ..read_to(place, "schema batch end", schema)
-    }
-}
+        rows: "3: 1 null 3",
+        ..ENDED_NUMBERS
+    },
+];
 
 #[test]
 fn each_beginning_of_one_batch(rt: HostRuntime) {
     let bytes = stream(&rt, rt.alloc(), &[&SCHEMA, &BATCH, &END_MARKER], &[]);
-    let places = [
-        NOTHING,
-        read_to(152, "schema", "n: int32"),
-        Told {
-            rows: "3: 1 null 3",
-            ..read_to(328, "schema batch", "n: int32")
+    are_beginnings_told(&rt, rt.alloc(), &bytes, &PLACES);
+}
+
+// A batch of each sort of column.
+static BATCHES: [Streams; 9] = [
+    Streams {
+        frames: &[&SCHEMA, &BATCH],
+        read: ONE_BATCH,
+        rows: &[("no end marker", &[], Whole)],
+    },
+    Streams {
+        frames: &[&SCHEMA, &BATCH, &END_MARKER],
+        read: ONE_BATCH,
+        rows: &[("a part of an end marker", &[], CutOff(7))],
+    },
+    Streams {
+        frames: &[&TEXTS, &THREE_TEXTS, &END_MARKER],
+        read: Told {
+            schema: "t: utf8",
+            rows: "3: 'a' null 'bc'",
+            place: 344,
+            ..ENDED
         },
-        one_batch(336, "n: int32", "3: 1 null 3"),
-    ];
-    are_beginnings_told(&rt, rt.alloc(), &bytes, &places);
-}
+        rows: &[("texts", &[], Whole)],
+    },
+    Streams {
+        frames: &[&BITS, &FOUR_BITS, &END_MARKER],
+        read: Told {
+            schema: "b: bool",
+            rows: "4: true false null true",
+            place: 312,
+            ..ENDED
+        },
+        rows: &[("truth values", &[], Whole)],
+    },
+    Streams {
+        frames: &[&LISTS, &LIST_ROWS, &END_MARKER],
+        read: Told {
+            schema: "l: another type",
+            rows: "3: [1;2;] null []: 'a,b' null ''",
+            place: 608,
+            ..ENDED
+        },
+        rows: &[("lists", &[], Whole)],
+    },
+    Streams {
+        frames: &[&STRUCTS, &STRUCT_ROWS, &END_MARKER],
+        read: Told {
+            rows: "2: {5;} null",
+            ..ENDED_STRUCTS
+        },
+        rows: &[("structs", &[], Whole)],
+    },
+    // Nulls of type Null are not counted.
+    Streams {
+        frames: &[&MANY, &MANY_ROWS, &END_MARKER],
+        read: Told {
+            schema: "a: null",
+            rows: "2: null null: 200 null: null -5: <ff00> <>: -1 20000: 86399999999 0: null 1",
+            place: 1120,
+            ..ENDED
+        },
+        rows: &[
+            ("columns of the other types", &[], Whole),
+            ("no nulls", &[(680, &[0])], Whole),
+            ("-5 nulls", &[(680, &[0xfb]), (681, &[0xff; 7])], Whole),
+        ],
+    },
+    Streams {
+        frames: &[&NO_COLUMNS, &THREE_ROWS, &END_MARKER],
+        read: Told {
+            schema: "no columns",
+            rows: "3",
+            place: 184,
+            ..ENDED
+        },
+        rows: &[("rows without columns", &[], Whole)],
+    },
+    Streams {
+        frames: &[&NO_COLUMNS, &THREE_ROWS, &END_MARKER],
+        read: Told {
+            schema: "no columns",
+            rows: "0",
+            place: 184,
+            ..ENDED
+        },
+        rows: &[("no rows without columns", &[(144, &[0])], Whole)],
+    },
+];
 
 #[test]
-fn a_batch_without_an_end_marker(rt: HostRuntime) {
-    let read = Told {
-        rows: "3: 1 null 3",
-        ..read_to(328, "schema batch", "n: int32")
-    };
-    let parts: [&[u8]; 2] = [&SCHEMA, &BATCH];
-    are_told(&rt, rt.alloc(), "nothing behind it", &parts, &[], read);
-    let parts: [&[u8]; 3] = [&SCHEMA, &BATCH, &END_MARKER[..7]];
-    let want = cut_off(7, read);
-    are_told(&rt, rt.alloc(), "a part of one", &parts, &[], want);
-}
-
-#[test]
-fn numbers_texts_and_truth_values(rt: HostRuntime) {
-    let rows: [(&[u8], &[u8], Told<'static>); 3] = [
-        (&SCHEMA, &BATCH, one_batch(336, "n: int32", "3: 1 null 3")),
-        (
-            &TEXTS,
-            &THREE_TEXTS,
-            one_batch(344, "t: utf8", "3: 'a' null 'bc'"),
-        ),
-        (
-            &BITS,
-            &FOUR_BITS,
-            one_batch(312, "b: bool", "4: true false null true"),
-        ),
-    ];
-    for (schema, batch, want) in rows {
-        let parts = [schema, batch, &END_MARKER];
-        are_told(&rt, rt.alloc(), want.rows, &parts, &[], want);
-    }
-}
-
-#[test]
-fn lists_and_structs(rt: HostRuntime) {
-    let alloc = rt.alloc();
-    let lists = one_batch(608, "l: another type", "3: [1;2;] null []: 'a,b' null ''");
-    let parts: [&[u8]; 3] = [&LISTS, &LIST_ROWS, &END_MARKER];
-    are_told(&rt, alloc, "lists", &parts, &[], lists);
-    let structs = one_batch(432, "s: another type", "2: {5;} null");
-    let parts: [&[u8]; 3] = [&STRUCTS, &STRUCT_ROWS, &END_MARKER];
-    are_told(&rt, alloc, "structs", &parts, &[], structs);
-}
-
-#[test]
-fn columns_of_the_other_types(rt: HostRuntime) {
-    let want = one_batch(
-        1120,
-        "a: null",
-        "2: null null: 200 null: null -5: <ff00> <>: -1 20000: 86399999999 0: null 1",
-    );
-    let parts: [&[u8]; 3] = [&MANY, &MANY_ROWS, &END_MARKER];
-    are_told(&rt, rt.alloc(), "many", &parts, &[], want);
-}
-
-#[test]
-fn rows_without_columns(rt: HostRuntime) {
-    let alloc = rt.alloc();
-    let parts: [&[u8]; 3] = [&NO_COLUMNS, &THREE_ROWS, &END_MARKER];
-    let want = one_batch(184, "no columns", "3");
-    are_told(&rt, alloc, "three", &parts, &[], want);
-    let want = one_batch(184, "no columns", "0");
-    are_told(&rt, alloc, "none", &parts, &[(144, &[0])], want);
-}
-
-// No rows need no offsets.
-#[test]
-fn texts_of_no_rows(rt: HostRuntime) {
-    static ROWS: [(&str, Edits); 2] = [("one offset", &[]), ("no offsets", &[(280, &[0])])];
-    let want = one_batch(320, "t: utf8", "0:");
-    let parts: [&[u8]; 3] = [&TEXTS, &NO_TEXTS, &END_MARKER];
-    each_is_told(&rt, rt.alloc(), &parts, &ROWS, want);
+fn batches_are_read(rt: HostRuntime) {
+    are_told(&rt, rt.alloc(), &BATCHES);
 }
 
 // What a batch may leave out, or hold beside what is taken.
+static LOOSE: [Streams; 7] = [
+    Streams {
+        frames: &[&SCHEMA, &BATCH, &END_MARKER],
+        read: Told {
+            rows: "3: 1 null 3",
+            ..ENDED_NUMBERS
+        },
+        rows: &[
+            ("nothing changed", &[], Whole),
+            ("a null count that is not told", &[(256, &[0xff; 8])], Whole),
+            ("a bit behind the slots", &[(304, &[0x0d])], Whole),
+        ],
+    },
+    Streams {
+        frames: &[&SCHEMA, &BATCH, &END_MARKER],
+        read: Told {
+            rows: "3: 1 0 3",
+            ..ENDED_NUMBERS
+        },
+        rows: &[
+            ("no validity", &[(280, &[0]), (256, &[0])], Whole),
+            (
+                "no validity, anywhere",
+                &[(280, &[0]), (256, &[0]), (272, &[0xff; 8])],
+                Whole,
+            ),
+        ],
+    },
+    Streams {
+        frames: &[&SCHEMA, &BATCH, &END_MARKER],
+        read: Told {
+            rows: "3: 0 null 0",
+            ..ENDED_NUMBERS
+        },
+        rows: &[("values that are not aligned", &[(288, &[9])], Whole)],
+    },
+    // No rows need no offsets.
+    Streams {
+        frames: &[&TEXTS, &NO_TEXTS, &END_MARKER],
+        read: Told {
+            schema: "t: utf8",
+            rows: "0:",
+            place: 320,
+            ..ENDED
+        },
+        rows: &[
+            ("one offset", &[], Whole),
+            ("no offsets", &[(280, &[0])], Whole),
+        ],
+    },
+    // Nodes and buffers that no column takes.
+    Streams {
+        frames: &[&NO_COLUMNS, &BATCH, &END_MARKER],
+        read: Told {
+            schema: "no columns",
+            rows: "3",
+            place: 256,
+            ..ENDED
+        },
+        rows: &[
+            ("of three rows", &[], Whole),
+            ("of a length that no node has", &[(168, &[0xff; 8])], Whole),
+        ],
+    },
+    // The first text begins behind a byte that is no part of any.
+    Streams {
+        frames: &[&TEXTS, &THREE_TEXTS, &END_MARKER],
+        read: Told {
+            schema: "t: utf8",
+            rows: "3: '' null 'bc'",
+            place: 344,
+            ..ENDED
+        },
+        rows: &[("a first offset of 1", &[(312, &[1])], Whole)],
+    },
+    // The structs are one, and their field has two slots.
+    Streams {
+        frames: &[&STRUCTS, &STRUCT_ROWS, &END_MARKER],
+        read: Told {
+            rows: "1: {5;}",
+            ..ENDED_STRUCTS
+        },
+        rows: &[(
+            "one struct",
+            &[(288, &[1]), (312, &[1]), (320, &[0])],
+            Whole,
+        )],
+    },
+];
+
 #[test]
 fn what_need_not_be_so(rt: HostRuntime) {
-    static ROWS: [(&str, Edits, &str); 5] = [
-        (
-            "a null count that is not told",
-            &[(256, &[0xff; 8])],
-            "3: 1 null 3",
-        ),
-        ("a bit behind the slots", &[(304, &[0x0d])], "3: 1 null 3"),
-        ("no validity", &[(280, &[0]), (256, &[0])], "3: 1 0 3"),
-        (
-            "no validity, anywhere",
-            &[(280, &[0]), (256, &[0]), (272, &[0xff; 8])],
-            "3: 1 0 3",
-        ),
-        ("values that are not aligned", &[(288, &[9])], "3: 0 null 0"),
-    ];
-    for &(what, edits, rows) in &ROWS {
-        let want = one_batch(336, "n: int32", rows);
-        let parts: [&[u8]; 3] = [&SCHEMA, &BATCH, &END_MARKER];
-        are_told(&rt, rt.alloc(), what, &parts, edits, want);
-    }
-}
-
-#[test]
-fn nodes_and_buffers_that_are_not_taken(rt: HostRuntime) {
-    static ROWS: [(&str, Edits); 2] = [
-        ("of three rows", &[]),
-        ("of a length that no node has", &[(168, &[0xff; 8])]),
-    ];
-    let want = one_batch(256, "no columns", "3");
-    let parts: [&[u8]; 3] = [&NO_COLUMNS, &BATCH, &END_MARKER];
-    each_is_told(&rt, rt.alloc(), &parts, &ROWS, want);
-}
-
-// The first text begins behind a byte that is no part of any.
-#[test]
-fn a_first_offset_above_zero(rt: HostRuntime) {
-    let want = one_batch(344, "t: utf8", "3: '' null 'bc'");
-    let parts: [&[u8]; 3] = [&TEXTS, &THREE_TEXTS, &END_MARKER];
-    are_told(&rt, rt.alloc(), "offset 1", &parts, &[(312, &[1])], want);
-}
-
-// The structs are one, and their field has two slots.
-#[test]
-fn a_field_that_is_longer_than_its_structs(rt: HostRuntime) {
-    let want = one_batch(432, "s: another type", "1: {5;}");
-    let parts: [&[u8]; 3] = [&STRUCTS, &STRUCT_ROWS, &END_MARKER];
-    let edits: [(usize, &[u8]); 3] = [(288, &[1]), (312, &[1]), (320, &[0])];
-    are_told(&rt, rt.alloc(), "one struct", &parts, &edits, want);
-}
-
-// Nulls of type Null are not counted.
-#[test]
-fn any_number_of_nulls(rt: HostRuntime) {
-    static ROWS: [(&str, Edits); 2] = [
-        ("none", &[(680, &[0])]),
-        ("-5", &[(680, &[0xfb]), (681, &[0xff; 7])]),
-    ];
-    let want = one_batch(
-        1120,
-        "a: null",
-        "2: null null: 200 null: null -5: <ff00> <>: -1 20000: 86399999999 0: null 1",
-    );
-    let parts: [&[u8]; 3] = [&MANY, &MANY_ROWS, &END_MARKER];
-    each_is_told(&rt, rt.alloc(), &parts, &ROWS, want);
+    are_told(&rt, rt.alloc(), &LOOSE);
 }

@@ -1,6 +1,7 @@
 // Columns with dictionaries of other forms.
 
-use super::telling::{Told, are_told, read_to};
+use super::telling::Ending::Whole;
+use super::telling::{READ, Streams, Told, are_told};
 use crate::frames::END_MARKER;
 use crate::frames::encoded::{
     ANIMALS, BELOW, BELOW_ROWS, COLORS, GROUP_ROWS, GROUPS, MIXED, MIXED_ROWS, SHARED, SHARED_ROWS,
@@ -8,68 +9,74 @@ use crate::frames::encoded::{
 };
 use crate::frames::letters::ABC;
 
-const A_TO_C: &str = "0: 'a' 'b' 'c'";
-
 // A dictionary and a batch were read, and the end marker behind them.
-fn one_batch(
-    place: u64,
-    schema: &'static str,
-    rows: &'static str,
-    dictionaries: &'static str,
-) -> Told<'static> {
-    Told {
-        rows,
-        dictionaries,
-        ..read_to(place, "schema dictionary:0 batch end", schema)
-    }
-}
+const ONE_BATCH: Told<'static> = Told {
+    items: "schema dictionary:0 batch end",
+    dictionaries: "0: 'a' 'b' 'c'",
+    ..READ
+};
+
+// A stream with dictionaries, and a batch whose columns have them.
+static ENCODED: [Streams; 5] = [
+    Streams {
+        frames: &[&MIXED, &ABC, &MIXED_ROWS, &END_MARKER],
+        read: Told {
+            schema: "k: utf8",
+            rows: "3: 'c' 'a' null: 'x' null 'y'",
+            place: 760,
+            ..ONE_BATCH
+        },
+        rows: &[("beside a plain column", &[], Whole)],
+    },
+    // Two columns share a dictionary, by indices of different types.
+    Streams {
+        frames: &[&SHARED, &ANIMALS, &COLORS, &SHARED_ROWS, &END_MARKER],
+        read: Told {
+            items: "schema dictionary:5 dictionary:-2 batch end",
+            schema: "k: utf8",
+            rows: "2: 'dog' 'cat': 'red' null: null 'dog'",
+            dictionaries: "-2: 'red'; 5: 'cat' 'dog'",
+            place: 1184,
+            ..READ
+        },
+        rows: &[("of two ids", &[], Whole)],
+    },
+    // A value may be null: then the index is there, and what it refers to is none.
+    Streams {
+        frames: &[&SIZES, &THREE_SIZES, &SIZE_ROWS, &END_MARKER],
+        read: Told {
+            schema: "k: int32",
+            rows: "3: 900 null 7",
+            dictionaries: "0: 7 null 900",
+            place: 584,
+            ..ONE_BATCH
+        },
+        rows: &[("of numbers", &[], Whole)],
+    },
+    Streams {
+        frames: &[&GROUPS, &TWO_GROUPS, &GROUP_ROWS, &END_MARKER],
+        read: Told {
+            schema: "g: another type",
+            rows: "3: [] [1;2;] null",
+            dictionaries: "0: [1;2;] []",
+            place: 720,
+            ..ONE_BATCH
+        },
+        rows: &[("of lists", &[], Whole)],
+    },
+    Streams {
+        frames: &[&BELOW, &ABC, &BELOW_ROWS, &END_MARKER],
+        read: Told {
+            schema: "l: another type",
+            rows: "2: ['c';'a';] null: {'b';} {null;}",
+            place: 1008,
+            ..ONE_BATCH
+        },
+        rows: &[("below lists and structs", &[], Whole)],
+    },
+];
 
 #[test]
-fn beside_a_plain_column(rt: HostRuntime) {
-    let want = one_batch(760, "k: utf8", "3: 'c' 'a' null: 'x' null 'y'", A_TO_C);
-    let parts: [&[u8]; 4] = [&MIXED, &ABC, &MIXED_ROWS, &END_MARKER];
-    are_told(&rt, rt.alloc(), "two columns", &parts, &[], want);
-}
-
-// Two columns share a dictionary, by indices of different types.
-#[test]
-fn of_two_ids(rt: HostRuntime) {
-    let want = Told {
-        rows: "2: 'dog' 'cat': 'red' null: null 'dog'",
-        dictionaries: "-2: 'red'; 5: 'cat' 'dog'",
-        ..read_to(
-            1184,
-            "schema dictionary:5 dictionary:-2 batch end",
-            "k: utf8",
-        )
-    };
-    let parts: [&[u8]; 5] = [&SHARED, &ANIMALS, &COLORS, &SHARED_ROWS, &END_MARKER];
-    are_told(&rt, rt.alloc(), "three columns", &parts, &[], want);
-}
-
-// A value may be null: then the index is there, and what it refers to is none.
-#[test]
-fn of_numbers(rt: HostRuntime) {
-    let want = one_batch(584, "k: int32", "3: 900 null 7", "0: 7 null 900");
-    let parts: [&[u8]; 4] = [&SIZES, &THREE_SIZES, &SIZE_ROWS, &END_MARKER];
-    are_told(&rt, rt.alloc(), "sizes", &parts, &[], want);
-}
-
-#[test]
-fn of_lists(rt: HostRuntime) {
-    let want = one_batch(720, "g: another type", "3: [] [1;2;] null", "0: [1;2;] []");
-    let parts: [&[u8]; 4] = [&GROUPS, &TWO_GROUPS, &GROUP_ROWS, &END_MARKER];
-    are_told(&rt, rt.alloc(), "groups", &parts, &[], want);
-}
-
-#[test]
-fn below_lists_and_structs(rt: HostRuntime) {
-    let want = one_batch(
-        1008,
-        "l: another type",
-        "2: ['c';'a';] null: {'b';} {null;}",
-        A_TO_C,
-    );
-    let parts: [&[u8]; 4] = [&BELOW, &ABC, &BELOW_ROWS, &END_MARKER];
-    are_told(&rt, rt.alloc(), "two columns", &parts, &[], want);
+fn columns_with_dictionaries(rt: HostRuntime) {
+    are_told(&rt, rt.alloc(), &ENCODED);
 }

@@ -28,6 +28,25 @@ pub(super) struct Told<'a> {
     pub(super) held: u64,
 }
 
+// How a stream goes on behind what is read of it.
+#[derive(Clone, Copy)]
+pub(super) enum Ending {
+    // Not at all.
+    Whole,
+    // With a message that is refused.
+    Refused(Kind),
+    // With so many bytes of a message, the rest of which is cut off.
+    CutOff(u64),
+}
+
+// Streams of the same frames, whose bytes are changed in ways that leave what is read the same.
+pub(super) struct Streams {
+    pub(super) frames: &'static [&'static [u8]],
+    pub(super) read: Told<'static>,
+    // Each stream by a name, with its changes and its end.
+    pub(super) rows: &'static [(&'static str, Edits, Ending)],
+}
+
 // What a reader has answered to which nothing was given.
 pub(super) const NOTHING: Told<'static> = Told {
     items: "",
@@ -43,16 +62,43 @@ pub(super) const NOTHING: Told<'static> = Told {
     held: 0,
 };
 
-// A stream that was read up to this place, at the end of a frame, and gave these items.
-pub(super) fn read_to<'a>(place: u64, items: &'a str, schema: &'a str) -> Told<'a> {
-    Told {
-        items,
-        schema,
-        end: Ok(()),
-        place,
-        ..NOTHING
-    }
-}
+// What each stream is answered with that ends behind a frame.
+pub(super) const READ: Told<'static> = Told {
+    end: Ok(()),
+    ..NOTHING
+};
+
+// The schema of numbers was read.
+pub(super) const NUMBERS: Told<'static> = Told {
+    items: "schema",
+    schema: "n: int32",
+    place: 152,
+    ..READ
+};
+
+// The schema of texts was read.
+pub(super) const TEXT: Told<'static> = Told {
+    items: "schema",
+    schema: "t: utf8",
+    place: 136,
+    ..READ
+};
+
+// The schema of letters was read, which are texts by their indices.
+pub(super) const LETTERS: Told<'static> = Told {
+    items: "schema",
+    schema: "k: utf8",
+    place: 200,
+    ..READ
+};
+
+// The schema of letters was read, and the dictionary of three of them.
+pub(super) const A_TO_C: Told<'static> = Told {
+    items: "schema dictionary:0",
+    dictionaries: "0: 'a' 'b' 'c'",
+    place: 424,
+    ..LETTERS
+};
 
 // The stream, whose next message is refused with this kind.
 pub(super) fn refused(kind: Kind, before: Told<'_>) -> Told<'_> {
@@ -101,17 +147,6 @@ pub(super) fn stream(
     bytes
 }
 
-// That a call with this piece is answered so.
-pub(super) fn takes(
-    rt: &impl Abort,
-    reader: &mut StreamReader,
-    piece: &[u8],
-    want: Result<(usize, &'static str), Fault>,
-) {
-    let len = piece.len();
-    assert_eq!(rt; taken(reader, piece), want, "of {len} bytes");
-}
-
 // That these are the answers.
 pub(super) fn are_answers(rt: &impl Abort, what: &str, answers: &Answers, want: Told<'_>) {
     assert_eq!(rt; answers.told(), want, "{what}");
@@ -151,43 +186,43 @@ fn is_told_anew(
     assert_eq!(rt; answers.told(), want, "{what}, cut at {cut}");
 }
 
-// That the stream of these parts, with some bytes changed, is answered so.
-pub(super) fn are_told(
-    rt: &impl Abort,
-    alloc: Global,
-    what: &str,
-    parts: &[&[u8]],
-    edits: &[(usize, &[u8])],
-    want: Told<'_>,
-) {
-    let bytes = stream(rt, alloc, parts, edits);
-    is_told(rt, alloc, what, Limits::standard(), &bytes, want);
-}
-
-// That the stream of these parts is answered so, whichever row's bytes are changed.
-pub(super) fn each_is_told(
-    rt: &impl Abort,
-    alloc: Global,
-    parts: &[&[u8]],
-    rows: &[(&str, Edits)],
-    want: Told<'_>,
-) {
-    for (what, edits) in rows {
-        are_told(rt, alloc, what, parts, edits, want);
+// What a stream is answered with that goes on so.
+fn ended(read: Told<'_>, ending: Ending) -> Told<'_> {
+    match ending {
+        Ending::Whole => read,
+        Ending::Refused(kind) => refused(kind, read),
+        Ending::CutOff(held) => cut_off(held, read),
     }
 }
 
-// That the last of these parts is refused behind the others, with the kind of each row where its bytes are changed.
-pub(super) fn each_is_refused(
-    rt: &impl Abort,
-    alloc: Global,
-    parts: &[&[u8]],
-    rows: &[(&str, Edits, Kind)],
-    before: Told<'_>,
-) {
-    for (what, edits, kind) in rows {
-        are_told(rt, alloc, what, parts, edits, refused(*kind, before));
+// How many of a stream's bytes come.
+fn len_of(len: usize, place: u64, ending: Ending) -> usize {
+    match ending {
+        Ending::Whole | Ending::Refused(_) => len,
+        Ending::CutOff(held) => place.saturating_add(held) as usize,
     }
+}
+
+// That streams are answered so under these limits.
+fn each_is_told(rt: &impl Abort, alloc: Global, limits: Limits, streams: &Streams) {
+    for (what, edits, ending) in streams.rows {
+        let bytes = stream(rt, alloc, streams.frames, edits);
+        let len = len_of(bytes.len(), streams.read.place, *ending);
+        let front = bytes.get(..len).expect(rt, "the stream is longer");
+        is_told(rt, alloc, what, limits, front, ended(streams.read, *ending));
+    }
+}
+
+// That the streams of a table are answered so under these limits.
+pub(super) fn are_told_within(rt: &impl Abort, alloc: Global, limits: Limits, table: &[Streams]) {
+    for streams in table {
+        each_is_told(rt, alloc, limits, streams);
+    }
+}
+
+// That the streams of a table are answered so.
+pub(super) fn are_told(rt: &impl Abort, alloc: Global, table: &[Streams]) {
+    are_told_within(rt, alloc, Limits::standard(), table);
 }
 
 // That a stream of frames is answered so that is cut off anywhere: what stands before each place between two frames, and

@@ -1,82 +1,88 @@
 // Dictionary batches: new values, values behind the others, and those that are refused.
 
-use super::telling::{Edits, Told, are_told, first_fault, read_to, refused, stream};
+use super::telling::Ending::{Refused, Whole};
+use super::telling::{A_TO_C, LETTERS, Streams, Told, are_told};
 use crate::frames::letters::{ABC, DE, SCHEMA, SECOND};
-use arrow_stream::{Fault, Kind};
-use arrow_types::Limits;
+use arrow_stream::Kind;
 
-// The schema was read.
-fn behind_the_schema() -> Told<'static> {
-    read_to(200, "schema", "k: utf8")
-}
+// A dictionary and a delta were read.
+const DELTA: Told<'static> = Told {
+    items: "schema dictionary:0 dictionary:0",
+    place: 648,
+    ..A_TO_C
+};
+
+// Updates by the values that the dictionary has behind them, and those that are refused.
+static UPDATES: [Streams; 6] = [
+    Streams {
+        frames: &[&SCHEMA, &ABC],
+        read: LETTERS,
+        rows: &[
+            ("id 7", &[(272, &[7])], Refused(Kind::UnknownId)),
+            ("id -1", &[(272, &[0xff; 8])], Refused(Kind::UnknownId)),
+            ("id 2^32", &[(276, &[1])], Refused(Kind::UnknownId)),
+        ],
+    },
+    Streams {
+        frames: &[&SCHEMA, &DE],
+        read: LETTERS,
+        rows: &[
+            ("isDelta is 1, without a base", &[], Refused(Kind::NoBase)),
+            (
+                "isDelta is 2, without a base",
+                &[(284, &[2])],
+                Refused(Kind::NoBase),
+            ),
+            (
+                "of no values, without a base",
+                &[(304, &[0]), (328, &[0])],
+                Refused(Kind::NoBase),
+            ),
+        ],
+    },
+    Streams {
+        frames: &[&SCHEMA, &ABC, &DE],
+        read: Told {
+            dictionaries: "0: 'a' 'b' 'c' 'd' 'e'",
+            ..DELTA
+        },
+        rows: &[
+            ("isDelta is 1", &[], Whole),
+            ("isDelta is 2", &[(508, &[2])], Whole),
+        ],
+    },
+    Streams {
+        frames: &[&SCHEMA, &ABC, &DE],
+        read: Told {
+            dictionaries: "0: 'd' 'e'",
+            ..DELTA
+        },
+        rows: &[("isDelta is 0", &[(508, &[0])], Whole)],
+    },
+    Streams {
+        frames: &[&SCHEMA, &ABC, &DE],
+        read: DELTA,
+        rows: &[("no values", &[(528, &[0]), (552, &[0])], Whole)],
+    },
+    // A dictionary without values is one, behind which others may stand.
+    Streams {
+        frames: &[&SCHEMA, &ABC, &DE, &SECOND],
+        read: Told {
+            items: "schema dictionary:0 dictionary:0 batch",
+            rows: "2: 'e' 'd'",
+            dictionaries: "0: 'd' 'e'",
+            place: 808,
+            ..LETTERS
+        },
+        rows: &[(
+            "values behind none",
+            &[(304, &[0]), (328, &[0]), (376, &[0]), (800, &[1])],
+            Whole,
+        )],
+    },
+];
 
 #[test]
-fn an_id_that_no_column_has(rt: HostRuntime) {
-    static ROWS: [(&str, &[u8], Edits); 3] = [
-        ("id 7", &ABC, &[(272, &[7])]),
-        ("id -1", &ABC, &[(272, &[0xff; 8])]),
-        ("id 2^32", &ABC, &[(276, &[1])]),
-    ];
-    for &(what, frame, edits) in &ROWS {
-        let want = refused(Kind::UnknownId, behind_the_schema());
-        are_told(&rt, rt.alloc(), what, &[&SCHEMA, frame], edits, want);
-    }
-}
-
-#[test]
-fn a_delta_without_a_base(rt: HostRuntime) {
-    static ROWS: [(&str, &[u8], Edits); 3] = [
-        ("isDelta is 1", &DE, &[]),
-        ("isDelta is 2", &DE, &[(284, &[2])]),
-        ("of no values", &DE, &[(304, &[0]), (328, &[0])]),
-    ];
-    for &(what, frame, edits) in &ROWS {
-        let want = refused(Kind::NoBase, behind_the_schema());
-        are_told(&rt, rt.alloc(), what, &[&SCHEMA, frame], edits, want);
-    }
-}
-
-// Both are decided by the metadata.
-#[test]
-fn the_byte_that_decides_an_update(rt: HostRuntime) {
-    let alloc = rt.alloc();
-    for (kind, id) in [(Kind::NoBase, 0), (Kind::UnknownId, 7)] {
-        let edits: [(usize, &[u8]); 1] = [(272, &[id])];
-        let bytes = stream(&rt, alloc, &[&SCHEMA, &DE], &edits);
-        let fault = Fault { kind, place: 200 };
-        let limits = Limits::standard();
-        assert_eq!(rt; first_fault(alloc, limits, &bytes), Some((400, fault)));
-    }
-}
-
-// Values stand behind the others, or take their place.
-#[test]
-fn values_of_a_delta(rt: HostRuntime) {
-    static ROWS: [(&str, Edits, &str); 4] = [
-        ("isDelta is 1", &[], "0: 'a' 'b' 'c' 'd' 'e'"),
-        ("isDelta is 2", &[(508, &[2])], "0: 'a' 'b' 'c' 'd' 'e'"),
-        ("isDelta is 0", &[(508, &[0])], "0: 'd' 'e'"),
-        ("no values", &[(528, &[0]), (552, &[0])], "0: 'a' 'b' 'c'"),
-    ];
-    for &(what, edits, dictionaries) in &ROWS {
-        let want = Told {
-            dictionaries,
-            ..read_to(648, "schema dictionary:0 dictionary:0", "k: utf8")
-        };
-        let parts: [&[u8]; 3] = [&SCHEMA, &ABC, &DE];
-        are_told(&rt, rt.alloc(), what, &parts, edits, want);
-    }
-}
-
-// A dictionary without values is one, behind which others may stand.
-#[test]
-fn values_behind_none(rt: HostRuntime) {
-    let parts: [&[u8]; 4] = [&SCHEMA, &ABC, &DE, &SECOND];
-    let edits: [(usize, &[u8]); 4] = [(304, &[0]), (328, &[0]), (376, &[0]), (800, &[1])];
-    let want = Told {
-        rows: "2: 'e' 'd'",
-        dictionaries: "0: 'd' 'e'",
-        ..read_to(808, "schema dictionary:0 dictionary:0 batch", "k: utf8")
-    };
-    are_told(&rt, rt.alloc(), "no values", &parts, &edits, want);
+fn dictionaries_are_updated(rt: HostRuntime) {
+    are_told(&rt, rt.alloc(), &UPDATES);
 }
