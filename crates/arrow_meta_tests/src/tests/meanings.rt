@@ -163,7 +163,6 @@ fn messages_are_read(rt: HostRuntime) {
 fn a_tree_is_judged(rt: HostRuntime) {
     let limits = Limits::standard();
     let tree = tree(rt.alloc(), ONE_BATCH, &limits).expect(&rt, "a tree");
-    assert!(rt; !tree.is_schema());
     let message = judge(rt.alloc(), tree, &limits).expect(&rt, "a record batch");
     let mut text = String::new(rt.alloc());
     push_message(&rt, &mut text, &message);
