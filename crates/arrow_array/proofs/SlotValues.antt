@@ -9,7 +9,7 @@ use Rattle.arrow_array.specs.PlainValue.{PlainValue, value_at, null_value, int_v
 use Rattle.arrow_array.specs.Column.{Column, AreOf, IsColumn, HasEntry, HasNoIndex}
 use Rattle.arrow_array.specs.Node.{AreRanges, IsArray, bytes_of, column_of, raw_slot, resolved_slot}
 use Rattle.arrow_array.specs.Shown.{HoldsValue, Shows, value_shown}
-use Rattle.arrow_array.specs.Slots.{is_valid_at, slots}
+use Rattle.arrow_array.specs.Slots.{is_valid_at}
 use Rattle.arrow_array.specs.declared.array.Array.TheInside.{Inside}
 use Rattle.arrow_array.specs.declared.array.Ranges.{Ranges}
 use Rattle.arrow_array.specs.declared.array.Ranges.TheVariants as ranges

@@ -1,12 +1,11 @@
 -- Batches: columns of a schema (Message.fbs, table "RecordBatch").
-use Rattle.std.specs.Prelude.{◌≡◌, ℕ, List, map, length, Result, Ok, Err, refl, codes}
+use Rattle.std.specs.Prelude.{◌≡◌, ℕ, List, length, Result, Ok, Err, refl, codes}
 use Rattle.std.specs.Coded.{Coded, code_by, coded×, coded_ℕ, coded_list}
-use Rattle.std.specs.List.{AllByRecursion, range_with_len}
+use Rattle.std.specs.List.{AllByRecursion}
 use Rattle.arrow_types.specs.Field.{Fields, width}
 use Rattle.arrow_types.specs.Schema.{IsSchema}
 use Rattle.arrow_types.specs.Stored.{fields_code}
-use Rattle.arrow_array.specs.Column.{Column, AreOf, column_code, resolved_row_of}
-use Rattle.arrow_array.specs.PlainValue.{PlainValue}
+use Rattle.arrow_array.specs.Column.{Column, AreOf, column_code}
 use Rattle.arrow_array.specs.declared.batch.BatchFault.{BatchFault}
 use Rattle.arrow_array.specs.declared.batch.BatchFault.TheVariants.{ColumnCount, ColumnType, ColumnLength, IndexRange, Memory}
 

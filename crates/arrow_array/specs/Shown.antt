@@ -1,5 +1,5 @@
 -- What a slot shows.
-use Rattle.std.specs.Prelude.{◌≡◌, ◌≤◌, ◌<◌, ℕ, List, [], ◌∷◌, length}
+use Rattle.std.specs.Prelude.{◌≡◌, ◌≤◌, ℕ, List, [], ◌∷◌, length}
 use Rattle.arrow_array.specs.PlainValue.{value_at, null_value, bool_value, int_value, binary_value, utf8_value, list_value, struct_value, values_of}
 use Rattle.arrow_array.specs.Column.{Column, AreOf, HasItems, HasParts, values_from, resolved_row_of}
 use Rattle.arrow_array.specs.Same.{HaveSlot}

@@ -1,9 +1,7 @@
 -- A place in a part of bytes is a place in the whole.
-use Rattle.std.proofs.Common.{◌≡◌, ℕ, ◌+◌, ◌-◌, ◌*◌, ◌/◌, ◌%◌, ◌<◌, ◌≤◌, List, take, drop, refl, ap, arith}
-use Rattle.std.specs.Prelude.{slice_range}
-use Rattle.std.proofs.lemmas.List.{drop-drop, drop-take, take-take, get_or-take, get_or-drop}
-use Rattle.arrow_bits.specs.Numbers.{number_at, signed_at, twos_complement}
-use Rattle.arrow_bits.specs.Bitmap.{bit_of}
+use Rattle.std.proofs.Common.{◌≡◌, ℕ, ◌+◌, ◌-◌, ◌≤◌, List, take, drop, refl, arith}
+use Rattle.std.proofs.lemmas.List.{drop-drop, drop-take, take-take}
+use Rattle.arrow_bits.specs.Numbers.{number_at}
 
 -- a number in the first n bytes from a place
 pub number_in_part : (bytes : List ℕ) (from n place width : ℕ) → place + width ≤ n

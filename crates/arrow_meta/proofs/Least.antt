@@ -11,7 +11,7 @@ use Rattle.arrow_meta.specs.declared.fault.MetaFault.TheVariants.{Metadata, Vers
 use Rattle.arrow_meta.specs.declared.message.Message.{Message}
 use Rattle.arrow_meta.specs.Builds.{BuildsMessage, Late, meta_fault}
 use Rattle.arrow_meta.specs.Conditions.{any, any_in, is_misfit, is_unsupported, lacks_table}
-use Rattle.arrow_meta.specs.Faults.{least, conditions, fault_of, number_of, version_of, code_of, header_of, body_of, is_schema, has_header, is_bad_length, is_unsupported_schema, shares_an_id, batch_parts, batch_kind}
+use Rattle.arrow_meta.specs.Faults.{least, conditions, fault_of, version_of, code_of, header_of, body_of, is_schema, has_header, is_bad_length, is_unsupported_schema, shares_an_id, batch_parts, batch_kind}
 use Rattle.arrow_meta.specs.Judges.{Judges, LengthFits}
 use Rattle.arrow_meta.specs.Means.{PlainMessage}
 use Rattle.arrow_meta.specs.Parts.{nth, parts, is_there}

@@ -1,5 +1,5 @@
 -- A misfit below is a misfit, and what is built is smaller than what it is built of.
-use Rattle.std.proofs.Common.{◌≡◌, ℕ, zero, suc, Bool, true, false, ◌||◌, not, refl, sym, true≢false, List, [], ◌∷◌, length, Option, ◌≤◌, arith}
+use Rattle.std.proofs.Common.{◌≡◌, ℕ, zero, suc, Bool, true, not, sym, true≢false, List, Option, ◌≤◌, arith}
 use Rattle.arrow_types.specs.Field.{width, TypeShape}
 use Rattle.arrow_types.specs.declared.field.Encoding.{Encoding}
 use Rattle.arrow_meta.specs.declared.kinds.Kind.{Kind}

@@ -7,13 +7,13 @@ use Rattle.std.proofs.lemmas.Bool.{cases_Bool}
 use Rattle.std.proofs.lemmas.Bool.Decides.{Decides-int_eq}
 use Rattle.std.proofs.lemmas.Bool.{or_parts}
 use Rattle.arrow_types.specs.DataType.{Tag}
-use Rattle.arrow_types.specs.Field.{Fields, Head, none, more, fields_of, FieldShape, TypeShape}
+use Rattle.arrow_types.specs.Field.{Fields, none, more, fields_of, FieldShape, TypeShape}
 use Rattle.arrow_types.specs.Schema.{DictionaryField, IsSchema, dictionary_fields, dictionary_of, has_encoding, is_nested}
 use Rattle.arrow_types.specs.declared.field.Encoding.{Encoding}
 use Rattle.arrow_array.specs.Column.{ValueList}
 use Rattle.arrow_array.specs.Listed.{listed}
 use Rattle.arrow_array.specs.Parts.{IsOfType}
-use Rattle.arrow_body.specs.Sound.{AreFit, IsNodeFit, dictionary_for}
+use Rattle.arrow_body.specs.Sound.{AreFit, dictionary_for}
 use Rattle.arrow_body.specs.Taken.{IfFlattened}
 use Rattle.arrow_dict.specs.Dictionaries.{placed}
 use Rattle.arrow_dict.specs.ValueTypes.{value_field, value_type_of}

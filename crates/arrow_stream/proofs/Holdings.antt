@@ -1,18 +1,17 @@
 -- What the layer below answers of a body is what the body holds.
-use Rattle.std.proofs.Common.{◌≡◌, ◌≤ℤ◌, pos, negsuc, ◌↔◌, rules, ℕ, ℤ, List, [], IsTrue, refl, sym, ap, subst, Ok, Err, arith}
-use Rattle.std.specs.Prelude.{nat_abs}
+use Rattle.std.proofs.Common.{◌≡◌, ◌↔◌, ℕ, ℤ, List, sym, subst, Ok, Err}
 use Rattle.std.specs.List.{AllByRecursion}
 use Rattle.arrow_types.specs.Field.{Fields}
 use Rattle.arrow_array.specs.Column.{Column, ValueList}
 use Rattle.arrow_body.specs.Held.{count_of}
-use Rattle.arrow_body.specs.Sound.{AreIndexed, AreLaid, AreText, Explains, IsSound, columns_of, lengths_of}
+use Rattle.arrow_body.specs.Sound.{Explains, IsSound, columns_of, lengths_of}
 use Rattle.arrow_body.specs.declared.body.BodyFault.{BodyFault}
 use Rattle.arrow_body.specs.declared.body.BodyFault.TheVariants as bodies
 use Rattle.arrow_types.specs.declared.node.FieldNode.{FieldNode}
 use Rattle.arrow_types.specs.declared.node.Buffer.{Buffer}
 use Rattle.arrow_meta.specs.Means.{PlainBatch}
 use Rattle.arrow_stream.specs.declared.kind.Refusal.TheVariants.{Layout, Text, Index}
-use Rattle.arrow_stream.specs.Batch.{AreLong, Holds, IsLayout, columns, bad_layout, bad_text, bad_index}
+use Rattle.arrow_stream.specs.Batch.{AreLong, Holds, columns, bad_layout, bad_text, bad_index}
 
 -- the columns have the length of the batch, of which these are the nodes and this is the count
 pub are_long : (fields : Fields) (rows : PlainBatch) (ns : List FieldNode) (n : ℕ) → ns ≡ rows.nodes → n ≡ count_of rows.length →

@@ -10,7 +10,7 @@ use Rattle.arrow_meta.specs.declared.fault.MetaFault.TheVariants as faults
 use Rattle.arrow_meta.specs.declared.kinds.Kind.TheVariants as tables
 use Rattle.arrow_meta.specs.Conditions.{any, any_in, lacks_table, is_misfit}
 use Rattle.arrow_meta.specs.Faults.{fault_of, is_schema, header_of, body_of, version_of, has_header, is_bad_length, is_unsupported_schema, shares_an_id, batch_kind, batch_parts}
-use Rattle.arrow_meta.specs.Judges.{Decodes, IsTreeOf, MetadataFails, MetadataMeans}
+use Rattle.arrow_meta.specs.Judges.{Decodes, MetadataFails, MetadataMeans}
 use Rattle.arrow_meta.specs.Lies.{Lies, LiesAtRoot}
 use Rattle.arrow_meta.specs.Means.{PlainMessage, meaning_of}
 use Rattle.arrow_meta.specs.Parts.{nth, parts, is_there}

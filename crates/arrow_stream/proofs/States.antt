@@ -1,5 +1,5 @@
 -- What becomes of a message whose body is whole.
-use Rattle.std.proofs.Common.{◌≡◌, ℕ, ℤ, Bool, true, false, List, [], ◌∷◌, ◌++◌, Option, Some, None, refl, sym, ap, ◌∙◌, subst, Ok, Err}
+use Rattle.std.proofs.Common.{◌≡◌, ℕ, ℤ, Bool, true, false, List, [], ◌∷◌, ◌++◌, Some, refl, sym, ap, ◌∙◌, subst, Ok, Err}
 use Rattle.arrow_types.specs.Field.{Fields, Head, none, more, fields_of, TypeShape}
 use Rattle.arrow_types.specs.Schema.{dictionary_fields, has_encoding}
 use Rattle.arrow_array.specs.Batch.{Table}

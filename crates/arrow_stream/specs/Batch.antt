@@ -1,10 +1,9 @@
 -- What a batch and its body say (Message.fbs, tables "RecordBatch" and "DictionaryBatch").
-use Rattle.std.specs.Prelude.{◌≡◌, ◌+◌, ℕ, ℤ, pos, negsuc, Bool, true, false, ◌||◌, nat_lt, List, [], ◌∷◌, ◌++◌, length, take, Option, None, Some, Result, Ok, Err}
+use Rattle.std.specs.Prelude.{◌≡◌, ℕ, ℤ, pos, negsuc, Bool, true, false, ◌||◌, nat_lt, List, [], ◌∷◌, ◌++◌, take, Option, None, Some, Result, Ok, Err}
 use Rattle.std.specs.List.{AllByRecursion, list_any}
 use Rattle.arrow_types.specs.Field.{Fields, none, fields_of, TypeShape}
 use Rattle.arrow_types.specs.Schema.{dictionary_fields}
 use Rattle.arrow_types.specs.declared.node.FieldNode.{FieldNode}
-use Rattle.arrow_array.specs.Batch.{Table}
 use Rattle.arrow_array.specs.Column.{Column, ValueList}
 use Rattle.arrow_array.specs.Listed.{listed}
 use Rattle.arrow_array.specs.PlainValue.{PlainValue}

@@ -1,6 +1,6 @@
 -- What stands at the front of bytes: one message, the end marker, a refusal, or less than that (Columnar Format,
 -- "Encapsulated message format").
-use Rattle.std.specs.Prelude.{◌≡◌, ℕ, ℤ, ◌+◌, ◌*◌, ◌^◌, ◌<◌, ◌≤◌, ◌==◌, ◌&&◌, ◌||◌, not, nat_lt, if◌then◌else◌, Bool, List, [], length, slice_index, take, drop, Option, Some, None, is_some, Result, Ok, Err}
+use Rattle.std.specs.Prelude.{◌≡◌, ℕ, ℤ, ◌+◌, ◌*◌, ◌^◌, ◌<◌, ◌≤◌, ◌==◌, ◌&&◌, not, nat_lt, if◌then◌else◌, Bool, List, [], length, slice_index, take, drop, Option, Some, None, is_some, Result, Ok, Err}
 use Rattle.arrow_types.specs.Field.{Fields}
 use Rattle.arrow_types.specs.Limits.{LimitNumbers}
 use Rattle.arrow_meta.specs.declared.fault.MetaFault.{MetaFault}

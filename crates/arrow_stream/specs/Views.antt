@@ -1,5 +1,5 @@
 -- What the values of the program say.
-use Rattle.std.specs.Prelude.{◌≡◌, ◌≤◌, ◌≤ℤ◌, ℕ, ℤ, pos, List, [], ◌∷◌, Bool, true, false, None, Option, Some, is_some, not, Result, Ok, Err}
+use Rattle.std.specs.Prelude.{◌≡◌, ◌≤◌, ℕ, ℤ, List, [], ◌∷◌, Bool, false, None, Some, is_some, Result, Ok, Err}
 use Rattle.arrow_types.specs.Field.{Fields, TypeShape}
 use Rattle.arrow_types.specs.Limits.{LimitNumbers}
 use Rattle.arrow_types.specs.Schema.{dictionary_fields, has_encoding}
@@ -17,12 +17,10 @@ use Rattle.arrow_stream.specs.declared.message.Content.TheVariants as held
 use Rattle.arrow_stream.specs.declared.message.Message.{Message as HeldMessage}
 use Rattle.arrow_stream.specs.declared.message.Stop.{Stop}
 use Rattle.arrow_stream.specs.declared.message.Stop.TheVariants.{Refused, Memory}
-use Rattle.arrow_stream.specs.declared.kind.Refusal.{Refusal}
 use Rattle.arrow_stream.specs.declared.state.State.{State}
-use Rattle.arrow_stream.specs.Batch.{Holds, base_of, dictionary_left, value_fields}
+use Rattle.arrow_stream.specs.Batch.{Holds, value_fields}
 use Rattle.arrow_stream.specs.State.{StreamState, Given, schema_given, dictionary_given, batch_given, ended, fields_in}
 use Rattle.arrow_stream.specs.Message.{Message}
-use Rattle.arrow_stream.specs.Meaning.{Means}
 use Rattle.arrow_stream.specs.Frame.{BodySays, MetadataSays, against, is_out_of_order, judged, kind_of_fault}
 
 abbrev pub plain : State → StreamState

@@ -1,5 +1,5 @@
 -- How a reader that is given piece after piece goes along its stream.
-use Rattle.std.proofs.Common.{◌≡◌, ℕ, ◌+◌, List, [], ◌∷◌, ◌++◌, length, take, drop, Result, Ok, Err, refl, sym, ap, ◌∙◌, subst, arith, append_assoc, append-nil, is_some, Bool, ◌⊎◌, inl, inr}
+use Rattle.std.proofs.Common.{◌≡◌, ℕ, ◌+◌, List, [], ◌∷◌, ◌++◌, length, take, drop, Result, Ok, Err, refl, sym, ap, ◌∙◌, subst, arith, append_assoc, append-nil, Bool, ◌⊎◌, inl, inr}
 use Rattle.std.specs.Prelude.{OnErr}
 use Rattle.std.proofs.lemmas.List.{take_all, take-append-drop}
 use Rattle.arrow_types.specs.Limits.{LimitNumbers}
@@ -9,13 +9,12 @@ use Rattle.arrow_stream.specs.declared.item.Item.{Item}
 use Rattle.arrow_stream.specs.declared.kind.Kind.TheVariants.{Memory}
 use Rattle.arrow_stream.specs.declared.reader.Verdict.{Verdict}
 use Rattle.arrow_stream.specs.declared.reader.Verdict.TheVariants.{Open, Done, Bad}
-use Rattle.arrow_stream.specs.Front.{Entry, Standing, FrontOf}
-use Rattle.arrow_stream.specs.Stream.{Shows, Stands, TakesOn, GivesNext, Refuses, WantsMemory, ended_by, ended_so}
+use Rattle.arrow_stream.specs.Front.{Entry}
+use Rattle.arrow_stream.specs.Stream.{Shows, Stands, TakesOn, GivesNext, Refuses, WantsMemory, ended_by}
 use Rattle.arrow_stream.specs.Views.{given}
 use Rattle.arrow_stream.proofs.Streams.{ended_stands}
 use Rattle.arrowflow.specs.Pieces.{Feeds, FeedsInside, HandsOut}
-use Rattle.arrowflow.specs.Session.{Receives, StandsInside, ending_by, table_in, tables_of}
-use Rattle.arrowflow.specs.declared.session.Ending.{Ending}
+use Rattle.arrowflow.specs.Session.{StandsInside, table_in, tables_of}
 
 -- the batches of two parts are those of both
 pub tables-append : (es fs : List Entry) → tables_of (es ++ fs) ≡ tables_of es ++ tables_of fs

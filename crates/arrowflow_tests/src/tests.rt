@@ -9,6 +9,7 @@ mod reports;
 mod schema_call;
 mod schema_lines;
 mod session;
+mod single_bytes;
 mod sinks;
 mod streams;
 mod told;

@@ -1,4 +1,3 @@
-use Rattle.std.proofs.Common.{◌≡◌}
 use Rattle.arrow_types.specs.View.{fields_view}
 use Rattle.arrow_body.specs.declared.body.BodyFault.TheVariants.{Layout, Text, Index}
 use Rattle.arrow_meta.specs.Means.{batch_view}

@@ -1,4 +1,4 @@
-use Rattle.std.proofs.Common.{◌≡◌, sym, subst, Ok}
+use Rattle.std.proofs.Common.{sym, subst, Ok}
 use Rattle.arrow_stream.specs.State.{schema_given}
 use Rattle.arrow_stream.specs.Frame.{BodySays, schema_comes}
 use Rattle.arrow_stream.specs.Views.{content_of, plain}

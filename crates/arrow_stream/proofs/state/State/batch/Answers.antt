@@ -1,7 +1,6 @@
-use Rattle.std.proofs.Common.{◌≡◌, sym, ap, ◌∙◌, subst, Ok, Err}
+use Rattle.std.proofs.Common.{◌≡◌, sym, ap, ◌∙◌, subst, Ok}
 use Rattle.arrow_types.specs.Schema.{IsSchema}
 use Rattle.arrow_types.specs.View.{fields_view}
-use Rattle.arrow_array.specs.Batch.{Table}
 use Rattle.arrow_body.specs.Sound.{AreFit}
 use Rattle.arrow_meta.specs.Means.{batch_view}
 use Rattle.arrow_stream.specs.Batch.{Holds}

@@ -1,6 +1,5 @@
-use Rattle.std.proofs.Common.{◌≡◌, Some, ap, ◌∙◌, sym, subst}
-use Rattle.arrow_types.specs.Schema.{IsSchema, dictionary_fields}
-use Rattle.arrow_dict.specs.ValueTypes.{value_type_of}
+use Rattle.std.proofs.Common.{ap, sym, subst}
+use Rattle.arrow_types.specs.Schema.{IsSchema}
 use Rattle.arrow_stream.specs.State.{fields_in}
 use Rattle.arrow_stream.proofs.Fitness.{values_flat}
 use Rattle.arrow_stream.proofs.state.State.value_field.Goals as goal

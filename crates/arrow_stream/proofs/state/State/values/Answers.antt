@@ -1,7 +1,7 @@
-use Rattle.std.proofs.Common.{◌≡◌, [], ◌∷◌, Some, false, sym, ap, ◌∙◌, subst, w64, Ok}
+use Rattle.std.proofs.Common.{◌≡◌, [], Some, false, sym, ap, ◌∙◌, subst, w64, Ok}
 use Rattle.std.specs.Prelude.{option_map}
 use Rattle.std.proofs.lemmas.Int.{to_z-of_z}
-use Rattle.arrow_types.specs.Field.{fields_of, TypeShape}
+use Rattle.arrow_types.specs.Field.{TypeShape}
 use Rattle.arrow_types.specs.Schema.{dictionary_fields, has_encoding}
 use Rattle.arrow_types.specs.View.{field_view, fields_view}
 use Rattle.arrow_body.specs.Sound.{AreFit}
