@@ -1,186 +1,281 @@
 ghost use Rattle.arrow_bits.specs.Numbers.{FitsWidth, IsWidth};
 
 use crate::{Bits, BitsBuilder, Offsets, are_at_most, int_at, plain, put_int};
-use std::alloc::{AllocError, Global};
 use std::process::Abort;
-use std::test::Fail;
+
+// Bits and how many of them are 0.
+type Counted<'a> = (&'a [bool], usize);
+
+// Bytes, how many bits are asked for, and those, where the bytes have so many.
+static BITS: [(&[u8], usize, Option<Counted<'static>>); 5] = [
+    (&[5], 3, Some((&[true, false, true], 1))),
+    (
+        &[5],
+        8,
+        Some((&[true, false, true, false, false, false, false, false], 6)),
+    ),
+    (&[5], 9, None),
+    (&[5], usize::MAX, None),
+    (&[], 0, Some((&[], 0))),
+];
+
+fn are_listed(bits: &Bits<'_>, want: &[bool]) -> bool {
+    for i in 0..bits.len() {
+        if want.get(i) != Some(&bits.get(i)) {
+            return false;
+        }
+    }
+    bits.len() == want.len() && bits.is_empty() == want.is_empty()
+}
+
+// Whether the first `len` bits of the bytes are these, or there are none where none are wanted.
+fn are_bits(bytes: &[u8], len: usize, want: &Option<Counted<'_>>) -> bool {
+    match (Bits::new(bytes, len), want) {
+        (Some(bits), Some((listed, zeros))) => {
+            bits.count_zero() == *zeros && are_listed(&bits, listed)
+        }
+        (found, _) => found.is_none() && want.is_none(),
+    }
+}
 
 #[test]
-fn bits_of_a_byte(rt: HostRuntime) -> Result<(), Fail> {
-    let bits = Bits::new(&[5], 3).ok_or("three bits are there")?;
-    assert_eq!(rt; bits.len(), 3);
-    assert_eq!(rt; bits.get(0), true);
-    assert_eq!(rt; bits.get(1), false);
-    assert_eq!(rt; bits.get(2), true);
-    assert_eq!(rt; bits.count_zero(), 1);
-    assert!(rt; Bits::new(&[5], 8).is_some());
-    assert!(rt; Bits::new(&[5], 9).is_none());
-    assert!(rt; Bits::new(&[5], usize::MAX).is_none());
-    let none = Bits::new(&[], 0).ok_or("no bits are there")?;
-    assert!(rt; none.is_empty());
-    assert_eq!(rt; none.count_zero(), 0);
-    Ok(())
+fn bits_of_a_byte(rt: HostRuntime) {
+    for (row, (bytes, len, want)) in BITS.iter().enumerate() {
+        assert!(rt; are_bits(bytes, *len, want), "number {row}");
+    }
 }
 
 // Of `A5` bits 0, 2, 5 and 7 are set.
+static BYTES: [u8; 200] = [0xa5; 200];
+
+// How many of the first `len` bits are 0, where the bytes have so many.
+fn zeros(bytes: &[u8], len: usize) -> Option<usize> {
+    match Bits::new(bytes, len) {
+        Some(bits) => Some(bits.count_zero()),
+        None => None,
+    }
+}
+
+// The same, of no more bytes than the bits need.
+fn zeros_alone(bytes: &[u8], len: usize) -> Option<usize> {
+    match bytes.get(..len.div_ceil(8)) {
+        Some(part) => zeros(part, len),
+        None => None,
+    }
+}
+
+// The same by the loop, of no more bits than there are bytes.
+fn plain_zeros(bytes: &[u8], len: usize) -> Option<usize> {
+    if len <= bytes.len() {
+        Some(plain::count_zero(bytes, len))
+    } else {
+        None
+    }
+}
+
 #[test]
-fn zeros_of_each_length(rt: HostRuntime) -> Result<(), Fail> {
-    let bytes = vec![in rt.alloc(); 0xa5u8; 200]?;
+fn zeros_of_each_length(rt: HostRuntime) {
     let mut expected = 0usize;
     for len in 0..1601usize {
-        let bits = Bits::new(&bytes, len).ok_or("the bits are there")?;
-        assert_eq!(rt; bits.count_zero(), expected, "of {len} bits");
-        if let Some(part) = bytes.get(..len.div_ceil(8)) {
-            let alone = Bits::new(part, len).ok_or("no bit too many is asked for")?;
-            assert_eq!(rt; alone.count_zero(), expected, "of {len} bits alone");
-        }
-        if [1, 3, 4, 6].contains(&(len % 8)) {
+        assert!(rt; zeros(&BYTES, len) == Some(expected), "of {len} bits");
+        assert!(rt;
+            zeros_alone(&BYTES, len) == Some(expected),
+            "of {len} bits alone"
+        );
+        if let 1 | 3 | 4 | 6 = len % 8 {
             expected = expected.wrapping_add(1);
         }
     }
-    Ok(())
 }
 
 #[test]
-fn plain_zeros_of_each_length(rt: HostRuntime) -> Result<(), Fail> {
-    let bytes = vec![in rt.alloc(); 0xa5u8; 200]?;
-    assert_eq!(rt; bytes.len(), 200);
+fn plain_zeros_of_each_length(rt: HostRuntime) {
     for len in 0..201usize {
-        let bits = Bits::new(&bytes, len).ok_or("the bits are there")?;
-        assert_eq!(rt;
-            bits.count_zero(),
-            plain::count_zero(&bytes, len),
+        assert!(rt;
+            zeros(&BYTES, len) == plain_zeros(&BYTES, len),
             "of {len} bits"
         );
     }
-    Ok(())
 }
+
+// Bits, the bytes that they are packed into, and how many are 0.
+static PACKED: [(&[bool], &[u8], usize); 3] = [
+    (&[], &[], 0),
+    (&[true], &[1], 0),
+    (
+        &[
+            true, false, false, true, false, false, true, false, false, true, false, false, true,
+            false, false, true, false, false, true, false,
+        ],
+        &[0x49, 0x92, 0x04],
+        13,
+    ),
+];
 
 // A bit that is refused for want of memory is pushed again.
-fn pushed(builder: &mut BitsBuilder, bit: bool) -> Result<(), AllocError> {
-    if builder.push(bit).is_err() {
-        builder.push(bit)?;
+fn push(builder: &mut BitsBuilder, bit: bool) -> bool {
+    for _ in 0..2 {
+        if builder.push(bit).is_ok() {
+            return true;
+        }
     }
-    Ok(())
+    false
 }
 
-#[test]
-fn bits_are_packed(rt: HostRuntime) -> Result<(), Fail> {
-    let mut one = BitsBuilder::new(rt.alloc());
-    assert!(rt; one.is_empty());
-    pushed(&mut one, true)?;
-    assert_eq!(rt; one.as_bytes(), [1].as_slice());
+fn built(rt: &(impl Abort + AllocGlobal), bits: &[bool]) -> BitsBuilder {
     let mut builder = BitsBuilder::new(rt.alloc());
-    for j in 0..20u8 {
-        assert_eq!(rt; builder.len(), usize::from(j));
-        pushed(&mut builder, j % 3 == 0)?;
+    for (j, bit) in bits.iter().enumerate() {
+        assert!(rt; builder.len() == j, "{j} bits");
+        assert!(rt; push(&mut builder, *bit), "memory");
     }
-    assert_eq!(rt; builder.as_bytes(), [0x49, 0x92, 0x04].as_slice());
-    let bytes = builder.into_bytes();
-    let bits = Bits::new(&bytes, 20).ok_or("twenty bits are there")?;
-    for j in 0..bits.len() {
-        assert_eq!(rt; bits.get(j), j % 3 == 0, "bit {j}");
-    }
-    assert_eq!(rt; bits.count_zero(), 13);
-    Ok(())
+    builder
 }
 
-// The four bytes of each offset.
-fn offset_bytes(alloc: Global, offsets: &[i32]) -> Result<Vec<u8>, AllocError> {
-    let mut bytes = Vec::new(alloc);
-    for offset in offsets {
-        bytes.extend_from_slice(&offset.to_le_bytes())?;
-    }
-    Ok(bytes)
+fn assert_packed(rt: &(impl Abort + AllocGlobal), bits: &[bool], bytes: &[u8], zeros: usize) {
+    let builder = built(rt, bits);
+    assert!(rt; builder.is_empty() == bits.is_empty());
+    assert!(rt; builder.as_bytes() == bytes);
+    let packed = builder.into_bytes();
+    assert!(rt; are_bits(&packed, bits.len(), &Some((bits, zeros))));
 }
 
 #[test]
-fn offsets_of_a_column(rt: HostRuntime) -> Result<(), Fail> {
-    let rising = offset_bytes(rt.alloc(), &[2, 2, 5])?;
-    assert!(rt; Offsets::check(&rising, 2, 5));
-    assert!(rt; !Offsets::check(&rising, 2, 4));
-    assert!(rt; Offsets::check(&rising, 2, u64::MAX));
-    assert!(rt; !Offsets::check(&rising, 3, 5));
-    assert!(rt; !Offsets::check(&rising, usize::MAX, 5));
-    assert!(rt; !Offsets::check(&rising, usize::MAX / 4, 5));
-    assert!(rt; !Offsets::check(&offset_bytes(rt.alloc(), &[0, 3, 2])?, 2, 9));
-    assert!(rt; !Offsets::check(&offset_bytes(rt.alloc(), &[-1, 0])?, 1, 9));
-    assert!(rt; !Offsets::check(&[0, 0, 0], 0, 0));
-    assert!(rt; Offsets::check(&[0, 0, 0, 0], 0, 0));
-    assert!(rt; Offsets::new(&rising, 2, 4).is_none());
-    let offsets = Offsets::new(&rising, 2, 5).ok_or("they rise")?;
-    assert_eq!(rt; offsets.len(), 2);
-    assert!(rt; !offsets.is_empty());
-    assert_eq!(rt; offsets.at(0), 2);
-    assert_eq!(rt; offsets.at(1), 2);
-    assert_eq!(rt; offsets.at(2), 5);
-    Ok(())
+fn bits_are_packed(rt: HostRuntime) {
+    for (bits, bytes, zeros) in PACKED.iter() {
+        assert_packed(&rt, bits, bytes, *zeros);
+    }
+}
+
+// The offsets 2, 2 and 5.
+const RISING: &[u8] = &[2, 0, 0, 0, 2, 0, 0, 0, 5, 0, 0, 0];
+
+// Bytes, how many slots and what top are asked for, and the offsets where there are such.
+static OFFSETS: [(&[u8], usize, u64, Option<&[usize]>); 10] = [
+    (RISING, 2, 5, Some(&[2, 2, 5])),
+    (RISING, 2, 4, None),
+    (RISING, 2, u64::MAX, Some(&[2, 2, 5])),
+    (RISING, 3, 5, None),
+    (RISING, usize::MAX, 5, None),
+    (RISING, usize::MAX / 4, 5, None),
+    (&[0, 0, 0, 0, 3, 0, 0, 0, 2, 0, 0, 0], 2, 9, None),
+    (&[255, 255, 255, 255, 0, 0, 0, 0], 1, 9, None),
+    (&[0, 0, 0], 0, 0, None),
+    (&[0, 0, 0, 0], 0, 0, Some(&[0])),
+];
+
+fn offsets_are(offsets: &Offsets<'_>, want: &[usize]) -> bool {
+    for (i, offset) in want.iter().enumerate() {
+        if i > offsets.len() || offsets.at(i) != *offset {
+            return false;
+        }
+    }
+    want.len().checked_sub(1) == Some(offsets.len()) && offsets.is_empty() == (want.len() == 1)
+}
+
+// Whether these offsets are found and the check says so, or nothing is found where none are wanted.
+fn are_offsets(bytes: &[u8], len: usize, top: u64, want: Option<&[usize]>) -> bool {
+    let answer = Offsets::check(bytes, len, top);
+    match (Offsets::new(bytes, len, top), want) {
+        (Some(offsets), Some(want)) => answer && offsets_are(&offsets, want),
+        (found, _) => !answer && found.is_none() && want.is_none(),
+    }
+}
+
+#[test]
+fn offsets_of_a_column(rt: HostRuntime) {
+    for (row, (bytes, len, top, want)) in OFFSETS.iter().enumerate() {
+        assert!(rt; are_offsets(bytes, *len, *top, *want), "number {row}");
+    }
+}
+
+// Appends a number of 32 bits.
+fn add(rt: &impl Abort, bytes: &mut Vec<u8>, number: u32) {
+    let added = bytes.extend_from_slice(&number.to_le_bytes());
+    assert!(rt; added.is_ok(), "memory");
 }
 
 // The bytes of `len + 1` offsets from 100 on in steps of ten, of which one is another.
-fn offsets_but_one(alloc: Global, len: u8, place: u16, other: i32) -> Result<Vec<u8>, AllocError> {
-    let mut bytes = Vec::new(alloc);
+fn offsets_but_one(rt: &(impl Abort + AllocGlobal), len: u8, place: u16, other: i32) -> Vec<u8> {
+    let mut bytes = Vec::new(rt.alloc());
     for j in 0..u16::from(len) + 1 {
         let offset = if j == place {
             other
         } else {
             100 + 10 * i32::from(j)
         };
-        bytes.extend_from_slice(&offset.to_le_bytes())?;
+        add(rt, &mut bytes, offset.cast_unsigned());
     }
-    Ok(bytes)
+    bytes
 }
 
 // Both forms of the check give this answer.
-fn assert_check(rt: &impl Abort, bytes: &[u8], len: u8, top: u64, answer: bool) {
-    assert_eq!(rt;
-        Offsets::check(bytes, usize::from(len), top),
-        answer,
+fn assert_answers(rt: &impl Abort, bytes: &[u8], len: usize, top: u64, answer: bool) {
+    assert!(rt; Offsets::check(bytes, len, top) == answer, "{len} slots");
+    assert!(rt;
+        plain::check_offsets(bytes, len, top) == answer,
         "{len} slots"
     );
-    assert_eq!(rt;
-        plain::check_offsets(bytes, usize::from(len), top),
-        answer,
-        "{len} slots"
-    );
+}
+
+fn assert_check(
+    rt: &(impl Abort + AllocGlobal),
+    len: u8,
+    (place, other): (u16, i32),
+    top: u64,
+    answer: bool,
+) {
+    let bytes = offsets_but_one(rt, len, place, other);
+    assert_answers(rt, &bytes, usize::from(len), top, answer);
+}
+
+// An offset may equal the one before it, and may not be below it or below 0.
+fn assert_behind(rt: &(impl Abort + AllocGlobal), len: u8, place: u8) {
+    let last = 100 + 10 * u64::from(len);
+    let low = 100 + 10 * i32::from(place);
+    let behind = u16::from(place) + 1;
+    assert_check(rt, len, (behind, low), last, true);
+    assert_check(rt, len, (behind, low - 1), last, false);
+    assert_check(rt, len, (behind, -1), 4294967296, false);
+}
+
+fn assert_each_place(rt: &(impl Abort + AllocGlobal), len: u8) {
+    for place in 0..len {
+        assert_behind(rt, len, place);
+    }
+}
+
+fn assert_whole(rt: &(impl Abort + AllocGlobal), len: u8) {
+    let last = 100 + 10 * u64::from(len);
+    assert_check(rt, len, (0, 100), last, true);
+    assert_check(rt, len, (0, 100), 4294967296, true);
+    assert_check(rt, len, (0, 100), last - 1, false);
+    assert_check(rt, len, (0, -1), last, false);
 }
 
 #[test]
-fn offsets_of_each_length(rt: HostRuntime) -> Result<(), Fail> {
+fn offsets_of_each_length(rt: HostRuntime) {
     for len in 0..131u8 {
-        let bytes = offsets_but_one(rt.alloc(), len, 0, 100)?;
-        let last = 100 + 10 * u64::from(len);
-        assert_check(&rt, &bytes, len, last, true);
-        assert_check(&rt, &bytes, len, 4294967296, true);
-        assert_check(&rt, &bytes, len, last - 1, false);
-        assert_check(
-            &rt,
-            &offsets_but_one(rt.alloc(), len, 0, -1)?,
-            len,
-            last,
-            false,
-        );
-        for place in 0..u16::from(len) {
-            let low = 100 + 10 * i32::from(place);
-            let equal = offsets_but_one(rt.alloc(), len, place + 1, low)?;
-            assert_check(&rt, &equal, len, last, true);
-            let falling = offsets_but_one(rt.alloc(), len, place + 1, low - 1)?;
-            assert_check(&rt, &falling, len, last, false);
-            let negative = offsets_but_one(rt.alloc(), len, place + 1, -1)?;
-            assert_check(&rt, &negative, len, 4294967296, false);
-        }
+        assert_whole(&rt, len);
+        assert_each_place(&rt, len);
     }
-    Ok(())
 }
 
+// Another number, a top, and whether the number and sevens are at most the top.
+static TOPS: [(u32, u32, bool); 5] = [
+    (9, 9, true),
+    (10, 9, false),
+    (0x8000_0000, 0x7fff_ffff, false),
+    (u32::MAX, 0xffff_fffe, false),
+    (u32::MAX, u32::MAX, true),
+];
+
 // The bytes of `len` numbers of 32 bits that are seven, but for one of them.
-fn sevens_but_one(alloc: Global, len: u8, place: u8, other: u32) -> Result<Vec<u8>, AllocError> {
-    let mut bytes = Vec::new(alloc);
+fn sevens_but_one(rt: &(impl Abort + AllocGlobal), len: u8, place: u8, other: u32) -> Vec<u8> {
+    let mut bytes = Vec::new(rt.alloc());
     for j in 0..len {
-        let number = if j == place { other } else { 7 };
-        bytes.extend_from_slice(&number.to_le_bytes())?;
+        add(rt, &mut bytes, if j == place { other } else { 7 });
     }
-    Ok(bytes)
+    bytes
 }
 
 // Whether the first `len` numbers are at most `top`, where the bytes have so many.
@@ -195,139 +290,134 @@ fn first_are_at_most(bytes: &[u8], len: u8, top: u32) -> Option<bool> {
 
 // With another number at any place of `len` the answer is this one; behind them it is not looked at.
 fn assert_at_most(
-    rt: &impl Abort,
-    alloc: Global,
+    rt: &(impl Abort + AllocGlobal),
     len: u8,
-    other: u32,
-    top: u32,
-    answer: bool,
-) -> Result<(), Fail> {
+    (other, top, answer): (u32, u32, bool),
+) {
     for place in 0..len {
-        let bytes = sevens_but_one(alloc, len, place, other)?;
-        assert_eq!(rt;
-            first_are_at_most(&bytes, len, top),
-            Some(answer),
-            "number {place} of {len}"
-        );
-        assert_eq!(rt;
-            first_are_at_most(&bytes, place, top),
-            Some(true),
-            "before {place}"
-        );
+        let bytes = sevens_but_one(rt, len, place, other);
+        let all = first_are_at_most(&bytes, len, top);
+        assert!(rt; all == Some(answer), "number {place} of {len}");
+        let before = first_are_at_most(&bytes, place, top);
+        assert!(rt; before == Some(true), "before {place}");
     }
-    Ok(())
+}
+
+fn assert_at_most_of_each_length(rt: &(impl Abort + AllocGlobal), row: (u32, u32, bool)) {
+    for len in 0..41u8 {
+        assert_at_most(rt, len, row);
+    }
 }
 
 #[test]
-fn numbers_at_most_a_top(rt: HostRuntime) -> Result<(), Fail> {
-    for len in 0..41 {
-        assert_at_most(&rt, rt.alloc(), len, 9, 9, true)?;
-        assert_at_most(&rt, rt.alloc(), len, 10, 9, false)?;
-        assert_at_most(&rt, rt.alloc(), len, 0x8000_0000, 0x7fff_ffff, false)?;
-        assert_at_most(&rt, rt.alloc(), len, u32::MAX, u32::MAX - 1, false)?;
-        assert_at_most(&rt, rt.alloc(), len, u32::MAX, u32::MAX, true)?;
+fn numbers_at_most_a_top(rt: HostRuntime) {
+    for row in TOPS.iter() {
+        assert_at_most_of_each_length(&rt, *row);
     }
-    assert_eq!(rt; first_are_at_most(&[], 0, 0), Some(true));
-    Ok(())
+    assert!(rt; first_are_at_most(&[], 0, 0) == Some(true));
 }
 
 // Eight bytes, whether they are read by their sign, and the integer that their first bytes are.
 type Row = ([u8; 8], bool, i128);
 
-const LOW: [u8; 8] = [0; 8];
+static OF_ONE_BYTE: [Row; 6] = [
+    ([0; 8], true, 0),
+    ([0; 8], false, 0),
+    ([255; 8], true, -1),
+    ([255; 8], false, 255),
+    ([0x7f, 255, 255, 255, 255, 255, 255, 255], true, 127),
+    ([0x80, 0, 0, 0, 0, 0, 0, 0], true, -128),
+];
 
-const HIGH: [u8; 8] = [255; 8];
+static OF_TWO_BYTES: [Row; 5] = [
+    ([0; 8], true, 0),
+    ([255; 8], true, -1),
+    ([255; 8], false, 65535),
+    ([0xff, 0x7f, 0, 0, 0, 0, 0, 0], true, 32767),
+    ([0, 0x80, 0, 0, 0, 0, 0, 0], true, -32768),
+];
+
+static OF_FOUR_BYTES: [Row; 5] = [
+    ([0; 8], true, 0),
+    ([255; 8], true, -1),
+    ([255; 8], false, 4294967295),
+    ([255, 255, 255, 0x7f, 0, 0, 0, 0], true, 2147483647),
+    ([0, 0, 0, 0x80, 0, 0, 0, 0], true, -2147483648),
+];
+
+static OF_EIGHT_BYTES: [Row; 5] = [
+    ([0; 8], true, 0),
+    ([255; 8], true, -1),
+    ([255; 8], false, 18446744073709551615),
+    (
+        [255, 255, 255, 255, 255, 255, 255, 0x7f],
+        true,
+        9223372036854775807,
+    ),
+    ([0, 0, 0, 0, 0, 0, 0, 0x80], true, -9223372036854775808),
+];
+
+static THREE_OF_TWO_BYTES: [u8; 6] = [1, 0, 2, 0, 3, 1];
 
 // The rows hold of integers of this width, in the first slot.
 fn assert_rows(rt: &impl Abort, width: usize, rows: &[Row])
     requires { IsWidth width }
 {
-    for row in rows {
-        assert_eq!(rt; int_at(&row.0, width, row.1, 0), row.2, "{width} bytes");
+    for (place, row) in rows.iter().enumerate() {
+        let number = int_at(&row.0, width, row.1, 0);
+        assert!(rt; number == row.2, "number {place} of {width} bytes");
     }
 }
 
 #[test]
-fn integers_of_one_byte(rt: HostRuntime) {
-    let rows: [Row; 6] = [
-        (LOW, true, 0),
-        (LOW, false, 0),
-        (HIGH, true, -1),
-        (HIGH, false, 255),
-        ([0x7f, 255, 255, 255, 255, 255, 255, 255], true, 127),
-        ([0x80, 0, 0, 0, 0, 0, 0, 0], true, -128),
-    ];
-    assert_rows(&rt, 1, &rows);
-}
-
-#[test]
-fn integers_of_two_bytes(rt: HostRuntime) {
-    let rows: [Row; 5] = [
-        (LOW, true, 0),
-        (HIGH, true, -1),
-        (HIGH, false, 65535),
-        ([0xff, 0x7f, 0, 0, 0, 0, 0, 0], true, 32767),
-        ([0, 0x80, 0, 0, 0, 0, 0, 0], true, -32768),
-    ];
-    assert_rows(&rt, 2, &rows);
-    assert_eq!(rt; int_at(&[1, 0, 2, 0, 3, 1], 2, true, 2), 259);
-}
-
-#[test]
-fn integers_of_four_bytes(rt: HostRuntime) {
-    let rows: [Row; 5] = [
-        (LOW, true, 0),
-        (HIGH, true, -1),
-        (HIGH, false, 4294967295),
-        ([255, 255, 255, 0x7f, 0, 0, 0, 0], true, 2147483647),
-        ([0, 0, 0, 0x80, 0, 0, 0, 0], true, -2147483648),
-    ];
-    assert_rows(&rt, 4, &rows);
-}
-
-#[test]
-fn integers_of_eight_bytes(rt: HostRuntime) {
-    let greatest = [255, 255, 255, 255, 255, 255, 255, 0x7f];
-    let least = [0, 0, 0, 0, 0, 0, 0, 0x80];
-    let rows: [Row; 5] = [
-        (LOW, true, 0),
-        (HIGH, true, -1),
-        (HIGH, false, 18446744073709551615),
-        (greatest, true, 9223372036854775807),
-        (least, true, -9223372036854775808),
-    ];
-    assert_rows(&rt, 8, &rows);
+fn integers_of_each_width(rt: HostRuntime) {
+    assert_rows(&rt, 1, &OF_ONE_BYTE);
+    assert_rows(&rt, 2, &OF_TWO_BYTES);
+    assert_rows(&rt, 4, &OF_FOUR_BYTES);
+    assert_rows(&rt, 8, &OF_EIGHT_BYTES);
+    assert!(rt; int_at(&THREE_OF_TWO_BYTES, 2, true, 2) == 259);
 }
 
 // An integer that is refused for want of memory is put again.
-fn put(out: &mut Vec<u8>, width: usize, value: i128) -> Result<(), AllocError>
+fn put(out: &mut Vec<u8>, width: usize, value: i128) -> bool
     requires width { IsWidth width }
     requires fits { FitsWidth width value }
 {
-    if put_int(out, width, value).is_err() {
-        put_int(out, width, value)?;
+    for _ in 0..2 {
+        if put_int(out, width, value).is_ok() {
+            return true;
+        }
     }
-    Ok(())
+    false
+}
+
+static NARROW: [u8; 12] = [255, 255, 255, 128, 0, 0, 0, 128, 2, 1, 0, 0];
+
+fn put_narrow(out: &mut Vec<u8>) -> bool {
+    put(out, 1, 255) && put(out, 1, -128) && put(out, 4, -2147483648) && put(out, 4, 258)
+}
+
+fn put_wide(out: &mut Vec<u8>) -> bool {
+    put(out, 8, 18446744073709551615) && put(out, 8, -2)
+}
+
+fn assert_narrow(rt: &impl Abort, out: &mut Vec<u8>) {
+    assert!(rt; put(out, 2, -1), "memory");
+    assert!(rt; out.as_slice() == &NARROW[..2]);
+    assert!(rt; put_narrow(out), "memory");
+    assert!(rt; out.as_slice() == NARROW.as_slice());
+}
+
+fn assert_wide(rt: &impl Abort, out: &[u8]) {
+    assert!(rt; out.len() == 16);
+    assert!(rt; int_at(out, 8, false, 0) == 18446744073709551615);
+    assert!(rt; int_at(out, 8, true, 1) == -2);
 }
 
 #[test]
-fn integers_are_appended(rt: HostRuntime) -> Result<(), Fail> {
-    let mut out = Vec::new(rt.alloc());
-    put(&mut out, 2, -1)?;
-    assert_eq!(rt; out.as_slice(), [0xff, 0xff].as_slice());
-    put(&mut out, 1, 255)?;
-    put(&mut out, 1, -128)?;
-    put(&mut out, 4, -2147483648)?;
-    put(&mut out, 4, 258)?;
-    assert_eq!(rt;
-        out.as_slice(),
-        [255, 255, 255, 128, 0, 0, 0, 128, 2, 1, 0, 0].as_slice()
-    );
+fn integers_are_appended(rt: HostRuntime) {
+    assert_narrow(&rt, &mut Vec::new(rt.alloc()));
     let mut wide = Vec::new(rt.alloc());
-    put(&mut wide, 8, 18446744073709551615)?;
-    put(&mut wide, 8, -2)?;
-    assert_eq!(rt; wide.len(), 16);
-    assert_eq!(rt; int_at(&wide, 8, false, 0), 18446744073709551615);
-    assert_eq!(rt; int_at(&wide, 8, true, 1), -2);
-    Ok(())
+    assert!(rt; put_wide(&mut wide), "memory");
+    assert_wide(&rt, &wide);
 }

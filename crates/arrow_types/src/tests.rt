@@ -3,255 +3,421 @@
 use crate::{
     BitWidth, DataType, DateUnit, Encoding, Field, IndexType, Limits, Schema, SchemaFault, TimeUnit,
 };
-use std::alloc::{AllocError, Global};
-use std::test::Fail;
+use std::process::Abort;
 
-const INT32: IndexType = IndexType {
-    bits: BitWidth::ThirtyTwo,
-    signed: true,
-};
+// Types, without what stands below them.
+#[derive(Clone, Copy)]
+enum Kind {
+    Null,
+    Bool,
+    Binary,
+    Utf8,
+    Time(TimeUnit),
+    // Timestamps in microseconds, with the name of a zone where it is not empty.
+    Timestamp(&'static str),
+    // Lists of the field before.
+    List,
+    // Structs of so many fields before.
+    Struct(usize),
+}
 
-fn field(alloc: Global, name: &str, data_type: DataType) -> Result<Field, AllocError> {
-    Ok(Field {
-        name: String::from_str(alloc, name)?,
+// A field: its name, the id of its dictionary and whether that is ordered, and its type.
+//
+// Several of them stand for columns: each takes from its end what was built so far for what stands below it.
+type Step = (&'static str, Option<(i64, bool)>, Kind);
+
+fn text(rt: &(impl Abort + AllocGlobal), words: &str) -> String {
+    String::from_str(rt.alloc(), words).expect(rt, "memory")
+}
+
+fn field(rt: &(impl Abort + AllocGlobal), name: &str, data_type: DataType) -> Field {
+    Field {
+        name: text(rt, name),
         nullable: true,
         data_type,
         dictionary: None,
-    })
+    }
 }
 
-/// A field whose values stand in the dictionary `id`.
-fn encoded(alloc: Global, id: i64, data_type: DataType) -> Result<Field, AllocError> {
-    let mut field = field(alloc, "k", data_type)?;
-    field.dictionary = Some(Encoding {
-        id,
-        index: INT32,
-        ordered: false,
-    });
-    Ok(field)
+fn push(rt: &impl Abort, fields: &mut Vec<Field>, field: Field) {
+    fields.push(field).expect(rt, "memory");
 }
 
-fn list(alloc: Global, item: Field) -> Result<DataType, AllocError> {
-    Ok(DataType::List(Box::new(alloc, item)?))
+fn list(rt: &(impl Abort + AllocGlobal), item: Field) -> DataType {
+    DataType::List(Box::new(rt.alloc(), item).expect(rt, "memory"))
 }
 
-/// A struct of these fields.
-fn group(alloc: Global, fields: Vec<Field>) -> Result<Field, AllocError> {
-    field(alloc, "s", DataType::Struct(fields))
+fn last(rt: &impl Abort, fields: &mut Vec<Field>) -> Field {
+    fields.pop().expect(rt, "a field that is not there")
 }
 
-/// A column of `levels` levels: lists of lists, and nulls at the bottom.
-fn nested(alloc: Global, levels: u32) -> Result<Field, AllocError> {
-    let mut column = field(alloc, "n", DataType::Null)?;
+fn last_fields(rt: &impl Abort, fields: &mut Vec<Field>, count: usize) -> Vec<Field> {
+    assert!(rt; count <= fields.len());
+    fields.split_off(fields.len() - count).expect(rt, "memory")
+}
+
+fn zoned(rt: &(impl Abort + AllocGlobal), name: &str) -> Option<String> {
+    if name.is_empty() {
+        None
+    } else {
+        Some(text(rt, name))
+    }
+}
+
+fn data_type(rt: &(impl Abort + AllocGlobal), before: &mut Vec<Field>, kind: Kind) -> DataType {
+    match kind {
+        Kind::Null => DataType::Null,
+        Kind::Bool => DataType::Bool,
+        Kind::Binary => DataType::Binary,
+        Kind::Utf8 => DataType::Utf8,
+        Kind::Time(unit) => DataType::Time(unit),
+        Kind::Timestamp(zone) => DataType::Timestamp(TimeUnit::Microsecond, zoned(rt, zone)),
+        Kind::List => list(rt, last(rt, before)),
+        Kind::Struct(count) => DataType::Struct(last_fields(rt, before, count)),
+    }
+}
+
+fn encoding(mark: Option<(i64, bool)>) -> Option<Encoding> {
+    match mark {
+        Some((id, ordered)) => Some(Encoding {
+            id,
+            index: IndexType {
+                bits: BitWidth::ThirtyTwo,
+                signed: true,
+            },
+            ordered,
+        }),
+        None => None,
+    }
+}
+
+fn add(rt: &(impl Abort + AllocGlobal), fields: &mut Vec<Field>, (name, mark, kind): Step) {
+    let of = data_type(rt, fields, kind);
+    let mut field = field(rt, name, of);
+    field.dictionary = encoding(mark);
+    push(rt, fields, field);
+}
+
+fn columns(rt: &(impl Abort + AllocGlobal), steps: &[Step]) -> Vec<Field> {
+    let mut columns = Vec::new(rt.alloc());
+    for step in steps {
+        add(rt, &mut columns, *step);
+    }
+    columns
+}
+
+fn column(rt: &(impl Abort + AllocGlobal), steps: &[Step]) -> Field {
+    last(rt, &mut columns(rt, steps))
+}
+
+// A column of `levels` levels: lists of lists, and nulls at the bottom.
+fn nested(rt: &(impl Abort + AllocGlobal), levels: u32) -> Field {
+    let mut column = field(rt, "n", DataType::Null);
     for _ in 1..levels {
-        let below = list(alloc, column)?;
-        column = field(alloc, "n", below)?;
+        column = field(rt, "n", list(rt, column));
     }
-    Ok(column)
+    column
 }
 
-fn columns(alloc: Global, count: u32) -> Result<Vec<Field>, AllocError> {
-    let mut columns = Vec::new(alloc);
+fn add_truth_values(rt: &(impl Abort + AllocGlobal), columns: &mut Vec<Field>, count: u32) {
     for _ in 0..count {
-        columns.push(field(alloc, "", DataType::Bool)?)?;
+        push(rt, columns, field(rt, "", DataType::Bool));
     }
-    Ok(columns)
 }
 
-/// The number of the fault of the columns, 0 where they make a schema.
-fn fault(alloc: Global, columns: Vec<Field>) -> u8 {
-    match Schema::new(alloc, columns) {
+// The number of the fault of the columns, 0 where they make a schema.
+fn number(rt: &impl AllocGlobal, columns: Vec<Field>) -> u8 {
+    match Schema::new(rt.alloc(), columns) {
         Ok(_) => 0,
         Err(fault) => fault.number(),
     }
 }
 
-fn zoned(alloc: Global, name: &str) -> Result<DataType, AllocError> {
-    let zone = String::from_str(alloc, name)?;
-    Ok(DataType::Timestamp(TimeUnit::Microsecond, Some(zone)))
+// The same of columns of truth values behind these, and of a column of so many levels, if any.
+fn fault(rt: &(impl Abort + AllocGlobal), steps: &[Step], count: u32, levels: u32) -> u8 {
+    let mut columns = columns(rt, steps);
+    add_truth_values(rt, &mut columns, count);
+    if levels > 0 {
+        push(rt, &mut columns, nested(rt, levels));
+    }
+    number(rt, columns)
+}
+
+// Ceilings of metadata, body and rows.
+type Numbers = (u64, u64, u64);
+
+const HIGHEST: Numbers = (1_073_741_824, 1_099_511_627_776, 2_147_483_647);
+
+static TOO_HIGH: [Numbers; 3] = [
+    (1_073_741_825, 0, 0),
+    (0, 1_099_511_627_777, 0),
+    (0, 0, 2_147_483_648),
+];
+
+fn numbers(limits: Limits) -> Numbers {
+    (limits.max_metadata(), limits.max_body(), limits.max_rows())
+}
+
+// Whether there are limits of these numbers, and they say so.
+fn are_limits(asked: Numbers) -> bool {
+    match Limits::new(asked.0, asked.1, asked.2) {
+        Some(limits) => numbers(limits) == asked,
+        None => false,
+    }
+}
+
+fn are_refused(asked: Numbers) -> bool {
+    Limits::new(asked.0, asked.1, asked.2).is_none()
 }
 
 #[test]
-fn limits_keep_to_their_ceilings(rt: HostRuntime) -> Result<(), Fail> {
-    let standard = Limits::standard();
-    assert_eq!(rt; standard.max_metadata(), 67_108_864);
-    assert_eq!(rt; standard.max_body(), 68_719_476_736);
-    assert_eq!(rt; standard.max_rows(), 2_147_483_647);
-    let highest = Limits::new(1_073_741_824, 1_099_511_627_776, 2_147_483_647).ok_or("within")?;
-    assert_eq!(rt; highest.max_metadata(), 1_073_741_824);
-    assert_eq!(rt; highest.max_body(), 1_099_511_627_776);
-    assert_eq!(rt; highest.max_rows(), 2_147_483_647);
-    assert_eq!(rt; Limits::new(1_073_741_825, 0, 0), None);
-    assert_eq!(rt; Limits::new(0, 1_099_511_627_777, 0), None);
-    assert_eq!(rt; Limits::new(0, 0, 2_147_483_648), None);
-    assert_eq!(rt; Limits::LAST_PLACE, 1u64 << 62);
-    Ok(())
+fn limits_keep_to_their_ceilings(rt: HostRuntime) {
+    let standard = numbers(Limits::standard());
+    assert!(rt; standard == (67_108_864, 68_719_476_736, 2_147_483_647));
+    assert!(rt; are_limits(HIGHEST));
+    for (row, asked) in TOO_HIGH.iter().enumerate() {
+        assert!(rt; are_refused(*asked), "number {row}");
+    }
+    assert!(rt; Limits::LAST_PLACE == 1u64 << 62);
 }
+
+static TIMES: [(TimeUnit, u8); 4] = [
+    (TimeUnit::Second, 32),
+    (TimeUnit::Millisecond, 32),
+    (TimeUnit::Microsecond, 64),
+    (TimeUnit::Nanosecond, 64),
+];
 
 #[test]
 fn units_have_their_widths(rt: HostRuntime) {
-    assert_eq!(rt; BitWidth::Eight.bits(), 8);
-    assert_eq!(rt; BitWidth::SixtyFour.bits(), 64);
-    assert_eq!(rt; DateUnit::Day.width().bits(), 32);
-    assert_eq!(rt; DateUnit::Millisecond.width().bits(), 64);
-    let units = [
-        TimeUnit::Second,
-        TimeUnit::Millisecond,
-        TimeUnit::Microsecond,
-        TimeUnit::Nanosecond,
-    ];
-    let widths = [32, 32, 64, 64];
-    for (unit, width) in units.iter().zip(widths.iter()) {
-        assert_eq!(rt; unit.time_width().bits(), *width, "of {unit:?}");
+    assert!(rt; BitWidth::Eight.bits() == 8);
+    assert!(rt; BitWidth::SixtyFour.bits() == 64);
+    assert!(rt; DateUnit::Day.width().bits() == 32);
+    assert!(rt; DateUnit::Millisecond.width().bits() == 64);
+    for (row, (unit, width)) in TIMES.iter().enumerate() {
+        assert!(rt; unit.time_width().bits() == *width, "number {row}");
     }
 }
 
-#[test]
-fn each_fault_comes_alone(rt: HostRuntime) -> Result<(), Fail> {
-    let alloc = rt.alloc();
-    assert_eq!(rt; fault(alloc, Vec::new(alloc)), 0);
-    assert_eq!(rt; fault(alloc, vec![in alloc; nested(alloc, 32)?]?), 0);
-    assert_eq!(rt; fault(alloc, vec![in alloc; nested(alloc, 33)?]?), 1);
-    assert_eq!(rt; fault(alloc, columns(alloc, 65_536)?), 0);
-    assert_eq!(rt; fault(alloc, columns(alloc, 65_537)?), 2);
-    let inner = encoded(alloc, 1, DataType::Utf8)?;
-    let outer = encoded(
-        alloc,
+// Columns, how many of truth values and a column of how many levels behind them, and the number of their fault.
+static FAULTS: [(&[Step], u32, u32, u8); 11] = [
+    (&[], 0, 0, 0),
+    (&[], 0, 32, 0),
+    (&[], 0, 33, 1),
+    (&[], 65_536, 0, 0),
+    (&[], 65_537, 0, 2),
+    (
+        &[
+            ("k", Some((1, false)), Kind::Utf8),
+            ("s", None, Kind::Struct(1)),
+            ("k", Some((0, false)), Kind::List),
+        ],
         0,
-        list(alloc, group(alloc, vec![in alloc; inner]?)?)?,
-    )?;
-    assert_eq!(rt; fault(alloc, vec![in alloc; outer]?), 3);
-    let texts = encoded(alloc, 7, DataType::Utf8)?;
-    let bytes = encoded(alloc, 7, DataType::Binary)?;
-    assert_eq!(rt;
-        fault(
-            alloc,
-            vec![in alloc; texts, field(alloc, "t", DataType::Utf8)?, bytes]?
-        ),
-        4
-    );
-    assert_eq!(rt; SchemaFault::Memory.number(), 5);
-    let text = format!(in alloc; "{}", SchemaFault::NestedDictionary)?;
-    assert_eq!(rt; text.as_str(), "a dictionary below a dictionary");
-    Ok(())
-}
+        0,
+        3,
+    ),
+    (
+        &[
+            ("k", Some((7, false)), Kind::Utf8),
+            ("t", None, Kind::Utf8),
+            ("k", Some((7, false)), Kind::Binary),
+        ],
+        0,
+        0,
+        4,
+    ),
+    // Of several faults the least comes first.
+    (&[], 65_536, 33, 1),
+    (
+        &[
+            ("k", Some((1, false)), Kind::Null),
+            ("k", Some((0, false)), Kind::List),
+        ],
+        65_536,
+        0,
+        2,
+    ),
+    (
+        &[
+            ("k", Some((1, false)), Kind::Null),
+            ("k", Some((0, false)), Kind::List),
+            ("k", Some((1, false)), Kind::Bool),
+        ],
+        0,
+        0,
+        3,
+    ),
+    // A very deep tree.
+    (&[], 0, 1_000_000, 1),
+];
 
 #[test]
-fn the_least_fault_comes_first(rt: HostRuntime) -> Result<(), Fail> {
-    let alloc = rt.alloc();
-    let mut deep_and_many = columns(alloc, 65_536)?;
-    deep_and_many.push(nested(alloc, 33)?)?;
-    assert_eq!(rt; fault(alloc, deep_and_many), 1);
-    let mut many_and_nested = columns(alloc, 65_536)?;
-    many_and_nested.push(encoded(alloc, 0, list(alloc, encoded(alloc, 1, DataType::Null)?)?)?)?;
-    assert_eq!(rt; fault(alloc, many_and_nested), 2);
-    let nested_item = encoded(alloc, 0, list(alloc, encoded(alloc, 1, DataType::Null)?)?)?;
-    let other_type = encoded(alloc, 1, DataType::Bool)?;
-    assert_eq!(rt; fault(alloc, vec![in alloc; nested_item, other_type]?), 3);
-    Ok(())
-}
-
-#[test]
-fn a_very_deep_tree_is_refused(rt: HostRuntime) -> Result<(), Fail> {
-    let alloc = rt.alloc();
-    assert_eq!(rt; fault(alloc, vec![in alloc; nested(alloc, 1_000_000)?]?), 1);
-    Ok(())
-}
-
-#[test]
-fn ids_stand_in_pre_order_once(rt: HostRuntime) -> Result<(), Fail> {
-    let alloc = rt.alloc();
-    let growing = Schema::new(alloc, vec![in alloc; encoded(alloc, 0, DataType::Utf8)?]?).map_err(
-        |_| "schema",
-    )?;
-    assert_eq!(rt; growing.dictionary_ids(), [0].as_slice());
-    let item = encoded(alloc, -3, DataType::Null)?;
-    let lists = field(alloc, "l", list(alloc, item)?)?;
-    let inner = vec![in alloc;
-        encoded(alloc, 9, DataType::Bool)?,
-        lists,
-        encoded(alloc, 5, DataType::Utf8)?,
-    ]?;
-    let last = vec![in alloc;
-        encoded(alloc, 2, DataType::Utf8)?,
-        encoded(alloc, 9, DataType::Bool)?,
-    ]?;
-    let all = vec![in alloc;
-        encoded(alloc, 5, DataType::Utf8)?,
-        group(alloc, inner)?,
-        group(alloc, last)?,
-    ]?;
-    let schema = Schema::new(alloc, all).map_err(|_| "schema")?;
-    assert_eq!(rt; schema.dictionary_ids(), [5, 9, -3, 2].as_slice());
-    assert_eq!(rt; schema.fields().len(), 3);
-    Ok(())
-}
-
-#[test]
-fn children_of_lists_and_structs(rt: HostRuntime) -> Result<(), Fail> {
-    let alloc = rt.alloc();
-    let lists = list(alloc, field(alloc, "item", DataType::Bool)?)?;
-    assert_eq!(rt; lists.children().len(), 1);
-    let item = lists.children().first().ok_or("a list has a child")?;
-    assert!(rt; item.name.as_str() == "item" && !lists.has_encoding_below());
-    let mut parts = columns(alloc, 2)?;
-    parts.push(encoded(alloc, 0, DataType::Utf8)?)?;
-    let structs = group(alloc, parts)?.data_type;
-    assert_eq!(rt; structs.children().len(), 3);
-    assert!(rt; structs.has_encoding_below());
-    assert!(rt; DataType::Utf8.children().is_empty() && !DataType::Utf8.has_encoding_below());
-    let deep = list(alloc, field(alloc, "item", structs)?)?;
-    assert!(rt; deep.has_encoding_below());
-    Ok(())
-}
-
-#[test]
-fn copies_are_equal(rt: HostRuntime) -> Result<(), Fail> {
-    let alloc = rt.alloc();
-    let mut ordered = encoded(alloc, 0, DataType::Utf8)?;
-    ordered.dictionary = Some(Encoding {
-        id: 0,
-        index: INT32,
-        ordered: true,
-    });
-    let item = field(alloc, "i", DataType::Time(TimeUnit::Second))?;
-    let parts = vec![in alloc;
-        field(alloc, "z", zoned(alloc, "UTC")?)?,
-        field(alloc, "l", list(alloc, item)?)?,
-    ]?;
-    let group = group(alloc, parts)?;
-    assert!(rt; group.copy(alloc)? == group);
-    assert!(rt; group.data_type.copy(alloc)? == group.data_type);
-    assert!(rt; ordered.copy(alloc)? == ordered);
-    let schema = Schema::new(alloc, vec![in alloc; ordered, group]?).map_err(|_| "schema")?;
-    let copy = schema.copy(alloc)?;
-    assert!(rt; copy == schema);
-    assert_eq!(rt; copy.dictionary_ids(), [0].as_slice());
-    assert_eq!(rt; copy.fields().len(), 2);
-    Ok(())
-}
-
-#[test]
-fn equality_reads_everything(rt: HostRuntime) -> Result<(), Fail> {
-    let alloc = rt.alloc();
-    let plain = encoded(alloc, 0, zoned(alloc, "UTC")?)?;
-    let mut others = Vec::new(alloc);
-    others.push(field(alloc, "k", zoned(alloc, "UTC")?)?)?;
-    others.push(encoded(alloc, 1, zoned(alloc, "UTC")?)?)?;
-    others.push(encoded(alloc, 0, zoned(alloc, "utc")?)?)?;
-    others.push(encoded(alloc, 0, DataType::Timestamp(TimeUnit::Microsecond, None))?)?;
-    others.push(encoded(alloc, 0, DataType::Time(TimeUnit::Microsecond))?)?;
-    others.push(Field {
-        nullable: false,
-        ..plain.copy(alloc)?
-    })?;
-    others.push(Field {
-        name: String::from_str(alloc, "K")?,
-        ..plain.copy(alloc)?
-    })?;
-    assert!(rt; plain == plain.copy(alloc)?);
-    for (i, other) in others.iter().enumerate() {
-        assert!(rt; plain != *other, "number {i}");
+fn the_least_fault_is_given(rt: HostRuntime) {
+    for (row, (steps, count, levels, want)) in FAULTS.iter().enumerate() {
+        let got = fault(&rt, steps, *count, *levels);
+        assert!(rt; got == *want, "number {row}");
     }
-    Ok(())
+}
+
+#[test]
+fn a_fault_in_words(rt: HostRuntime) {
+    assert!(rt; SchemaFault::Memory.number() == 5);
+    let words = format!(in rt.alloc(); "{}", SchemaFault::NestedDictionary).expect(&rt, "memory");
+    assert!(rt; words.as_str() == "a dictionary below a dictionary");
+}
+
+// Columns, the ids of their dictionaries and how many columns there are.
+static IDS: [(&[Step], &[i64], usize); 2] = [
+    (&[("k", Some((0, false)), Kind::Utf8)], &[0], 1),
+    (
+        &[
+            ("k", Some((5, false)), Kind::Utf8),
+            ("k", Some((9, false)), Kind::Bool),
+            ("k", Some((-3, false)), Kind::Null),
+            ("l", None, Kind::List),
+            ("k", Some((5, false)), Kind::Utf8),
+            ("s", None, Kind::Struct(3)),
+            ("k", Some((2, false)), Kind::Utf8),
+            ("k", Some((9, false)), Kind::Bool),
+            ("s", None, Kind::Struct(2)),
+        ],
+        &[5, 9, -3, 2],
+        3,
+    ),
+];
+
+fn schema(rt: &(impl Abort + AllocGlobal), steps: &[Step]) -> Schema {
+    match Schema::new(rt.alloc(), columns(rt, steps)) {
+        Ok(schema) => schema,
+        Err(_) => panic!(rt; "no schema"),
+    }
+}
+
+fn has_ids(schema: &Schema, ids: &[i64], count: usize) -> bool {
+    schema.dictionary_ids() == ids && schema.fields().len() == count
+}
+
+#[test]
+fn ids_stand_in_pre_order_once(rt: HostRuntime) {
+    for (row, (steps, ids, count)) in IDS.iter().enumerate() {
+        let schema = schema(&rt, steps);
+        assert!(rt; has_ids(&schema, ids, *count), "number {row}");
+    }
+}
+
+// A column, the names of its children, and whether there is a dictionary below it.
+static CHILDREN: [(&[Step], &[&str], bool); 4] = [
+    (
+        &[("item", None, Kind::Bool), ("l", None, Kind::List)],
+        &["item"],
+        false,
+    ),
+    (
+        &[
+            ("", None, Kind::Bool),
+            ("", None, Kind::Bool),
+            ("k", Some((0, false)), Kind::Utf8),
+            ("s", None, Kind::Struct(3)),
+        ],
+        &["", "", "k"],
+        true,
+    ),
+    (&[("t", None, Kind::Utf8)], &[], false),
+    (
+        &[
+            ("", None, Kind::Bool),
+            ("", None, Kind::Bool),
+            ("k", Some((0, false)), Kind::Utf8),
+            ("item", None, Kind::Struct(3)),
+            ("l", None, Kind::List),
+        ],
+        &["item"],
+        true,
+    ),
+];
+
+fn are_named(fields: &[Field], names: &[&str]) -> bool {
+    for (i, field) in fields.iter().enumerate() {
+        match names.get(i) {
+            Some(name) if field.name.as_str() == *name => {}
+            _ => return false,
+        }
+    }
+    fields.len() == names.len()
+}
+
+fn has_below(of: &DataType, names: &[&str], encoding_below: bool) -> bool {
+    are_named(of.children(), names) && of.has_encoding_below() == encoding_below
+}
+
+#[test]
+fn children_of_lists_and_structs(rt: HostRuntime) {
+    for (row, (steps, names, encoding_below)) in CHILDREN.iter().enumerate() {
+        let column = column(&rt, steps);
+        assert!(rt;
+            has_below(&column.data_type, names, *encoding_below),
+            "number {row}"
+        );
+    }
+}
+
+static COPIED: [Step; 5] = [
+    ("k", Some((0, true)), Kind::Utf8),
+    ("z", None, Kind::Timestamp("UTC")),
+    ("i", None, Kind::Time(TimeUnit::Second)),
+    ("l", None, Kind::List),
+    ("s", None, Kind::Struct(2)),
+];
+
+fn copied(rt: &(impl Abort + AllocGlobal), field: &Field) -> Field {
+    field.copy(rt.alloc()).expect(rt, "memory")
+}
+
+fn assert_field_copies(rt: &(impl Abort + AllocGlobal), field: &Field) {
+    assert!(rt; copied(rt, field) == *field);
+    let of = field.data_type.copy(rt.alloc()).expect(rt, "memory");
+    assert!(rt; of == field.data_type);
+}
+
+#[test]
+fn copies_are_equal(rt: HostRuntime) {
+    let schema = schema(&rt, &COPIED);
+    for field in schema.fields() {
+        assert_field_copies(&rt, field);
+    }
+    let copy = schema.copy(rt.alloc()).expect(&rt, "memory");
+    assert!(rt; copy == schema);
+    assert!(rt; has_ids(&copy, &[0], 2));
+}
+
+static PLAIN: [Step; 1] = [("k", Some((0, false)), Kind::Timestamp("UTC"))];
+
+// Fields that each differ from it.
+static OTHERS: [Step; 6] = [
+    ("k", None, Kind::Timestamp("UTC")),
+    ("k", Some((1, false)), Kind::Timestamp("UTC")),
+    ("k", Some((0, false)), Kind::Timestamp("utc")),
+    ("k", Some((0, false)), Kind::Timestamp("")),
+    ("k", Some((0, false)), Kind::Time(TimeUnit::Microsecond)),
+    ("K", Some((0, false)), Kind::Timestamp("UTC")),
+];
+
+fn assert_others(rt: &(impl Abort + AllocGlobal), plain: &Field) {
+    for (i, other) in columns(rt, &OTHERS).iter().enumerate() {
+        assert!(rt; *plain != *other, "number {i}");
+    }
+}
+
+fn assert_without_nulls(rt: &(impl Abort + AllocGlobal), plain: &Field) {
+    let mut other = copied(rt, plain);
+    assert!(rt; *plain == other);
+    other.nullable = false;
+    assert!(rt; *plain != other);
+}
+
+#[test]
+fn equality_reads_everything(rt: HostRuntime) {
+    let plain = column(&rt, &PLAIN);
+    assert_others(&rt, &plain);
+    assert_without_nulls(&rt, &plain);
 }
