@@ -135,6 +135,10 @@ Explains Index body ds fields nodes buffers =
     AreThere fields nodes buffers × AreLaid body fields nodes buffers × AreText body fields nodes buffers × (AreIndexed body ds fields nodes buffers → ⊥)
 Explains Memory body ds fields nodes buffers = IsSound body ds fields nodes buffers
 
+-- The fault is the first that applies. Nothing grows.
+abbrev pub IsExplained : BodyFault → List ℕ → List (ℤ × ValueList) → Fields → List FieldNode → List Buffer → Type 0
+IsExplained fault body ds fields nodes buffers = (fault ≡ Memory → ⊥) × Explains fault body ds fields nodes buffers
+
 -- the number of a fault
 abbrev pub number_of : BodyFault → ℕ
 number_of Layout = 1

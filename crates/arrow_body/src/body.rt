@@ -1,8 +1,8 @@
 //! From nodes, buffers and a body to columns.
 
-ghost use Rattle.std.specs.Prelude.{◌≡◌, MatchResult};
+ghost use Rattle.std.specs.Prelude.{◌≡◌, IfOk, MatchResult};
 ghost use Rattle.arrow_types.specs.View.{fields_view};
-ghost use Rattle.arrow_body.specs.Sound.{AreFit, Explains, IsSound, columns_of, number_of};
+ghost use Rattle.arrow_body.specs.Sound.{AreFit, Explains, IsExplained, IsSound, columns_of, number_of};
 
 use crate::build::build;
 use crate::indexed::are_indexed;
@@ -13,7 +13,7 @@ use crate::text::are_text;
 use arrow_array::{Array, Dictionary};
 use arrow_types::{Buffer, Field, FieldNode};
 use bytes::Bytes;
-use std::alloc::Global;
+use std::alloc::{AllocError, Global};
 use std::error::Error;
 use std::fmt;
 
@@ -62,16 +62,44 @@ impl fmt::Display for BodyFault {
 
 impl Error for BodyFault {}
 
-/// The columns of the fields, or the fault with the least number of those that apply to any of them.
+/// The fault with the least number of those that apply to any of the columns of the fields, `Ok` where none does.
 ///
-/// Nodes and buffers stand in pre-order, depth first; those behind the last that is taken are not looked at. The three
-/// passes over all columns take no memory, and only the texts, offsets and indices are looked at slot by slot, so that a
-/// length alone costs nothing. The columns share the body: nothing of it is copied, and how often memory is asked for
-/// doesn't depend on how many slots there are.
+/// Nodes and buffers stand in pre-order, depth first; those behind the last that is taken are not looked at. Three passes
+/// over all columns, which take no memory: only the texts, offsets and indices are looked at slot by slot, so that a
+/// length alone costs nothing. `Memory` is not answered.
 ///
 /// A dictionary-encoded column refers to the first dictionary that is listed for its id, or to the empty one where none
 /// is; that a listed dictionary has the type of the field's values is known by the caller. They may be listed in any
 /// order; where their ids rise, each is found by halves.
+pub fn check(
+    fields: &[Field],
+    nodes: &[FieldNode],
+    buffers: &[Buffer],
+    body: &[u8],
+    dictionaries: &[(i64, Dictionary)],
+) -> Result<(), BodyFault>
+    ensures { MatchResult result
+        (λ _. IsSound body.now dictionaries.now (fields_view fields.now) nodes.now buffers.now)
+        (λ fault. IsExplained fault body.now dictionaries.now (fields_view fields.now) nodes.now buffers.now) }
+{
+    let left = Left { nodes, buffers };
+    if after(fields, left).is_none() || !are_laid(fields, left, body) {
+        return Err(BodyFault::Layout);
+    }
+    if !are_text(fields, left, body) {
+        return Err(BodyFault::Text);
+    }
+    if !are_indexed(fields, left, body, Listed::new(dictionaries)) {
+        return Err(BodyFault::Index);
+    }
+    Ok(())
+}
+
+/// The columns of the fields, or the fault with the least number of those that apply to any of them: what `check` tells,
+/// or `Memory` where it tells none and a growth was refused.
+///
+/// The columns share the body: nothing of it is copied, and how often memory is asked for doesn't depend on how many
+/// slots there are.
 pub fn load(
     alloc: Global,
     fields: &[Field],
@@ -86,20 +114,32 @@ pub fn load(
         × (arrays.items ≡ columns_of body.now dictionaries.now (fields_view fields.now) nodes.now buffers.now))
         (λ fault. Explains fault body.now dictionaries.now (fields_view fields.now) nodes.now buffers.now) }
 {
-    let left = Left { nodes, buffers };
-    let bytes = body.as_slice();
-    let listed = Listed::new(dictionaries);
-    if after(fields, left).is_none() || !are_laid(fields, left, bytes) {
-        return Err(BodyFault::Layout);
-    }
-    if !are_text(fields, left, bytes) {
-        return Err(BodyFault::Text);
-    }
-    if !are_indexed(fields, left, bytes, listed) {
-        return Err(BodyFault::Index);
-    }
-    match build(alloc, fields, left, body, listed) {
+    check(fields, nodes, buffers, body.as_slice(), dictionaries)?;
+    match load_unchecked(alloc, fields, nodes, buffers, body, dictionaries) {
         Ok(arrays) => Ok(arrays),
         Err(_) => Err(BodyFault::Memory),
     }
+}
+
+/// As `load`, of a body that `check` was seen to pass.
+pub fn load_unchecked(
+    alloc: Global,
+    fields: &[Field],
+    nodes: &[FieldNode],
+    buffers: &[Buffer],
+    body: &Bytes,
+    dictionaries: &[(i64, Dictionary)],
+) -> Result<Vec<Array>, AllocError>
+    requires sound { IsSound body.now dictionaries.now (fields_view fields.now) nodes.now buffers.now }
+    requires fit { AreFit dictionaries.now (fields_view fields.now) }
+    ensures { IfOk result (λ arrays. arrays.items
+        ≡ columns_of body.now dictionaries.now (fields_view fields.now) nodes.now buffers.now) }
+{
+    build(
+        alloc,
+        fields,
+        Left { nodes, buffers },
+        body,
+        Listed::new(dictionaries),
+    )
 }

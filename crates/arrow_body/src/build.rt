@@ -69,7 +69,7 @@ fn build_node(
                 dictionary,
             )
         }
-        None => Err(AllocError),
+        None => unreachable!(),
     }
 }
 
@@ -94,7 +94,7 @@ pub(crate) fn build(
         arrays.push(build_node(alloc, field, rest, body, children, dictionaries)?)?;
         rest = match after(below(field), inner) {
             Some(next) => next,
-            None => return Err(AllocError),
+            None => unreachable!(),
         };
     }
     Ok(arrays)

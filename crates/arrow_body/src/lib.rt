@@ -3,11 +3,12 @@
 //! A record batch's metadata lists a node for each field and the places of their buffers in the body. `load` looks at all
 //! of them before any array is made: in three passes over all columns it tests that nodes and buffers hold what their
 //! types ask for (Layout), that texts are UTF-8 (Text), and that indices have their values (Index). Only then the arrays
-//! are made, as ranges of the one body, which they share.
+//! are made, as ranges of the one body, which they share. Who has no `Bytes` yet calls `check`, which takes none, and
+//! then `load_unchecked` with the copy.
 //!
 //! What fields take of nodes and buffers stands in `specs/Taken.antt`, where a buffer lies in `specs/Held.antt`, and when
 //! all is sound, and which columns it then is, in `specs/Sound.antt`. The contract of `load` says both ways when it
-//! answers columns and when which fault. `nodes_of` and `have_length` answer what a reader asks of nodes before that: which
+//! answers columns and when which fault; that of `check` says the same without memory. `nodes_of` and `have_length` answer what a reader asks of nodes before that: which
 //! of them the fields take, and whether all columns have as many slots as the batch has rows.
 #![tactic(auto)]
 
@@ -23,6 +24,6 @@ mod listed;
 mod taken;
 mod text;
 
-pub use body::{BodyFault, load};
+pub use body::{BodyFault, check, load, load_unchecked};
 pub use counts::{have_length, nodes_of};
 pub use fit::are_fit;

@@ -24,7 +24,7 @@ part-append k n b c h =
 
 one_metadata : {l : LimitNumbers} {s : StreamState} {p : ℕ} {b : List ℕ} {r q : Result Message Refusal} →
     MetadataSays l s p b r → MetadataSays l s p b q → r ≡ q
-one_metadata {l} {s} {p} {b} x y = x.says ∙ ap (judged l.max_rows s (p + length b)) (one_meaning x.means y.means) ∙ sym y.says
+one_metadata {l} {s} {p} {b} x y = x.says ∙ ap (judged l.max_rows s (p + length b)) (one_meaning l b x.meant y.meant x.means y.means) ∙ sym y.says
 
 -- a body holds the same columns, or is refused by the same kind
 one_holding : {b : List ℕ} {ds : List (ℤ × ValueList)} {f : Fields} {w : PlainBatch} {r q : Result (List Column) Refusal} →

@@ -1,5 +1,5 @@
 -- A metadata means one thing, no message has a body over the limit, and what the layer below answers is what is meant.
-use Rattle.std.proofs.Common.{◌≡◌, ℕ, ◌≤◌, Bool, true, false, cond, List, ◌+◌, length, refl, sym, ap, ◌∙◌, subst, arith, inl, inr, Option, Some, None, Result, Ok, Err}
+use Rattle.std.proofs.Common.{◌≡◌, ℕ, ◌≤◌, Bool, true, false, cond, List, ◌+◌, length, refl, sym, ap, ◌∙◌, arith, Option, Some, None, Result, Ok, Err}
 use Rattle.std.specs.Prelude.{◌||◌, ◌&&◌, ◌==◌, not, nat_lt, is_some}
 use Rattle.std.proofs.lemmas.Bool.{ltb-false}
 use Rattle.std.proofs.lemmas.Bool.{or_parts}
@@ -7,41 +7,26 @@ use Rattle.arrow_types.specs.Limits.{LimitNumbers}
 use Rattle.arrow_meta.specs.declared.fault.BatchKind.{BatchKind}
 use Rattle.arrow_meta.specs.declared.fault.MetaFault.{MetaFault}
 use Rattle.arrow_meta.specs.declared.fault.MetaFault.TheVariants as faults
-use Rattle.arrow_meta.specs.declared.kinds.Kind.TheVariants as tables
 use Rattle.arrow_meta.specs.Conditions.{any, any_in, lacks_table, is_misfit}
 use Rattle.arrow_meta.specs.Faults.{fault_of, is_schema, header_of, body_of, version_of, has_header, is_bad_length, is_unsupported_schema, shares_an_id, batch_kind, batch_parts}
-use Rattle.arrow_meta.specs.Judges.{Decodes, MetadataFails, MetadataMeans}
-use Rattle.arrow_meta.specs.Lies.{Lies, LiesAtRoot}
-use Rattle.arrow_meta.specs.Means.{PlainMessage, meaning_of}
+use Rattle.arrow_meta.specs.Judges.{Decodes, MetadataMeans}
+use Rattle.arrow_meta.specs.Means.{PlainMessage}
 use Rattle.arrow_meta.specs.Parts.{nth, parts, is_there}
-use Rattle.arrow_meta.specs.Trees.{Tree}
-use Rattle.arrow_meta.proofs.OneTree.{one_table}
+use Rattle.arrow_meta.proofs.OneAnswer.{never_both, one_fault, one_message}
 use Rattle.arrow_stream.specs.Message.{Message}
 use Rattle.arrow_stream.specs.declared.message.Message.{Message as Held}
 use Rattle.arrow_stream.specs.declared.message.Stop.{Stop}
 use Rattle.arrow_stream.specs.declared.message.Stop.TheVariants.{Refused, Memory}
-use Rattle.arrow_stream.specs.Views.{Placed, StopsBy, Understood, announced}
-use Rattle.arrow_stream.specs.Meaning.{Means, readable, unreadable, said_unless, tree_means}
+use Rattle.arrow_stream.specs.Views.{Placed, StopsBy, Understood}
+use Rattle.arrow_stream.specs.Meaning.{Means, announced}
 use Rattle.arrow_stream.specs.State.{StreamState}
 
--- one tree lies at the root
-one_tree : (b : List ℕ) {x y : Tree} → LiesAtRoot x b → LiesAtRoot y b → x ≡ y
-one_tree b {x} {y} h k =
-    let e : k.0 ≡ h.0 = cc in
-    one_table tables.Message b h.0 x y h.2 (subst (λ p. Lies tables.Message y b p) e k.2)
-
 -- a metadata means one thing
-pub one_meaning : {l : LimitNumbers} {b : List ℕ} {r q : Result Message MetaFault} → Means l b r → Means l b q →
-    r ≡ q
-one_meaning {l} {b} (readable {x = x} h e) (readable {x = y} k f) = e ∙ ap (tree_means l.max_body) (one_tree b h.lies k.lies) ∙ sym f
-one_meaning (readable {x = x} h e) (unreadable n f) = absurd (n x h)
-one_meaning (unreadable n f) (readable {x = x} h e) = absurd (n x h)
-one_meaning (unreadable n f) (unreadable k g) = f ∙ sym g
-
--- what is answered has no fault, and is what is said
-answered : (f : Option MetaFault) (t : PlainMessage) (m : Message) → Ok m ≡ said_unless f t → (f ≡ None) × (m ≡ announced t)
-answered None t m e = (refl, (cc))
-answered (Some f) t m e = absurd (cc)
+pub one_meaning : (l : LimitNumbers) (b : List ℕ) (r q : Result Message MetaFault) → Means l b r → Means l b q → r ≡ q
+one_meaning l b (Ok m) (Ok n) h k = ap Ok (h.2 ∙ ap announced (one_message l b h.0 k.0 h.1 k.1) ∙ sym k.2)
+one_meaning l b (Ok m) (Err f) h k = absurd (never_both l b h.0 f h.1 k)
+one_meaning l b (Err f) (Ok m) h k = absurd (never_both l b k.0 f k.1 h)
+one_meaning l b (Err f) (Err g) h k = ap Err (one_fault l b f g h k)
 
 -- where no fault holds, the body's length is within the limit
 length_holds : (a b c d e f g : Bool) (n : ℕ) (k : BatchKind) →
@@ -53,41 +38,30 @@ length_holds false false true d e f g n k h = absurd (cc)
 length_holds false false false true e f g n k h = absurd (cc)
 length_holds false false false false e f g n k h = refl
 
-tree_small : (max : ℕ) (x : Tree) (m : Message) → Ok m ≡ tree_means max x → m.body_len ≤ max
-tree_small max x m e =
-    let xs = parts x in
-    let w = answered (fault_of max xs) (meaning_of xs) m e in
-    let d = length_holds (any_in lacks_table xs) (not (version_of xs == 4)) (not (has_header xs)) (is_bad_length max (body_of xs))
-    (is_schema xs && is_unsupported_schema (header_of xs)) (is_schema xs && (any is_misfit (header_of xs) || shares_an_id (header_of xs)))
-    (not (is_schema xs) && is_there (nth 3 (batch_parts xs))) (body_of xs) (batch_kind xs) w.0 in
-    let within = ltb-false max (body_of xs) (or_parts (nat_lt 9223372036854775807 (body_of xs)) (nat_lt max (body_of xs)) d).1 in
-    let same : m.body_len ≡ body_of xs = ap (λ (u : Message). u.body_len) w.1 in
-    omega arith
-
 -- the body of a message that a metadata means is within the limit
-pub meaning_small : {l : LimitNumbers} {b : List ℕ} {m : Message} → Means l b (Ok m) → m.body_len ≤ l.max_body
-meaning_small {l} {m = m} (readable {x = x} h e) = tree_small l.max_body x m e
-meaning_small (unreadable n f) = absurd (cc)
+pub meaning_small : (l : LimitNumbers) (b : List ℕ) (m : Message) → Means l b (Ok m) → m.body_len ≤ l.max_body
+meaning_small l b m h =
+    let xs = parts h.1.0 in
+    let d = length_holds (any_in lacks_table xs) (not (version_of xs == 4)) (not (has_header xs)) (is_bad_length l.max_body (body_of xs))
+    (is_schema xs && is_unsupported_schema (header_of xs)) (is_schema xs && (any is_misfit (header_of xs) || shares_an_id (header_of xs)))
+    (not (is_schema xs) && is_there (nth 3 (batch_parts xs))) (body_of xs) (batch_kind xs) h.1.2.sound in
+    let within = ltb-false l.max_body (body_of xs) (or_parts (nat_lt 9223372036854775807 (body_of xs)) (nat_lt l.max_body (body_of xs)) d).1 in
+    let same : m.body_len ≡ body_of xs = ap (λ (u : Message). u.body_len) h.2 ∙ ap (λ (u : PlainMessage). u.body_len) h.1.2.same in
+    omega arith
 
 -- what the layer below answers is what is meant
 pub decoded_means : (l : LimitNumbers) (b : List ℕ) (m : PlainMessage) → MetadataMeans l b m → Means l b (Ok (announced m))
-decoded_means l b m h =
-    let x = h.0 in
-    readable h.1 (sym (ap (λ f. said_unless f (meaning_of (parts x))) h.2.sound ∙ ap (λ v. Ok (announced v)) (sym h.2.same)))
-
-fault_means : (l : LimitNumbers) (b : List ℕ) (f : MetaFault) → MetadataFails l b f → Means l b (Err f)
-fault_means l b f (inl h) = unreadable h.1 (ap Err h.0)
-fault_means l b f (inr h) = let x = h.0 in readable h.1 (sym (ap (λ o. said_unless o (meaning_of (parts x))) h.2))
+decoded_means l b m h = (m, h, refl)
 
 -- so is a fault, but for want of memory
 pub decoded_fault : (l : LimitNumbers) (b : List ℕ) (f : MetaFault) → (f ≡ faults.Memory → ⊥) → Decodes (Err f) l b → Means l b (Err f)
-decoded_fault l b faults.Metadata n h = fault_means l b faults.Metadata h
-decoded_fault l b faults.Version n h = fault_means l b faults.Version h
-decoded_fault l b faults.Header n h = fault_means l b faults.Header h
-decoded_fault l b faults.BodyLength n h = fault_means l b faults.BodyLength h
-decoded_fault l b (faults.Unsupported k) n h = fault_means l b (faults.Unsupported k) h
-decoded_fault l b (faults.Schema k) n h = fault_means l b (faults.Schema k) h
-decoded_fault l b (faults.Compressed j k) n h = fault_means l b (faults.Compressed j k) h
+decoded_fault l b faults.Metadata n h = h
+decoded_fault l b faults.Version n h = h
+decoded_fault l b faults.Header n h = h
+decoded_fault l b faults.BodyLength n h = h
+decoded_fault l b (faults.Unsupported k) n h = h
+decoded_fault l b (faults.Schema k) n h = h
+decoded_fault l b (faults.Compressed j k) n h = h
 decoded_fault l b faults.Memory n h = absurd (n refl)
 
 -- what is understood of a metadata with a fault

@@ -1,24 +1,76 @@
 -- What becomes of a message whose body is whole.
-use Rattle.std.proofs.Common.{◌≡◌, ℕ, ℤ, Bool, true, false, List, [], ◌∷◌, ◌++◌, Some, refl, sym, ap, ◌∙◌, subst, Ok, Err}
-use Rattle.arrow_types.specs.Field.{Fields, Head, none, more, fields_of, TypeShape}
+use Rattle.std.proofs.Common.{◌≡◌, ℕ, ◌+◌, ◌≤◌, ℤ, Bool, true, false, cond, List, [], ◌∷◌, ◌++◌, length, Some, None, is_some, refl, sym, ap, ◌∙◌, subst, arith, Ok, Err}
+use Rattle.std.specs.Prelude.{◌&&◌, not, nat_lt}
+use Rattle.std.specs.List.{AllByRecursion}
+use Rattle.std.proofs.lemmas.Bool.{ltb-false}
+use Rattle.arrow_types.specs.Field.{Fields, Head, none, more, fields_of, width, TypeShape}
 use Rattle.arrow_types.specs.Schema.{dictionary_fields, has_encoding}
-use Rattle.arrow_array.specs.Batch.{Table}
-use Rattle.arrow_array.specs.Column.{AreOf, Column, ValueList}
+use Rattle.arrow_array.specs.Batch.{HaveRows, Judges, Table}
+use Rattle.arrow_array.specs.declared.batch.BatchFault.{BatchFault}
+use Rattle.arrow_array.specs.declared.batch.BatchFault.TheVariants.{ColumnCount, ColumnType, ColumnLength, IndexRange}
+use Rattle.arrow_array.specs.declared.batch.BatchFault.TheVariants as batches
+use Rattle.arrow_array.specs.Column.{AreOf, Column, ValueList, counts_of}
 use Rattle.arrow_array.specs.Listed.{listed}
 use Rattle.arrow_body.specs.Held.{count_of}
 use Rattle.arrow_body.specs.Sound.{columns_of}
-use Rattle.arrow_body.proofs.Columns.{columns_typed}
-use Rattle.arrow_dict.specs.Appends.{IsAppended, with_values as grown_with}
+use Rattle.arrow_body.proofs.Columns.{columns_long, columns_typed}
+use Rattle.arrow_dict.specs.Appends.{IsAppended, IsTooLong, with_values as grown_with}
 use Rattle.arrow_dict.specs.Dictionaries.{placed}
 use Rattle.arrow_dict.specs.ValueTypes.{value_field, value_type_of}
 use Rattle.arrow_meta.specs.Means.{PlainBatch, dictionary, batch}
+use Rattle.arrow_stream.specs.declared.kind.Refusal.TheVariants.{NoBase, Rows, UnknownId}
 use Rattle.arrow_stream.specs.declared.message.Stop.{Stop}
 use Rattle.arrow_stream.specs.declared.message.Stop.TheVariants.{Refused, Memory}
 use Rattle.arrow_stream.specs.State.{StreamState, dictionary_given, batch_given, fields_in}
-use Rattle.arrow_stream.specs.Batch.{Holds, columns, base_of, field_of_type, value_fields}
+use Rattle.arrow_stream.specs.Batch.{Holds, columns, base_of, field_of_type, has_bad_length, value_fields}
 use Rattle.arrow_stream.specs.Frame.{BodySays, dictionary_comes, batch_comes}
-use Rattle.arrow_stream.specs.Views.{AreValues, Gives, HeldValues, HoldsNone, IsFit, Updates}
+use Rattle.arrow_stream.specs.Views.{AreValues, Gives, HasNoColumns, HeldValues, IsApplicable, IsFit, Ready, Updates}
 use Rattle.arrow_stream.proofs.Fitness.{placed_fit}
+
+-- THE COLUMNS OF A BODY
+
+-- the columns that a body holds are of the fields
+held_typed : {body : List ℕ} {ds : List (ℤ × ValueList)} {f : Fields} {w : PlainBatch} {cs : List Column} → Holds body ds f w (Ok cs) → AreOf f cs
+held_typed {body} {ds} {f} {w} (columns layout text indexed) = columns_typed body ds f w.nodes w.buffers
+
+-- and have as many slots as the batch has rows
+held_long : {body : List ℕ} {ds : List (ℤ × ValueList)} {f : Fields} {w : PlainBatch} {cs : List Column} → Holds body ds f w (Ok cs) →
+    AllByRecursion (λ (k : ℕ). k ≡ count_of w.length) (counts_of cs)
+held_long {body} {ds} {f} {w} (columns layout text indexed) =
+    subst (AllByRecursion (λ (k : ℕ). k ≡ count_of w.length)) (sym (columns_long body ds f w.nodes w.buffers)) layout.long
+
+have_rows : (n : ℕ) (cs : List Column) → AllByRecursion (λ (k : ℕ). k ≡ n) (counts_of cs) → HaveRows n cs
+have_rows n [] h = tt
+have_rows n (c ∷ cs) h = (h.0, have_rows n cs h.1)
+
+typed_width : (f : Fields) (cs : List Column) → AreOf f cs → length cs ≡ width f
+typed_width none [] a = refl
+typed_width none (c ∷ cs) a = absurd a
+typed_width (more h c rest) [] a = absurd a
+typed_width (more h c rest) (x ∷ xs) a = omega (arith, typed_width rest xs a.2)
+
+-- columns of the fields, with these rows, are a batch
+no_fault : (fault : BatchFault) (f : Fields) (cs : List Column) (n : ℕ) → AreOf f cs → HaveRows n cs → Judges (Err fault) f cs n → ⊥
+no_fault ColumnCount f cs n typed long j = j (typed_width f cs typed)
+no_fault ColumnType f cs n typed long j = j.1 typed
+no_fault ColumnLength f cs n typed long j = j.1 long
+no_fault IndexRange f cs n typed long j = j
+no_fault batches.Memory f cs n typed long j = j
+
+-- so are those that a body holds
+pub held_fits : {body : List ℕ} {ds : List (ℤ × ValueList)} {f : Fields} {w : PlainBatch} {cs : List Column} (fault : BatchFault) → Holds body ds f w (Ok cs) →
+    Judges (Err fault) f cs (count_of w.length) → ⊥
+held_fits {f = f} {w = w} {cs = cs} fault h = no_fault fault f cs (count_of w.length) (held_typed h) (have_rows (count_of w.length) cs (held_long h))
+
+-- WHAT STANDS AGAINST A DICTIONARY BATCH
+
+-- where nothing does, a delta finds its dictionary, and there are not too many rows
+against_cases : (a b c d : Bool) → cond a (Some UnknownId) (cond b (Some NoBase) (cond c (Some Rows) (cond d (Some Rows) None))) ≡ None → (b ≡ false) × (d ≡ false)
+against_cases true b c d e = absurd (cc)
+against_cases false true c d e = absurd (cc)
+against_cases false false true d e = absurd (cc)
+against_cases false false false true e = absurd (cc)
+against_cases false false false false e = (refl, refl)
 
 -- ONE COLUMN
 
@@ -47,9 +99,13 @@ held_columns (columns layout text indexed) = refl
 
 module _ (s : StreamState) (rows : PlainBatch) (body : List ℕ) where
   -- what refuses the body of a record batch refuses the batch
-  pub batch_refused : (stop : Stop) → HoldsNone body s.dictionaries (fields_in s.schema) rows stop → Gives s rows body (Err stop)
+  pub batch_refused : (stop : Stop) → HasNoColumns body s.dictionaries (fields_in s.schema) rows stop → Gives s rows body (Err stop)
   batch_refused (Refused k) h = batch_comes h refl
-  batch_refused Memory h = tt
+  batch_refused Memory h = (_, batch_comes h.1 refl)
+
+  -- a record batch whose body holds columns is not refused
+  pub batch_applicable : (cs : List Column) → Holds body s.dictionaries (fields_in s.schema) rows (Ok cs) → IsApplicable s (batch rows) body
+  batch_applicable cs h = (_, batch_comes h refl)
 
   -- a record batch gives the columns of its body
   pub batch_read : (cs : List Column) (b : Table) → Holds body s.dictionaries (fields_in s.schema) rows (Ok cs) →
@@ -77,13 +133,40 @@ module _ (s : StreamState) (rows : PlainBatch) (body : List ℕ) where
   -- refuses the batch
   pub update_refused : (id : ℤ) (delta : Bool) (stop : Stop) → HeldValues s id rows body (Err stop) → Updates s id delta rows body (Err stop) s
   update_refused id delta (Refused k) h = (dictionary_comes h refl, refl)
-  update_refused id delta Memory h = refl
+  update_refused id delta Memory h = ((_, dictionary_comes h.1 refl), refl)
 
   -- a dictionary batch leaves its values, in place of those of its id or behind them
   pub updated : (id : ℤ) (delta : Bool) (c : Column) (ds : List (ℤ × ValueList)) → AreValues s id rows body c →
       ds ≡ placed id (record { data_type = c.data_type; values = base_of delta (listed s.dictionaries id) ++ c.raw }) s.dictionaries →
       BodySays s (dictionary id delta rows) body (Ok (record { schema = s.schema; dictionaries = ds }, dictionary_given id))
   updated id delta c ds h e = dictionary_comes h.holds (ap (λ x. Ok (record { schema = s.schema; dictionaries = x }, dictionary_given id)) e)
+
+  -- one for each row
+  values_long : (id : ℤ) (c : Column) → AreValues s id rows body c → length c.raw ≡ count_of rows.length
+  values_long id c v = (held_long v.holds).0
+
+  -- a delta against which nothing stands finds its dictionary
+  pub base_found : (id : ℤ) → Ready s (dictionary id true rows) → listed s.dictionaries id ≡ None → ⊥
+  base_found id r e =
+      let w = against_cases (not (is_some (value_type_of (dictionary_fields (fields_in s.schema)) id))) (true && not (is_some (listed s.dictionaries id)))
+      (has_bad_length r.max_rows (value_fields s.schema id) rows)
+      (nat_lt r.max_rows (length (base_of true (listed s.dictionaries id)) + count_of rows.length)) r.none in
+      let none = subst (λ o. not (is_some o) ≡ false) e w.0 in
+      cc
+
+  -- and does not make it too long
+  pub base_fits : (id : ℤ) (c : Column) (new : List (ℤ × ValueList)) → Ready s (dictionary id true rows) → AreValues s id rows body c → IsTooLong s.dictionaries id c new → ⊥
+  base_fits id c new r v long =
+      let w = against_cases (not (is_some (value_type_of (dictionary_fields (fields_in s.schema)) id))) (true && not (is_some (listed s.dictionaries id)))
+      (has_bad_length r.max_rows (value_fields s.schema id) rows)
+      (nat_lt r.max_rows (length (base_of true (listed s.dictionaries id)) + count_of rows.length)) r.none in
+      let few = ltb-false r.max_rows (length (base_of true (listed s.dictionaries id)) + count_of rows.length) w.1 in
+      let base : length (base_of true (listed s.dictionaries id)) ≡ length long.base.values = ap (λ o. length (base_of true o)) long.there in
+      omega (arith, values_long id c v, r.ceiling, long.many)
+
+  -- so the batch is not refused
+  pub values_applicable : (id : ℤ) (delta : Bool) (c : Column) → AreValues s id rows body c → IsApplicable s (dictionary id delta rows) body
+  values_applicable id delta c h = (_, dictionary_comes h.holds refl)
 
   -- behind a dictionary of this type
   pub appended : (id : ℤ) (c : Column) (base : ValueList) (ds : List (ℤ × ValueList)) → listed s.dictionaries id ≡ Some base → base.data_type ≡ c.data_type →

@@ -106,7 +106,7 @@ module _ {l : LimitNumbers} {s : StreamState} {p : ℕ} where
       let w = judged_at h in
       let n : length (take m (drop 8 b)) ≡ m = simp (length-take, length-drop) (omega (arith, h.within)) in
       let means = subst (λ r. Means l (take m (drop 8 b)) r) w.meant h.says.means in
-      ((size_small h.prefix).0, meaning_small means, omega (arith, w.near))
+      ((size_small h.prefix).0, meaning_small l (take m (drop 8 b)) t means, omega (arith, w.near))
 
   -- a message that was judged is in order
   pub message_in_order : {b : List ℕ} {m : ℕ} {t : Message} → HasMetadata l s p b m (Ok t) → is_out_of_order (is_some s.schema) t.content ≡ false
@@ -213,31 +213,24 @@ module _ (old : Work) (st : State) (m : ℕ) (t : HeldMessage) (c : HeldContent)
       Applies (plain old.state) (content_of t.content) (take (length d - (8 + m)) (drop (8 + m) d)) (Err (stop, c)) (plain st) →
       Finishes old m (message_of t) (Err stop) (handed_back old st m c t.body_len)
   not_finished d (Refused k) e few fit a = (not_applied few fit a.1 a.2, body_said d e known whole a.0)
-  not_finished d Memory e few fit a = not_applied few fit a.0 a.1
+  not_finished d Memory e few fit a = (not_applied few fit a.1 a.2, (a.0.0, body_said d e known whole a.0.1))
 
 -- so does the step to which it belongs
 module _ (old : Work) (h : Vec ℕ Global) (f : Phase) (new : Work) where
   abbrev filled_up : Work
   filled_up = record { alloc = old.alloc; limits = old.limits; state = old.state; place = old.place; held = h; phase = f }
 
+  stopped_at : (b rest : List ℕ) → h.items ++ rest ≡ b → length old.held.items ≤ length h.items → NotApplied filled_up new → Stopped old b new
+  stopped_at b rest e covers not = record {
+    same = record { limits = not.same.limits; state = not.same.state; place = not.same.place };
+    more = rest;
+    held = sym e ∙ ap (λ y. y ++ rest) (sym not.held);
+    covers = subst (λ y. length old.held.items ≤ length y) (sym not.held) covers;
+    at = not.at;
+  }
+
   pub finish_stops : (b rest : List ℕ) (m : ℕ) (t : Message) (stop : Stop) → h.items ++ rest ≡ b → length old.held.items ≤ length h.items →
       Finishes filled_up m t (Err stop) new → Works old b (Err stop) new
   finish_stops b rest m t (Refused k) e covers x =
-      let not = x.0 in
-      record {
-        stopped = record {
-          same = record { limits = not.same.limits; state = not.same.state; place = not.same.place };
-          more = rest;
-          held = sym e ∙ ap (λ y. y ++ rest) (sym not.held);
-          covers = subst (λ y. length old.held.items ≤ length y) (sym not.held) covers;
-          at = not.at;
-        };
-        first = bad_body (body_held b rest e x.1);
-      }
-  finish_stops b rest m t Memory e covers x = record {
-    same = record { limits = x.same.limits; state = x.same.state; place = x.same.place };
-    more = rest;
-    held = sym e ∙ ap (λ y. y ++ rest) (sym x.held);
-    covers = subst (λ y. length old.held.items ≤ length y) (sym x.held) covers;
-    at = x.at;
-  }
+      record { stopped = stopped_at b rest e covers x.0; first = bad_body (body_held b rest e x.1) }
+  finish_stops b rest m t Memory e covers x = stopped_at b rest e covers x.0

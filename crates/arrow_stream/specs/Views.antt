@@ -20,6 +20,7 @@ use Rattle.arrow_stream.specs.declared.message.Stop.TheVariants.{Refused, Memory
 use Rattle.arrow_stream.specs.declared.state.State.{State}
 use Rattle.arrow_stream.specs.Batch.{Holds, value_fields}
 use Rattle.arrow_stream.specs.State.{StreamState, Given, schema_given, dictionary_given, batch_given, ended, fields_in}
+use Rattle.arrow_stream.specs.Meaning.{announced}
 use Rattle.arrow_stream.specs.Message.{Message}
 use Rattle.arrow_stream.specs.Frame.{BodySays, MetadataSays, against, is_out_of_order, judged, kind_of_fault}
 
@@ -40,19 +41,16 @@ content_of (held.Batch rows) = batch (batch_view rows)
 abbrev pub message_of : HeldMessage → Message
 message_of m = record { content = content_of m.content; body_len = m.body_len }
 
-abbrev pub announced : PlainMessage → Message
-announced m = record { content = m.header; body_len = m.body_len }
-
 -- Why a metadata with this fault is not read on that ends at this place: the least kind, or want of memory.
 abbrev pub StopsBy : Stop → Bool → ℕ → MetaFault → Type 0
 StopsBy (Refused k) has_schema end fault = (fault ≡ faults.Memory → ⊥) × (k ≡ kind_of_fault has_schema end fault)
 StopsBy Memory has_schema end fault = fault ≡ faults.Memory
 
--- what a message is answered with whose metadata end at this place; want of memory says nothing of it
+-- What a message is answered with whose metadata end at this place. Memory may be wanting where nothing stands against it.
 abbrev pub Placed : ℕ → StreamState → ℕ → PlainMessage → Result HeldMessage Stop → Type 0
 Placed max_rows s end m (Ok r) = Ok (message_of r) ≡ judged max_rows s end (Ok (announced m))
 Placed max_rows s end m (Err (Refused k)) = Err k ≡ judged max_rows s end (Ok (announced m))
-Placed max_rows s end m (Err Memory) = Unit {0}
+Placed max_rows s end m (Err Memory) = judged max_rows s end (Ok (announced m)) ≡ Ok (announced m)
 
 -- what a metadata says that begins at this place; want of memory says nothing of it
 abbrev pub Understood : LimitNumbers → StreamState → ℕ → List ℕ → Result HeldMessage Stop → Type 0
@@ -72,12 +70,16 @@ pub record Ready (s : StreamState) (m : PlainHeader) : Type 0 where
   pub in_order : is_out_of_order (is_some s.schema) m ≡ false
   pub none : against max_rows s m ≡ None
 
--- the refusal of a body; want of memory says nothing of it
-abbrev pub HoldsNone : List ℕ → List (ℤ × ValueList) → Fields → PlainBatch → Stop → Type 0
-HoldsNone body ds fields rows (Refused k) = Holds body ds fields rows (Err k)
-HoldsNone body ds fields rows Memory = Unit {0}
+-- the body is not refused: it holds columns
+abbrev pub HoldsSome : List ℕ → List (ℤ × ValueList) → Fields → PlainBatch → Type 0
+HoldsSome body ds fields rows = (columns : List Column) × Holds body ds fields rows (Ok columns)
 
--- the one column of a dictionary batch is of the type of the dictionary's values
+-- why there are no columns of a body: its refusal, or want of memory for those that it holds
+abbrev pub HasNoColumns : List ℕ → List (ℤ × ValueList) → Fields → PlainBatch → Stop → Type 0
+HasNoColumns body ds fields rows (Refused k) = Holds body ds fields rows (Err k)
+HasNoColumns body ds fields rows Memory = HoldsSome body ds fields rows
+
+-- The one column of a dictionary batch is of the type of the dictionary's values
 pub record AreValues (s : StreamState) (id : ℤ) (rows : PlainBatch) (body : List ℕ) (c : Column) : Type 0 where
   pub holds : Holds body [] (value_fields s.schema id) rows (Ok (c ∷ []))
   pub typed : value_type_of (dictionary_fields (fields_in s.schema)) id ≡ Some c.data_type
@@ -87,23 +89,27 @@ pub record AreValues (s : StreamState) (id : ℤ) (rows : PlainBatch) (body : Li
 abbrev pub HeldValues : StreamState → ℤ → PlainBatch → List ℕ → Result Column Stop → Type 0
 HeldValues s id rows body (Ok c) = AreValues s id rows body c
 HeldValues s id rows body (Err (Refused k)) = Holds body [] (value_fields s.schema id) rows (Err k)
-HeldValues s id rows body (Err Memory) = Unit {0}
+HeldValues s id rows body (Err Memory) = HoldsSome body [] (value_fields s.schema id) rows
+
+-- the body is not refused: there is what the message leaves and gives
+abbrev pub IsApplicable : StreamState → PlainHeader → List ℕ → Type 0
+IsApplicable s m body = (left : StreamState × Given) × BodySays s m body (Ok left)
 
 -- what a dictionary batch leaves, or its refusal; where it is not taken nothing changes
 abbrev pub Updates : StreamState → ℤ → Bool → PlainBatch → List ℕ → Result (Unit {0}) Stop → StreamState → Type 0
 Updates s id delta rows body (Ok x) s' = BodySays s (dictionary id delta rows) body (Ok (s', dictionary_given id))
 Updates s id delta rows body (Err (Refused k)) s' = BodySays s (dictionary id delta rows) body (Err k) × (s' ≡ s)
-Updates s id delta rows body (Err Memory) s' = s' ≡ s
+Updates s id delta rows body (Err Memory) s' = IsApplicable s (dictionary id delta rows) body × (s' ≡ s)
 
 -- the rows that a record batch gives, or its refusal
 abbrev pub Gives : StreamState → PlainBatch → List ℕ → Result Table Stop → Type 0
 Gives s rows body (Ok b) = BodySays s (batch rows) body (Ok (s, batch_given b))
 Gives s rows body (Err (Refused k)) = BodySays s (batch rows) body (Err k)
-Gives s rows body (Err Memory) = Unit {0}
+Gives s rows body (Err Memory) = IsApplicable s (batch rows) body
 
 -- What a message with its whole body leaves and gives, or its refusal. Where it is not applied nothing changes, and the
 -- message is handed back.
 abbrev pub Applies : StreamState → PlainHeader → List ℕ → Result Item (Stop × HeldContent) → StreamState → Type 0
 Applies s m body (Ok item) s' = BodySays s m body (Ok (s', given item))
 Applies s m body (Err (Refused k, c)) s' = BodySays s m body (Err k) × (s' ≡ s) × (content_of c ≡ m)
-Applies s m body (Err (Memory, c)) s' = (s' ≡ s) × (content_of c ≡ m)
+Applies s m body (Err (Memory, c)) s' = IsApplicable s m body × (s' ≡ s) × (content_of c ≡ m)

@@ -12,7 +12,7 @@ use Rattle.arrow_stream.specs.declared.work.Step.{Step}
 use Rattle.arrow_stream.specs.declared.work.Step.TheVariants as steps
 use Rattle.arrow_stream.specs.declared.work.Work.{Work}
 use Rattle.arrow_stream.specs.Message.{Message}
-use Rattle.arrow_stream.specs.State.{StreamState}
+use Rattle.arrow_stream.specs.State.{StreamState, Given}
 use Rattle.arrow_stream.specs.Frame.{HasPrefix, HasMetadata, HasBody, Outcome, First, whole, marker, refused, waits}
 use Rattle.arrow_stream.specs.Views.{IsFit, plain, given, message_of}
 
@@ -103,12 +103,13 @@ pub record NotApplied (old new : Work) : Type 0 where
   pub held : new.held.items ≡ old.held.items
   pub at : IsAt new
 
--- what becomes of a message of which all bytes are held
+-- What becomes of a message of which all bytes are held. Memory may be wanting where its body is not refused.
 abbrev pub Finishes : Work → ℕ → Message → Result Item Stop → Work → Type 0
 Finishes old m message (Ok item) new = Applied old m message item new
 Finishes old m message (Err (Refused k)) new =
     NotApplied old new × HasBody old.limits (plain old.state) old.place old.held.items m message (Err k)
-Finishes old m message (Err Memory) new = NotApplied old new
+Finishes old m message (Err Memory) new =
+    NotApplied old new × ((left : StreamState × Given) × HasBody old.limits (plain old.state) old.place old.held.items m message (Ok left))
 
 -- the first bytes held alone
 pub record Rewound (old : Work) (count : ℕ) (new : Work) : Type 0 where

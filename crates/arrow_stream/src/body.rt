@@ -6,12 +6,12 @@ ghost use Rattle.arrow_body.specs.Held.{count_of};
 ghost use Rattle.arrow_body.specs.Sound.{AreFit};
 ghost use Rattle.arrow_meta.specs.Means.{batch_view};
 ghost use Rattle.arrow_stream.specs.Batch.{Holds};
-ghost use Rattle.arrow_stream.specs.Views.{HoldsNone};
+ghost use Rattle.arrow_stream.specs.Views.{HasNoColumns};
 
 use crate::kind::Refusal;
 use crate::message::Stop;
 use arrow_array::{Array, Dictionary};
-use arrow_body::{BodyFault, have_length, load};
+use arrow_body::{BodyFault, check, have_length, load_unchecked};
 use arrow_meta::RecordBatch;
 use arrow_types::Field;
 use bytes::Bytes;
@@ -26,7 +26,7 @@ pub(crate) fn row_count(rows: &RecordBatch) -> usize
 }
 
 /// The columns of the fields that a body holds, or the first of Layout, Text and Index that applies to any of them.
-/// They share one copy of the body.
+/// They share one copy of the body, which is made where none applies.
 pub(crate) fn hold(
     alloc: Global,
     fields: &[Field],
@@ -38,15 +38,22 @@ pub(crate) fn hold(
     requires fit { AreFit dictionaries.now (fields_view fields.now) }
     ensures held { MatchResult result
         (λ columns. Holds body.now dictionaries.now (fields_view fields.now) (batch_view rows.now) (Ok columns.items))
-        (λ stop. HoldsNone body.now dictionaries.now (fields_view fields.now) (batch_view rows.now) stop) }
+        (λ stop. HasNoColumns body.now dictionaries.now (fields_view fields.now) (batch_view rows.now) stop) }
 {
     if !have_length(fields, &rows.nodes, row_count(rows)) {
         return Err(Stop::Refused(Refusal::Layout));
     }
+    match check(fields, &rows.nodes, &rows.buffers, body, dictionaries) {
+        Ok(()) => {}
+        Err(BodyFault::Layout) => return Err(Stop::Refused(Refusal::Layout)),
+        Err(BodyFault::Text) => return Err(Stop::Refused(Refusal::Text)),
+        Err(BodyFault::Index) => return Err(Stop::Refused(Refusal::Index)),
+        Err(BodyFault::Memory) => unreachable!(),
+    }
     let Ok(body) = Bytes::copy_from_slice(alloc, body) else {
         return Err(Stop::Memory);
     };
-    match load(
+    match load_unchecked(
         alloc,
         fields,
         &rows.nodes,
@@ -55,9 +62,6 @@ pub(crate) fn hold(
         dictionaries,
     ) {
         Ok(columns) => Ok(columns),
-        Err(BodyFault::Layout) => Err(Stop::Refused(Refusal::Layout)),
-        Err(BodyFault::Text) => Err(Stop::Refused(Refusal::Text)),
-        Err(BodyFault::Index) => Err(Stop::Refused(Refusal::Index)),
-        Err(BodyFault::Memory) => Err(Stop::Memory),
+        Err(_) => Err(Stop::Memory),
     }
 }

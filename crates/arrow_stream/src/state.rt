@@ -1,6 +1,6 @@
 //! What the messages of a stream leave to the ones behind them.
 
-ghost use Rattle.std.specs.Prelude.{◌≡◌, ◌≤ℤ◌, pos, [], false, Some, None, option_map, length};
+ghost use Rattle.std.specs.Prelude.{◌≡◌, ◌≤ℤ◌, pos, [], false, Some, None, is_some, option_map, length, IsTrue};
 ghost use Rattle.arrow_types.specs.Schema.{dictionary_fields, has_encoding};
 ghost use Rattle.arrow_types.specs.Field.{TypeShape};
 ghost use Rattle.arrow_types.specs.View.{field_view, fields_view};
@@ -15,7 +15,7 @@ use crate::columns::Columns;
 use crate::item::Item;
 use crate::message::{Content, Stop};
 use arrow_array::{Array, Batch, Dictionary};
-use arrow_dict::Store;
+use arrow_dict::{Store, StoreFault};
 use arrow_meta::RecordBatch;
 use arrow_types::Field;
 use std::alloc::Global;
@@ -100,7 +100,7 @@ impl State {
         ensures gives { Gives (plain self.now) (batch_view rows.now) body.now result }
     {
         let Some(columns) = &self.columns else {
-            return Err(Stop::Memory);
+            unreachable!();
         };
         let schema = columns.schema();
         let dictionaries = self.dictionaries.entries();
@@ -113,22 +113,23 @@ impl State {
         };
         match Batch::new(schema, arrays, row_count(rows)) {
             Ok(batch) => Ok(batch),
-            Err(_) => Err(Stop::Memory),
+            Err(_) => unreachable!(),
         }
     }
 
     /// The values of a dictionary batch with this body.
     fn values(&self, alloc: Global, id: i64, rows: &RecordBatch, body: &[u8]) -> Result<Array, Stop>
         requires sign { pos 0 ≤ℤ rows.now.length }
+        requires named { IsTrue (is_some (value_type_of (dictionary_fields (fields_in (plain self.now).schema)) id)) }
         ensures values { HeldValues (plain self.now) id (batch_view rows.now) body.now result }
     {
         let Some(field) = self.value_field(id) else {
-            return Err(Stop::Memory);
+            unreachable!();
         };
         match hold(alloc, slice::from_ref(field), rows, body, &[]) {
             Ok(mut arrays) => match arrays.pop() {
                 Some(values) => Ok(values),
-                None => Err(Stop::Memory),
+                None => unreachable!(),
             },
             Err(stop) => Err(stop),
         }
@@ -155,7 +156,9 @@ impl State {
         if is_delta {
             return match self.dictionaries.append(alloc, id, values) {
                 Ok(()) => Ok(()),
-                Err(_) => Err(Stop::Memory),
+                Err(StoreFault::Memory) => Err(Stop::Memory),
+                Err(StoreFault::NoBase) => unreachable!(),
+                Err(StoreFault::TooLong) => unreachable!(),
             };
         }
         let Ok(dictionary) = Dictionary::from_array(alloc, values) else {

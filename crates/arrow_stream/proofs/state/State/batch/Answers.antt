@@ -1,13 +1,14 @@
-use Rattle.std.proofs.Common.{◌≡◌, sym, ap, ◌∙◌, subst, Ok}
+use Rattle.std.proofs.Common.{◌≡◌, sym, ap, ◌∙◌, subst, Ok, Err}
 use Rattle.arrow_types.specs.Schema.{IsSchema}
 use Rattle.arrow_types.specs.View.{fields_view}
+use Rattle.arrow_array.specs.Batch.{Judges}
 use Rattle.arrow_body.specs.Sound.{AreFit}
 use Rattle.arrow_meta.specs.Means.{batch_view}
 use Rattle.arrow_stream.specs.Batch.{Holds}
 use Rattle.arrow_stream.specs.State.{fields_in}
-use Rattle.arrow_stream.specs.Views.{HoldsNone, plain}
+use Rattle.arrow_stream.specs.Views.{HasNoColumns, plain}
 use Rattle.arrow_stream.proofs.Fitness.{state_fit}
-use Rattle.arrow_stream.proofs.States.{batch_refused, batch_read}
+use Rattle.arrow_stream.proofs.States.{batch_applicable, batch_read, batch_refused, held_fits}
 use Rattle.arrow_stream.proofs.state.State.batch.Goals as goal
 
 pub hold-requires-clause-fit : goal.hold-requires-clause-fit
@@ -27,12 +28,12 @@ returns-in-Err c =
     let same : fields_view c.fields.result.now ≡ fields_in s.schema = c.fields.ensures.same ∙ c.deref.ensures ∙ c.schema-schema.ensures.same ∙ sym (ap fields_in c.in-Some.is) in
     record {
       gives = batch_refused s rows body c.in-Err.stop
-          (subst (λ x. HoldsNone body x (fields_in s.schema) rows c.in-Err.stop) c.entries-dictionaries.ensures.all
-          (subst (λ x. HoldsNone body c.entries-dictionaries.result.now x rows c.in-Err.stop) same c.in-Err.ensures.held));
+          (subst (λ x. HasNoColumns body x (fields_in s.schema) rows c.in-Err.stop) c.entries-dictionaries.ensures.all
+          (subst (λ x. HasNoColumns body c.entries-dictionaries.result.now x rows c.in-Err.stop) same c.in-Err.ensures.held));
     }
 
-pub returns-in-Ok-new : goal.returns-in-Ok-new
-returns-in-Ok-new c =
+pub returns : goal.returns
+returns c =
     let s = plain c.args.self.now in
     let rows = batch_view c.args.rows.now in
     let body = c.args.body.now in
@@ -47,3 +48,32 @@ returns-in-Ok-new c =
           ∙ ap (λ x. record { schema = x; columns = cs; rows = c.row_count.result }) (c.in-Ok-clone.ensures.cases ∙ held)
           ∙ ap (λ n. record { schema = fields_in s.schema; columns = cs; rows = n }) c.row_count.ensures.count);
     }
+
+pub returns-in_default-clone : goal.returns-in_default-clone
+returns-in_default-clone c =
+    let s = plain c.args.self.now in
+    let rows = batch_view c.args.rows.now in
+    let body = c.args.body.now in
+    let cs = c.in-Ok.arrays.items in
+    let held = c.schema-schema.ensures.same ∙ sym (ap fields_in c.in-Some.is) in
+    let same : fields_view c.fields.result.now ≡ fields_in s.schema = c.fields.ensures.same ∙ c.deref.ensures ∙ held in
+    let holds : Holds body s.dictionaries (fields_in s.schema) rows (Ok cs) =
+        subst (λ x. Holds body x (fields_in s.schema) rows (Ok cs)) c.entries-dictionaries.ensures.all
+        (subst (λ x. Holds body c.entries-dictionaries.result.now x rows (Ok cs)) same c.in-Ok.ensures.held) in
+    record { gives = batch_applicable s rows body cs holds }
+
+pub unreachable-requires-in-Err-new : goal.unreachable-requires-in-Err-new
+unreachable-requires-in-Err-new c =
+    let s = plain c.args.self.now in
+    let rows = batch_view c.args.rows.now in
+    let body = c.args.body.now in
+    let cs = c.in-Ok.arrays.items in
+    let held = c.schema-schema.ensures.same ∙ sym (ap fields_in c.in-Some.is) in
+    let same : fields_view c.fields.result.now ≡ fields_in s.schema = c.fields.ensures.same ∙ c.deref.ensures ∙ held in
+    let holds : Holds body s.dictionaries (fields_in s.schema) rows (Ok cs) =
+        subst (λ x. Holds body x (fields_in s.schema) rows (Ok cs)) c.entries-dictionaries.ensures.all
+        (subst (λ x. Holds body c.entries-dictionaries.result.now x rows (Ok cs)) same c.in-Ok.ensures.held) in
+    let schema = c.in-Ok-clone.ensures.cases ∙ held in
+    held_fits c.in-Err-new.field-0 holds
+    (subst (λ n. Judges (Err c.in-Err-new.field-0) (fields_in s.schema) cs n) c.row_count.ensures.count
+    (subst (λ x. Judges (Err c.in-Err-new.field-0) x cs c.row_count.result) schema c.in-Err-new.ensures))

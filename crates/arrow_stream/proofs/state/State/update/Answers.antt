@@ -1,12 +1,13 @@
-use Rattle.std.proofs.Common.{◌≡◌, sym, subst, w64, Ok, Err}
+use Rattle.std.proofs.Common.{◌≡◌, None, refl, sym, ap, subst, w64, Ok, Err}
 use Rattle.std.proofs.lemmas.Int.{to_z-of_z}
-use Rattle.arrow_dict.specs.Appends.{IsAppended}
+use Rattle.arrow_array.specs.Listed.{listed}
+use Rattle.arrow_dict.specs.Appends.{IsAppended, IsTooLong}
 use Rattle.arrow_dict.specs.Dictionaries.{placed}
 use Rattle.arrow_meta.specs.Means.{batch_view, dictionary}
 use Rattle.arrow_stream.specs.State.{dictionary_given}
 use Rattle.arrow_stream.specs.Frame.{BodySays}
-use Rattle.arrow_stream.specs.Views.{AreValues, HeldValues, plain}
-use Rattle.arrow_stream.proofs.States.{append_updates, append_fits, replace_updates, replace_fits, update_refused}
+use Rattle.arrow_stream.specs.Views.{AreValues, HeldValues, Ready, plain}
+use Rattle.arrow_stream.proofs.States.{append_updates, append_fits, base_fits, base_found, replace_updates, replace_fits, update_refused, values_applicable}
 use Rattle.arrow_stream.proofs.state.State.update.Goals as goal
 
 pub returns-in-Err-clause-updates : goal.returns-in-Err-clause-updates
@@ -64,3 +65,51 @@ returns-in-Ok-replace-clause-fit c =
     let v = subst (λ i. AreValues s i rows body c.in-Ok.values) id c.in-Ok.ensures.values in
     let e = subst (λ i. new ≡ placed i d s.dictionaries) id c.in-Ok-replace.ensures.ok in
     replace_fits s rows body c.args.id c.in-Ok.values d new c.requires.fit v c.in-Ok-from_array.ensures e
+
+pub unreachable-requires : goal.unreachable-requires
+unreachable-requires c =
+    let s = plain c.args.self.now in
+    let rows = batch_view c.args.rows.now in
+    let id = to_z-of_z w64 c.args.id c.ranges.id in
+    let none = rw c.in-Err-NoBase.field-0-is at c.in-Err-NoBase.ensures in
+    base_found s rows c.args.body.now c.args.id (subst (λ d. Ready s (dictionary c.args.id d rows)) c.if-is_delta.true c.requires.ready)
+    (subst (λ i. listed s.dictionaries i ≡ None) id none.0)
+
+pub unreachable-requires-in-Err-TooLong : goal.unreachable-requires-in-Err-TooLong
+unreachable-requires-in-Err-TooLong c =
+    let s = plain c.args.self.now in
+    let rows = batch_view c.args.rows.now in
+    let body = c.args.body.now in
+    let id = to_z-of_z w64 c.args.id c.ranges.id in
+    let new = c.append.new.self in
+    let long = rw c.in-Err-TooLong.field-0-is at c.in-Err-TooLong.ensures in
+    base_fits s rows body c.args.id c.in-Ok.values new (subst (λ d. Ready s (dictionary c.args.id d rows)) c.if-is_delta.true c.requires.ready)
+    (subst (λ i. AreValues s i rows body c.in-Ok.values) id c.in-Ok.ensures.values)
+    (subst (λ i. IsTooLong s.dictionaries i c.in-Ok.values new) id long)
+
+pub returns-in-Err-Memory-clause-updates : goal.returns-in-Err-Memory-clause-updates
+returns-in-Err-Memory-clause-updates c =
+    let s = plain c.args.self.now in
+    let rows = batch_view c.args.rows.now in
+    let body = c.args.body.now in
+    let id = to_z-of_z w64 c.args.id c.ranges.id in
+    let refused = rw c.in-Err-Memory.field-0-is at c.in-Err-Memory.ensures in
+    (values_applicable s rows body c.args.id c.args.is_delta c.in-Ok.values (subst (λ i. AreValues s i rows body c.in-Ok.values) id c.in-Ok.ensures.values),
+     ap (λ ds. record { schema = s.schema; dictionaries = ds }) refused.same)
+
+pub returns-in_default-clause-updates : goal.returns-in_default-clause-updates
+returns-in_default-clause-updates c =
+    let s = plain c.args.self.now in
+    let rows = batch_view c.args.rows.now in
+    let body = c.args.body.now in
+    let id = to_z-of_z w64 c.args.id c.ranges.id in
+    (values_applicable s rows body c.args.id c.args.is_delta c.in-Ok.values (subst (λ i. AreValues s i rows body c.in-Ok.values) id c.in-Ok.ensures.values), refl)
+
+pub returns-in-Err-replace-clause-updates : goal.returns-in-Err-replace-clause-updates
+returns-in-Err-replace-clause-updates c =
+    let s = plain c.args.self.now in
+    let rows = batch_view c.args.rows.now in
+    let body = c.args.body.now in
+    let id = to_z-of_z w64 c.args.id c.ranges.id in
+    (values_applicable s rows body c.args.id c.args.is_delta c.in-Ok.values (subst (λ i. AreValues s i rows body c.in-Ok.values) id c.in-Ok.ensures.values),
+     ap (λ ds. record { schema = s.schema; dictionaries = ds }) c.in-Err-replace.ensures.err)
