@@ -2,7 +2,8 @@
 
 ghost use Rattle.std.specs.Prelude.{◌≡◌, IfOk, MatchResult};
 ghost use Rattle.arrow_types.specs.View.{fields_view};
-ghost use Rattle.arrow_body.specs.Sound.{AreFit, Explains, IsExplained, IsSound, columns_of, number_of};
+ghost use Rattle.arrow_body.specs.Sound.{AreFit, Explains, IsExplained, IsSound, columns_of};
+ghost use Rattle.arrow_body.specs.Sound.{number_of};
 
 use crate::build::build;
 use crate::indexed::are_indexed;
@@ -80,7 +81,8 @@ pub fn check(
 ) -> Result<(), BodyFault>
     ensures { MatchResult result
         (λ _. IsSound body.now dictionaries.now (fields_view fields.now) nodes.now buffers.now)
-        (λ fault. IsExplained fault body.now dictionaries.now (fields_view fields.now) nodes.now buffers.now) }
+        (λ fault. IsExplained fault body.now dictionaries.now
+        (fields_view fields.now) nodes.now buffers.now) }
 {
     let left = Left { nodes, buffers };
     if after(fields, left).is_none() || !are_laid(fields, left, body) {
@@ -111,8 +113,10 @@ pub fn load(
     requires { AreFit dictionaries.now (fields_view fields.now) }
     ensures { MatchResult result
         (λ arrays. IsSound body.now dictionaries.now (fields_view fields.now) nodes.now buffers.now
-        × (arrays.items ≡ columns_of body.now dictionaries.now (fields_view fields.now) nodes.now buffers.now))
-        (λ fault. Explains fault body.now dictionaries.now (fields_view fields.now) nodes.now buffers.now) }
+        × (arrays.items ≡ columns_of body.now dictionaries.now
+        (fields_view fields.now) nodes.now buffers.now))
+        (λ fault. Explains fault body.now dictionaries.now
+        (fields_view fields.now) nodes.now buffers.now) }
 {
     check(fields, nodes, buffers, body.as_slice(), dictionaries)?;
     match load_unchecked(alloc, fields, nodes, buffers, body, dictionaries) {
@@ -130,7 +134,8 @@ pub fn load_unchecked(
     body: &Bytes,
     dictionaries: &[(i64, Dictionary)],
 ) -> Result<Vec<Array>, AllocError>
-    requires sound { IsSound body.now dictionaries.now (fields_view fields.now) nodes.now buffers.now }
+    requires sound { IsSound body.now dictionaries.now
+        (fields_view fields.now) nodes.now buffers.now }
     requires fit { AreFit dictionaries.now (fields_view fields.now) }
     ensures { IfOk result (λ arrays. arrays.items
         ≡ columns_of body.now dictionaries.now (fields_view fields.now) nodes.now buffers.now) }

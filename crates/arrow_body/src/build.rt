@@ -4,7 +4,8 @@ ghost use Rattle.std.specs.Prelude.{◌≡◌, IfOk, drop, [], ◌∷◌};
 ghost use Rattle.arrow_array.specs.Parts.{node_column, values_in};
 ghost use Rattle.arrow_types.specs.Field.{fields_of};
 ghost use Rattle.arrow_types.specs.View.{field_view, fields_view, type_view};
-ghost use Rattle.arrow_body.specs.Sound.{AreFit, IsNodeFit, IsNodeIndexed, IsNodeLaid, IsNodeText, IsSound, columns_of, dictionary_for, own_bytes, slots_at};
+ghost use Rattle.arrow_body.specs.Sound.{AreFit, IsNodeFit, IsNodeIndexed, IsNodeLaid, IsNodeText};
+ghost use Rattle.arrow_body.specs.Sound.{IsSound, columns_of, dictionary_for, own_bytes, slots_at};
 ghost use Rattle.arrow_body.specs.Taken.{AreThere, below, own_buffers};
 
 use crate::held::own_ranges;
@@ -42,11 +43,16 @@ fn build_node(
     children: Vec<Array>,
     dictionaries: Listed<'_>,
 ) -> Result<Array, AllocError>
-    requires there { AreThere (fields_of (field_view field.now ∷ [])) left.nodes.now left.buffers.now }
-    requires laid { IsNodeLaid body.now (field_view field.now).head (field_view field.now).children left.nodes.now left.buffers.now }
-    requires text { IsNodeText body.now (field_view field.now).head (field_view field.now).children left.nodes.now left.buffers.now }
-    requires indexed { IsNodeIndexed body.now dictionaries.entries.now (field_view field.now).head (field_view field.now).children left.nodes.now left.buffers.now }
-    requires fit { IsNodeFit dictionaries.entries.now (field_view field.now).head (field_view field.now).children }
+    requires there { AreThere
+        (fields_of (field_view field.now ∷ [])) left.nodes.now left.buffers.now }
+    requires laid { IsNodeLaid body.now (field_view field.now).head
+        (field_view field.now).children left.nodes.now left.buffers.now }
+    requires text { IsNodeText body.now (field_view field.now).head
+        (field_view field.now).children left.nodes.now left.buffers.now }
+    requires indexed { IsNodeIndexed body.now dictionaries.entries.now (field_view field.now).head
+        (field_view field.now).children left.nodes.now left.buffers.now }
+    requires fit { IsNodeFit dictionaries.entries.now (field_view field.now).head
+        (field_view field.now).children }
     requires children { children.items ≡ columns_of body.now dictionaries.entries.now
         (below (field_view field.now).head.encoding (field_view field.now).children)
         (drop 1 left.nodes.now) (drop (own_buffers (field_view field.now).head) left.buffers.now) }
@@ -82,9 +88,12 @@ pub(crate) fn build(
     body: &Bytes,
     dictionaries: Listed<'_>,
 ) -> Result<Vec<Array>, AllocError>
-    requires sound { IsSound body.now dictionaries.entries.now (fields_view fields.now) left.nodes.now left.buffers.now }
+    requires sound { IsSound body.now dictionaries.entries.now
+        (fields_view fields.now) left.nodes.now left.buffers.now }
     requires fit { AreFit dictionaries.entries.now (fields_view fields.now) }
-    ensures { IfOk result (λ v. v.items ≡ columns_of body.now dictionaries.entry.entries.now (fields_view fields.now) left.entry.nodes.now left.entry.buffers.now) }
+    ensures { IfOk result
+        (λ v. v.items ≡ columns_of body.now dictionaries.entry.entries.now
+        (fields_view fields.now) left.entry.nodes.now left.entry.buffers.now) }
 {
     let mut arrays = Vec::with_capacity(alloc, fields.len())?;
     let mut rest = left;

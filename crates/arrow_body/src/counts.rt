@@ -22,7 +22,8 @@ pub fn nodes_of<'a>(fields: &[Field], nodes: &'a [FieldNode]) -> &'a [FieldNode]
 /// Whether the own node of each of these fields has `rows` slots, as the fields of a record batch have. Nodes of fields
 /// below are not looked at. A node that is missing, or whose length is negative, has 0 slots. Takes no memory.
 pub fn have_length(fields: &[Field], nodes: &[FieldNode], rows: usize) -> bool
-    ensures { IsTrue result ↔ AllByRecursion (λ n. n ≡ rows) (lengths_of (fields_view fields.now) nodes.now) }
+    ensures { IsTrue result
+        ↔ AllByRecursion (λ n. n ≡ rows) (lengths_of (fields_view fields.now) nodes.now) }
 {
     let mut rest = nodes;
     for field in fields {

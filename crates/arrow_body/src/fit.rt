@@ -36,7 +36,9 @@ fn all_fit(fields: &[Field], dictionaries: Listed<'_>) -> bool
 
 // The same of the field alone.
 fn is_node_fit(field: &Field, dictionaries: Listed<'_>) -> bool
-    ensures { IsTrue result ↔ IsNodeFit dictionaries.entry.entries.now (field_view field.now).head (field_view field.now).children }
+    ensures { IsTrue result
+        ↔ IsNodeFit dictionaries.entry.entries.now (field_view field.now).head
+        (field_view field.now).children }
 {
     let Some(encoding) = field.dictionary else {
         return true;

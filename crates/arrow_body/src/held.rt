@@ -12,7 +12,8 @@ use arrow_types::Buffer;
 // Where a buffer lies, None where that is not inside the body.
 pub(crate) fn held(body: &[u8], buffer: Buffer) -> Option<ByteRange>
     ensures { MatchOption result (IsHeld body.now buffer → ⊥)
-        (λ r. IsHeld body.now buffer × IsInside body.now r × (bytes_of body.now r ≡ bytes_in body.now buffer)) }
+        (λ r. IsHeld body.now buffer × IsInside body.now r
+        × (bytes_of body.now r ≡ bytes_in body.now buffer)) }
 {
     if buffer.length == 0 {
         return Some(ByteRange::EMPTY);

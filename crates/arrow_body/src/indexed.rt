@@ -15,9 +15,13 @@ use arrow_types::Field;
 
 // Whether the valid slots of the field's own node, if it is dictionary-encoded, have their values.
 fn is_node_indexed(field: &Field, left: Left<'_>, body: &[u8], dictionaries: Listed<'_>) -> bool
-    requires there { AreThere (fields_of (field_view field.now ∷ [])) left.nodes.now left.buffers.now }
-    requires laid { IsNodeLaid body.now (field_view field.now).head (field_view field.now).children left.nodes.now left.buffers.now }
-    ensures { IsTrue result ↔ IsNodeIndexed body.now dictionaries.entry.entries.now (field_view field.now).head (field_view field.now).children left.entry.nodes.now left.entry.buffers.now }
+    requires there { AreThere
+        (fields_of (field_view field.now ∷ [])) left.nodes.now left.buffers.now }
+    requires laid { IsNodeLaid body.now (field_view field.now).head
+        (field_view field.now).children left.nodes.now left.buffers.now }
+    ensures { IsTrue result
+        ↔ IsNodeIndexed body.now dictionaries.entry.entries.now (field_view field.now).head
+        (field_view field.now).children left.entry.nodes.now left.entry.buffers.now }
 {
     let Some(encoding) = field.dictionary else {
         return true;
@@ -49,7 +53,9 @@ pub(crate) fn are_indexed(
 ) -> bool
     requires there { AreThere (fields_view fields.now) left.nodes.now left.buffers.now }
     requires laid { AreLaid body.now (fields_view fields.now) left.nodes.now left.buffers.now }
-    ensures { IsTrue result ↔ AreIndexed body.now dictionaries.entry.entries.now (fields_view fields.now) left.entry.nodes.now left.entry.buffers.now }
+    ensures { IsTrue result
+        ↔ AreIndexed body.now dictionaries.entry.entries.now
+        (fields_view fields.now) left.entry.nodes.now left.entry.buffers.now }
 {
     let mut rest = left;
     for field in fields {

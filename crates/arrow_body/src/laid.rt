@@ -8,7 +8,8 @@ ghost use Rattle.arrow_array.specs.Slots.{HasBits};
 ghost use Rattle.arrow_types.specs.Field.{fields_of};
 ghost use Rattle.arrow_types.specs.View.{field_view, fields_view};
 ghost use Rattle.arrow_body.specs.Held.{count_of};
-ghost use Rattle.arrow_body.specs.Sound.{AreLaid, IsCount, IsCounted, IsNodeLaid, lengths_of, slots_at};
+ghost use Rattle.arrow_body.specs.Sound.{AreLaid, IsCount, IsCounted, IsNodeLaid, lengths_of};
+ghost use Rattle.arrow_body.specs.Sound.{slots_at};
 ghost use Rattle.arrow_body.specs.Taken.{AreThere, below, own_buffers};
 
 use crate::held::{bytes_at, own_ranges};
@@ -49,7 +50,9 @@ fn is_count(node: FieldNode, len: usize, validity: &[u8]) -> bool
 // Whether each of the fields has `len` slots or more.
 fn are_longer(fields: &[Field], left: Left<'_>, len: usize) -> bool
     requires { AreThere (fields_view fields.now) left.nodes.now left.buffers.now }
-    ensures { IsTrue result ↔ AllByRecursion (λ count. len ≤ count) (lengths_of (fields_view fields.now) left.entry.nodes.now) }
+    ensures { IsTrue result
+        ↔ AllByRecursion (λ count. len ≤ count)
+        (lengths_of (fields_view fields.now) left.entry.nodes.now) }
 {
     let mut rest = left;
     for field in fields {
@@ -74,8 +77,11 @@ fn are_buffers_laid(
 ) -> bool
     requires count { own_buffers (field_view field.now).head ≡ length ranges.now }
     requires inside { AllByRecursion (IsInside body.now) ranges.now }
-    requires there { AreThere (below (field_view field.now).head.encoding (field_view field.now).children) left.nodes.now left.buffers.now }
-    ensures { IsTrue result ↔ IsLaid (field_view field.now).head.tag (field_view field.now).head.encoding
+    requires there { AreThere
+        (below (field_view field.now).head.encoding (field_view field.now).children) left.nodes.now
+        left.buffers.now }
+    ensures { IsTrue result
+        ↔ IsLaid (field_view field.now).head.tag (field_view field.now).head.encoding
         len (map (bytes_of body.now) ranges.now)
         (lengths_of (below (field_view field.now).head.encoding (field_view field.now).children) left.entry.nodes.now) }
 {
@@ -100,7 +106,9 @@ fn are_buffers_laid(
 // Whether the field's own node and buffers lie in the body as its type asks for.
 fn is_node_laid(field: &Field, left: Left<'_>, body: &[u8]) -> bool
     requires { AreThere (fields_of (field_view field.now ∷ [])) left.nodes.now left.buffers.now }
-    ensures { IsTrue result ↔ IsNodeLaid body.now (field_view field.now).head (field_view field.now).children left.entry.nodes.now left.entry.buffers.now }
+    ensures { IsTrue result
+        ↔ IsNodeLaid body.now (field_view field.now).head
+        (field_view field.now).children left.entry.nodes.now left.entry.buffers.now }
 {
     let node = left.nodes[0];
     if node.length < 0 || node.length > 2147483647 {
@@ -123,7 +131,8 @@ fn is_counted(field: &Field, node: FieldNode, len: usize, body: &[u8], ranges: &
     requires inside { AllByRecursion (IsInside body.now) ranges.now }
     requires slots { len ≡ count_of node.length }
     requires bits { HasBits len (buffer (map (bytes_of body.now) ranges.now) 0) }
-    ensures { IsTrue result ↔ IsCounted (field_view field.now).head.tag (field_view field.now).head.encoding
+    ensures { IsTrue result
+        ↔ IsCounted (field_view field.now).head.tag (field_view field.now).head.encoding
         node (buffer (map (bytes_of body.now) ranges.now) 0) }
 {
     if ranges.is_empty() {
@@ -136,7 +145,8 @@ fn is_counted(field: &Field, node: FieldNode, len: usize, body: &[u8], ranges: &
 #[cycle(laid)]
 pub(crate) fn are_laid(fields: &[Field], left: Left<'_>, body: &[u8]) -> bool
     requires { AreThere (fields_view fields.now) left.nodes.now left.buffers.now }
-    ensures { IsTrue result ↔ AreLaid body.now (fields_view fields.now) left.entry.nodes.now left.entry.buffers.now }
+    ensures { IsTrue result
+        ↔ AreLaid body.now (fields_view fields.now) left.entry.nodes.now left.entry.buffers.now }
 {
     let mut rest = left;
     for field in fields {

@@ -16,7 +16,8 @@ pub(crate) struct Left<'a> {
 
 // The fields whose nodes and buffers follow those of the field.
 pub(crate) fn below(field: &Field) -> &[Field]
-    ensures { fields_view result.now ≡ below (field_view field.now).head.encoding (field_view field.now).children }
+    ensures { fields_view result.now
+        ≡ below (field_view field.now).head.encoding (field_view field.now).children }
 {
     if field.dictionary.is_some() {
         &[]
@@ -37,7 +38,8 @@ pub(crate) fn inside<'a>(field: &Field, left: Left<'a>) -> Left<'a>
     requires node { 1 ≤ length left.nodes.now }
     requires own { own_buffers (field_view field.now).head ≤ length left.buffers.now }
     ensures nodes { result.nodes.now ≡ drop 1 left.entry.nodes.now }
-    ensures buffers { result.buffers.now ≡ drop (own_buffers (field_view field.now).head) left.entry.buffers.now }
+    ensures buffers { result.buffers.now
+        ≡ drop (own_buffers (field_view field.now).head) left.entry.buffers.now }
 {
     Left {
         nodes: &left.nodes[1..],
@@ -48,10 +50,12 @@ pub(crate) fn inside<'a>(field: &Field, left: Left<'a>) -> Left<'a>
 // What is left after the nodes and the buffers of the fields, None where there are fewer.
 #[cycle(after)]
 pub(crate) fn after<'a>(fields: &[Field], left: Left<'a>) -> Option<Left<'a>>
-    ensures { MatchOption result (AreThere (fields_view fields.now) left.entry.nodes.now left.entry.buffers.now → ⊥)
+    ensures { MatchOption result
+        (AreThere (fields_view fields.now) left.entry.nodes.now left.entry.buffers.now → ⊥)
         (λ rest. AreThere (fields_view fields.now) left.entry.nodes.now left.entry.buffers.now
         × (rest.nodes.now ≡ drop (taken_nodes (fields_view fields.now)) left.entry.nodes.now)
-        × (rest.buffers.now ≡ drop (taken_buffers (fields_view fields.now)) left.entry.buffers.now)) }
+        × (rest.buffers.now ≡ drop (taken_buffers (fields_view fields.now)) left.entry.buffers.now))
+        }
 {
     let mut rest = left;
     for field in fields {

@@ -34,9 +34,13 @@ fn are_texts_in(len: usize, body: &[u8], ranges: &[ByteRange]) -> bool
 
 // Whether the valid slots of the field's own node, if it is one of texts, are UTF-8.
 fn is_node_text(field: &Field, left: Left<'_>, body: &[u8]) -> bool
-    requires there { AreThere (fields_of (field_view field.now ∷ [])) left.nodes.now left.buffers.now }
-    requires laid { IsNodeLaid body.now (field_view field.now).head (field_view field.now).children left.nodes.now left.buffers.now }
-    ensures { IsTrue result ↔ IsNodeText body.now (field_view field.now).head (field_view field.now).children left.entry.nodes.now left.entry.buffers.now }
+    requires there { AreThere
+        (fields_of (field_view field.now ∷ [])) left.nodes.now left.buffers.now }
+    requires laid { IsNodeLaid body.now (field_view field.now).head
+        (field_view field.now).children left.nodes.now left.buffers.now }
+    ensures { IsTrue result
+        ↔ IsNodeText body.now (field_view field.now).head
+        (field_view field.now).children left.entry.nodes.now left.entry.buffers.now }
 {
     match (field.dictionary, &field.data_type) {
         (None, DataType::Utf8) => {
@@ -55,7 +59,8 @@ fn is_node_text(field: &Field, left: Left<'_>, body: &[u8]) -> bool
 pub(crate) fn are_text(fields: &[Field], left: Left<'_>, body: &[u8]) -> bool
     requires there { AreThere (fields_view fields.now) left.nodes.now left.buffers.now }
     requires laid { AreLaid body.now (fields_view fields.now) left.nodes.now left.buffers.now }
-    ensures { IsTrue result ↔ AreText body.now (fields_view fields.now) left.entry.nodes.now left.entry.buffers.now }
+    ensures { IsTrue result
+        ↔ AreText body.now (fields_view fields.now) left.entry.nodes.now left.entry.buffers.now }
 {
     let mut rest = left;
     for field in fields {

@@ -25,7 +25,7 @@ use Rattle.arrow_stream.specs.Message.{Message}
 use Rattle.arrow_stream.specs.Frame.{BodySays, MetadataSays, against, is_out_of_order, judged, kind_of_fault}
 
 abbrev pub plain : State → StreamState
-plain s = record { schema = s.columns; dictionaries = s.dictionaries }
+plain s = record { schema = s.schema; dictionaries = s.dictionaries }
 
 abbrev pub given : Item → Given
 given items.Schema = schema_given

@@ -37,8 +37,10 @@ pub(crate) fn hold(
     requires sign { pos 0 ≤ℤ rows.now.length }
     requires fit { AreFit dictionaries.now (fields_view fields.now) }
     ensures held { MatchResult result
-        (λ columns. Holds body.now dictionaries.now (fields_view fields.now) (batch_view rows.now) (Ok columns.items))
-        (λ stop. HasNoColumns body.now dictionaries.now (fields_view fields.now) (batch_view rows.now) stop) }
+        (λ columns. Holds body.now dictionaries.now (fields_view fields.now) (batch_view rows.now)
+        (Ok columns.items))
+        (λ stop. HasNoColumns body.now dictionaries.now (fields_view fields.now)
+        (batch_view rows.now) stop) }
 {
     if !have_length(fields, &rows.nodes, row_count(rows)) {
         return Err(Stop::Refused(Refusal::Layout));

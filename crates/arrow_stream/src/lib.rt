@@ -14,7 +14,6 @@
 #![tactic(auto)]
 
 mod body;
-mod columns;
 mod fault;
 mod held;
 mod item;
@@ -25,6 +24,7 @@ mod prefix;
 mod reader;
 mod refusals;
 mod state;
+mod stream_schema;
 mod work;
 
 pub use fault::Fault;

@@ -5,7 +5,7 @@ ghost use Rattle.arrow_meta.specs.Means.{header_view, message_view};
 ghost use Rattle.arrow_stream.specs.Frame.{misplaced};
 ghost use Rattle.arrow_stream.specs.Views.{Placed, StopsBy, Understood, content_of, plain};
 
-use crate::columns::Columns;
+use crate::stream_schema::StreamSchema;
 use crate::kind::Refusal;
 use crate::refusals::{against, is_out_of_order, misplaced};
 use crate::state::State;
@@ -17,7 +17,7 @@ use std::alloc::{AllocError, Global};
 #[derive(Drop)]
 pub(crate) enum Content {
     /// The schema of the stream.
-    Schema(Columns),
+    Schema(StreamSchema),
     /// Values for the dictionary of this id: with true they are appended to it, with false they replace it.
     Dictionary(i64, bool, RecordBatch),
     /// Rows.
@@ -58,7 +58,7 @@ pub(crate) fn understand(
     let max_rows = limits.max_rows();
     match decode(alloc, metadata, limits) {
         Ok(message) => place(alloc, max_rows, state, end, message),
-        Err(fault) => Err(stop_by(state.columns.is_some(), end, fault)),
+        Err(fault) => Err(stop_by(state.schema.is_some(), end, fault)),
     }
 }
 
@@ -74,7 +74,7 @@ fn place(
     requires near { end ≤ 2 ^ 62 }
     ensures placed { Placed max_rows (plain state.now) end (message_view message) result }
 {
-    let out_of_order = is_out_of_order(state.columns.is_some(), &message.header);
+    let out_of_order = is_out_of_order(state.schema.is_some(), &message.header);
     if let Some(refusal) = misplaced(end, message.body_len, out_of_order) {
         return Err(Stop::Refused(refusal));
     }
@@ -93,7 +93,7 @@ fn content_by(alloc: Global, header: Header) -> Result<Content, AllocError>
     ensures same { IfOk result (λ c. content_of c ≡ header_view header) }
 {
     Ok(match header {
-        Header::Schema(schema) => Content::Schema(Columns::of(alloc, schema)?),
+        Header::Schema(schema) => Content::Schema(StreamSchema::of(alloc, schema)?),
         Header::Dictionary(id, is_delta, rows) => Content::Dictionary(id, is_delta, rows),
         Header::Batch(rows) => Content::Batch(rows),
     })

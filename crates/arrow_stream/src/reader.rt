@@ -1,10 +1,12 @@
 //! The reader of a stream that comes in pieces.
 
-ghost use Rattle.std.specs.Prelude.{◌≡◌, ◌+◌, ◌≤◌, [], length, option_map, Ok, Err, None, IfOk, IfErr};
+ghost use Rattle.std.specs.Prelude.{◌≡◌, ◌+◌, ◌≤◌, [], length, option_map, Ok, Err, None, IfOk};
+ghost use Rattle.std.specs.Prelude.{IfErr};
 ghost use Rattle.arrow_stream.specs.declared.reader.Verdict.TheVariants.{Open, Done, Bad};
 ghost use Rattle.arrow_stream.specs.declared.kind.Refusal.{Refusal as Refused};
 ghost use Rattle.arrow_stream.specs.Kind.{kind_of};
-ghost use Rattle.arrow_stream.specs.Stream.{GoesOn, ReadsOn, Stands, Takes, MemoryAlone, ended_so, fresh};
+ghost use Rattle.arrow_stream.specs.Stream.{GoesOn, ReadsOn, Stands, Takes, MemoryAlone, ended_so};
+ghost use Rattle.arrow_stream.specs.Stream.{fresh};
 
 use crate::fault::Fault;
 use crate::item::Item;
@@ -97,12 +99,14 @@ impl StreamReader {
         ensures takes { IfOk result (λ taken. Takes piece.now taken) }
         ensures reads { ReadsOn self.old piece.now result self.new }
         ensures memory { IfErr result (MemoryAlone self.old self.new) }
-        ensures goes_on { IfOk result (λ taken. GoesOn taken.1 self.old.at.verdict self.new.at.verdict) }
+        ensures goes_on { IfOk result
+            (λ taken. GoesOn taken.1 self.old.at.verdict self.new.at.verdict) }
         ensures limits { self.new.limits ≡ self.old.limits }
         ensures failed { (k : Refused) → self.old.at.verdict ≡ Bad k
             → (result ≡ Err (record { kind = kind_of k; place = self.old.at.place }))
             × (self.new ≡ self.old) }
-        ensures done { self.old.at.verdict ≡ Done → (result ≡ Ok (0, None)) × (self.new ≡ self.old) }
+        ensures done { self.old.at.verdict ≡ Done → (result ≡ Ok (0, None))
+            × (self.new ≡ self.old) }
         ensures empty { self.old.at.verdict ≡ Open → piece.now ≡ []
             → (result ≡ Ok (0, None)) × (self.new ≡ self.old) }
     {
@@ -123,7 +127,8 @@ impl StreamReader {
         ensures takes { IfOk result (λ taken. Takes piece.now taken) }
         ensures reads { ReadsOn self.old piece.now result self.new }
         ensures memory { IfErr result (MemoryAlone self.old self.new) }
-        ensures goes_on { IfOk result (λ taken. GoesOn taken.1 self.old.at.verdict self.new.at.verdict) }
+        ensures goes_on { IfOk result
+            (λ taken. GoesOn taken.1 self.old.at.verdict self.new.at.verdict) }
         ensures limits { self.new.limits ≡ self.old.limits }
     {
         let before = self.work.held.len();
@@ -168,7 +173,7 @@ impl StreamReader {
         let kind = match self.verdict {
             Verdict::Bad(refusal) => refusal.kind(),
             Verdict::Done => return Ok(()),
-            Verdict::Open if self.work.state.columns.is_none() => Kind::NoSchema,
+            Verdict::Open if self.work.state.schema.is_none() => Kind::NoSchema,
             Verdict::Open if self.work.held.is_empty() => return Ok(()),
             Verdict::Open => Kind::Truncated,
         };
@@ -210,8 +215,8 @@ impl StreamReader {
     pub fn schema(&self) -> Option<&Schema>
         ensures schema { option_map (λ s. s.now) result ≡ self.now.at.state.schema }
     {
-        match &self.work.state.columns {
-            Some(columns) => Some(columns.schema()),
+        match &self.work.state.schema {
+            Some(schema) => Some(schema.shared()),
             None => None,
         }
     }

@@ -69,7 +69,8 @@ fn against_dictionary(
     is_delta: bool,
     rows: &RecordBatch,
 ) -> Option<Refusal>
-    ensures kind { result ≡ against_dictionary max_rows (plain state.now) id is_delta (batch_view rows.now) }
+    ensures kind { result
+        ≡ against_dictionary max_rows (plain state.now) id is_delta (batch_view rows.now) }
 {
     let Some(field) = state.value_field(id) else {
         return Some(Refusal::UnknownId);

@@ -1,6 +1,7 @@
 //! What the messages of a stream leave to the ones behind them.
 
-ghost use Rattle.std.specs.Prelude.{◌≡◌, ◌≤ℤ◌, pos, [], false, Some, None, is_some, option_map, length, IsTrue};
+ghost use Rattle.std.specs.Prelude.{◌≡◌, ◌≤ℤ◌, pos, [], false, Some, None, is_some, option_map};
+ghost use Rattle.std.specs.Prelude.{length, IsTrue};
 ghost use Rattle.arrow_types.specs.Schema.{dictionary_fields, has_encoding};
 ghost use Rattle.arrow_types.specs.Field.{TypeShape};
 ghost use Rattle.arrow_types.specs.View.{field_view, fields_view};
@@ -8,10 +9,11 @@ ghost use Rattle.arrow_array.specs.Listed.{listed};
 ghost use Rattle.arrow_dict.specs.ValueTypes.{value_field, value_type_of};
 ghost use Rattle.arrow_meta.specs.Means.{batch_view, dictionary, batch};
 ghost use Rattle.arrow_stream.specs.State.{fields_in, nothing_yet};
-ghost use Rattle.arrow_stream.specs.Views.{Applies, Gives, HeldValues, IsFit, Ready, Updates, content_of, plain};
+ghost use Rattle.arrow_stream.specs.Views.{Applies, Gives, HeldValues, IsFit, Ready, Updates};
+ghost use Rattle.arrow_stream.specs.Views.{content_of, plain};
 
 use crate::body::{hold, row_count};
-use crate::columns::Columns;
+use crate::stream_schema::StreamSchema;
 use crate::item::Item;
 use crate::message::{Content, Stop};
 use arrow_array::{Array, Batch, Dictionary};
@@ -25,7 +27,7 @@ use std::slice;
 #[derive(Drop)]
 pub(crate) struct State {
     /// The stream's schema, once its message was whole.
-    pub(crate) columns: Option<Columns>,
+    pub(crate) schema: Option<StreamSchema>,
     /// The dictionaries as they stand.
     pub(crate) dictionaries: Store,
 }
@@ -37,17 +39,17 @@ impl State {
         ensures fit { IsFit (plain result) }
     {
         State {
-            columns: None,
+            schema: None,
             dictionaries: Store::new(alloc),
         }
     }
 
-    /// The columns of the stream's batches, none before its schema.
+    /// The fields of the stream's batches, none before its schema.
     pub(crate) fn fields(&self) -> &[Field]
         ensures same { fields_view result.now ≡ fields_in (plain self.now).schema }
     {
-        match &self.columns {
-            Some(columns) => columns.schema().fields(),
+        match &self.schema {
+            Some(schema) => schema.shared().fields(),
             None => &[],
         }
     }
@@ -55,19 +57,22 @@ impl State {
     /// The field of the values of the dictionary with this id, if a field of the schema gives the id.
     pub(crate) fn value_field(&self, id: i64) -> Option<&Field>
         ensures field { option_map (λ f. field_view f.now) result
-            ≡ option_map value_field (value_type_of (dictionary_fields (fields_in (plain self.now).schema)) id) }
-        ensures flat { (t : TypeShape) → value_type_of (dictionary_fields (fields_in (plain self.now).schema)) id ≡ Some t
+            ≡ option_map value_field
+            (value_type_of (dictionary_fields (fields_in (plain self.now).schema)) id) }
+        ensures flat { (t : TypeShape)
+            → value_type_of (dictionary_fields (fields_in (plain self.now).schema)) id ≡ Some t
             → has_encoding t.children ≡ false }
     {
-        match &self.columns {
-            Some(columns) => columns.value_field(id),
+        match &self.schema {
+            Some(schema) => schema.value_field(id),
             None => None,
         }
     }
 
     /// How many values the dictionary with this id has, if there is one.
     pub(crate) fn base_len(&self, id: i64) -> Option<usize>
-        ensures count { result ≡ option_map (λ d. length d.values) (listed (plain self.now).dictionaries id) }
+        ensures count { result
+            ≡ option_map (λ d. length d.values) (listed (plain self.now).dictionaries id) }
     {
         match self.dictionaries.get(id) {
             Some(dictionary) => Some(dictionary.len()),
@@ -80,17 +85,17 @@ impl State {
         ensures nothing { plain self.new ≡ nothing_yet }
         ensures fit { IsFit (plain self.new) }
     {
-        self.columns = None;
+        self.schema = None;
         self.dictionaries.clear();
     }
 
-    /// Begins a stream of these columns.
-    fn begin(&mut self, columns: Columns)
-        ensures begun { plain self.new ≡ record { schema = Some columns; dictionaries = [] } }
+    /// Begins a stream of this schema.
+    fn begin(&mut self, schema: StreamSchema)
+        ensures begun { plain self.new ≡ record { schema = Some schema; dictionaries = [] } }
         ensures fit { IsFit (plain self.new) }
     {
         self.clear();
-        self.columns = Some(columns);
+        self.schema = Some(schema);
     }
 
     /// The rows of a record batch with this body.
@@ -99,10 +104,10 @@ impl State {
         requires fit { IsFit (plain self.now) }
         ensures gives { Gives (plain self.now) (batch_view rows.now) body.now result }
     {
-        let Some(columns) = &self.columns else {
+        let Some(schema) = &self.schema else {
             unreachable!();
         };
-        let schema = columns.schema();
+        let schema = schema.shared();
         let dictionaries = self.dictionaries.entries();
         let arrays = match hold(alloc, schema.fields(), rows, body, dictionaries) {
             Ok(arrays) => arrays,
@@ -120,7 +125,8 @@ impl State {
     /// The values of a dictionary batch with this body.
     fn values(&self, alloc: Global, id: i64, rows: &RecordBatch, body: &[u8]) -> Result<Array, Stop>
         requires sign { pos 0 ≤ℤ rows.now.length }
-        requires named { IsTrue (is_some (value_type_of (dictionary_fields (fields_in (plain self.now).schema)) id)) }
+        requires named { IsTrue
+            (is_some (value_type_of (dictionary_fields (fields_in (plain self.now).schema)) id)) }
         ensures values { HeldValues (plain self.now) id (batch_view rows.now) body.now result }
     {
         let Some(field) = self.value_field(id) else {
@@ -146,7 +152,8 @@ impl State {
     ) -> Result<(), Stop>
         requires ready { Ready (plain self.old) (dictionary id is_delta (batch_view rows.now)) }
         requires fit { IsFit (plain self.old) }
-        ensures updates { Updates (plain self.old) id is_delta (batch_view rows.now) body.now result (plain self.new) }
+        ensures updates { Updates (plain self.old) id is_delta (batch_view rows.now) body.now result
+            (plain self.new) }
         ensures fit { IsFit (plain self.new) }
     {
         let values = match self.values(alloc, id, rows, body) {
@@ -181,12 +188,13 @@ pub(crate) fn apply(
 ) -> Result<Item, (Stop, Content)>
     requires ready { Ready (plain state.old) (content_of content) }
     requires fit { IsFit (plain state.old) }
-    ensures applies { Applies (plain state.old) (content_of content) body.now result (plain state.new) }
+    ensures applies { Applies (plain state.old) (content_of content) body.now result
+        (plain state.new) }
     ensures fit { IsFit (plain state.new) }
 {
     match content {
-        Content::Schema(columns) => {
-            state.begin(columns);
+        Content::Schema(schema) => {
+            state.begin(schema);
             Ok(Item::Schema)
         }
         Content::Dictionary(id, is_delta, rows) => {

@@ -78,7 +78,7 @@ impl Work {
         if self.held.len() < 8 {
             return Ok(Step::Short);
         }
-        let has_schema = self.state.columns.is_some();
+        let has_schema = self.state.schema.is_some();
         match read_prefix(&self.limits, has_schema, self.place, &self.held) {
             Ok(Prefix::Metadata(size)) => self.read_metadata(size, &piece[taken..]),
             Ok(Prefix::EndMarker) => Ok(Step::EndMarker),

@@ -9,4 +9,4 @@ pub returns-in-Schema-clause-applies : goal.returns-in-Schema-clause-applies
 returns-in-Schema-clause-applies c =
     let s = plain c.args.state.now in
     subst (λ m. BodySays s (content_of m) c.args.body.now (Ok (plain c.begin.new.self, schema_given))) (sym c.in-Schema.is)
-    (subst (λ x. BodySays s (schema c.in-Schema.columns) c.args.body.now (Ok (x, schema_given))) (sym c.begin.ensures.begun) schema_comes)
+    (subst (λ x. BodySays s (schema c.in-Schema.schema) c.args.body.now (Ok (x, schema_given))) (sym c.begin.ensures.begun) schema_comes)

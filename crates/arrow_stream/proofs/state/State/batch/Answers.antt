@@ -14,7 +14,7 @@ use Rattle.arrow_stream.proofs.state.State.batch.Goals as goal
 pub hold-requires-clause-fit : goal.hold-requires-clause-fit
 hold-requires-clause-fit c =
     let s = plain c.args.self.now in
-    let held = c.deref.ensures ∙ c.schema-schema.ensures.same ∙ sym (ap fields_in c.in-Some.is) in
+    let held = c.deref.ensures ∙ c.shared-schema.ensures.same ∙ sym (ap fields_in c.in-Some.is) in
     let known = subst IsSchema held c.fields.ensures.limits in
     let same : fields_in s.schema ≡ fields_view c.fields.result.now = sym (c.fields.ensures.same ∙ held) in
     subst (λ x. AreFit x (fields_view c.fields.result.now)) (sym c.entries-dictionaries.ensures.all)
@@ -25,7 +25,7 @@ returns-in-Err c =
     let s = plain c.args.self.now in
     let rows = batch_view c.args.rows.now in
     let body = c.args.body.now in
-    let same : fields_view c.fields.result.now ≡ fields_in s.schema = c.fields.ensures.same ∙ c.deref.ensures ∙ c.schema-schema.ensures.same ∙ sym (ap fields_in c.in-Some.is) in
+    let same : fields_view c.fields.result.now ≡ fields_in s.schema = c.fields.ensures.same ∙ c.deref.ensures ∙ c.shared-schema.ensures.same ∙ sym (ap fields_in c.in-Some.is) in
     record {
       gives = batch_refused s rows body c.in-Err.stop
           (subst (λ x. HasNoColumns body x (fields_in s.schema) rows c.in-Err.stop) c.entries-dictionaries.ensures.all
@@ -38,7 +38,7 @@ returns c =
     let rows = batch_view c.args.rows.now in
     let body = c.args.body.now in
     let cs = c.in-Ok.arrays.items in
-    let held = c.schema-schema.ensures.same ∙ sym (ap fields_in c.in-Some.is) in
+    let held = c.shared-schema.ensures.same ∙ sym (ap fields_in c.in-Some.is) in
     let same : fields_view c.fields.result.now ≡ fields_in s.schema = c.fields.ensures.same ∙ c.deref.ensures ∙ held in
     record {
       gives = batch_read s rows body cs c.in-Ok-new.batch
@@ -55,7 +55,7 @@ returns-in_default-clone c =
     let rows = batch_view c.args.rows.now in
     let body = c.args.body.now in
     let cs = c.in-Ok.arrays.items in
-    let held = c.schema-schema.ensures.same ∙ sym (ap fields_in c.in-Some.is) in
+    let held = c.shared-schema.ensures.same ∙ sym (ap fields_in c.in-Some.is) in
     let same : fields_view c.fields.result.now ≡ fields_in s.schema = c.fields.ensures.same ∙ c.deref.ensures ∙ held in
     let holds : Holds body s.dictionaries (fields_in s.schema) rows (Ok cs) =
         subst (λ x. Holds body x (fields_in s.schema) rows (Ok cs)) c.entries-dictionaries.ensures.all
@@ -68,7 +68,7 @@ unreachable-requires-in-Err-new c =
     let rows = batch_view c.args.rows.now in
     let body = c.args.body.now in
     let cs = c.in-Ok.arrays.items in
-    let held = c.schema-schema.ensures.same ∙ sym (ap fields_in c.in-Some.is) in
+    let held = c.shared-schema.ensures.same ∙ sym (ap fields_in c.in-Some.is) in
     let same : fields_view c.fields.result.now ≡ fields_in s.schema = c.fields.ensures.same ∙ c.deref.ensures ∙ held in
     let holds : Holds body s.dictionaries (fields_in s.schema) rows (Ok cs) =
         subst (λ x. Holds body x (fields_in s.schema) rows (Ok cs)) c.entries-dictionaries.ensures.all

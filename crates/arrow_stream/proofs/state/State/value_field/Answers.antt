@@ -7,4 +7,4 @@ use Rattle.arrow_stream.proofs.state.State.value_field.Goals as goal
 pub returns-in-Some-clause-flat : goal.returns-in-Some-clause-flat
 returns-in-Some-clause-flat c =
     let known = subst IsSchema (sym (ap fields_in c.in-Some.is)) c.value_field.ensures.known in
-    λ t e. values_flat (fields_in c.args.self.now.columns) c.args.id t known e
+    λ t e. values_flat (fields_in c.args.self.now.schema) c.args.id t known e

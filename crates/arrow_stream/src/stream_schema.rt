@@ -11,15 +11,15 @@ use std::alloc::{AllocError, Global};
 use std::marker::Model;
 use std::rc::Rc;
 
-/// The columns of a stream's batches, and for each dictionary id a field of the dictionary's values. A clause sees the
-/// columns.
+/// The schema of a stream, and for each dictionary id a field of the dictionary's values. A clause sees the fields of the
+/// schema.
 #[derive(Drop)]
-pub(crate) struct Columns {
+pub(crate) struct StreamSchema {
     schema: Rc<Schema>,
     value_fields: ValueFields,
 }
 
-impl Model for Columns {
+impl Model for StreamSchema {
     ghost use Rattle.arrow_types.specs.Field.{Fields};
     ghost use Rattle.arrow_types.specs.Stored.{fields_code};
     ghost use Rattle.arrow_dict.specs.ValueTypes.{NameSame};
@@ -31,23 +31,24 @@ impl Model for Columns {
 
     ghost view = { λ c. c.schema.value };
 
-    ghost invariant = { λ c. IsSchema c.schema.value × NameSame c.value_fields (dictionary_fields c.schema.value) };
+    ghost invariant = { λ c. IsSchema c.schema.value
+    × NameSame c.value_fields (dictionary_fields c.schema.value) };
 }
 
-impl Columns {
-    /// Those of the schema, or `AllocError` where a growth was refused.
-    pub(crate) fn of(alloc: Global, schema: Schema) -> Result<Columns, AllocError>
+impl StreamSchema {
+    /// That of the schema, or `AllocError` where a growth was refused.
+    pub(crate) fn of(alloc: Global, schema: Schema) -> Result<StreamSchema, AllocError>
         ensures same { IfOk result (λ c. c ≡ schema) }
     {
         let value_fields = ValueFields::of(alloc, &schema)?;
-        Ok(Columns {
+        Ok(StreamSchema {
             schema: Rc::new(alloc, schema)?,
             value_fields,
         })
     }
 
     /// The schema, which batches share.
-    pub(crate) fn schema(&self) -> &Rc<Schema>
+    pub(crate) fn shared(&self) -> &Rc<Schema>
         ensures same { result.now.value ≡ self.now }
         ensures known { IsSchema self.now }
     {
