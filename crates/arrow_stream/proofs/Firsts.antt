@@ -66,12 +66,14 @@ module _ {l : LimitNumbers} {s : StreamState} {p : ℕ} {b : List ℕ} where
       r ≡ q
   one_metadata_at h g = one_metadata h.says g.says
 
+  -- what the first bytes say they say of more bytes too
   pub HasPrefix-append : {r : Result Prefix Refusal} (c : List ℕ) → HasPrefix l s p b r → HasPrefix l s p (b ++ c) r
   HasPrefix-append c h = record {
     within = omega (arith, length-append b c);
     says = ap (prefix_says l (is_some s.schema) p) (take-append-le 8 b c h.within) ∙ h.says;
   }
 
+  -- so does a whole metadata
   pub HasMetadata-append : {m : ℕ} {r : Result Message Refusal} (c : List ℕ) → HasMetadata l s p b m r →
       HasMetadata l s p (b ++ c) m r
   HasMetadata-append {m} {r} c h = record {
@@ -80,6 +82,7 @@ module _ {l : LimitNumbers} {s : StreamState} {p : ℕ} {b : List ℕ} where
     says = subst (λ x. MetadataSays l s (p + 8) x r) (sym (part-append 8 m b c h.within)) h.says;
   }
 
+  -- and a whole frame
   pub HasBody-append : {m : ℕ} {t : Message} {r : Result (StreamState × Given) Refusal} (c : List ℕ) →
       HasBody l s p b m t r → HasBody l s p (b ++ c) m t r
   HasBody-append {m} {t} {r} c h = record {
@@ -210,6 +213,7 @@ pub First-within : {l : LimitNumbers} {s : StreamState} {p : ℕ} {b : List ℕ}
     First l s p b (whole n s' g) → n ≤ length b
 First-within (message_comes h) = h.within
 
+-- an end marker has eight bytes
 pub marker-within : {l : LimitNumbers} {s : StreamState} {p : ℕ} {b : List ℕ} → First l s p b marker → 8 ≤ length b
 marker-within (end_marker h) = h.within
 
@@ -217,9 +221,11 @@ marker-within (end_marker h) = h.within
 pub metadata_held : {l : LimitNumbers} {s : StreamState} {p : ℕ} {b : List ℕ} {m : ℕ} {r : Result Message Refusal} (b' c : List ℕ) → b' ≡ b ++ c → HasMetadata l s p b m r → HasMetadata l s p b' m r
 metadata_held {l} {s} {p} {m = m} {r = r} b' c e h = subst (λ x. HasMetadata l s p x m r) (sym e) (HasMetadata-append c h)
 
+-- so is a prefix
 pub prefix_held : {l : LimitNumbers} {s : StreamState} {p : ℕ} {b : List ℕ} {r : Result Prefix Refusal} (b' c : List ℕ) → b' ≡ b ++ c → HasPrefix l s p b r → HasPrefix l s p b' r
 prefix_held {l} {s} {p} {r = r} b' c e h = subst (λ x. HasPrefix l s p x r) (sym e) (HasPrefix-append c h)
 
+-- and a whole frame
 pub body_held : {l : LimitNumbers} {s : StreamState} {p : ℕ} {b : List ℕ} {m : ℕ} {t : Message} {r : Result (StreamState × Given) Refusal} (b' c : List ℕ) → b ++ c ≡ b' → HasBody l s p b m t r → HasBody l s p b' m t r
 body_held {l} {s} {p} {m = m} {t = t} {r = r} b' c e h = subst (λ x. HasBody l s p x m t r) e (HasBody-append c h)
 
@@ -231,6 +237,7 @@ part-take b k i n h g =
     sym (part-append i n (take k b) (drop k b) (omega arith)) ∙ ap (λ x. take n (drop i x)) (take-append-drop k b)
 
 module _ {l : LimitNumbers} {s : StreamState} {p : ℕ} {b : List ℕ} where
+  -- what a prefix says is said by its own eight bytes
   pub HasPrefix-take : {r : Result Prefix Refusal} (k : ℕ) → 8 ≤ k → k ≤ length b → HasPrefix l s p b r →
       HasPrefix l s p (take k b) r
   HasPrefix-take k h n g = record {
@@ -238,6 +245,7 @@ module _ {l : LimitNumbers} {s : StreamState} {p : ℕ} {b : List ℕ} where
     says = ap (prefix_says l (is_some s.schema) p) (take-take 8 k b h) ∙ g.says;
   }
 
+  -- what a metadata says, by its own bytes
   pub HasMetadata-take : {m : ℕ} {r : Result Message Refusal} (k : ℕ) → 8 + m ≤ k → k ≤ length b →
       HasMetadata l s p b m r → HasMetadata l s p (take k b) m r
   HasMetadata-take {m} {r} k h n g = record {
@@ -246,6 +254,7 @@ module _ {l : LimitNumbers} {s : StreamState} {p : ℕ} {b : List ℕ} where
     says = subst (λ x. MetadataSays l s (p + 8) x r) (sym (part-take b k 8 m n h)) g.says;
   }
 
+  -- and what a frame says, by its own
   pub HasBody-take : {m : ℕ} {t : Message} {r : Result (StreamState × Given) Refusal} (k : ℕ) →
       8 + m + t.body_len ≤ k → k ≤ length b → HasBody l s p b m t r → HasBody l s p (take k b) m t r
   HasBody-take {m} {t} {r} k h n g = record {
@@ -258,6 +267,7 @@ module _ {l : LimitNumbers} {s : StreamState} {p : ℕ} {b : List ℕ} where
 pub First-take : {l : LimitNumbers} {s : StreamState} {p : ℕ} {b : List ℕ} {n : ℕ} {s' : StreamState} {g : Given} (k : ℕ) → n ≤ k → k ≤ length b → First l s p b (whole n s' g) → First l s p (take k b) (whole n s' g)
 First-take k h n (message_comes g) = message_comes (HasBody-take k h n g)
 
+-- so does an end marker
 pub marker-take : {l : LimitNumbers} {s : StreamState} {p : ℕ} {b : List ℕ} (k : ℕ) → 8 ≤ k → k ≤ length b →
     First l s p b marker → First l s p (take k b) marker
 marker-take k h n (end_marker g) = end_marker (HasPrefix-take k h n g)

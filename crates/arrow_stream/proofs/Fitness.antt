@@ -171,6 +171,7 @@ pub record IsFound (o : Option TypeShape) (f : FieldShape) : Type 0 where
   pub named : o ≡ Some type
   pub is : f ≡ value_field type
 
+-- what is found is the field of some type's values
 pub found_field : (o : Option TypeShape) (f : FieldShape) → Some f ≡ option_map value_field o → IsFound o f
 found_field None f e = absurd (cc)
 found_field (Some t) f e = record { type = t; named = refl; is = (cc) }
@@ -180,5 +181,6 @@ pub one_value_field : (schema : Option Fields) (id : ℤ) (f : FieldShape) → I
     fields_of (f ∷ []) ≡ value_fields schema id
 one_value_field schema id f h = ap (λ x. fields_of (x ∷ [])) h.is ∙ sym (ap field_of_type h.named)
 
+-- without dictionaries such a field is as loading asks for
 pub found_fit : (o : Option TypeShape) (f : FieldShape) → IsFound o f → ((t : TypeShape) → o ≡ Some t → has_encoding t.children ≡ false) → AreFit [] (fields_of (f ∷ []))
 found_fit o f h flat = subst (λ x. AreFit [] (fields_of (x ∷ []))) (sym h.is) (value_fit [] h.type (flat h.type h.named))

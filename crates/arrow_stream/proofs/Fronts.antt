@@ -15,12 +15,14 @@ Follows l s p b (refused k) es e = (es ≡ []) × (e ≡ record { state = s; pla
 Follows l s p b marker es e = (es ≡ record { given = ended; end = p + 8 } ∷ []) × (e ≡ record { state = s; place = p + 8; rest = drop 8 b; verdict = Done })
 Follows l s p b (whole n s' g) es e = (fs : List Entry) × (es ≡ record { given = g; end = p + n } ∷ fs) × Front l s' (p + n) (drop n b) fs e
 
+-- a front begins with what stands first
 pub front_follows : {l : LimitNumbers} {s : StreamState} {p : ℕ} {b : List ℕ} {o : Outcome} {es : List Entry} {e : Standing} → First l s p b o → Front l s p b es e → Follows l s p b o es e
 front_follows {l} {s} {p} {b} x (rests y) = subst (λ o. Follows l s p b o [] (record { state = s; place = p; rest = b; verdict = Open })) (one_first y x) (refl, refl)
 front_follows {l} {s} {p} {b} x (fails {k = k} y) = subst (λ o. Follows l s p b o [] (record { state = s; place = p; rest = b; verdict = Bad k })) (one_first y x) (refl, refl)
 front_follows {l} {s} {p} {b} x (closes y) = subst (λ o. Follows l s p b o (record { given = ended; end = p + 8 } ∷ []) (record { state = s; place = p + 8; rest = drop 8 b; verdict = Done })) (one_first y x) (refl, refl)
 front_follows {l} {s} {p} {b} x (goes_on {n = n} {g = g} {es = fs} {e = e} y ys) = subst (λ o. Follows l s p b o (record { given = g; end = p + n } ∷ fs) e) (one_first y x) (fs, refl, ys)
 
+-- bytes have one front
 pub one_front : {l : LimitNumbers} {s : StreamState} {p : ℕ} {b : List ℕ} {es fs : List Entry} {e f : Standing} →
     Front l s p b es e → Front l s p b fs f → (es ≡ fs) × (e ≡ f)
 one_front (rests x) y = let w = front_follows x y in (sym w.0, sym w.1)

@@ -45,6 +45,7 @@ module _ {body : List ℕ} {ds : List (ℤ × ValueList)} {fields : Fields} {row
   pub not_long : (AreLong fields rows → ⊥) → Holds body ds fields rows (Err Layout)
   not_long n = bad_layout (λ h. n h.long)
 
+  -- a sound body holds its columns
   pub sound_holds : (cs : List Column) → AreLong fields rows → IsSound body ds fields rows.nodes rows.buffers → cs ≡ columns_of body ds fields rows.nodes rows.buffers →
       Holds body ds fields rows (Ok cs)
   sound_holds cs long s e =
@@ -55,11 +56,14 @@ module _ {body : List ℕ} {ds : List (ℤ × ValueList)} {fields : Fields} {row
   pub sound_holds_some : AreLong fields rows → IsSound body ds fields rows.nodes rows.buffers → HoldsSome body ds fields rows
   sound_holds_some long s = (columns_of body ds fields rows.nodes rows.buffers, sound_holds (columns_of body ds fields rows.nodes rows.buffers) long s refl)
 
+  -- what the layer below tells first of a body is what refuses it: its layout
   pub layout_holds : Explains bodies.Layout body ds fields rows.nodes rows.buffers → Holds body ds fields rows (Err Layout)
   layout_holds n = bad_layout (λ h. n (h.there, h.laid))
 
+  -- its texts
   pub text_holds : AreLong fields rows → Explains bodies.Text body ds fields rows.nodes rows.buffers → Holds body ds fields rows (Err Text)
   text_holds long e = bad_text (record { there = e.0; laid = e.1; long = long }) e.2
 
+  -- its indices
   pub index_holds : AreLong fields rows → Explains bodies.Index body ds fields rows.nodes rows.buffers → Holds body ds fields rows (Err Index)
   index_holds long e = bad_index (record { there = e.0; laid = e.1; long = long }) e.2 e.3

@@ -79,6 +79,7 @@ module _ (w : Work) (waiting : FirstAt w w.held.items waits) (piece : List ℕ) 
       subst (λ y. FirstAt w y (whole x.size (plain v.state) (given item))) (own_bytes x.size x.covers)
       (First-take x.size (omega arith) (First-within x.first) x.first)
 
+  -- a whole message takes a byte of the piece at least
   pub whole_some : (item : Item) (v : Work) (x : Gave w (w.held.items ++ piece) item v) →
       0 < x.size - length w.held.items
   whole_some item v x = takes_some x.size (λ q. cc) (whole_first item v x)
@@ -89,6 +90,7 @@ module _ (w : Work) (waiting : FirstAt w w.held.items waits) (piece : List ℕ) 
       subst (λ y. FirstAt w y marker) (own_bytes 8 x.covers)
       (marker-take 8 (omega arith) (marker-within x.first) x.first)
 
+  -- so does an end marker
   pub marker_some : (m : Work) → Marked w (w.held.items ++ piece) m → 0 < 8 - length w.held.items
   marker_some m x = takes_some 8 (λ q. cc) (marker_first m x)
 
@@ -106,6 +108,7 @@ module _ (w : Work) (waiting : FirstAt w w.held.items waits) (piece : List ℕ) 
     place_at : w.place + length w.held.items ≡ length t
     place_at = front_place open_front ∙ omega arith
 
+    -- with less than a message the reader stands behind the piece
     pub short_stands : (v : Work) → Waited w (w.held.items ++ piece) v → Stands (shown_by v o) (t ++ piece) es
     short_stands v x = record {
       rest = w.held.items ++ piece;
@@ -116,6 +119,7 @@ module _ (w : Work) (waiting : FirstAt w w.held.items waits) (piece : List ℕ) 
       held = λ _. sym x.held;
     }
 
+    -- with a whole message it stands behind its last byte, and the message is the newest entry
     pub whole_stands : (item : Item) (v : Work) (x : Gave w (w.held.items ++ piece) item v) →
         Stands (shown_by v o) (t ++ take (x.size - length w.held.items) piece) (es ++ record { given = given item; end = length t + (x.size - length w.held.items) } ∷ [])
     whole_stands item v x =
@@ -134,6 +138,7 @@ module _ (w : Work) (waiting : FirstAt w w.held.items waits) (piece : List ℕ) 
           held = λ _. sym x.held;
         }
 
+    -- so with the end marker
     pub marker_stands : (m v : Work) → Marked w (w.held.items ++ piece) m → v.limits ≡ m.limits →
         plain v.state ≡ plain m.state → v.place ≡ m.place + 8 →
         Stands (shown_by v Done) (t ++ take (8 - length w.held.items) piece) (es ++ record { given = given End; end = length t + (8 - length w.held.items) } ∷ [])
@@ -150,6 +155,7 @@ module _ (w : Work) (waiting : FirstAt w w.held.items waits) (piece : List ℕ) 
           held = λ q. absurd (cc);
         }
 
+    -- with a refusal it stands behind the piece
     pub refusal_stands : (k : Refusal) (v : Work) → FirstAt w (w.held.items ++ piece) (refused k) →
         v.limits ≡ w.limits → plain v.state ≡ plain w.state → v.place ≡ w.place →
         Stands (shown_by v (Bad k)) (t ++ piece) es

@@ -86,10 +86,12 @@ is_judged n s p (Ok u) t e =
 is_judged n s p (Err f) t e = absurd (cc)
 
 module _ {l : LimitNumbers} {s : StreamState} {p : ℕ} where
+  -- a prefix says a size within the limit, which ends by the last place
   pub size_small : {b : List ℕ} {m : ℕ} → HasPrefix l s p b (Ok (prefixes.Metadata m)) →
       (m ≤ l.max_metadata) × (p + 8 + m ≤ 2 ^ 62)
   size_small {b} {m} h = prefix_small l (is_some s.schema) p (take 8 b) m h.says
 
+  -- an end marker ends by the last place
   pub marker_small : {b : List ℕ} → HasPrefix l s p b (Ok prefixes.EndMarker) → p + 8 ≤ 2 ^ 62
   marker_small {b} h =
       let c = take 8 b in
@@ -100,6 +102,7 @@ module _ {l : LimitNumbers} {s : StreamState} {p : ℕ} where
   judged_at : {b : List ℕ} {m : ℕ} {t : Message} (h : HasMetadata l s p b m (Ok t)) → IsJudged l.max_rows s (p + 8 + length (take m (drop 8 b))) h.says.meant t
   judged_at {b} {m} {t} h = is_judged l.max_rows s (p + 8 + length (take m (drop 8 b))) h.says.meant t h.says.says
 
+  -- the parts of a frame are within their limits, and it ends by the last place
   pub frame_small : {b : List ℕ} {m : ℕ} {t : Message} → HasMetadata l s p b m (Ok t) →
       (m ≤ l.max_metadata) × (t.body_len ≤ l.max_body) × (p + 8 + m + t.body_len ≤ 2 ^ 62)
   frame_small {b} {m} {t} h =
@@ -174,6 +177,7 @@ module _ {old piece : List ℕ} {want n : ℕ} {new : List ℕ} where
   pub all_taken : Filled old piece want n new → length new < want → new ≡ old ++ piece
   all_taken f h = elim f.enough [ inl e ↦ absurd (omega arith) | inr w ↦ w.1 ]
 
+  -- not less than was wanted: just that many
   pub filled : Filled old piece want n new → want ≤ length new → length new ≡ want
   filled f h = elim f.enough [ inl e ↦ e | inr w ↦ absurd (omega arith) ]
 
@@ -229,6 +233,7 @@ module _ (old : Work) (h : Vec ℕ Global) (f : Phase) (new : Work) where
     at = not.at;
   }
 
+  -- what stops the last step stops the work
   pub finish_stops : (b rest : List ℕ) (m : ℕ) (t : Message) (stop : Stop) → h.items ++ rest ≡ b → length old.held.items ≤ length h.items →
       Finishes filled_up m t (Err stop) new → Works old b (Err stop) new
   finish_stops b rest m t (Refused k) e covers x =

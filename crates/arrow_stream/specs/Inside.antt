@@ -7,6 +7,7 @@ use Rattle.arrow_stream.specs.Views.{plain}
 use Rattle.arrow_stream.specs.Work.{IsAt, FirstAt}
 use Rattle.arrow_stream.specs.Stream.{Shows}
 
+-- what the reader shows of its fields
 abbrev pub shows : Inside → Shows
 shows a = record {
   limits = a.work.limits;

@@ -11,17 +11,20 @@ use Rattle.arrow_stream.specs.State.{StreamState}
 use Rattle.arrow_stream.specs.Front.{Standing}
 use Rattle.arrow_stream.specs.Stream.{Shows}
 
+-- how the logic stores limits
 abbrev limits_code : Coded LimitNumbers
 limits_code = code_by (ℕ × (ℕ × ℕ)) (coded× coded_ℕ (coded× coded_ℕ coded_ℕ))
     (λ l. (l.max_metadata, (l.max_body, l.max_rows)))
     (λ p. record { max_metadata = p.0; max_body = p.1.0; max_rows = p.1.1 })
     (λ _. refl)
 
+-- a schema and dictionaries
 abbrev state_code : Coded StreamState
 state_code = code_by (Option Fields × List (ℤ × ValueList))
     (coded× (coded_option fields_code) (coded_list (coded× coded_ℤ value_list_code)))
     (λ s. (s.schema, s.dictionaries)) (λ p. record { schema = p.0; dictionaries = p.1 }) (λ _. refl)
 
+-- where a stream stands
 abbrev standing_code : Coded Standing
 standing_code = code_by (StreamState × (ℕ × (List ℕ × Verdict)))
     (coded× state_code (coded× coded_ℕ (coded× (coded_list coded_ℕ) verdict_row.coded)))
@@ -29,6 +32,7 @@ standing_code = code_by (StreamState × (ℕ × (List ℕ × Verdict)))
     (λ p. record { state = p.0; place = p.1.0; rest = p.1.1.0; verdict = p.1.1.1 })
     (λ _. refl)
 
+-- and what a reader shows
 abbrev pub shows_code : Coded Shows
 shows_code = code_by (LimitNumbers × Standing) (coded× limits_code standing_code)
     (λ r. (r.limits, r.at)) (λ p. record { limits = p.0; at = p.1 }) (λ _. refl)

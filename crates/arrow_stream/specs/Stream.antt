@@ -62,6 +62,7 @@ pub record WantsMemory (old : Shows) (fault : Fault) (new : Shows) : Type 0 wher
   pub fault_is : fault ≡ record { kind = Memory; place = old.at.place }
   pub same : new ≡ old
 
+-- what a read answers, where the reader stood at the bytes t with these entries
 abbrev pub Answers : Shows → List ℕ → Result (ℕ × Option Item) Fault → Shows → List ℕ → List Entry → Type 0
 Answers old piece (Ok (n, None)) new t es = TakesOn old piece n new t es
 Answers old piece (Ok (n, Some item)) new t es = GivesNext piece n item new t es
