@@ -15,10 +15,11 @@ use Rattle.arrow_body.specs.Sound.{AreFit, IsNodeIndexed, IsNodeLaid, IsNodeText
 use Rattle.arrow_body.specs.Taken.{IfFlattened, below, flattened, own_buffers, taken_buffers, taken_nodes}
 use Rattle.arrow_body.proofs.Taking.{all_inside, all_next, buffer_after, node_after, there_after, there_parts}
 
--- the type and the encoding of a field
+-- the type of a field
 pub field_type : (f : Field) → type_view f.data_type ≡ record { tag = (field_view f).head.tag; children = (field_view f).children }
 field_type f = search (rules, the_lemmas)
 
+-- and its encoding
 pub field_encoding : (f : Field) → f.dictionary ≡ (field_view f).head.encoding
 field_encoding f = search (rules, the_lemmas)
 
@@ -69,7 +70,7 @@ pub are_children : (t : TypeShape) (e : Option Encoding) (cs : List Column) → 
 are_children t None cs typed flat = typed
 are_children t (Some e) cs typed flat = flat refl
 
--- what is sound is so below a field, and behind it
+-- what is sound is so below a field
 pub sound_inside : (body : List ℕ) (ds : List (ℤ × ValueList)) (h : Head) (c rest : Fields) (ns : List FieldNode) (bs : List Buffer) → IsSound body ds (more h c rest) ns bs → IsSound body ds (below h.encoding c) (drop 1 ns) (drop (own_buffers h) bs)
 sound_inside body ds h c rest ns bs s = record {
   there = (there_parts h c rest ns bs s.there).2;
@@ -78,6 +79,7 @@ sound_inside body ds h c rest ns bs s = record {
   indexed = all_inside (IsNodeIndexed body ds) h c rest ns bs s.indexed;
 }
 
+-- what is sound is so behind a field
 pub sound_next : (body : List ℕ) (ds : List (ℤ × ValueList)) (h : Head) (c rest : Fields) (ns ns' : List FieldNode) (bs bs' : List Buffer) → IsSound body ds (more h c rest) ns bs
     → ns' ≡ drop (taken_nodes (below h.encoding c)) (drop 1 ns) → bs' ≡ drop (taken_buffers (below h.encoding c)) (drop (own_buffers h) bs) → IsSound body ds rest ns' bs'
 sound_next body ds h c rest ns ns' bs bs' s is is' =
@@ -89,6 +91,7 @@ sound_next body ds h c rest ns ns' bs bs' s is is' =
       indexed = all_next (IsNodeIndexed body ds) h c rest ns ns' bs bs' s.indexed is is';
     }
 
+-- dictionaries that fit are so below a field
 pub fit_inside : (ds : List (ℤ × ValueList)) (e : Option Encoding) (c : Fields) → IfFlattened e (AreFit ds c) → AreFit ds (below e c)
 fit_inside ds None c f = f
 fit_inside ds (Some e) c f = tt

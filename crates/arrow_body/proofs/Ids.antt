@@ -71,6 +71,7 @@ above_last ds k a b one l is is' le up i d below =
     let below_last = rw last at (up i (k - 1) d (omega arith) (omega arith)) in
     rw here (up_up (get_or ds i d).0 b.0 a.0 below_last le)
 
+-- with the next entry the ids rise still where its id is not below the last one's
 pub rises_more : (ds : List (ℤ × ValueList)) (k : ℕ) (a b : ℤ × ValueList) → 1 ≤ k → k < length ds → a ≡ get_or ds k a → b ≡ get_or ds (k - 1) b → b.0 ≤ℤ a.0 → RisesTo ds k → RisesTo ds (k + 1)
 rises_more ds k a b one l is is' le up i j d h below = ⊎_elim
     (λ (before : j < k). up i j d h before)

@@ -84,6 +84,7 @@ if_known : (e : Option Encoding) (P Q : Type 0) → (P → Q) → IfFlattened e 
 if_known None P Q f p = f p
 if_known (Some e) P Q f p = tt
 
+-- each raw value of the columns stands for its resolved value
 pub columns_resolve : (body : List ℕ) (ds : List (ℤ × ValueList)) (fields : Fields) (ns : List FieldNode) (bs : List Buffer) → AllNodes (IsNodeIndexed body ds) fields ns bs
     → AllByRecursion (ResolvesBy ds) (columns_of body ds fields ns bs)
 columns_resolve body ds none ns bs all = tt

@@ -10,10 +10,12 @@ use Rattle.arrow_types.specs.declared.node.FieldNode.{FieldNode}
 use Rattle.arrow_types.specs.declared.node.Buffer.{Buffer}
 use Rattle.arrow_body.specs.Taken.{AllNodes, AreThere, IfFlattened, below, flattened, own_buffers, taken_nodes, taken_buffers}
 
+-- how many nodes stand below a field
 pub nodes_below : (e : Option Encoding) (children : Fields) → taken_nodes (below e children) ≡ flattened e (taken_nodes children)
 nodes_below None children = refl
 nodes_below (Some e) children = refl
 
+-- and how many buffers
 pub buffers_below : (e : Option Encoding) (children : Fields) → taken_buffers (below e children) ≡ flattened e (taken_buffers children)
 buffers_below None children = refl
 buffers_below (Some e) children = refl
@@ -31,6 +33,7 @@ fewer_taken fs i f h is = omega (arith, count_below (field_view f).head.encoding
 pub node_after : (h : Head) (c : Fields) (ns rest : List FieldNode) → rest ≡ drop (taken_nodes (below h.encoding c)) (drop 1 ns) → rest ≡ drop (1 + flattened h.encoding (taken_nodes c)) ns
 node_after h c ns rest is = is ∙ drop-drop (taken_nodes (below h.encoding c)) 1 ns ∙ ap (λ n. drop (1 + n) ns) (nodes_below h.encoding c)
 
+-- the same of buffers
 pub buffer_after : (h : Head) (c : Fields) (bs rest : List Buffer) → rest ≡ drop (taken_buffers (below h.encoding c)) (drop (own_buffers h) bs) → rest ≡ drop (own_buffers h + flattened h.encoding (taken_buffers c)) bs
 buffer_after h c bs rest is = is ∙ drop-drop (taken_buffers (below h.encoding c)) (own_buffers h) bs ∙ ap (λ n. drop (own_buffers h + n) bs) (buffers_below h.encoding c)
 
@@ -70,6 +73,7 @@ pub all_below : (P : Head → Fields → List FieldNode → List Buffer → Type
 all_below P None c ns bs = (λ x. x, λ x. x)
 all_below P (Some e) c ns bs = (λ x. x, λ x. x)
 
+-- what is known of a field, and of what stands below it, is left to be known of those that follow
 pub all_after : (P : Head → Fields → List FieldNode → List Buffer → Type 0) (h : Head) (c rest : Fields) (ns ns' : List FieldNode) (bs bs' : List Buffer)
     → P h c ns bs → AllNodes P (below h.encoding c) (drop 1 ns) (drop (own_buffers h) bs)
     → ns' ≡ drop (taken_nodes (below h.encoding c)) (drop 1 ns) → bs' ≡ drop (taken_buffers (below h.encoding c)) (drop (own_buffers h) bs)
@@ -86,6 +90,7 @@ pub all_inside : (P : Head → Fields → List FieldNode → List Buffer → Typ
     → AllNodes P (more h c rest) ns bs → AllNodes P (below h.encoding c) (drop 1 ns) (drop (own_buffers h) bs)
 all_inside P h c rest ns bs all = (all_below P h.encoding c (drop 1 ns) (drop (own_buffers h) bs)).0 all.1
 
+-- and of the fields that follow
 pub all_next : (P : Head → Fields → List FieldNode → List Buffer → Type 0) (h : Head) (c rest : Fields) (ns ns' : List FieldNode) (bs bs' : List Buffer)
     → AllNodes P (more h c rest) ns bs → ns' ≡ drop (taken_nodes (below h.encoding c)) (drop 1 ns) → bs' ≡ drop (taken_buffers (below h.encoding c)) (drop (own_buffers h) bs)
     → AllNodes P rest ns' bs'

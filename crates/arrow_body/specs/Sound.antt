@@ -23,6 +23,7 @@ use Rattle.arrow_body.specs.Taken.{AllNodes, AreThere, IfFlattened, below, flatt
 abbrev pub node_at : List FieldNode → FieldNode
 node_at nodes = get_or nodes 0 (record { length = pos 0; null_count = pos 0 })
 
+-- and how many slots it has
 abbrev pub slots_at : List FieldNode → ℕ
 slots_at nodes = count_of (node_at nodes).length
 
@@ -69,6 +70,7 @@ if_flattened (Some e) columns = []
 abbrev pub IsNodeText : List ℕ → Head → Fields → List FieldNode → List Buffer → Type 0
 IsNodeText body head children nodes buffers = IsText head.tag head.encoding (slots_at nodes) (own_bytes body head buffers)
 
+-- all texts of the fields, on every level, are UTF-8
 abbrev pub AreText : List ℕ → Fields → List FieldNode → List Buffer → Type 0
 AreText body fields nodes buffers = AllNodes (IsNodeText body) fields nodes buffers
 
@@ -83,6 +85,7 @@ abbrev pub IsNodeIndexed : List ℕ → List (ℤ × ValueList) → Head → Fie
 IsNodeIndexed body ds head children nodes buffers =
     IsIndexed head.encoding (slots_at nodes) (own_bytes body head buffers) (values_in (dictionary_for ds head.encoding))
 
+-- all indices of the fields, on every level, have their values
 abbrev pub AreIndexed : List ℕ → List (ℤ × ValueList) → Fields → List FieldNode → List Buffer → Type 0
 AreIndexed body ds fields nodes buffers = AllNodes (IsNodeIndexed body ds) fields nodes buffers
 
@@ -99,6 +102,7 @@ pub record IsNodeFit (ds : List (ℤ × ValueList)) (head : Head) (children : Fi
   pub typed : IsOfType (record { tag = head.tag; children = children }) (dictionary_for ds head.encoding)
   pub flat : IsTrue (is_some head.encoding) → has_encoding children ≡ false
 
+-- so of all fields, on every level
 abbrev pub AreFit : List (ℤ × ValueList) → Fields → Type 0
 AreFit ds none = ⊤
 AreFit ds (more head children rest) = IsNodeFit ds head children × IfFlattened head.encoding (AreFit ds children) × AreFit ds rest

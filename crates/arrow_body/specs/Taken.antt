@@ -13,6 +13,7 @@ abbrev pub flattened : Option Encoding → ℕ → ℕ
 flattened None n = n
 flattened (Some e) n = 0
 
+-- the fields themselves that are taken below it
 abbrev pub below : Option Encoding → Fields → Fields
 below None children = children
 below (Some e) children = none
@@ -21,10 +22,12 @@ below (Some e) children = none
 abbrev pub own_buffers : Head → ℕ
 own_buffers head = buffer_count head.tag head.encoding
 
+-- how many nodes the fields take
 abbrev pub taken_nodes : Fields → ℕ
 taken_nodes none = 0
 taken_nodes (more head children rest) = 1 + flattened head.encoding (taken_nodes children) + taken_nodes rest
 
+-- how many buffers they take
 abbrev pub taken_buffers : Fields → ℕ
 taken_buffers none = 0
 taken_buffers (more head children rest) = own_buffers head + flattened head.encoding (taken_buffers children) + taken_buffers rest

@@ -24,20 +24,24 @@ use Rattle.arrow_stream.specs.Meaning.{announced}
 use Rattle.arrow_stream.specs.Message.{Message}
 use Rattle.arrow_stream.specs.Frame.{BodySays, MetadataSays, against, is_out_of_order, judged, kind_of_fault}
 
+-- the schema and the dictionaries that a state holds
 abbrev pub plain : State → StreamState
 plain s = record { schema = s.schema; dictionaries = s.dictionaries }
 
+-- what an item tells
 abbrev pub given : Item → Given
 given items.Schema = schema_given
 given (items.Dictionary id) = dictionary_given id
 given (items.Batch b) = batch_given b
 given items.End = ended
 
+-- what a message holds, as the layer below tells it
 abbrev pub content_of : HeldContent → PlainHeader
 content_of (held.Schema s) = schema s
 content_of (held.Dictionary id delta rows) = dictionary id delta (batch_view rows)
 content_of (held.Batch rows) = batch (batch_view rows)
 
+-- the message that is held
 abbrev pub message_of : HeldMessage → Message
 message_of m = record { content = content_of m.content; body_len = m.body_len }
 
@@ -86,6 +90,7 @@ pub record AreValues (s : StreamState) (id : ℤ) (rows : PlainBatch) (body : Li
   pub plain : c.encoding ≡ None
   pub flat : has_encoding c.data_type.children ≡ false
 
+-- what a dictionary batch is answered with: its one column, or why there is none
 abbrev pub HeldValues : StreamState → ℤ → PlainBatch → List ℕ → Result Column Stop → Type 0
 HeldValues s id rows body (Ok c) = AreValues s id rows body c
 HeldValues s id rows body (Err (Refused k)) = Holds body [] (value_fields s.schema id) rows (Err k)

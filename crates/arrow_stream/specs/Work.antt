@@ -29,6 +29,7 @@ Shown l s p h phases.Prefix = length h ≤ 8
 Shown l s p h (phases.Metadata m) = HasPrefix l s p h (Ok (prefixes.Metadata m)) × (length h ≤ 8 + m)
 Shown l s p h (phases.Body m t) = HasMetadata l s p h m (Ok (message_of t)) × (length h ≤ 8 + m + t.body_len) × (l.max_rows ≤ 2147483647)
 
+-- the work is at what its held bytes have shown, at no place past the last, with dictionaries of the schema's types
 pub record IsAt (w : Work) : Type 0 where
   pub shown : Shown w.limits (plain w.state) w.place w.held.items w.phase
   pub near : w.place ≤ 2 ^ 62
