@@ -6,11 +6,12 @@ ghost use Rattle.arrow_body.specs.Sound.{AreFit, Explains, IsExplained, IsSound,
 ghost use Rattle.arrow_body.specs.Sound.{number_of};
 
 use crate::build::build;
-use crate::indexed::are_indexed;
-use crate::laid::are_laid;
+use crate::indexed::Indices;
+use crate::laid::Places;
 use crate::listed::Listed;
+use crate::pass::all_hold;
 use crate::taken::{Left, after};
-use crate::text::are_text;
+use crate::text::Texts;
 use arrow_array::{Array, Dictionary};
 use arrow_types::{Buffer, Field, FieldNode};
 use bytes::Bytes;
@@ -85,13 +86,14 @@ pub fn check(
         (fields_view fields.now) nodes.now buffers.now) }
 {
     let left = Left { nodes, buffers };
-    if after(fields, left).is_none() || !are_laid(fields, left, body) {
+    if after(fields, left).is_none() || !all_hold(&Places { body }, fields, left) {
         return Err(BodyFault::Layout);
     }
-    if !are_text(fields, left, body) {
+    if !all_hold(&Texts { body }, fields, left) {
         return Err(BodyFault::Text);
     }
-    if !are_indexed(fields, left, body, Listed::new(dictionaries)) {
+    let dictionaries = Listed::new(dictionaries);
+    if !all_hold(&Indices { body, dictionaries }, fields, left) {
         return Err(BodyFault::Index);
     }
     Ok(())

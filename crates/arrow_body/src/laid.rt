@@ -13,6 +13,7 @@ ghost use Rattle.arrow_body.specs.Sound.{slots_at};
 ghost use Rattle.arrow_body.specs.Taken.{AreThere, below, own_buffers};
 
 use crate::held::{bytes_at, own_ranges};
+use crate::pass::Condition;
 use crate::taken::{Left, after, below, inside, own_buffers};
 use arrow_array::ByteRange;
 use arrow_array::layout::is_laid;
@@ -103,25 +104,34 @@ fn are_buffers_laid(
     }
 }
 
-// Whether the field's own node and buffers lie in the body as its type asks for.
-fn is_node_laid(field: &Field, left: Left<'_>, body: &[u8]) -> bool
-    requires { AreThere (fields_of (field_view field.now ∷ [])) left.nodes.now left.buffers.now }
-    ensures { IsTrue result
-        ↔ IsNodeLaid body.now (field_view field.now).head
-        (field_view field.now).children left.entry.nodes.now left.entry.buffers.now }
-{
-    let node = left.nodes[0];
-    if node.length < 0 || node.length > 2147483647 {
-        return false;
-    }
-    let len = node.length as usize;
-    let own = own_buffers(field);
-    match own_ranges(body, left.buffers, own) {
-        Some(ranges) => {
-            are_buffers_laid(field, len, body, &ranges[..own], inside(field, left))
-                && is_counted(field, node, len, body, &ranges[..own])
+// That a node and its buffers lie in the body as the type of their field asks for.
+#[derive(Clone, Copy)]
+pub(crate) struct Places<'a> {
+    pub(crate) body: &'a [u8],
+}
+
+impl<'a> Condition for Places<'a> {
+    ghost use Rattle.std.specs.Prelude.{⊤};
+    ghost use Rattle.arrow_body.specs.Sound.{IsNodeLaid};
+
+    ghost is_known = { λ _ _ _ _ _. ⊤ };
+
+    ghost is_asked = { λ c. IsNodeLaid c.body.now };
+
+    fn holds(&self, field: &Field, left: Left<'_>) -> bool {
+        let node = left.nodes[0];
+        if node.length < 0 || node.length > 2147483647 {
+            return false;
         }
-        None => false,
+        let len = node.length as usize;
+        let own = own_buffers(field);
+        match own_ranges(self.body, left.buffers, own) {
+            Some(ranges) => {
+                are_buffers_laid(field, len, self.body, &ranges[..own], inside(field, left))
+                    && is_counted(field, node, len, self.body, &ranges[..own])
+            }
+            None => false,
+        }
     }
 }
 
@@ -139,28 +149,4 @@ fn is_counted(field: &Field, node: FieldNode, len: usize, body: &[u8], ranges: &
         return true;
     }
     is_count(node, len, bytes_at(body, ranges, 0))
-}
-
-// Whether the nodes and buffers of the fields, on every level, lie in the body as their types ask for.
-#[cycle(laid)]
-pub(crate) fn are_laid(fields: &[Field], left: Left<'_>, body: &[u8]) -> bool
-    requires { AreThere (fields_view fields.now) left.nodes.now left.buffers.now }
-    ensures { IsTrue result
-        ↔ AreLaid body.now (fields_view fields.now) left.entry.nodes.now left.entry.buffers.now }
-{
-    let mut rest = left;
-    for field in fields {
-        if !is_node_laid(field, rest, body) {
-            return false;
-        }
-        let inner = inside(field, rest);
-        if !are_laid(below(field), inner, body) {
-            return false;
-        }
-        rest = match after(below(field), inner) {
-            Some(next) => next,
-            None => return false,
-        };
-    }
-    true
 }

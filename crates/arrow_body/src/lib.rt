@@ -21,6 +21,7 @@ mod indexed;
 mod laid;
 pub mod laws;
 mod listed;
+mod pass;
 mod taken;
 mod text;
 

@@ -5,10 +5,10 @@ ghost use Rattle.arrow_meta.specs.Means.{header_view, message_view};
 ghost use Rattle.arrow_stream.specs.Frame.{misplaced};
 ghost use Rattle.arrow_stream.specs.Views.{Placed, StopsBy, Understood, content_of, plain};
 
-use crate::stream_schema::StreamSchema;
 use crate::kind::Refusal;
 use crate::refusals::{against, is_out_of_order, misplaced};
 use crate::state::State;
+use crate::stream_schema::StreamSchema;
 use arrow_meta::{Header, Message as Judged, MetaFault, RecordBatch, decode};
 use arrow_types::Limits;
 use std::alloc::{AllocError, Global};

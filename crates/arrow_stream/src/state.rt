@@ -13,9 +13,9 @@ ghost use Rattle.arrow_stream.specs.Views.{Applies, Gives, HeldValues, IsFit, Re
 ghost use Rattle.arrow_stream.specs.Views.{content_of, plain};
 
 use crate::body::{hold, row_count};
-use crate::stream_schema::StreamSchema;
 use crate::item::Item;
 use crate::message::{Content, Stop};
+use crate::stream_schema::StreamSchema;
 use arrow_array::{Array, Batch, Dictionary};
 use arrow_dict::{Store, StoreFault};
 use arrow_meta::RecordBatch;

@@ -32,7 +32,7 @@ impl Model for StreamSchema {
     ghost view = { λ c. c.schema.value };
 
     ghost invariant = { λ c. IsSchema c.schema.value
-    × NameSame c.value_fields (dictionary_fields c.schema.value) };
+        × NameSame c.value_fields (dictionary_fields c.schema.value) };
 }
 
 impl StreamSchema {

@@ -58,8 +58,8 @@ returns-in_default-clone c =
     let held = c.shared-schema.ensures.same ∙ sym (ap fields_in c.in-Some.is) in
     let same : fields_view c.fields.result.now ≡ fields_in s.schema = c.fields.ensures.same ∙ c.deref.ensures ∙ held in
     let holds : Holds body s.dictionaries (fields_in s.schema) rows (Ok cs) =
-        subst (λ x. Holds body x (fields_in s.schema) rows (Ok cs)) c.entries-dictionaries.ensures.all
-        (subst (λ x. Holds body c.entries-dictionaries.result.now x rows (Ok cs)) same c.in-Ok.ensures.held) in
+    subst (λ x. Holds body x (fields_in s.schema) rows (Ok cs)) c.entries-dictionaries.ensures.all
+    (subst (λ x. Holds body c.entries-dictionaries.result.now x rows (Ok cs)) same c.in-Ok.ensures.held) in
     record { gives = batch_applicable s rows body cs holds }
 
 pub unreachable-requires-in-Err-new : goal.unreachable-requires-in-Err-new
@@ -71,8 +71,8 @@ unreachable-requires-in-Err-new c =
     let held = c.shared-schema.ensures.same ∙ sym (ap fields_in c.in-Some.is) in
     let same : fields_view c.fields.result.now ≡ fields_in s.schema = c.fields.ensures.same ∙ c.deref.ensures ∙ held in
     let holds : Holds body s.dictionaries (fields_in s.schema) rows (Ok cs) =
-        subst (λ x. Holds body x (fields_in s.schema) rows (Ok cs)) c.entries-dictionaries.ensures.all
-        (subst (λ x. Holds body c.entries-dictionaries.result.now x rows (Ok cs)) same c.in-Ok.ensures.held) in
+    subst (λ x. Holds body x (fields_in s.schema) rows (Ok cs)) c.entries-dictionaries.ensures.all
+    (subst (λ x. Holds body c.entries-dictionaries.result.now x rows (Ok cs)) same c.in-Ok.ensures.held) in
     let schema = c.in-Ok-clone.ensures.cases ∙ held in
     held_fits c.in-Err-new.field-0 holds
     (subst (λ n. Judges (Err c.in-Err-new.field-0) (fields_in s.schema) cs n) c.row_count.ensures.count

@@ -93,9 +93,10 @@ returns-in-Err-Memory-clause-updates c =
     let rows = batch_view c.args.rows.now in
     let body = c.args.body.now in
     let id = to_z-of_z w64 c.args.id c.ranges.id in
-    let refused = rw c.in-Err-Memory.field-0-is at c.in-Err-Memory.ensures in
-    (values_applicable s rows body c.args.id c.args.is_delta c.in-Ok.values (subst (λ i. AreValues s i rows body c.in-Ok.values) id c.in-Ok.ensures.values),
-     ap (λ ds. record { schema = s.schema; dictionaries = ds }) refused.same)
+    let refused = rw c.in-Err-Memory.field-0-is at c.in-Err-Memory.ensures in (
+      values_applicable s rows body c.args.id c.args.is_delta c.in-Ok.values (subst (λ i. AreValues s i rows body c.in-Ok.values) id c.in-Ok.ensures.values),
+      ap (λ ds. record { schema = s.schema; dictionaries = ds }) refused.same,
+    )
 
 pub returns-in_default-clause-updates : goal.returns-in_default-clause-updates
 returns-in_default-clause-updates c =
@@ -110,6 +111,7 @@ returns-in-Err-replace-clause-updates c =
     let s = plain c.args.self.now in
     let rows = batch_view c.args.rows.now in
     let body = c.args.body.now in
-    let id = to_z-of_z w64 c.args.id c.ranges.id in
-    (values_applicable s rows body c.args.id c.args.is_delta c.in-Ok.values (subst (λ i. AreValues s i rows body c.in-Ok.values) id c.in-Ok.ensures.values),
-     ap (λ ds. record { schema = s.schema; dictionaries = ds }) c.in-Err-replace.ensures.err)
+    let id = to_z-of_z w64 c.args.id c.ranges.id in (
+      values_applicable s rows body c.args.id c.args.is_delta c.in-Ok.values (subst (λ i. AreValues s i rows body c.in-Ok.values) id c.in-Ok.ensures.values),
+      ap (λ ds. record { schema = s.schema; dictionaries = ds }) c.in-Err-replace.ensures.err,
+    )
