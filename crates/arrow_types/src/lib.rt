@@ -4,7 +4,7 @@
 //! `Schema.fbs` (`DataType`, `Field`, `Encoding`) and gives a `Schema`: fields that are known to
 //! keep to the fixed limits, with no dictionary below a dictionary and one value type for each
 //! dictionary id. Every crate above relies on these facts and tests none of them again. `Limits`
-//! holds the numbers that a reader and a writer keep to.
+//! holds the numbers that a reader and a writer keep to; [`laws`] says what the constants are.
 //!
 //! Contracts never compare the Rust values, which hold pointers and capacities, but what they say:
 //! a plain view, `type_view` of a type and `fields_view` of fields (`specs/View.antt`).
