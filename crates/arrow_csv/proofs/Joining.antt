@@ -1,5 +1,5 @@
 -- Texts that are put together one by one.
-use Rattle.std.proofs.Common.{◌≡◌, ◌<◌, ◌≤◌, ◌-◌, ℕ, zero, suc, List, [], ◌∷◌, ◌++◌, length, map, take, get_or, codes, refl, sym, ap, ◌∙◌, arith, append_assoc, append-nil}
+use Rattle.std.proofs.Common.{◌≡◌, ◌<◌, ◌≤◌, ◌+◌, ◌-◌, ℕ, zero, suc, List, [], ◌∷◌, ◌++◌, length, map, take, get_or, codes, refl, sym, ap, ◌∙◌, arith, append_assoc, append-nil}
 use Rattle.arrow_types.specs.Field.{Fields, none, more}
 use Rattle.arrow_types.specs.View.{field_view, fields_view}
 use Rattle.arrow_types.specs.declared.field.Field.{Field}
@@ -70,7 +70,8 @@ pub item_at : (f : PlainValue → List ℕ) (vs : List PlainValue) (start end k 
 item_at f vs start end k inside low high =
     let long = length-values_from vs start end inside in
     let l : k - start < length (values_from vs start end) = omega (arith, long) in
-    let at = at_values_from vs start end (k - start) (omega arith) ∙ ap (value_at vs) (omega arith) in
+    let place : start + (k - start) ≡ k = omega (arith, low) in
+    let at : value_at (values_from vs start end) (k - start) ≡ value_at vs k = at_values_from vs start end (k - start) (omega arith) ∙ ap (value_at vs) place in
     (get_map f (values_from vs start end) (k - start) l ∙ ap f at, omega (arith, length_map f (values_from vs start end)))
   where
     get_map : (f : PlainValue → List ℕ) (xs : List PlainValue) (j : ℕ) → j < length xs → get_or (map f xs) j [] ≡ f (value_at xs j)
