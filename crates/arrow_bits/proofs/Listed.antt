@@ -49,6 +49,9 @@ ones_and_zeros (suc n) bytes =
     let last = one_of_two (bit_of bytes n) in
     subst (λ m. ones_of m bytes + count_by not (bits_of m bytes) ≡ m) (add-one n) (omega (arith, before, ones, zeros, last))
 
+-- the facts of a list of bits that its calls rest on
+pub ruleset bit_lists = (length_bits, bit_found, ones_and_zeros)
+
 -- so no more are set than there are
 pub few_ones : (n : ℕ) (bytes : List ℕ) → ones_of n bytes ≤ n
 few_ones n bytes = omega (arith, ones_and_zeros n bytes)

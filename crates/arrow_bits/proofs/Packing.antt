@@ -87,6 +87,7 @@ flag_first : (bit : Bool) → (bit_at (cond bit 1 0) 0 == 1) ≡ bit
 flag_first true = refl
 flag_first false = refl
 
+-- its other bits are 0
 flag_other : (bit : Bool) (k : ℕ) → k ≢ 0 → bit_at (cond bit 1 0) k ≡ 0
 flag_other true k apart = bit_at-pow_other 0 k apart
 flag_other false k apart = bit_at-zero k

@@ -37,12 +37,15 @@ read_byte place bytes h = rw (drop-cons bytes place 0 h) (omega arith)
 pub signed_8 : (n : ℕ) → n < 256 → to_z w8 n ≡ twos_complement 1 n
 signed_8 n h = grind (arith, ints)
 
+-- the same of two bytes
 pub signed_16 : (n : ℕ) → n < 65536 → to_z w16 n ≡ twos_complement 2 n
 signed_16 n h = grind (arith, ints)
 
+-- the same of four bytes
 pub signed_32 : (n : ℕ) → n < 4294967296 → to_z w32 n ≡ twos_complement 4 n
 signed_32 n h = grind (arith, ints)
 
+-- the same of eight bytes
 pub signed_64 : (n : ℕ) → n < 18446744073709551616 → to_z w64 n ≡ twos_complement 8 n
 signed_64 n h = grind (arith, ints)
 

@@ -1,4 +1,7 @@
-ghost use Rattle.std.specs.Prelude.{◌≡◌, ◌*◌, ◌^◌, ◌≤◌, ◌<◌, ◌↔◌, ◌==◌, length, not, count_by, slice_get, IsSome, IfSome, Some};
+//! Bits in bytes: one of them, and a list of the first.
+
+ghost use Rattle.std.specs.Prelude.{◌≡◌, ◌*◌, ◌^◌, ◌≤◌, ◌<◌, ◌↔◌, ◌==◌, length, slice_get};
+ghost use Rattle.std.specs.Prelude.{IfSome, IsSome, Some, count_by, not};
 ghost use Rattle.arrow_bits.specs.Bitmap.{bit_of, bits_of, ones_of};
 
 use crate::numbers::u64_at;
@@ -6,8 +9,12 @@ use std::marker::Model;
 
 /// Bit `j` of the bytes: bit `j % 8`, counted from the least significant, of byte `j / 8`.
 ///
-/// That is the numbering of validity bitmaps and of truth values (Columnar Format, "Validity bitmaps"). The byte has to
-/// lie inside the slice.
+/// That is the numbering of validity bitmaps and of truth values (Columnar Format, "Validity
+/// bitmaps").
+///
+/// Condition: the byte lies inside the slice, as of an index. A column tests once, when it is made,
+/// that its bitmaps have a bit for each slot, and then asks for bits of slots alone. Where nothing
+/// was tested, [`Bits::new`] is the test.
 #[tactic(auto, unfolding(crate::specs::Bitmap::bit_of))]
 pub fn bit(bytes: &[u8], j: usize) -> bool
     requires { j < 8 * length bytes.now }
@@ -18,8 +25,9 @@ pub fn bit(bytes: &[u8], j: usize) -> bool
 
 /// The first bits of a slice of bytes, as a list of truth values.
 ///
-/// Bit 0 is the least significant of the first byte (Columnar Format, "Validity bitmaps"). The bytes are lent and are
-/// not copied. Bits behind the last, and bytes behind that, may hold anything.
+/// Bit 0 is the least significant of the first byte (Columnar Format, "Validity bitmaps"). The
+/// bytes are lent and are not copied. Bits behind the last, and bytes behind that, may hold
+/// anything.
 #[derive(Debug, Drop)]
 pub struct Bits<'a> {
     bytes: &'a [u8],
@@ -37,7 +45,7 @@ impl<'a> Model for Bits<'a> {
     ghost invariant = { λ b. b.len ≤ 8 * length b.bytes.now };
 }
 
-#[tactic(auto, using(crate::proofs::Listed::length_bits, crate::proofs::Listed::bit_found, crate::proofs::Listed::ones_and_zeros))]
+#[tactic(auto, using(crate::proofs::Listed::bit_lists))]
 impl<'a> Bits<'a> {
     /// The first `len` bits of the bytes, or None where the bytes have fewer bits than that.
     pub fn new(bytes: &'a [u8], len: usize) -> Option<Bits<'a>>
@@ -83,8 +91,8 @@ impl<'a> Bits<'a> {
     }
 }
 
-// How many of the first bits are set: those of whole words of 64 bits, of the whole bytes behind them, and of the byte
-// that is left.
+// How many of the first bits are set: those of whole words of 64 bits, of the whole bytes behind
+// them, and of the byte that is left.
 fn count_ones(bytes: &[u8], len: usize) -> usize
     requires { len ≤ 8 * length bytes.now }
     ensures { result ≡ ones_of len bytes.now }

@@ -1,11 +1,13 @@
+//! A list of bits that grows.
+
 ghost use Rattle.std.specs.Prelude.{◌≡◌, ◌==◌, ◌∷◌, ◌++◌, [], length, OnOk, OnErr};
 ghost use Rattle.arrow_bits.specs.Bitmap.{IsPacked};
 
 use std::alloc::{AllocError, Global};
 use std::marker::Model;
 
-/// A list of bits that grows, packed eight to a byte from the least significant on (Columnar Format, "Validity
-/// bitmaps").
+/// A list of bits that grows, packed eight to a byte from the least significant on (Columnar
+/// Format, "Validity bitmaps").
 ///
 /// The bytes are always as few as the bits need, and the unused bits of the last byte are 0.
 #[derive(Debug, Drop)]
@@ -53,8 +55,8 @@ impl BitsBuilder {
 
     /// Appends a bit.
     ///
-    /// The only error is `AllocError`, where the list found no memory to grow (or holds `usize::MAX` bits already, more
-    /// than any memory has), and the list is then as it was.
+    /// The only error is `AllocError`, where the list found no memory to grow (or holds
+    /// `usize::MAX` bits already, more than any memory has), and the list is then as it was.
     pub fn push(&mut self, bit: bool) -> Result<(), AllocError>
         ensures ok { OnOk result (self.new ≡ self.old ++ bit ∷ []) }
         ensures err { OnErr result (self.new ≡ self.old) }

@@ -1,3 +1,5 @@
+//! Numbers of 32 bits, compared sixteen at a time.
+
 ghost use Rattle.std.specs.Prelude.{◌≡◌, ◌+◌, ◌*◌, ◌≤◌, ◌<◌, ◌↔◌, ℕ, length, slice_index, IsTrue};
 ghost use Rattle.arrow_bits.specs.AtMost.{AreAtMost};
 ghost use Rattle.arrow_bits.specs.Numbers.{number_at};
@@ -9,7 +11,8 @@ use std::simd::prelude::*;
 /// How many numbers are compared at once.
 pub(crate) const LANES: usize = 16;
 
-// Whether none of the first `len` numbers of 32 bits is above the one behind it: sixteen at a time, then the rest.
+// Whether none of the first `len` numbers of 32 bits is above the one behind it: sixteen at a time,
+// then the rest.
 pub(crate) fn never_fall(bytes: &[u8], len: usize) -> bool
     requires { 4 * (len + 1) ≤ length bytes.now }
     ensures { IsTrue result ↔ NeverFall bytes.now 0 len }
@@ -57,8 +60,12 @@ fn sixteen_at(bytes: &[u8], at: usize) -> u32x16
     u32x16::from_le_bytes(u8x64::from_slice(&bytes[at..]))
 }
 
-/// Whether none of the first `len` numbers of 32 bits, read without a sign, is above `top`: sixteen are compared at once,
-/// and the rest one at a time.
+/// Whether none of the first `len` numbers of 32 bits, read without a sign, is above `top`: sixteen
+/// are compared at once, and the rest one at a time.
+///
+/// Condition: the bytes have room for the `len` numbers. The answer is of their size alone, so that
+/// it has one meaning; that a buffer is long enough for its slots is tested before, for columns of
+/// every type.
 pub fn are_at_most(bytes: &[u8], len: usize, top: u32) -> bool
     requires { 4 * len ≤ length bytes.now }
     ensures { IsTrue result ↔ AreAtMost bytes.now 0 len top }

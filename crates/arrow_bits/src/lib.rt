@@ -1,18 +1,20 @@
-//! Bits, integers and offsets in slices of bytes, as the columnar format of Apache Arrow lays them out.
+//! Bits, integers and offsets in slices of bytes, as the columnar format of Apache Arrow lays them
+//! out.
 //!
-//! Every column is read through these calls. They take a slice of bytes, which may be any part of a message body, and
-//! give what the standard says stands there: a bitmap is a list of bits (`Bits`), a buffer of fixed-width values is a
-//! list of integers (`int_at`), a buffer of offsets is a list of numbers that never fall (`Offsets`). `BitsBuilder` and
-//! `put_int`, which are for a writer, go the other way. Nothing is copied, and no call but these two takes memory.
+//! Every column is read through these calls. They take a slice of bytes, which may be any part of a
+//! message body, and give what the standard says stands there: a bitmap is a list of bits (`Bits`),
+//! a buffer of fixed-width values is a list of integers (`int_at`), a buffer of offsets is a list
+//! of numbers that never fall (`Offsets`). `BitsBuilder` and `put_int`, which are for a writer, go
+//! the other way. Nothing is copied, and no call but these two takes memory.
 //!
-//! What a place of the bytes means is said once, in `specs/`: `bit_of` and `bits_of` (`Bitmap.antt`), `number_at`,
-//! `signed_at` and `int_of` (`Numbers.antt`), `AreOffsets` and `offsets_of` (`Offsets.antt`), `AreAtMost`
-//! (`AtMost.antt`). They take a whole list of bytes and a place in it, so that a layer above can speak of a body and the
-//! places of its buffers.
+//! What a place of the bytes means is said once, in `specs/`: `bit_of` and `bits_of`
+//! (`Bitmap.antt`), `number_at`, `signed_at` and `int_of` (`Numbers.antt`), `AreOffsets` and
+//! `offsets_of` (`Offsets.antt`), `AreAtMost` (`AtMost.antt`). They take a whole list of bytes and
+//! a place in it, so that a layer above can speak of a body and the places of its buffers.
 //!
-//! `Offsets::check` compares sixteen neighbours at a time, `are_at_most` sixteen numbers with one, and `Bits::count_zero`
-//! counts 64 bits at a time. `plain` has the first and the last once more as loops over the definitions, with the same
-//! contracts.
+//! `Offsets::check` compares sixteen neighbours at a time, `are_at_most` sixteen numbers with one,
+//! and `Bits::count_zero` counts 64 bits at a time. `plain` has the first and the last once more as
+//! loops over the definitions, with the same contracts.
 #![tactic(auto)]
 
 mod bitmap;

@@ -1,15 +1,18 @@
+//! Integers of a fixed width.
+
 ghost use Rattle.std.specs.Prelude.{◌≡◌, ◌+◌, ◌*◌, ◌≤◌, ◌++◌, Bool, length, OnOk, OnErr};
-ghost use Rattle.arrow_bits.specs.Numbers.{number_at, signed_at, int_of, int_bytes, IsWidth, FitsInt, FitsWidth};
+ghost use Rattle.arrow_bits.specs.Numbers.{number_at, signed_at, int_of, int_bytes};
+ghost use Rattle.arrow_bits.specs.Numbers.{IsWidth, FitsInt, FitsWidth};
 
 use byteorder::{ByteOrder, LittleEndian};
 use std::alloc::AllocError;
 
 /// The integer in slot `i` of a buffer of integers of `width` bytes each.
 ///
-/// Slots are counted from 0, and slot `i` is the bytes from `width * i` up to `width * (i + 1)`, the least significant
-/// first (Columnar Format, "Fixed-size Primitive Layout"). `width` is 1, 2, 4 or 8. Where `signed` holds the bytes are
-/// read as two's complement, else as a number that is 0 or more. The slot has to lie inside the bytes. No call fails,
-/// and none takes memory.
+/// Slots are counted from 0, and slot `i` is the bytes from `width * i` up to `width * (i + 1)`,
+/// the least significant first (Columnar Format, "Fixed-size Primitive Layout"). `width` is 1, 2, 4
+/// or 8. Where `signed` holds the bytes are read as two's complement, else as a number that is 0 or
+/// more. The slot has to lie inside the bytes. No call fails, and none takes memory.
 pub fn int_at(bytes: &[u8], width: usize, signed: bool, i: usize) -> i128
     requires width { IsWidth width }
     requires inside { width * i + width ≤ length bytes.now }
@@ -77,9 +80,10 @@ fn read_signed(bytes: &[u8], width: usize, place: usize) -> i64
 
 /// Appends an integer of `width` bytes, the least significant first.
 ///
-/// `width` is 1, 2, 4 or 8. The value has to lie in the range of the signed or of the unsigned integers of this width; a
-/// negative one is written as two's complement, so that `int_at` reads it back by the sign for which it fits. The only
-/// error is `AllocError`, where the list found no memory to grow, and the list is then as it was.
+/// `width` is 1, 2, 4 or 8. The value has to lie in the range of the signed or of the unsigned
+/// integers of this width; a negative one is written as two's complement, so that `int_at` reads it
+/// back by the sign for which it fits. The only error is `AllocError`, where the list found no
+/// memory to grow, and the list is then as it was.
 pub fn put_int(out: &mut Vec<u8>, width: usize, value: i128) -> Result<(), AllocError>
     requires width { IsWidth width }
     requires fits { FitsWidth width value }

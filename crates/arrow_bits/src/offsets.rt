@@ -1,4 +1,7 @@
-ghost use Rattle.std.specs.Prelude.{◌≡◌, ◌+◌, ◌*◌, ◌≤◌, ◌<◌, ◌↔◌, ◌==◌, length, map, pos, slice_index, All, IsTrue, IsSome, IfSome};
+//! Offsets of columns of variable size.
+
+ghost use Rattle.std.specs.Prelude.{◌≡◌, ◌+◌, ◌*◌, ◌≤◌, ◌<◌, ◌↔◌, ◌==◌, length, map, pos};
+ghost use Rattle.std.specs.Prelude.{All, IfSome, IsSome, IsTrue, slice_index};
 ghost use Rattle.std.specs.List.Sorted.{IsNonDecreasing};
 ghost use Rattle.arrow_bits.specs.Offsets.{AreOffsets, offset_at, offsets_of, signed_offsets_of};
 
@@ -7,11 +10,13 @@ use crate::numbers::u32_at;
 use crate::plain::check_offsets;
 use std::marker::Model;
 
-/// The offsets of a column of variable size: one more than it has slots, and none below the one before it.
+/// The offsets of a column of variable size: one more than it has slots, and none below the one
+/// before it.
 ///
-/// Slot `j` of the column is what lies from offset `j` up to offset `j + 1` (Columnar Format, "Variable-size Binary
-/// Layout" and "Variable-size List Layout"). Each offset is a signed number of 32 bits in the bytes, which are lent and
-/// are not copied. Bytes behind the last offset may hold anything.
+/// Slot `j` of the column is what lies from offset `j` up to offset `j + 1` (Columnar Format,
+/// "Variable-size Binary Layout" and "Variable-size List Layout"). Each offset is a signed number
+/// of 32 bits in the bytes, which are lent and are not copied. Bytes behind the last offset may
+/// hold anything.
 #[derive(Debug, Drop)]
 pub struct Offsets<'a> {
     bytes: &'a [u8],
@@ -31,10 +36,11 @@ impl<'a> Model for Offsets<'a> {
 
 #[tactic(auto, using(crate::proofs::Rising::length_offsets, crate::proofs::Rising::offset_found))]
 impl<'a> Offsets<'a> {
-    /// Whether there are `len + 1` signed offsets of 32 bits that begin at 0 or above, do not fall and stay within `top`.
+    /// Whether there are `len + 1` signed offsets of 32 bits that begin at 0 or above, do not fall
+    /// and stay within `top`.
     ///
-    /// `len` counts slots. `top` counts what the offsets lead into, bytes or slots of a child, and may be more than an
-    /// offset can hold. Neighbours are compared sixteen at a time.
+    /// `len` counts slots. `top` counts what the offsets lead into, bytes or slots of a child, and
+    /// may be more than an offset can hold. Neighbours are compared sixteen at a time.
     pub fn check(bytes: &[u8], len: usize, top: u64) -> bool
         ensures { IsTrue result ↔ AreOffsets bytes.now len top }
     {
@@ -62,7 +68,8 @@ impl<'a> Offsets<'a> {
 
     /// The `len + 1` offsets in bytes that are known to pass `check`, without looking at them.
     ///
-    /// For a column that was tested when it was made: the call takes the same time for every length.
+    /// For a column that was tested when it was made: the call takes the same time for every
+    /// length.
     pub fn new_unchecked(bytes: &'a [u8], len: usize, top: u64) -> Offsets<'a>
         requires { AreOffsets bytes.now len top }
         ensures value { result ≡ offsets_of len bytes.now }
@@ -105,7 +112,8 @@ pub(crate) fn offset(bytes: &[u8], i: usize) -> i32
     u32_at(bytes, 4 * i).cast_signed()
 }
 
-// What `check` answers, by numbers without a sign: where they never fall and the last has no sign bit, none has one.
+// What `check` answers, by numbers without a sign: where they never fall and the last has no sign
+// bit, none has one.
 fn check_lanes(bytes: &[u8], len: usize, top: u64) -> bool
     ensures { IsTrue result ↔ AreOffsets bytes.now len top }
 {

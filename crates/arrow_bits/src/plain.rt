@@ -1,7 +1,8 @@
 //! The definitions as loops, one bit or one offset at a time.
 //!
-//! They have the contracts of `Bits::count_zero` and `Offsets::check`, which work on many at once. The tests compare the
-//! two forms at every length, and `Offsets::check` uses the loop for the shortest inputs.
+//! They have the contracts of `Bits::count_zero` and `Offsets::check`, which work on many at once.
+//! The tests compare the two forms at every length, and `Offsets::check` uses the loop for the
+//! shortest inputs.
 ghost use Rattle.std.specs.Prelude.{◌≡◌, ◌*◌, ◌≤◌, ◌↔◌, length, not, count_by, IsTrue};
 ghost use Rattle.arrow_bits.specs.Bitmap.{bits_of};
 ghost use Rattle.arrow_bits.specs.Offsets.{AreOffsets};
@@ -10,6 +11,9 @@ use crate::bitmap::bit;
 use crate::offsets::offset;
 
 /// How many of the first `len` bits are 0.
+///
+/// Condition: the bytes have that many bits, as `Bits::new` tests of the list that it makes: a
+/// number of bits that are not there would mean nothing.
 #[tactic(auto, using(crate::proofs::Listed::more_zeros))]
 pub fn count_zero(bytes: &[u8], len: usize) -> usize
     requires { len ≤ 8 * length bytes.now }
@@ -24,7 +28,8 @@ pub fn count_zero(bytes: &[u8], len: usize) -> usize
     zeros
 }
 
-/// Whether `len + 1` offsets stand there that begin at 0 or above, never fall and end at `top` or below.
+/// Whether `len + 1` offsets stand there that begin at 0 or above, never fall and end at `top` or
+/// below.
 pub fn check_offsets(bytes: &[u8], len: usize, top: u64) -> bool
     ensures { IsTrue result ↔ AreOffsets bytes.now len top }
 {

@@ -288,7 +288,8 @@ fn first_are_at_most(bytes: &[u8], len: u8, top: u32) -> Option<bool> {
     }
 }
 
-// With another number at any place of `len` the answer is this one; behind them it is not looked at.
+// With another number at any place of `len` the answer is this one; behind them it is not looked
+// at.
 fn assert_at_most(
     rt: &(impl Abort + AllocGlobal),
     len: u8,

@@ -1,5 +1,5 @@
 -- Texts that are put together one by one.
-use Rattle.std.proofs.Common.{◌≡◌, ◌<◌, ◌≤◌, ◌-◌, ℕ, zero, suc, List, [], ◌∷◌, ◌++◌, length, map, take, get_or, codes, refl, sym, ap, ◌∙◌, arith, append_assoc, append-nil}
+use Rattle.std.proofs.Common.{◌≡◌, ◌<◌, ◌≤◌, ◌+◌, ◌-◌, ℕ, zero, suc, List, [], ◌∷◌, ◌++◌, length, map, take, get_or, codes, refl, sym, ap, ◌∙◌, arith, append_assoc, append-nil}
 use Rattle.arrow_types.specs.Field.{Fields, none, more}
 use Rattle.arrow_types.specs.View.{field_view, fields_view}
 use Rattle.arrow_types.specs.declared.field.Field.{Field}
@@ -9,6 +9,7 @@ use Rattle.arrow_array.specs.Shown.{ListsItems}
 use Rattle.arrow_array.proofs.Sameness.{at_values_from, length-values_from}
 use Rattle.arrow_csv.specs.Texts.{behind, joined, value_text, item_text, item_texts, part_texts}
 
+-- one text more, behind others that each have their semicolon
 behind_next : (xs : List (List ℕ)) (y : List ℕ) → behind (xs ++ y ∷ []) ≡ behind xs ++ codes ";" ++ y
 behind_next [] y = append-nil (codes ";" ++ y)
 behind_next (x ∷ xs) y =
@@ -20,19 +21,23 @@ abbrev pub separator : ℕ → List ℕ
 separator zero = []
 separator (suc k) = codes ";"
 
+-- nothing stands before the first text
 pub separator_first : (k : ℕ) → k ≡ 0 → separator k ≡ []
 separator_first zero h = refl
 separator_first (suc k) h = absurd (omega arith)
 
+-- a semicolon stands before each other one
 pub separator_later : (k : ℕ) → 0 < k → separator k ≡ codes ";"
 separator_later zero h = absurd (omega arith)
 separator_later (suc k) h = refl
 
+-- one text more, behind what parts it from the others
 joined_next : (xs : List (List ℕ)) (y : List ℕ) → joined (xs ++ y ∷ []) ≡ joined xs ++ separator (length xs) ++ y
 joined_next [] y = append-nil y
 joined_next (x ∷ xs) y =
     ap (λ t. x ++ t) (behind_next xs y) ∙ sym (append_assoc x (behind xs ++ codes ";") y) ∙ ap (λ t. t ++ y) (sym (append_assoc x (behind xs) (codes ";")))
 
+-- the first k + 1 texts are the first k and text k
 take_next : (xs : List (List ℕ)) (k : ℕ) → k < length xs → (take (suc k) xs ≡ take k xs ++ get_or xs k [] ∷ []) × (length (take k xs) ≡ k)
 take_next [] k h = absurd (omega arith)
 take_next (x ∷ xs) zero h = (refl, refl)
@@ -53,6 +58,7 @@ items_of_list : (head_children : Fields) (fields : Fields) (vs : List PlainValue
 items_of_list children fields [] step stop = stop
 items_of_list children fields (v ∷ vs) step stop = step v vs ∙ ap (λ ts. item_text children v ∷ ts) (items_of_list children fields vs step stop)
 
+-- the texts of a list's items are those of its values, each by the child's type
 pub items_shown : (fields : Fields) (child : Column) (vs : List PlainValue) → AreOf fields (child ∷ []) → item_texts fields (values_of vs) ≡ map (item_text child.data_type.children) vs
 items_shown none child vs typed = absurd typed
 items_shown (more head children rest) child vs typed =
@@ -64,7 +70,8 @@ pub item_at : (f : PlainValue → List ℕ) (vs : List PlainValue) (start end k 
 item_at f vs start end k inside low high =
     let long = length-values_from vs start end inside in
     let l : k - start < length (values_from vs start end) = omega (arith, long) in
-    let at = at_values_from vs start end (k - start) (omega arith) ∙ ap (value_at vs) (omega arith) in
+    let place : start + (k - start) ≡ k = omega (arith, low) in
+    let at : value_at (values_from vs start end) (k - start) ≡ value_at vs k = at_values_from vs start end (k - start) (omega arith) ∙ ap (value_at vs) place in
     (get_map f (values_from vs start end) (k - start) l ∙ ap f at, omega (arith, length_map f (values_from vs start end)))
   where
     get_map : (f : PlainValue → List ℕ) (xs : List PlainValue) (j : ℕ) → j < length xs → get_or (map f xs) j [] ≡ f (value_at xs j)
@@ -95,6 +102,7 @@ part_at (g ∷ gs) (d ∷ ds) place zero f c typed h p q =
     ∙ sym (ap (λ x. (field_view f).head.name ++ codes "=" ++ item_text x.data_type.children (value_at x.resolved place)) q)
 part_at (g ∷ gs) (d ∷ ds) place (suc k) f c typed h p q = part_at gs ds place k f c typed.2 (omega arith) p q
 
+-- a struct has as many texts as columns
 pub length-parts : (fs : List Field) (cs : List Column) (place : ℕ) → AreOf (fields_view fs) cs → length (part_texts (fields_view fs) (values_of (resolved_row_of cs place))) ≡ length cs
 length-parts [] [] place h = refl
 length-parts [] (c ∷ cs) place h = absurd h

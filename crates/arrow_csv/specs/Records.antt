@@ -13,10 +13,12 @@ use Rattle.arrow_csv.specs.Texts.{value_text}
 abbrev pub record_of : List (List ℕ) → List ℕ
 record_of fields = row_text default_writer fields
 
+-- the names of the columns, in their order
 abbrev pub names : Fields → List (List ℕ)
 names none = []
 names (more head children rest) = head.name ∷ names rest
 
+-- the first record: the word `batch` and the names of the columns
 abbrev pub header_record : Fields → List ℕ
 header_record schema = record_of (codes "batch" ∷ names schema)
 

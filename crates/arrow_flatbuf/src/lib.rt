@@ -23,6 +23,11 @@
 //!
 //! Tables, vtables and vectors may overlap and be shared. Nothing needs to be aligned, no zero byte
 //! needs to follow a text, and the size that a vtable gives its table is not looked at.
+//!
+//! No condition on a caller is one on the bytes, so strangers cannot break one: each is on what a
+//! caller takes from its schema or from `len`. A number has a width of 1 to 8 bytes, since it is
+//! answered in 64 bits; an index is below `len`; what is read of an element lies inside it, by the
+//! size that the vector was asked for with.
 #![tactic(auto)]
 
 mod place;

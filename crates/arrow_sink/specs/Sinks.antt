@@ -13,9 +13,11 @@ CountsTaken old new zero zero = new ≡ old
 CountsTaken old new zero (suc len) = new ≡ old + 1
 CountsTaken old new (suc n) len = new ≡ old
 
+-- one failure more with an error, and with the answer 0 to a piece with bytes; else none
 abbrev pub CountsPut : ℕ → ℕ → Result ℕ SinkFault → ℕ → Type 0
 CountsPut old new answer len = MatchResult answer (λ n. CountsTaken old new n len) (λ _. new ≡ old + 1)
 
+-- one failure more exactly with an error
 abbrev pub CountsFlush : ℕ → ℕ → Result (Unit {0}) SinkFault → Type 0
 CountsFlush old new answer = MatchResult answer (λ _. new ≡ old) (λ _. new ≡ old + 1)
 

@@ -1,11 +1,12 @@
-//! Where the bytes of a stream go: a sink takes them in pieces, as many of each as it can, and counts its failures.
+//! Where the bytes of a stream go: a sink takes them in pieces, as many of each as it can, and
+//! counts its failures.
 //!
-//! A [`Sink`] may take a part of a piece, and the rest is offered again; [`send`] does that until all is taken or a call
-//! fails. [`Counted`] makes a sink of any writer. What a sink accepted is said where it tells, as a sink over memory does;
-//! of a file or a socket nothing is claimed.
+//! A [`Sink`] may take a part of a piece, and the rest is offered again; [`send`] does that until
+//! all is taken or a call fails. [`Counted`] makes a sink of any writer. What a sink accepted is
+//! said where it tells, as a sink over memory does; of a file or a socket nothing is claimed.
 //!
-//! The count of failures lets a caller know exactly when a fault comes from the sink: it rises by one with each call
-//! that fails, and with no other.
+//! The count of failures lets a caller know exactly when a fault comes from the sink: it rises by
+//! one with each call that fails, and with no other.
 #![tactic(auto)]
 
 mod counted;

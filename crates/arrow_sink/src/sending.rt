@@ -1,6 +1,6 @@
 //! Sending all of a piece.
 
-ghost use Rattle.std.specs.Prelude.{◌≡◌, ◌<◌, ◌+◌, ◌-◌, ◌^◌, OnErr, OnOk};
+ghost use Rattle.std.specs.Prelude.{◌≡◌, ◌<◌, ◌+◌, ◌-◌, ◌^◌, [], IsOk, OnErr, OnOk};
 ghost use Rattle.std.specs.Io.KnownBytes.{Appends};
 ghost use Rattle.arrow_sink.specs.Sinks.{AcceptsBeginning};
 
@@ -8,14 +8,17 @@ use crate::sink::{Sink, SinkFault};
 
 /// Sends all bytes, offering again what the sink left of them.
 ///
-/// After `Ok` the sink accepted them all, and no call failed. After an error one call failed, the last one, and the sink
-/// accepted a beginning of the bytes. Without bytes no call is made.
+/// After `Ok` the sink accepted them all, and no call failed. After an error one call failed, the
+/// last one, and the sink accepted a beginning of the bytes. Without bytes no call is made: the
+/// answer is `Ok`, and the sink is as it was.
 pub fn send<S: Sink>(sink: &mut S, bytes: &[u8]) -> Result<(), SinkFault>
     requires { S.failed sink.old < 2 ^ 64 - 1 }
     ensures all { OnOk result (Appends (S.contents sink.old) (S.contents sink.new) bytes.now) }
     ensures fine { OnOk result (S.failed sink.new ≡ S.failed sink.old) }
-    ensures beginning { OnErr result (AcceptsBeginning (S.contents sink.old) (S.contents sink.new) bytes.now) }
+    ensures beginning { OnErr result
+        (AcceptsBeginning (S.contents sink.old) (S.contents sink.new) bytes.now) }
     ensures failed { OnErr result (S.failed sink.new ≡ S.failed sink.old + 1) }
+    ensures none { bytes.now ≡ [] → IsOk result × (sink.new ≡ sink.old) }
 {
     let mut sent = 0;
     while sent < bytes.len() {

@@ -1,6 +1,7 @@
 //! What a sink is.
 
-ghost use Rattle.std.specs.Prelude.{◌≡◌, ◌≤◌, ◌<◌, ◌-◌, ◌^◌, ℕ, List, length, None, IfOk, OnOk, Option, ⊤};
+ghost use Rattle.std.specs.Prelude.{◌≡◌, ◌≤◌, ◌<◌, ◌-◌, ◌^◌, ℕ, List, length};
+ghost use Rattle.std.specs.Prelude.{IfOk, None, OnOk, Option, ⊤};
 ghost use Rattle.std.specs.Io.KnownBytes.{Keeps};
 ghost use Rattle.arrow_sink.specs.Sinks.{Puts, CountsPut, CountsFlush};
 
@@ -25,8 +26,8 @@ impl Error for SinkFault {}
 
 /// Where bytes go, in order.
 ///
-/// A call that fails counts as one failure, and so does one that takes no byte of a piece that has bytes. Nothing else
-/// does. A caller makes no call of a sink whose count is at 2^64 - 1.
+/// A call that fails counts as one failure, and so does one that takes no byte of a piece that has
+/// bytes. Nothing else does. A caller makes no call of a sink whose count is at 2^64 - 1.
 pub trait Sink {
     // The bytes that it accepted, where it tells.
     ghost contents: { Self → Option (List ℕ) } = { λ _. None };
@@ -37,8 +38,8 @@ pub trait Sink {
     // That it passed on all that it accepted, where it tells.
     ghost is_passed_on: { Self → Type 0 } = { λ _. ⊤ };
 
-    /// Offers a piece, and answers how many of its first bytes were accepted: at most all of them. Of a piece that is
-    /// answered with an error none was.
+    /// Offers a piece, and answers how many of its first bytes were accepted: at most all of them.
+    /// Of a piece that is answered with an error none was.
     fn put(&mut self, piece: &[u8]) -> Result<usize, SinkFault>
         requires { failed self.old < 2 ^ 64 - 1 }
         ensures bound { IfOk result (λ n. n ≤ length piece.now) }

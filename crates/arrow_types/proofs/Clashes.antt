@@ -12,6 +12,7 @@ use Rattle.arrow_types.specs.Equality.{is_equal, is_equal_decides, is_equal_equi
 use Rattle.arrow_types.specs.Schema.{DictionaryField, OneType, clash, types_differ}
 use Rattle.arrow_types.specs.Stored.{type_code}
 
+-- a test that nothing passes stays so beside another one
 never : (b : Bool) → (b && false) ≡ false
 never true = refl
 never false = refl
@@ -36,6 +37,7 @@ clash_at d e same apart =
     (λ unequal. not_from_false (is_equal type_code d.value_type e.value_type) unequal)
     (cases_Bool (is_equal type_code d.value_type e.value_type)))
 
+-- four tests may be asked in another order
 regroup : (a c t n : Bool) → ((a || (c || false)) || (t || n)) ≡ ((a || t) || (c || n))
 regroup true c t n = refl
 regroup false true true n = refl
@@ -72,6 +74,7 @@ any_from p [] j e at h = cc
 any_from p (d ∷ ds) zero e at h = let same : d ≡ e = cc in or_left (p d) (list_any p ds) (ap p same ∙ h)
 any_from p (d ∷ ds) (suc j) e at h = or_right (p d) (list_any p ds) (any_from p ds j e at h)
 
+-- tests that agree on each field find one in the same lists
 pub any_same : (p q : DictionaryField → Bool) → ((d : DictionaryField) → p d ≡ q d) → (ds : List DictionaryField) → list_any p ds ≡ list_any q ds
 any_same p q e [] = refl
 any_same p q e (d ∷ ds) = ap (λ b. b || list_any p ds) (e d) ∙ ap (λ b. q d || b) (any_same p q e ds)

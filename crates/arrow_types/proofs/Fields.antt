@@ -22,6 +22,7 @@ fields_from (x ∷ fs) (suc i) f h is =
     let next : suc (i + 1) ≡ suc i + 1 = omega arith in
     fields_from fs i f (omega arith) is ∙ ap (λ n. more (field_view f).head (field_view f).children (fields_view (drop n (x ∷ fs)))) next
 
+-- the fields from one on are no more than all
 count_from : (fs : List Field) (i : ℕ) → count (fields_view (drop i fs)) ≤ count (fields_view fs)
 count_from fs zero = omega arith
 count_from [] (suc i) = omega arith

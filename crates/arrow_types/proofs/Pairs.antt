@@ -8,6 +8,7 @@ use Rattle.arrow_types.specs.Dictionaries.{some_clash, some_differ, head_clashes
 use Rattle.arrow_types.specs.Field.{Fields, none, more}
 use Rattle.arrow_types.specs.Schema.{DictionaryField, clash, types_differ, dictionary_fields, dictionary_of}
 
+-- a test passes in three lists together where it passes in one of them
 any_of_three : (p : DictionaryField → Bool) (xs ys zs : List DictionaryField) →
     list_any p (xs ++ ys ++ zs) ≡ (list_any p xs || list_any p ys || list_any p zs)
 any_of_three p xs ys zs =
@@ -21,6 +22,7 @@ clash_in d (more head children rest) =
     ∙ ap (λ b. (head_clashes d head children || b) || list_any (clash d) (dictionary_fields rest)) (clash_in d children)
     ∙ ap (λ b. (head_clashes d head children || some_clash d children) || b) (clash_in d rest)
 
+-- the same of all fields, each beside all
 differ_in : (all fs : Fields) → list_any (λ d. some_clash d all) (dictionary_fields fs) ≡ some_differ all fs
 differ_in all none = refl
 differ_in all (more head children rest) =
@@ -42,6 +44,7 @@ any_weaker p q h (d ∷ ds) e =
     (λ later. or_right (q d) (list_any q ds) (any_weaker p q h ds later))
     (or_cases (p d) (list_any p ds) e)
 
+-- where two fields differ, some pair clashes
 pairs_clash : (ds : List DictionaryField) → types_differ ds ≡ true → list_any (λ d. list_any (clash d) ds) ds ≡ true
 pairs_clash [] h = h
 pairs_clash (x ∷ xs) h =

@@ -20,6 +20,7 @@ abbrev pub first_some : Option ℕ → Option ℕ → Option ℕ
 first_some (Some j) o = Some j
 first_some None o = o
 
+-- one step of the look for a first place
 later : (b c : Bool) (o : Option ℕ) (n : ℕ) →
     cond b (Some 0) (option_map suc (first_some o (cond c (Some n) None)))
     ≡ first_some (cond b (Some 0) (option_map suc o)) (cond c (Some (suc n)) None)
@@ -36,6 +37,7 @@ place_append q (x ∷ xs) d =
     ap (λ o. cond (int_eq x.id q) (Some 0) (option_map suc o)) (place_append q xs d)
     ∙ later (int_eq x.id q) (int_eq d.id q) (place_of q xs) (length xs)
 
+-- with nothing behind it, the first is all
 first_alone : (o : Option ℕ) → first_some o None ≡ o
 first_alone (Some j) = refl
 first_alone None = refl
@@ -87,10 +89,12 @@ pub record Placed (q : ℤ) (ds : List DictionaryField) (j : ℕ) : Type 0 where
   pub among : is_among q (ids_of ds) ≡ true
   pub below : j < length ds
 
+-- a place that is not the first one lies behind another
 one_more : (o : Option ℕ) (j : ℕ) → option_map suc o ≡ Some j → (k : ℕ) × (o ≡ Some k) × (suc k ≡ j)
 one_more None j h = cc
 one_more (Some k) j h = (k, refl, cc)
 
+-- behind one more field the place is one further on
 placed_later : (q : ℤ) (d : DictionaryField) (ds : List DictionaryField) (k j : ℕ) → Placed q ds k → suc k ≡ j → Placed q (d ∷ ds) j
 placed_later q d ds k j h e =
     let at : slice_get (d ∷ ds) (suc k) ≡ Some h.field = h.at in

@@ -14,6 +14,7 @@ pub record Scanned (ds : List DictionaryField) (ids : List ℤ) (places : ℤ �
   pub found : (q : ℤ) → places q ≡ place_of q ds
   pub agree : types_differ ds ≡ false
 
+-- the id of one more field comes last
 ids_append : (ds : List DictionaryField) (d : DictionaryField) → ids_of (ds ++ d ∷ []) ≡ ids_of ds ++ d.id ∷ []
 ids_append ds d = map-append (λ (e : DictionaryField). e.id) ds (d ∷ [])
 

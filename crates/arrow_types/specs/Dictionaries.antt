@@ -7,9 +7,11 @@ use Rattle.arrow_types.specs.Schema.{DictionaryField, dictionary_of, clash, type
 use Rattle.arrow_types.specs.View.{type_view}
 use Rattle.arrow_types.specs.declared.dictionaries.Encoded.{Encoded}
 
+-- what one that the program found says
 abbrev pub encoded_view : Encoded → DictionaryField
 encoded_view e = record { id = e.id; value_type = type_view e.value_type.now }
 
+-- the same of each of a list
 abbrev pub encoded_views : List Encoded → List DictionaryField
 encoded_views es = map encoded_view es
 
@@ -27,6 +29,7 @@ abbrev pub some_clash : DictionaryField → Fields → Bool
 some_clash d none = false
 some_clash d (more head children rest) = head_clashes d head children || some_clash d children || some_clash d rest
 
+-- the same of one field and those below it
 abbrev pub field_clashes : DictionaryField → FieldShape → Bool
 field_clashes d f = head_clashes d f.head f.children || some_clash d f.children
 
@@ -39,5 +42,6 @@ abbrev pub some_differ : Fields → Fields → Bool
 some_differ all none = false
 some_differ all (more head children rest) = head_differs all head children || some_differ all children || some_differ all rest
 
+-- the same of one field and those below it
 abbrev pub field_differs : Fields → FieldShape → Bool
 field_differs all f = head_differs all f.head f.children || some_differ all f.children

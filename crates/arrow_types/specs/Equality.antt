@@ -7,6 +7,7 @@ use Rattle.std.proofs.Common.{refl, sym, ap}
 use Rattle.std.proofs.lemmas.Bool.Decides.{Decides-eqb, Decides-and, Decides-like, same_from_decides}
 use base.Stored.{Gv, gnil, gnum, gcons}
 
+-- whether two trees have one shape and the same numbers
 abbrev same_code : Gv → Gv → Bool
 same_code gnil gnil = true
 same_code (gnum m) (gnum n) = m == n
@@ -17,6 +18,7 @@ same_code x y = false
 unfoldable pub is_equal : {A : Type 0} → Coded A → A → A → Bool
 is_equal c x y = same_code (c.code x) (c.code y)
 
+-- they do exactly where they are equal
 same_code-decides : (g h : Gv) → Decides (same_code g h) (g ≡ h)
 same_code-decides gnil gnil = (λ _. refl, λ _. refl)
 same_code-decides (gnum m) (gnum n) = Decides-like (m == n) (ap gnum) (λ p. cc) (Decides-eqb m n)

@@ -25,6 +25,7 @@ pub record FieldShape : Type 0 where
   pub head : Head
   pub children : Fields
 
+-- the fields of a list, side by side
 abbrev pub fields_of : List FieldShape → Fields
 fields_of [] = none
 fields_of (f ∷ fs) = more f.head f.children (fields_of fs)
@@ -39,6 +40,7 @@ abbrev pub levels : Fields → ℕ
 levels none = 0
 levels (more head children rest) = max (levels children + 1) (levels rest)
 
+-- the levels of one field, its own among them
 abbrev pub field_levels : FieldShape → ℕ
 field_levels f = levels f.children + 1
 
@@ -47,5 +49,6 @@ abbrev pub count : Fields → ℕ
 count none = 0
 count (more head children rest) = count children + 1 + count rest
 
+-- one field and all below it
 abbrev pub field_count : FieldShape → ℕ
 field_count f = count f.children + 1

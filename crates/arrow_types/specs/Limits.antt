@@ -1,11 +1,13 @@
 -- The numbers that a reader and a writer keep to. The standard sets none: they are this project's own.
 use Rattle.std.specs.Prelude.{ℕ, ◌^◌, ◌≤◌}
 
+-- the most bytes of one message's metadata, the most bytes of its body, the most rows of a batch
 pub record LimitNumbers : Type 0 where
   pub max_metadata : ℕ
   pub max_body : ℕ
   pub max_rows : ℕ
 
+-- these three numbers
 abbrev pub limit_numbers : ℕ → ℕ → ℕ → LimitNumbers
 limit_numbers metadata body rows = record { max_metadata = metadata; max_body = body; max_rows = rows }
 

@@ -18,6 +18,7 @@ abbrev pub is_nested : Fields → Bool
 is_nested none = false
 is_nested (more head children rest) = (is_some head.encoding && has_encoding children) || is_nested children || is_nested rest
 
+-- the same of one field and what stands below it
 abbrev pub field_is_nested : FieldShape → Bool
 field_is_nested f = (is_some f.head.encoding && has_encoding f.children) || is_nested f.children
 
@@ -36,6 +37,7 @@ abbrev pub dictionary_fields : Fields → List DictionaryField
 dictionary_fields none = []
 dictionary_fields (more head children rest) = dictionary_of head children ++ dictionary_fields children ++ dictionary_fields rest
 
+-- those of one field and of what stands below it
 abbrev pub field_dictionaries : FieldShape → List DictionaryField
 field_dictionaries f = dictionary_of f.head f.children ++ dictionary_fields f.children
 

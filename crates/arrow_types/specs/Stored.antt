@@ -11,24 +11,29 @@ use Rattle.arrow_types.specs.contracts.field.Encoding.{the_row as encoding_row}
 use Rattle.arrow_types.specs.DataType.{Tag, null, boolean, int, binary, utf8, date, time, timestamp, list, struct}
 use Rattle.arrow_types.specs.Field.{Head, Fields, none, more, TypeShape, FieldShape}
 
+-- the left half of a pair
 abbrev first : Gv → Gv
 first gnil = gnil
 first (gnum n) = gnil
 first (gcons a b) = a
 
+-- the right half of a pair
 abbrev second : Gv → Gv
 second gnil = gnil
 second (gnum n) = gnil
 second (gcons a b) = b
 
+-- a tree that has two halves
 abbrev IsPair : Gv → Type 0
 IsPair gnil = ⊥
 IsPair (gnum n) = ⊥
 IsPair (gcons a b) = Unit {0}
 
+-- the name of a time zone, or that there is none
 abbrev zone_code : Coded (Option (List ℕ))
 zone_code = coded_option (coded_list coded_ℕ)
 
+-- the tree of a type's own part: a number for each kind, beside what the kind holds
 abbrev tag_gv : Tag → Gv
 tag_gv null = gnum 0
 tag_gv boolean = gnum 1
@@ -41,6 +46,7 @@ tag_gv (date unit) = gcons (gnum 1) (date_row.coded.code unit)
 tag_gv (time unit) = gcons (gnum 2) (time_row.coded.code unit)
 tag_gv (timestamp unit zone) = gcons (gnum 3) (gcons (time_row.coded.code unit) (zone_code.code zone))
 
+-- own parts with one tree are equal
 pub tag_inj : (x y : Tag) → tag_gv x ≡ tag_gv y → x ≡ y
 tag_inj null null p = refl
 tag_inj boolean boolean p = refl
@@ -56,9 +62,11 @@ tag_inj (timestamp u x) (timestamp v y) p =
     λ i. timestamp (time_row.coded.inj u v (ap (λ g. first (second g)) p) i) (zone_code.inj x y (ap (λ g. second (second g)) p) i)
 tag_inj x y p = cc
 
+-- so these trees tell types' own parts apart
 abbrev pub tag_code : Coded Tag
 tag_code = record { code = tag_gv; inj = tag_inj }
 
+-- a head is told by its name, nullability, type and encoding
 abbrev pub head_code : Coded Head
 head_code = code_by (List ℕ × (Bool × (Tag × Option Encoding)))
     (coded× (coded_list coded_ℕ) (coded× coded_bool (coded× tag_code (coded_option encoding_row.coded))))
@@ -66,10 +74,12 @@ head_code = code_by (List ℕ × (Bool × (Tag × Option Encoding)))
     (λ p. record { name = p.0; nullable = p.1.0; tag = p.1.1.0; encoding = p.1.1.1 })
     (λ _. refl)
 
+-- the tree of fields: the first head, what stands below it, and the fields after it
 abbrev pub fields_gv : Fields → Gv
 fields_gv none = gnil
 fields_gv (more head children rest) = gcons (head_code.code head) (gcons (fields_gv children) (fields_gv rest))
 
+-- fields with one tree are equal
 pub fields_inj : (x y : Fields) → fields_gv x ≡ fields_gv y → x ≡ y
 fields_inj none none p = refl
 fields_inj (more h b r) (more h' b' r') p =
@@ -77,13 +87,16 @@ fields_inj (more h b r) (more h' b' r') p =
 fields_inj none (more h b r) p = absurd (subst IsPair (sym p) tt)
 fields_inj (more h b r) none p = absurd (subst IsPair p tt)
 
+-- so these trees tell fields apart
 abbrev pub fields_code : Coded Fields
 fields_code = record { code = fields_gv; inj = fields_inj }
 
+-- a type is told by its own part and its children
 abbrev pub type_code : Coded TypeShape
 type_code = code_by (Tag × Fields) (coded× tag_code fields_code)
     (λ t. (t.tag, t.children)) (λ p. record { tag = p.0; children = p.1 }) (λ _. refl)
 
+-- one field is told by its head and its children
 abbrev pub field_code : Coded FieldShape
 field_code = code_by (Head × Fields) (coded× head_code fields_code)
     (λ f. (f.head, f.children)) (λ p. record { head = p.0; children = p.1 }) (λ _. refl)

@@ -30,11 +30,14 @@ field_step f = record {
   children = f.data_type.children;
 }
 
+-- what a type says, with all levels below it
 abbrev pub type_view : DataType → TypeShape
 type_view = fold-DataType TypeShape FieldShape type_step field_step
 
+-- what one field says, with all levels below it
 abbrev pub field_view : Field → FieldShape
 field_view = fold-Field TypeShape FieldShape type_step field_step
 
+-- what some fields say, side by side
 abbrev pub fields_view : List Field → Fields
 fields_view fs = fields_of (map field_view fs)

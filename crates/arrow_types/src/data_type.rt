@@ -1,4 +1,5 @@
-//! The types of values: those members of the standard's union `Type` (`Schema.fbs`) that are read here.
+//! The types of values: those members of the standard's union `Type` (`Schema.fbs`) that are read
+//! here.
 
 ghost use Rattle.std.specs.Prelude.{◌≡◌, ◌↔◌, IsTrue, IfOk};
 ghost use Rattle.arrow_types.specs.DataType.{bits_of, time_width_of, date_width_of};
@@ -73,8 +74,8 @@ pub enum TimeUnit {
 }
 
 impl TimeUnit {
-    /// The width of one time of day in this unit: 32 bits for seconds and milliseconds, 64 for the finer units.
-    /// A timestamp has 64 bits in every unit.
+    /// The width of one time of day in this unit: 32 bits for seconds and milliseconds, 64 for the
+    /// finer units. A timestamp has 64 bits in every unit.
     pub fn time_width(self) -> BitWidth
         ensures { result ≡ time_width_of self }
     {
@@ -87,7 +88,8 @@ impl TimeUnit {
 
 /// The type of a column's values, without a dictionary (`Schema.fbs`, union `Type`).
 ///
-/// Any tree of types can be built; that it keeps to the limits is tested where a `Schema` is made of it.
+/// Any tree of types can be built; that it keeps to the limits is tested where a `Schema` is made
+/// of it.
 #[cycle(types)]
 #[derive(Debug, Drop)]
 pub enum DataType {
@@ -105,7 +107,8 @@ pub enum DataType {
     Date(DateUnit),
     /// A time of day since midnight. Its width follows its unit.
     Time(TimeUnit),
-    /// Signed 64-bit numbers since 1970-01-01 00:00, and the name of a time zone where there is one.
+    /// Signed 64-bit numbers since 1970-01-01 00:00, and the name of a time zone where there is
+    /// one.
     Timestamp(TimeUnit, Option<String>),
     /// Lists of values of the one child field.
     List(Box<Field>),
@@ -114,7 +117,8 @@ pub enum DataType {
 }
 
 impl DataType {
-    /// The child fields: those of a struct, the one of a list, none of any other type. Takes no memory.
+    /// The child fields: those of a struct, the one of a list, none of any other type. Takes no
+    /// memory.
     pub fn children(&self) -> &[Field]
         ensures { fields_view result.now ≡ (type_view self.now).children }
     {
@@ -186,8 +190,8 @@ pub(crate) fn same_type(one: &DataType, other: &DataType) -> bool
     }
 }
 
-/// Types are equal where everything that they hold is: units, zones, names, `nullable` and encodings of the fields
-/// below them included. No memory is taken.
+/// Types are equal where everything that they hold is: units, zones, names, `nullable` and
+/// encodings of the fields below them included. No memory is taken.
 impl PartialEq for DataType {
     ghost eq = { on type_view (is_equal type_code) };
 

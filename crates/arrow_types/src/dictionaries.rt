@@ -17,8 +17,8 @@ struct Encoded<'a> {
     value_type: &'a DataType,
 }
 
-/// The ids of the dictionaries of the fields, each once in the order of their first fields, or None where two
-/// fields share an id and have unequal value types.
+/// The ids of the dictionaries of the fields, each once in the order of their first fields, or None
+/// where two fields share an id and have unequal value types.
 pub(crate) fn ids_of(alloc: Global, fields: &[Field]) -> Result<Option<Vec<i64>>, AllocError>
     ensures { IfOk result (λ ids. GivesIds ids (dictionary_fields (fields_view fields.now))) }
 {
@@ -67,8 +67,8 @@ fn add_children<'a>(data_type: &'a DataType, found: &mut Vec<Encoded<'a>>) -> Re
     }
 }
 
-/// The ids of the dictionaries, each once in the order of their first fields, or None where two fields share an id
-/// and have unequal value types. The time grows as n log n.
+/// The ids of the dictionaries, each once in the order of their first fields, or None where two
+/// fields share an id and have unequal value types. The time grows as n log n.
 fn ids_of_one_type(alloc: Global, fields: &[Encoded]) -> Result<Option<Vec<i64>>, AllocError>
     ensures { IfOk result (λ ids. GivesIds ids (encoded_views fields.now)) }
 {

@@ -9,8 +9,9 @@ ghost use Rattle.arrow_types.specs.View.{field_view, fields_view, type_view};
 use crate::data_type::DataType;
 use crate::field::Field;
 
-/// Whether two of the fields share a dictionary and have unequal value types. The time grows with the square of the
-/// number of dictionary-encoded fields, so this is for where the memory of [`crate::dictionaries`] is not to be had.
+/// Whether two of the fields share a dictionary and have unequal value types. The time grows with
+/// the square of the number of dictionary-encoded fields, so this is for where the memory of
+/// [`crate::dictionaries`] is not to be had.
 pub(crate) fn types_differ(fields: &[Field]) -> bool
     ensures { result ≡ two_differ (dictionary_fields (fields_view fields.now)) }
 {
@@ -50,7 +51,8 @@ fn differs(field: &Field, all: &[Field]) -> bool
 /// Whether one of the fields, on any level, has this dictionary and another value type.
 #[cycle(clashing)]
 fn some_clash(fields: &[Field], id: i64, value_type: &DataType) -> bool
-    ensures { result ≡ some_clash (record { id = id; value_type = type_view value_type.now }) (fields_view fields.now) }
+    ensures { result ≡ some_clash (record { id = id; value_type = type_view value_type.now })
+        (fields_view fields.now) }
 {
     for field in fields {
         if clashes(field, id, value_type) {
@@ -63,7 +65,8 @@ fn some_clash(fields: &[Field], id: i64, value_type: &DataType) -> bool
 /// The same for one field and what stands below it.
 #[cycle(clashing)]
 fn clashes(field: &Field, id: i64, value_type: &DataType) -> bool
-    ensures { result ≡ field_clashes (record { id = id; value_type = type_view value_type.now }) (field_view field.now) }
+    ensures { result ≡ field_clashes (record { id = id; value_type = type_view value_type.now })
+        (field_view field.now) }
 {
     if is_other(field, id, value_type) {
         return true;

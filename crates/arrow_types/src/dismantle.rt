@@ -7,8 +7,8 @@ ghost use Rattle.arrow_types.specs.View.{field_view, fields_view};
 use crate::data_type::DataType;
 use crate::field::Field;
 
-/// Lets the fields go, one after another, without recursing into their levels. Only what finds no room in the list
-/// of fields to do is let go level by level.
+/// Lets the fields go, one after another, without recursing into their levels. Only what finds no
+/// room in the list of fields to do is let go level by level.
 #[tactic(auto, using(crate::proofs::Counts::count_append))]
 pub(crate) fn dismantle(fields: Vec<Field>) {
     let mut pending = fields;

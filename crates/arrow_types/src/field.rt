@@ -10,7 +10,8 @@ ghost use Rattle.std.specs.Ordering.{on};
 use crate::data_type::{BitWidth, DataType, same_type};
 use std::alloc::{AllocError, Global};
 
-/// The type of a dictionary's indices (`Schema.fbs`, table `DictionaryEncoding`, field `indexType`).
+/// The type of a dictionary's indices (`Schema.fbs`, table `DictionaryEncoding`, field
+/// `indexType`).
 #[derive(Clone, Copy, Debug, PartialEq, Eq)]
 pub struct IndexType {
     /// How many bits one index takes.
@@ -19,10 +20,12 @@ pub struct IndexType {
     pub signed: bool,
 }
 
-/// That a column holds indices into a dictionary in place of values (`Schema.fbs`, table `DictionaryEncoding`).
+/// That a column holds indices into a dictionary in place of values (`Schema.fbs`, table
+/// `DictionaryEncoding`).
 #[derive(Clone, Copy, Debug, PartialEq, Eq)]
 pub struct Encoding {
-    /// Which dictionary. Fields that give one id share one dictionary, and then have equal value types.
+    /// Which dictionary. Fields that give one id share one dictionary, and then have equal value
+    /// types.
     pub id: i64,
     /// The type of the indices. Fields that share a dictionary may differ in it.
     pub index: IndexType,

@@ -1,13 +1,14 @@
 //! Types, fields, schemas and limits of Arrow streams.
 //!
-//! This is the lowest layer of the repository. It takes plain data in the shapes of the standard's `Schema.fbs`
-//! (`DataType`, `Field`, `Encoding`) and gives a `Schema`: fields that are known to keep to the fixed limits, with
-//! no dictionary below a dictionary and one value type for each dictionary id. Every crate above relies on these
-//! facts and tests none of them again. `Limits` holds the numbers that a reader and a writer keep to.
+//! This is the lowest layer of the repository. It takes plain data in the shapes of the standard's
+//! `Schema.fbs` (`DataType`, `Field`, `Encoding`) and gives a `Schema`: fields that are known to
+//! keep to the fixed limits, with no dictionary below a dictionary and one value type for each
+//! dictionary id. Every crate above relies on these facts and tests none of them again. `Limits`
+//! holds the numbers that a reader and a writer keep to; [`laws`] says what the constants are.
 //!
-//! Contracts never compare the Rust values, which hold pointers and capacities, but what they say: a plain view,
-//! `type_view` of a type and `fields_view` of fields (`specs/View.antt`). `specs/Schema.antt` says what a schema is
-//! and which fault applies.
+//! Contracts never compare the Rust values, which hold pointers and capacities, but what they say:
+//! a plain view, `type_view` of a type and `fields_view` of fields (`specs/View.antt`).
+//! `specs/Schema.antt` says what a schema is and which fault applies.
 #![tactic(auto)]
 
 mod data_type;
@@ -15,6 +16,7 @@ mod dictionaries;
 mod differing;
 mod dismantle;
 mod field;
+pub mod laws;
 mod limits;
 mod nesting;
 mod node;

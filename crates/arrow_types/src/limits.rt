@@ -7,8 +7,8 @@ use std::marker::Model;
 
 /// How much a stranger's stream may ask of a reader, and how much a writer may send.
 ///
-/// The standard sets no such limits. Each number has a ceiling, and every `Limits` keeps to the ceilings. Numbers
-/// that no caller chooses are constants here.
+/// The standard sets no such limits. Each number has a ceiling, and every `Limits` keeps to the
+/// ceilings. Numbers that no caller chooses are constants here.
 #[derive(Clone, Copy, Debug, PartialEq, Eq)]
 pub struct Limits {
     max_metadata: u64,
@@ -23,9 +23,14 @@ impl Model for Limits {
 
     ghost view = { λ l. limit_numbers l.max_metadata l.max_body l.max_rows };
 
-    ghost invariant = { λ l. AreWithinCeilings (limit_numbers l.max_metadata l.max_body l.max_rows) };
+    ghost invariant = { λ l.
+        AreWithinCeilings (limit_numbers l.max_metadata l.max_body l.max_rows) };
 
-    ghost inverse = { λ n. record { max_metadata = n.max_metadata; max_body = n.max_body; max_rows = n.max_rows } };
+    ghost inverse = { λ n. record {
+      max_metadata = n.max_metadata;
+      max_body = n.max_body;
+      max_rows = n.max_rows;
+    } };
 }
 
 impl Limits {
@@ -35,7 +40,8 @@ impl Limits {
     /// The ceiling of `max_body`: 1 TiB.
     pub const BODY_CEILING: u64 = 1_099_511_627_776;
 
-    /// The ceiling of `max_rows`: the greatest signed 32-bit number, since list and text offsets have 32 bits.
+    /// The ceiling of `max_rows`: the greatest signed 32-bit number, since list and text offsets
+    /// have 32 bits.
     pub const ROWS_CEILING: u64 = 2_147_483_647;
 
     /// The place, counted in bytes from a stream's beginning, past which no frame may end.
@@ -43,9 +49,9 @@ impl Limits {
 
     /// These three limits, or None where one is above its ceiling.
     ///
-    /// `max_metadata` counts the bytes of one message's metadata, and those of all names and time zones of one
-    /// schema together. `max_body` counts the bytes of one message's body. `max_rows` counts the rows of a batch,
-    /// the slots of a column and the values of a dictionary.
+    /// `max_metadata` counts the bytes of one message's metadata, and those of all names and time
+    /// zones of one schema together. `max_body` counts the bytes of one message's body. `max_rows`
+    /// counts the rows of a batch, the slots of a column and the values of a dictionary.
     pub fn new(max_metadata: u64, max_body: u64, max_rows: u64) -> Option<Limits>
         ensures { let numbers = limit_numbers max_metadata max_body max_rows
             in SomeIff result (AreWithinCeilings numbers) numbers }
@@ -64,7 +70,8 @@ impl Limits {
         }
     }
 
-    /// The defaults: 67,108,864 bytes of metadata, 68,719,476,736 bytes of body, 2,147,483,647 rows.
+    /// The defaults: 67,108,864 bytes of metadata, 68,719,476,736 bytes of body, 2,147,483,647
+    /// rows.
     pub fn standard() -> Limits
         ensures { result ≡ standard_numbers }
     {
@@ -75,7 +82,8 @@ impl Limits {
         }
     }
 
-    /// The greatest number of bytes of one message's metadata, and of all names and zones of one schema.
+    /// The greatest number of bytes of one message's metadata, and of all names and zones of one
+    /// schema.
     pub fn max_metadata(&self) -> u64
         ensures value { result ≡ self.now.max_metadata }
         ensures ceiling { result ≤ 2 ^ 30 }

@@ -69,8 +69,9 @@ impl Error for SchemaFault {}
 
 /// The columns of a stream's batches (`Schema.fbs`, table `Schema`).
 ///
-/// Its fields keep to the limits of 32 levels and 65,536 fields; none of its dictionaries stands below another, and those
-/// of one id have one value type. Nobody who holds a schema has to test that again.
+/// Its fields keep to the limits of 32 levels and 65,536 fields; none of its dictionaries stands
+/// below another, and those of one id have one value type. Nobody who holds a schema has to test
+/// that again.
 #[derive(Debug, Drop)]
 pub struct Schema {
     fields: Vec<Field>,
@@ -104,9 +105,10 @@ impl Schema {
 
     /// The schema of these columns, or the fault with the least number of those that apply.
     ///
-    /// Fields deeper than 32 levels are not looked at below that, and the time grows as n log n with the number of
-    /// fields. Memory is taken for the dictionary ids alone; where it is refused, the types of shared ids are compared
-    /// without any, in a time that grows with the square of the number of dictionary-encoded fields.
+    /// Fields deeper than 32 levels are not looked at below that, and the time grows as n log n
+    /// with the number of fields. Memory is taken for the dictionary ids alone; where it is
+    /// refused, the types of shared ids are compared without any, in a time that grows with the
+    /// square of the number of dictionary-encoded fields.
     pub fn new(alloc: Global, fields: Vec<Field>) -> Result<Schema, SchemaFault>
         ensures { Judges result (fields_view fields.items) }
     {
@@ -139,8 +141,8 @@ impl Schema {
         &self.fields
     }
 
-    /// The ids of the dictionaries, each once, in the order of the fields that give them first: a field before its
-    /// children, and these before the field after it. Takes no memory.
+    /// The ids of the dictionaries, each once, in the order of the fields that give them first: a
+    /// field before its children, and these before the field after it. Takes no memory.
     pub fn dictionary_ids(&self) -> &[i64]
         ensures { result.now ≡ dictionary_ids self.now }
     {

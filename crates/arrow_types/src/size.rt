@@ -8,7 +8,8 @@ ghost use Rattle.arrow_types.specs.View.{field_view, fields_view};
 use crate::data_type::DataType;
 use crate::field::Field;
 
-/// Whether the fields have at most `most` levels. No level below is looked at, however deep they are.
+/// Whether the fields have at most `most` levels. No level below is looked at, however deep they
+/// are.
 #[cycle(levels)]
 pub(crate) fn have_levels(fields: &[Field], most: u32) -> bool
     ensures { IsTrue result ↔ (levels (fields_view fields.now) ≤ most) }

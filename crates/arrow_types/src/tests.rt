@@ -23,7 +23,8 @@ enum Kind {
 
 // A field: its name, the id of its dictionary and whether that is ordered, and its type.
 //
-// Several of them stand for columns: each takes from its end what was built so far for what stands below it.
+// Several of them stand for columns: each takes from its end what was built so far for what stands
+// below it.
 type Step = (&'static str, Option<(i64, bool)>, Kind);
 
 fn text(rt: &(impl Abort + AllocGlobal), words: &str) -> String {
@@ -199,7 +200,8 @@ fn units_have_their_widths(rt: HostRuntime) {
     }
 }
 
-// Columns, how many of truth values and a column of how many levels behind them, and the number of their fault.
+// Columns, how many of truth values and a column of how many levels behind them, and the number of
+// their fault.
 static FAULTS: [(&[Step], u32, u32, u8); 11] = [
     (&[], 0, 0, 0),
     (&[], 0, 32, 0),

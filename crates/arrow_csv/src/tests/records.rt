@@ -24,7 +24,8 @@ fn int8() -> DataType {
 
 // A nullable field without an encoding.
 fn field(alloc: Global, name: &str, data_type: DataType) -> Result<Field, AllocError>
-    ensures { IfOk result (λ f. (f.dictionary ≡ None) × (type_view f.data_type ≡ type_view data_type)) }
+    ensures { IfOk result
+        (λ f. (f.dictionary ≡ None) × (type_view f.data_type ≡ type_view data_type)) }
 {
     Ok(Field {
         name: String::from_str(alloc, name)?,

@@ -8,7 +8,8 @@ use std::io;
 use std::io::Write;
 use std::test::Fail;
 
-// Takes at most `most` bytes at once and `left` in all, and then fails: by an error, or by taking nothing.
+// Takes at most `most` bytes at once and `left` in all, and then fails: by an error, or by taking
+// nothing.
 #[derive(Drop)]
 struct Narrow {
     taken: Vec<u8>,

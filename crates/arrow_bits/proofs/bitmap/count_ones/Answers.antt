@@ -28,6 +28,7 @@ overflow_add-ones-then-rest-gt0 c =
     let before = ap (λ i. ones_of (8 * i) bytes) here in
     omega (arith, rest, few, before, c.loop-i.invariant, c.ranges.len.fits)
 
+-- the whole bytes and the bits that are left are all
 pub returns-then-rest-gt0 : goal.returns-then-rest-gt0
 returns-then-rest-gt0 c =
     let bytes = c.args.bytes.now in

@@ -7,6 +7,7 @@ use Rattle.arrow_csv.specs.Records.{column_texts}
 use Rattle.arrow_csv.proofs.Written.{written_next}
 use Rattle.arrow_csv.proofs.records.rows.Goals as goal
 
+-- one more row is written
 pub loop-i-preserved : goal.loop-i-preserved
 loop-i-preserved c =
     let h = c.loop-i.invariant in

@@ -11,12 +11,14 @@ use Rattle.arrow_csv.proofs.Joining.{as_many, item_at, joined_more, length-parts
 use Rattle.arrow_csv.proofs.texts.+text.Goals as goal
 use Rattle.arrow_csv.proofs.texts.+text.Goals.{push_items-then-k-start+in_ok-push-2, push_items-else-k-start, push_parts-then-k-gt0+in_ok-push-2, push_parts-else-k-gt0}
 
+-- the items of a slot lie inside of the child, which is smaller
 pub push_value-push_items-requires : goal.push_value-push_items-requires
 push_value-push_items-requires t c =
     let h = c.in-List.ensures in
     let m = child_smaller c.args.column.now c.in-List.items.now h.typed in
     (omega (arith, c.decreases, m), (h.ordered, (h.inside, h.long)))
 
+-- the columns of a struct are of its fields, have its slot and are smaller
 pub push_value-push_parts-requires : goal.push_value-push_parts-requires
 push_value-push_parts-requires t c =
     let h = c.in-Struct.ensures in
@@ -24,10 +26,12 @@ push_value-push_parts-requires t c =
     let same = c.children.ensures ∙ ap (λ x. x.children) c.data_type.ensures in
     (omega (arith, c.decreases, m), (subst (λ f. AreOf f c.in-Struct.children.now) (sym same) h.typed, h.inside))
 
+-- what the items make is the text of the list
 pub push_value-returns-in-List : goal.push_value-returns-in-List
 push_value-returns-in-List t c =
     on_ok_weaker c.push_items.result (λ e. e ∙ list_shown c.args.column.now c.in-List.items.now c.args.i c.in-List.start c.in-List.end c.args.null.now c.args.out.now.items c.in-List.ensures) c.push_items.ensures
 
+-- one more item is written
 pub push_items-loop-k-preserved : goal.push_items-loop-k-preserved
 push_items-loop-k-preserved t c =
     let l = c.loop-k.invariant in
@@ -49,9 +53,11 @@ push_items-loop-k-preserved t c =
           ∙ joined_more texts (k - start) old item.1 ∙ ap (λ n. old ++ joined (take n texts)) turn,
     )
 
+-- each column has its field
 pub push_parts-bounds-fields-k : goal.push_parts-bounds-fields-k
 push_parts-bounds-fields-k t c = omega (arith, as_many c.args.fields.now c.args.children.now c.requires.typed, c.loop-k-test.true)
 
+-- one more field is written
 pub push_parts-loop-k-preserved : goal.push_parts-loop-k-preserved
 push_parts-loop-k-preserved t c =
     let k = c.loop-k.k in
@@ -76,6 +82,7 @@ push_parts-loop-k-preserved t c =
     ∙ ap (λ t. t ++ text) (append_assoc start name (codes "=")) ∙ append_assoc start (name ++ codes "=") text
     ∙ ap (λ t. start ++ t) (sym part) ∙ joined_more parts k old here ∙ ap (λ n. old ++ joined (take n parts)) turn
 
+-- all fields are written
 pub push_parts-returns : goal.push_parts-returns
 push_parts-returns t c =
     let parts = part_texts (fields_view c.args.fields.now) (values_of (resolved_row_of c.args.children.now c.args.place)) in

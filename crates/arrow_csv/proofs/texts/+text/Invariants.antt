@@ -17,11 +17,14 @@ abbrev pub invariant-push_parts-loop-k : goal.invariant-push_parts-loop-k
 invariant-push_parts-loop-k l =
     l.out.items ≡ l.fn.out.items ++ codes "{" ++ joined (take l.k (part_texts (fields_view l.fields) (values_of (resolved_row_of l.children l.place))))
 
+-- each call goes to smaller columns
 abbrev pub decreases-push_value : goal.decreases-push_value
 decreases-push_value l = slot_measure l.column.now
 
+-- the child is smaller than its list
 abbrev pub decreases-push_items : goal.decreases-push_items
 decreases-push_items l = items_measure l.items.now
 
+-- the columns are smaller than their struct
 abbrev pub decreases-push_parts : goal.decreases-push_parts
 decreases-push_parts l = parts_measure l.children.now

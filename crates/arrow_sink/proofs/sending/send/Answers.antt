@@ -1,10 +1,11 @@
-use Rattle.std.proofs.Common.{◌-◌, arith, rules, subst, sym, take, drop, length}
+use Rattle.std.proofs.Common.{◌-◌, ap, arith, rules, subst, sym, take, drop, length}
 use Rattle.std.proofs.Math.Seq.{take-add}
 use Rattle.std.proofs.KnownBytes.{Appends-trans}
 use Rattle.std.proofs.lemmas.List.{take_all, length-drop}
 use Rattle.std.specs.Io.KnownBytes.{Appends}
 use Rattle.arrow_sink.proofs.sending.send.Goals as goal
 
+-- one more part is sent
 pub loop-sent-preserved : goal.loop-sent-preserved
 loop-sent-preserved g c =
     let l = c.loop-sent in
@@ -18,4 +19,5 @@ loop-sent-preserved g c =
       search rules,
       subst (λ xs. Appends (g.S.Sink.contents c.args.sink.now) after xs) (sym (take-add l.sent c.in_ok-taken.taken bytes))
           (Appends-trans (g.S.Sink.contents c.args.sink.now) before after _ _ l.invariant.2 put),
+      (λ none. absurd (omega (arith, c.loop-sent-test.true, ap length none))),
     )

@@ -17,6 +17,7 @@ bounds-fields-first c =
           c.loop-i.invariant (omega arith) c.in-Some.ensures.value,
     )
 
+-- and so its place in memory lies inside too
 pub offset_bounds-fields-first : goal.offset_bounds-fields-first
 offset_bounds-fields-first c =
     let below : c.in-Some.first.now < length c.args.fields.now =

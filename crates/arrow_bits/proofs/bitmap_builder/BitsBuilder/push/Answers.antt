@@ -32,8 +32,10 @@ grows c =
 counted : (c : goal.After-self-2-1) → c.in_ok-len.len ≡ c.self.inside.len + 1
 counted c = grind (arith, common_steps)
 
+-- the bytes are packed again
 pub invariant_of-self-2 : goal.invariant_of-self-2
 invariant_of-self-2 c = rw (counted c) (grows c).packed
 
+-- they hold one bit more
 pub returns-clause-ok : goal.returns-clause-ok
 returns-clause-ok c = ap (λ n. bits_of n c.if-place-eq0.self-inside.bytes.items) (counted c) ∙ (grows c).more ∙ ap (λ bs. bs ++ c.args.bit ∷ []) c.self.view_is
