@@ -7,7 +7,7 @@ use Rattle.arrow_meta.specs.declared.kinds.Kind.TheVariants as kinds
 use Rattle.arrow_meta.specs.declared.kinds.Shape.TheVariants as shapes
 use Rattle.arrow_meta.specs.Kinds.{Spot, spots_of}
 use Rattle.arrow_meta.specs.Lies.{Layer, table_layer, leaf_layer, tables_layer, layer, Stands, AllStand, Lies, LiesAtRoot}
-use Rattle.arrow_meta.specs.Reads.{root}
+use Rattle.arrow_meta.specs.Grows.{root}
 use Rattle.arrow_meta.specs.Trees.{Tree, leaf, table, tables}
 use Rattle.arrow_meta.proofs.Layers.{layer_there, element_layer}
 
@@ -31,7 +31,8 @@ led : (bytes : List ℕ) (p : ℕ) (t : TableAt) → behind table_at bytes p ≡
 unfolding behind
 led bytes p t e = both_steps (target_at bytes p) (λ q. table_at bytes q) t e
 
-leads : (bytes : List ℕ) (p q : ℕ) (t : TableAt) → target_at bytes p ≡ Some q → table_at bytes q ≡ Some t → behind table_at bytes p ≡ Some t
+-- where the offset leads is a readable table, so that table
+pub leads : (bytes : List ℕ) (p q : ℕ) (t : TableAt) → target_at bytes p ≡ Some q → table_at bytes q ≡ Some t → behind table_at bytes p ≡ Some t
 unfolding behind
 leads bytes p q t e f = one_step (target_at bytes p) (λ q. table_at bytes q) q e ∙ f
 

@@ -7,6 +7,7 @@ use Rattle.arrow_meta.specs.Lies.{Stands, AllStand}
 use Rattle.arrow_meta.specs.Trees.{Tree, Trees, none, more}
 use Rattle.arrow_meta.specs.Views.{plain, plain_all}
 use Rattle.arrow_meta.specs.Within.{levels, levels_all, visits, visits_all, text_bytes, text_bytes_all, Room, Spends}
+use Rattle.arrow_meta.specs.Grows.{Grows, RowGrows, first_grows, first_kept}
 use Rattle.arrow_meta.specs.Reads.{NoneFits, NoRowFits}
 use Rattle.arrow_meta.proofs.OneTree.{one}
 
@@ -88,3 +89,38 @@ pub finished : (bytes : List ℕ) (ss : List Spot) (most : ℕ) (old new : Room)
 finished bytes ss most old new i xs d h =
     let P : List Spot → Type 0 = λ part. AllStand bytes part xs in
     (subst P (take_all i ss h) d.lie, d.deep, d.paid)
+
+-- A row whose first tree was read asks for memory, to keep that one.
+first_read : (bytes : List ℕ) (r : Spot) (rs : List Spot) (most : ℕ) (old new : Room) (i : ℕ) (xs : Trees) →
+    Done bytes (r ∷ rs) most old new (suc i) xs → RowGrows bytes (r ∷ rs) most old
+first_read bytes r rs most old new i none d = absurd d.lie
+first_read bytes r rs most old new i (more y ys) d =
+    first_kept y d.lie.0 (record {
+      levels_fit = omega (arith, d.deep);
+      visits_fit = omega (arith, d.paid.visits_paid);
+      text_fits = omega (arith, d.paid.text_paid);
+    })
+
+-- A row of which some tree was read asks for memory.
+pub begun : (bytes : List ℕ) (ss : List Spot) (most : ℕ) (old new : Room) (i : ℕ) (s : Spot) (xs : Trees) →
+    Done bytes ss most old new (suc i) xs → slice_get ss i ≡ Some s → RowGrows bytes ss most old
+begun bytes [] most old new i s xs d e = absurd (cc)
+begun bytes (r ∷ rs) most old new i s xs d e = first_read bytes r rs most old new i xs d
+
+-- what is left to spend where nothing was spent
+unspent : (old new : Room) → Spends old new 0 0 → new ≡ old
+unspent old new h =
+    let same_visits : new.visits ≡ old.visits = omega (arith, h.visits_paid) in
+    let same_text : new.text ≡ old.text = omega (arith, h.text_paid) in
+    λ i. record { visits = same_visits i; text = same_text i }
+
+-- A row asks for memory where the tree at its next spot does.
+pub grown : (bytes : List ℕ) (ss : List Spot) (most : ℕ) (old mid : Room) (i : ℕ) (s : Spot) (xs : Trees) →
+    Done bytes ss most old mid i xs → slice_get ss i ≡ Some s → Grows bytes s most mid → RowGrows bytes ss most old
+grown bytes [] most old mid i s xs d e g = absurd (cc)
+grown bytes (r ∷ rs) most old mid zero s (more y ys) d e g = absurd d.lie
+grown bytes (r ∷ rs) most old mid zero s none d e g =
+    let same : s ≡ r = cc in
+    let here : Grows bytes r most mid = subst (λ t. Grows bytes t most mid) same g in
+    first_grows (subst (λ left. Grows bytes r most left) (unspent old mid d.paid) here)
+grown bytes (r ∷ rs) most old mid (suc i) s xs d e g = first_read bytes r rs most old mid i xs d

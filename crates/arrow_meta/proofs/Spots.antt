@@ -43,7 +43,7 @@ length-elements kind p zero = refl
 length-elements kind p (suc n) = ap suc (length-elements kind (p + 4) n)
 
 -- a fault that says one thing says another that follows
-pub faulty_so : (e : MetaFault) (P Q : Type 0) → (P → Q) → Faulty e P → Faulty e Q
-faulty_so Metadata P Q f h = f h
-faulty_so Memory P Q f h = tt
-faulty_so fault P Q f h = absurd h
+pub faulty_so : (e : MetaFault) (P P' Q Q' : Type 0) → (P → P') → (Q → Q') → Faulty e P Q → Faulty e P' Q'
+faulty_so Metadata P P' Q Q' f g h = f h
+faulty_so Memory P P' Q Q' f g h = g h
+faulty_so fault P P' Q Q' f g h = absurd h

@@ -5,6 +5,7 @@ use Rattle.arrow_meta.specs.declared.fault.MetaFault.{MetaFault}
 use Rattle.arrow_meta.specs.declared.fault.MetaFault.TheVariants.{Metadata, Unsupported, Schema, Compressed, Memory}
 use Rattle.arrow_meta.specs.declared.message.Message.{Message}
 use Rattle.arrow_meta.specs.Faults.{conditions, fault_of, least}
+use Rattle.arrow_meta.specs.Grows.{GrowsAtRoot}
 use Rattle.arrow_meta.specs.Lies.{LiesAtRoot}
 use Rattle.arrow_meta.specs.Means.{PlainMessage, Means, message_view}
 use Rattle.arrow_meta.specs.Parts.{parts}
@@ -41,8 +42,9 @@ MetadataFails limits bytes fault =
     ((fault ≡ Metadata) × ((x : Tree) → IsTreeOf bytes limits.max_metadata x → ⊥)) ⊎
     ((x : Tree) × IsTreeOf bytes limits.max_metadata x × (fault_of limits.max_body (parts x) ≡ Some fault))
 
--- an answer to the bytes of a metadata; nothing is said of want of memory
+-- An answer to the bytes of a metadata. Want of memory is told only of bytes that ask for it: at least the root's
+-- table is readable there, with its first field.
 abbrev pub Decodes : Result Message MetaFault → LimitNumbers → List ℕ → Type 0
 Decodes (Ok m) limits bytes = MetadataMeans limits bytes (message_view m)
-Decodes (Err Memory) limits bytes = Unit {0}
+Decodes (Err Memory) limits bytes = GrowsAtRoot bytes limits.max_metadata
 Decodes (Err fault) limits bytes = MetadataFails limits bytes fault

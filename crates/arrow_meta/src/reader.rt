@@ -2,6 +2,7 @@
 ghost use Rattle.std.specs.Prelude.{◌≡◌, ◌<◌, ◌≤◌, ◌+◌, ◌⊎◌, ℕ, Some};
 ghost use Rattle.std.specs.Prelude.{MatchResult, IfOk, IfErr};
 ghost use Rattle.arrow_flatbuf.specs.Table.{field_place};
+ghost use Rattle.arrow_meta.specs.Grows.{GrowsAtRoot};
 ghost use Rattle.arrow_meta.specs.Kinds.{Spot, code_at, spot, spots_of, opened};
 ghost use Rattle.arrow_meta.specs.Views.{plain, plain_all};
 ghost use Rattle.arrow_meta.specs.Lies.{LiesAtRoot, elements, layer, table_layer};
@@ -36,7 +37,8 @@ const MAX_VISITS: u64 = 65_536;
 pub fn tree(alloc: Global, bytes: &[u8], limits: &Limits) -> Result<MessageTree, MetaFault>
     ensures found { IfOk result (λ t. LiesAtRoot t bytes.now × IsWithin limits.now.max_metadata t) }
     ensures none { IfErr result (λ e. Faulty e
-        ((x : PlainTree) → LiesAtRoot x bytes.now → ¬ (IsWithin limits.now.max_metadata x))) }
+        ((x : PlainTree) → LiesAtRoot x bytes.now → ¬ (IsWithin limits.now.max_metadata x))
+        (GrowsAtRoot bytes.now limits.now.max_metadata)) }
 {
     let mut reader = Reader {
         alloc,
@@ -303,11 +305,12 @@ fn code_at(table: &Table, field: u16) -> u64
     }
 }
 
-/// The pairs of numbers of a vector.
+/// The pairs of numbers of a vector. Of none no memory is taken.
 fn pairs_of(alloc: Global, vector: &Vector) -> Result<Vec<(u64, u64)>, AllocError>
     requires pairs { vector.now.size ≡ 16 }
     ensures pairs { IfOk result
         (λ v. v.items ≡ pairs_from vector.now.bytes vector.now.place vector.now.count) }
+    ensures some { IfErr result (λ _. 0 < vector.now.count) }
 {
     let mut pairs = Vec::new(alloc);
     for index in 0..vector.len() {
