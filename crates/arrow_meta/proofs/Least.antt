@@ -13,7 +13,7 @@ use Rattle.arrow_meta.specs.Builds.{BuildsMessage, Late, meta_fault}
 use Rattle.arrow_meta.specs.Conditions.{any, any_in, is_misfit, is_unsupported, lacks_table}
 use Rattle.arrow_meta.specs.Faults.{least, conditions, fault_of, version_of, code_of, header_of, body_of, is_schema, has_header, is_bad_length, is_unsupported_schema, shares_an_id, batch_parts, batch_kind}
 use Rattle.arrow_meta.specs.Judges.{Judges, LengthFits}
-use Rattle.arrow_meta.specs.Means.{PlainMessage}
+use Rattle.arrow_meta.specs.Means.{PlainMessage, Means, message_view}
 use Rattle.arrow_meta.specs.Parts.{nth, parts, is_there}
 use Rattle.arrow_meta.specs.SchemaMeaning.{schema_fields}
 use Rattle.arrow_meta.specs.Trees.{Tree, leaf, table, tables, Trees}
@@ -227,14 +227,21 @@ given_length max xs f given h t =
     (body_of xs) (batch_kind xs) f given h t in
     omega (arith, good.0, good_length max (body_of xs) good.1)
 
+-- The body of a tree of which no fault holds is within the limit: a longer one comes with no message.
+pub sound_length : (max : ℕ) (xs : Trees) → fault_of max xs ≡ None → body_of xs ≤ max
+sound_length max xs h =
+    good_length max (body_of xs)
+    (length_none (any_in lacks_table xs) (not (version_of xs == 4)) (not (has_header xs)) (is_bad_length max (body_of xs)) (is_schema xs)
+    (is_unsupported_schema (header_of xs)) (any is_misfit (header_of xs)) (shares_an_id (header_of xs)) (is_there (nth 3 (batch_parts xs)))
+    (body_of xs) (batch_kind xs) h)
+
+-- The body of a message that a tree means is within the limit.
+pub meaning_length : (max : ℕ) (x : Tree) (m : PlainMessage) → Means max x m → m.body_len ≤ max
+meaning_length max x m h = omega (arith, ap (λ (m : PlainMessage). m.body_len) h.same, sound_length max (parts x) h.sound)
+
 -- a body's length that is answered is at most the limit
 pub length_fits : (r : Result Message MetaFault) (max : ℕ) (x : Tree) → Judges r max x → LengthFits r max
-length_fits (Ok m) max x h =
-    let xs = parts x in
-    let good = length_none (any_in lacks_table xs) (not (version_of xs == 4)) (not (has_header xs)) (is_bad_length max (body_of xs)) (is_schema xs)
-    (is_unsupported_schema (header_of xs)) (any is_misfit (header_of xs)) (shares_an_id (header_of xs)) (is_there (nth 3 (batch_parts xs)))
-    (body_of xs) (batch_kind xs) h.sound in
-    omega (arith, ap (λ (m : PlainMessage). m.body_len) h.same, good_length max (body_of xs) good)
+length_fits (Ok m) max x h = meaning_length max x (message_view m) h
 length_fits (Err (Unsupported n)) max x h = given_length max (parts x) (Unsupported n) n h refl
 length_fits (Err (Schema n)) max x h = given_length max (parts x) (Schema n) n h refl
 length_fits (Err (Compressed k n)) max x h = given_length max (parts x) (Compressed k n) n h refl

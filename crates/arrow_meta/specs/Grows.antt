@@ -2,7 +2,7 @@
 use Rattle.std.specs.Prelude.{◌≡◌, ◌≤◌, ◌<◌, ◌+◌, ℕ, List, ◌∷◌, length, Some}
 use Rattle.arrow_meta.specs.declared.kinds.Kind.{Kind}
 use Rattle.arrow_meta.specs.declared.kinds.Kind.TheVariants as kinds
-use Rattle.arrow_meta.specs.declared.kinds.Shape.TheVariants as shapes
+use Rattle.arrow_meta.specs.declared.kinds.FieldForm.TheVariants as forms
 use Rattle.arrow_meta.specs.Kinds.{Spot}
 use Rattle.arrow_meta.specs.Lies.{leaf_layer, table_layer, tables_layer, layer, Stands}
 use Rattle.arrow_meta.specs.Trees.{Leaf, text, pairs, Tree}
@@ -36,7 +36,7 @@ mutual
 
 -- the spot of a message: place 0, where the offset to its table stands
 abbrev pub root : Spot
-root = record { shape = shapes.Table kinds.Message; place = Some 0 }
+root = record { form = forms.Table kinds.Message; place = Some 0 }
 
 -- the room for the names and the Field tables of one message
 abbrev pub whole : ℕ → Room

@@ -8,8 +8,9 @@ ghost use Rattle.arrow_meta.specs.Means.{buffer_of};
 ghost use Rattle.arrow_meta.specs.Parts.{nth, number_at, flag_at, parts as parts_of};
 ghost use Rattle.arrow_meta.specs.Views.{plain_all};
 
+use crate::codes::{DICTIONARY_BATCH, SCHEMA};
 use crate::fault::MetaFault;
-use crate::fields::{Refusal, fields};
+use crate::fields::{FieldFault, fields};
 use crate::message::{Header, Message, RecordBatch};
 use crate::message_tree::Tree;
 use crate::parts::{flag_at, into_pairs, into_parts, number_at, take};
@@ -17,10 +18,10 @@ use arrow_types::{Buffer, FieldNode, Schema, SchemaFault};
 use std::alloc::{AllocError, Global};
 
 /// The version that is read: V5 (`Schema.fbs`, enum `MetadataVersion`).
-pub const V5: i16 = 4;
+pub(crate) const V5: i16 = 4;
 
 /// The message that a Message table with these fields says.
-pub fn message(alloc: Global, parts: Vec<Tree>) -> Result<Message, MetaFault>
+pub(crate) fn message(alloc: Global, parts: Vec<Tree>) -> Result<Message, MetaFault>
     requires v5 { version_of (plain_all parts.items) ≡ 4 }
     ensures built { BuildsMessage result (plain_all parts.items) }
 {
@@ -42,12 +43,12 @@ pub fn message(alloc: Global, parts: Vec<Tree>) -> Result<Message, MetaFault>
 fn header(alloc: Global, code: u64, parts: Vec<Tree>, body_len: u64) -> Result<Header, MetaFault>
     ensures built { BuildsHeader result code body_len (plain_all parts.items) }
 {
-    if code == 1 {
+    if code == SCHEMA {
         match schema(alloc, parts, body_len) {
             Ok(schema) => Ok(Header::Schema(schema)),
             Err(fault) => Err(fault),
         }
-    } else if code == 2 {
+    } else if code == DICTIONARY_BATCH {
         match dictionary(alloc, parts) {
             Ok(header) => Ok(header),
             Err(_) => Err(MetaFault::Memory),
@@ -71,8 +72,8 @@ fn schema(alloc: Global, parts: Vec<Tree>, body_len: u64) -> Result<Schema, Meta
             Ok(schema) => Ok(schema),
             Err(fault) => Err(meta_fault(body_len, fault)),
         },
-        Err(Refusal::Misfit) => Err(MetaFault::Schema { body_len }),
-        Err(Refusal::Memory) => Err(MetaFault::Memory),
+        Err(FieldFault::Misfit) => Err(MetaFault::Schema { body_len }),
+        Err(FieldFault::Memory) => Err(MetaFault::Memory),
     }
 }
 

@@ -35,7 +35,7 @@ pub enum MetaFault {
     Schema { body_len: u64 },
     /// The body of a batch is compressed.
     Compressed { batch: BatchKind, body_len: u64 },
-    /// A growth was refused. Nothing is said of the metadata.
+    /// A growth was refused. Of the metadata no more is said than that reading them asks for memory.
     Memory,
 }
 

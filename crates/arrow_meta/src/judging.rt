@@ -10,8 +10,10 @@ ghost use Rattle.arrow_meta.specs.Views.{plain, plain_all};
 ghost use Rattle.arrow_types.specs.Schema.{is_nested};
 
 use crate::build::message;
+use crate::codes::{DICTIONARY_BATCH, SCHEMA};
 use crate::conditions::{Test, any, any_in};
 use crate::fault::{BatchKind, MetaFault};
+use crate::kinds::header_table;
 use crate::message::Message;
 use crate::message_tree::{MessageTree, Tree};
 use crate::nesting::is_nested;
@@ -24,8 +26,8 @@ use std::alloc::Global;
 /// (Columnar Format, "Encapsulated message format"): [`crate::tree`], then [`judge`].
 ///
 /// The bytes are those between a message's size and its body. The message keeps none of them borrowed:
-/// names and zones are copied, once. After `Memory`, a refused growth, nothing is known of the bytes,
-/// and the call may be made again.
+/// names and zones are copied, once. After `Memory`, a refused growth, no more is known of the bytes
+/// than that reading them asks for memory, and the call may be made again.
 pub fn decode(alloc: Global, bytes: &[u8], limits: &Limits) -> Result<Message, MetaFault>
     ensures decoded { Decodes result limits.now bytes.now }
     ensures length { LengthFits result limits.now.max_body }
@@ -59,7 +61,7 @@ fn early_fault(parts: &[Tree], max_body: u64) -> Option<MetaFault>
     ensures least { result ≡ least (conditions false max_body (plain_all parts.now)) }
 {
     let body_len = number_at(parts, 3, 0);
-    let is_schema = number_at(parts, 1, 0) == 1;
+    let is_schema = number_at(parts, 1, 0) == SCHEMA;
     if any_in(Test::LacksTable, parts) {
         return Some(MetaFault::Metadata);
     }
@@ -89,8 +91,7 @@ fn early_fault(parts: &[Tree], max_body: u64) -> Option<MetaFault>
 fn has_header(parts: &[Tree]) -> bool
     ensures header { result ≡ has_header (plain_all parts.now) }
 {
-    let code = number_at(parts, 1, 0);
-    (code == 1 || code == 2 || code == 3) && has_table(parts, 2)
+    header_table(number_at(parts, 1, 0)).is_some() && has_table(parts, 2)
 }
 
 /// Whether the length is negative, as a signed number, or over the limit.
@@ -144,7 +145,7 @@ fn is_misfit_at(parts: &[Tree], index: usize) -> bool
 fn batch_kind(parts: &[Tree]) -> BatchKind
     ensures batch { result ≡ batch_kind (plain_all parts.now) }
 {
-    if number_at(parts, 1, 0) == 2 {
+    if number_at(parts, 1, 0) == DICTIONARY_BATCH {
         BatchKind::Dictionary
     } else {
         BatchKind::Record
@@ -155,7 +156,7 @@ fn batch_kind(parts: &[Tree]) -> BatchKind
 fn is_compressed(parts: &[Tree]) -> bool
     ensures compressed { result ≡ is_there (nth 3 (batch_parts (plain_all parts.now))) }
 {
-    if number_at(parts, 1, 0) == 2 {
+    if number_at(parts, 1, 0) == DICTIONARY_BATCH {
         is_compressed_data(parts, 2)
     } else {
         is_compressed_batch(parts, 2)

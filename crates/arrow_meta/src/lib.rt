@@ -11,13 +11,15 @@
 //!
 //! [`decode`] is one after the other. Each answer is pinned in both directions: a fault comes exactly
 //! where its condition holds and no condition of a lower number does, and a message exactly where none
-//! holds. Only `Memory`, a refused growth, is open.
+//! holds. Of `Memory`, a refused growth, only this is said: reading asks for memory there, and of a
+//! tree none of the other faults holds but unequal types of one dictionary id.
 //!
 //! | Notion | Definition |
 //! |---|---|
-//! | tables, their fields, what a code opens | `specs/Kinds.antt`: `shapes_of`, `header_table`, `type_table` |
+//! | tables, their fields, what a code opens | `specs/Kinds.antt`: `forms_of`, `header_table`, `type_table` |
 //! | the tree that lies at a place | `specs/Lies.antt`: `Lies`, `LiesAtRoot` |
 //! | levels, visits, bytes of names | `specs/Within.antt`: `IsWithin` |
+//! | where reading asks for memory | `specs/Grows.antt`: `Grows`, `GrowsAtRoot` |
 //! | the conditions of the faults | `specs/Conditions.antt`, `specs/Faults.antt`: `conditions`, `fault_of` |
 //! | the message that a tree means | `specs/SchemaMeaning.antt`, `specs/Means.antt`: `Means` |
 //! | what is answered | `specs/Judges.antt`: `Judges`, `Decodes` |

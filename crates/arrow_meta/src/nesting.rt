@@ -16,7 +16,7 @@ use crate::parts::has_table;
 
 /// Whether a dictionary field stands below a dictionary field in the vector of fields.
 #[cycle(nesting)]
-pub fn is_nested(fields: &Tree) -> bool
+pub(crate) fn is_nested(fields: &Tree) -> bool
     ensures nested { result ≡ is_nested (fields_in (plain fields.now)) }
 {
     match fields {

@@ -11,7 +11,7 @@ use crate::message_tree::{Leaf, Tree};
 use std::alloc::Global;
 
 /// Field `index` of a table, None where it is absent.
-pub fn part(parts: &[Tree], index: usize) -> Option<&Tree>
+pub(crate) fn part(parts: &[Tree], index: usize) -> Option<&Tree>
     ensures found { MatchOption result (nth index (plain_all parts.now) ≡ leaf nothing)
         (λ t. nth index (plain_all parts.now) ≡ plain t.now) }
 {
@@ -19,7 +19,7 @@ pub fn part(parts: &[Tree], index: usize) -> Option<&Tree>
 }
 
 /// The number in field `index`, or `default` where it is absent.
-pub fn number_at(parts: &[Tree], index: usize, default: u64) -> u64
+pub(crate) fn number_at(parts: &[Tree], index: usize, default: u64) -> u64
     ensures number { result ≡ number_at index default (plain_all parts.now) }
 {
     match part(parts, index) {
@@ -29,14 +29,14 @@ pub fn number_at(parts: &[Tree], index: usize, default: u64) -> u64
 }
 
 /// Whether the byte in field `index` is not 0.
-pub fn flag_at(parts: &[Tree], index: usize) -> bool
+pub(crate) fn flag_at(parts: &[Tree], index: usize) -> bool
     ensures flag { result ≡ flag_at index (plain_all parts.now) }
 {
     number_at(parts, index, 0) != 0
 }
 
 /// Whether field `index` holds a table.
-pub fn has_table(parts: &[Tree], index: usize) -> bool
+pub(crate) fn has_table(parts: &[Tree], index: usize) -> bool
     ensures table { result ≡ is_table (nth index (plain_all parts.now)) }
 {
     match part(parts, index) {
@@ -46,7 +46,7 @@ pub fn has_table(parts: &[Tree], index: usize) -> bool
 }
 
 /// Whether field `index` is there.
-pub fn is_there_at(parts: &[Tree], index: usize) -> bool
+pub(crate) fn is_there_at(parts: &[Tree], index: usize) -> bool
     ensures there { result ≡ is_there (nth index (plain_all parts.now)) }
 {
     match part(parts, index) {
@@ -110,7 +110,7 @@ impl Leaf {
 
 /// Takes field `index` out of a table. Those before it stay where they are, so fields are taken from
 /// the last to the first.
-pub fn take(parts: &mut Vec<Tree>, index: usize) -> Tree
+pub(crate) fn take(parts: &mut Vec<Tree>, index: usize) -> Tree
     ensures taken { plain result ≡ nth index (plain_all parts.old.items) }
     ensures before { (i : ℕ) → i < index
         → nth i (plain_all parts.new.items) ≡ nth i (plain_all parts.old.items) }
@@ -129,7 +129,7 @@ fn absent() -> Tree
 }
 
 /// The fields of a table, none of anything else.
-pub fn into_parts(alloc: Global, tree: Tree) -> Vec<Tree>
+pub(crate) fn into_parts(alloc: Global, tree: Tree) -> Vec<Tree>
     ensures parts { plain_all result.items ≡ parts (plain tree) }
 {
     match tree {
@@ -140,7 +140,7 @@ pub fn into_parts(alloc: Global, tree: Tree) -> Vec<Tree>
 }
 
 /// The text that it is, empty where it is none. It is moved, not copied.
-pub fn into_text(alloc: Global, tree: Tree) -> String
+pub(crate) fn into_text(alloc: Global, tree: Tree) -> String
     ensures text { string_bytes result ≡ text_in (plain tree) }
 {
     match tree {
@@ -155,7 +155,7 @@ pub fn into_text(alloc: Global, tree: Tree) -> String
 }
 
 /// The text that it is, None where it is none. It is moved, not copied.
-pub fn into_some_text(tree: Tree) -> Option<String>
+pub(crate) fn into_some_text(tree: Tree) -> Option<String>
     ensures text { option_map string_bytes result ≡ some_text_in (plain tree) }
 {
     match tree {
@@ -170,7 +170,7 @@ pub fn into_some_text(tree: Tree) -> Option<String>
 }
 
 /// The pairs of numbers that it is, none of anything else.
-pub fn into_pairs(alloc: Global, tree: Tree) -> Vec<(u64, u64)>
+pub(crate) fn into_pairs(alloc: Global, tree: Tree) -> Vec<(u64, u64)>
     ensures pairs { result.items ≡ pairs_in (plain tree) }
 {
     match tree {

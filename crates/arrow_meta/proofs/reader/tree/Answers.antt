@@ -1,7 +1,7 @@
 use Rattle.std.proofs.Common.{◌≡◌, ℕ, ◌≤◌, List, Some, ap, sym, subst, ◌∙◌, option_map, refl, arith}
 use Rattle.std.proofs.lemmas.Result.{err_from_is_err_and}
 use Rattle.arrow_meta.specs.declared.kinds.Kind.TheVariants as kinds
-use Rattle.arrow_meta.specs.declared.kinds.Shape.TheVariants as shapes
+use Rattle.arrow_meta.specs.declared.kinds.FieldForm.TheVariants as forms
 use Rattle.arrow_meta.specs.Kinds.{Spot, spots_of}
 use Rattle.arrow_meta.specs.Lies.{Stands, LiesAtRoot, layer, table_layer}
 use Rattle.arrow_meta.specs.Trees.{Tree}
@@ -33,7 +33,7 @@ pub returns-in-None-clause-none : goal.returns-in-None-clause-none
 returns-in-None-clause-none c =
     let b = c.args.bytes.now in
     none_within b c.args.limits.now.max_metadata (none_fits b root 32 (whole c.args.limits.now.max_metadata)
-    (layer_there b (shapes.Table kinds.Message) (Some 0) 0 refl ∙ ap (option_map (λ t. table_layer kinds.Message (spots_of kinds.Message t))) (sym c.in-None.ensures.value)))
+    (layer_there b (forms.Table kinds.Message) (Some 0) 0 refl ∙ ap (option_map (λ t. table_layer kinds.Message (spots_of kinds.Message t))) (sym c.in-None.ensures.value)))
 
 pub returns-in_err-root-in-Some-clause-none : goal.returns-in_err-root-in-Some-clause-none
 returns-in_err-root-in-Some-clause-none c =
