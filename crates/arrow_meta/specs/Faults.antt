@@ -1,5 +1,5 @@
 -- The conditions of the faults of a message's tree, in the order of their numbers, and the least fault that holds.
-use Rattle.std.specs.Prelude.{ℕ, Bool, ◌||◌, ◌&&◌, not, List, [], ◌∷◌, Option, Some, None, is_some, ◌==◌, nat_lt, if◌then◌else◌}
+use Rattle.std.specs.Prelude.{ℕ, Bool, ◌||◌, ◌&&◌, not, List, [], ◌∷◌, length, ◌+◌, ◌<◌, Option, Some, None, is_some, ◌==◌, nat_lt, if◌then◌else◌}
 use Rattle.arrow_types.specs.Schema.{is_nested, types_differ, dictionary_fields}
 use Rattle.arrow_meta.specs.declared.fault.BatchKind.{BatchKind}
 use Rattle.arrow_meta.specs.declared.fault.BatchKind.TheVariants as batches
@@ -8,7 +8,7 @@ use Rattle.arrow_meta.specs.declared.fault.MetaFault.TheVariants.{Metadata, Vers
 use Rattle.arrow_meta.specs.Codes.{schema_code, dictionary_code}
 use Rattle.arrow_meta.specs.Conditions.{any, any_in, lacks_table, is_unsupported, is_misfit}
 use Rattle.arrow_meta.specs.Kinds.{header_table}
-use Rattle.arrow_meta.specs.Parts.{nth, parts, number_at, is_table, is_there}
+use Rattle.arrow_meta.specs.Parts.{nth, parts, number_at, pairs_in, is_table, is_there}
 use Rattle.arrow_meta.specs.SchemaMeaning.{schema_fields}
 use Rattle.arrow_meta.specs.Trees.{Tree, Trees}
 
@@ -56,9 +56,17 @@ is_unsupported_schema x = any is_unsupported x || is_nested (schema_fields (part
 abbrev pub shares_an_id : Tree → Bool
 shares_an_id x = types_differ (dictionary_fields (schema_fields (parts x)))
 
+-- the RecordBatch table's fields, in the table of either batch with these fields, by the header's code
+abbrev pub batch_by : ℕ → Trees → Trees
+batch_by code xs = if code == dictionary_code then parts (nth 1 xs) else xs
+
 -- the RecordBatch table's fields, in either batch
 abbrev pub batch_parts : Trees → Trees
-batch_parts xs = if is_dictionary xs then parts (nth 1 (parts (header_of xs))) else parts (header_of xs)
+batch_parts xs = batch_by (code_of xs) (parts (header_of xs))
+
+-- A RecordBatch table with these fields has a field node or a buffer, so that memory is asked for where it is built.
+abbrev pub HasParts : Trees → Type 0
+HasParts xs = 0 < length (pairs_in (nth 1 xs)) + length (pairs_in (nth 2 xs))
 
 -- The conditions, each with its fault. `shares` says whether two fields of one dictionary id have unequal types.
 abbrev pub conditions : Bool → ℕ → Trees → List (Bool × MetaFault)

@@ -1,8 +1,8 @@
 //! Messages, built of the fields of their tables.
-ghost use Rattle.std.specs.Prelude.{◌≡◌, IfOk, map};
+ghost use Rattle.std.specs.Prelude.{◌≡◌, ◌<◌, IfOk, IfErr, length, map};
 ghost use Rattle.std.specs.Int.{cast_signed, w64};
 ghost use Rattle.arrow_meta.specs.Builds.{BuildsSchema, BuildsHeader, BuildsMessage, meta_fault};
-ghost use Rattle.arrow_meta.specs.Faults.{version_of};
+ghost use Rattle.arrow_meta.specs.Faults.{HasParts, version_of};
 ghost use Rattle.arrow_meta.specs.Means.{batch_of, batch_view, dictionary, header_view, node_of};
 ghost use Rattle.arrow_meta.specs.Means.{buffer_of};
 ghost use Rattle.arrow_meta.specs.Parts.{nth, number_at, flag_at, parts as parts_of};
@@ -95,6 +95,7 @@ fn dictionary(alloc: Global, parts: Vec<Tree>) -> Result<Header, AllocError>
     ensures built { let xs = plain_all parts.items in IfOk result (λ h. header_view h
         ≡ dictionary (cast_signed w64 (number_at 0 0 xs)) (flag_at 2 xs)
         (batch_of (parts_of (nth 1 xs)))) }
+    ensures some { IfErr result (λ _. HasParts (parts_of (nth 1 (plain_all parts.items)))) }
 {
     let mut parts = parts;
     let id = number_at(&parts, 0, 0).cast_signed();
@@ -106,6 +107,7 @@ fn dictionary(alloc: Global, parts: Vec<Tree>) -> Result<Header, AllocError>
 /// The record batch that a RecordBatch table with these fields says.
 fn batch(alloc: Global, parts: Vec<Tree>) -> Result<RecordBatch, AllocError>
     ensures built { IfOk result (λ b. batch_view b ≡ batch_of (plain_all parts.items)) }
+    ensures some { IfErr result (λ _. HasParts (plain_all parts.items)) }
 {
     let mut parts = parts;
     let length = number_at(&parts, 0, 0).cast_signed();
@@ -121,6 +123,7 @@ fn batch(alloc: Global, parts: Vec<Tree>) -> Result<RecordBatch, AllocError>
 /// The field nodes of these pairs of numbers.
 fn nodes(alloc: Global, pairs: &[(u64, u64)]) -> Result<Vec<FieldNode>, AllocError>
     ensures nodes { IfOk result (λ v. v.items ≡ map node_of pairs.now) }
+    ensures some { IfErr result (λ _. 0 < length pairs.now) }
 {
     let mut nodes = Vec::new(alloc);
     for pair in pairs {
@@ -135,6 +138,7 @@ fn nodes(alloc: Global, pairs: &[(u64, u64)]) -> Result<Vec<FieldNode>, AllocErr
 /// The buffers of these pairs of numbers.
 fn buffers(alloc: Global, pairs: &[(u64, u64)]) -> Result<Vec<Buffer>, AllocError>
     ensures buffers { IfOk result (λ v. v.items ≡ map buffer_of pairs.now) }
+    ensures some { IfErr result (λ _. 0 < length pairs.now) }
 {
     let mut buffers = Vec::new(alloc);
     for pair in pairs {

@@ -28,10 +28,11 @@ pub(crate) enum Tree {
     Tables(Vec<Tree>),
 }
 
-/// The tree of a message, which has at most 32 levels of fields and 65,536 fields, each visit counted.
+/// The tree of a message, which has at most 32 levels of fields and 65,536 fields, each visit
+/// counted.
 ///
-/// [`crate::tree`] reads one from the bytes of a metadata, and [`crate::judge`] says what it means. A
-/// clause sees the plain tree.
+/// [`crate::tree`] reads one from the bytes of a metadata, and [`crate::judge`] says what it means.
+/// A clause sees the plain tree.
 #[derive(Debug, Drop)]
 pub struct MessageTree {
     pub(crate) root: Tree,

@@ -30,11 +30,11 @@ const MAX_VISITS: u64 = 65_536;
 /// The tree of the message whose metadata the bytes are (Columnar Format, "Encapsulated message
 /// format"): the one that lies at the root, if it keeps to the limits.
 ///
-/// `Metadata` where something that is looked at is not readable, or where there are more than 32 levels
-/// of fields, more than 65,536 fields, or names and zones of more than `max_metadata` bytes together,
-/// each visit counted. `Memory` where a growth was refused, so only where the root's table is readable
-/// with its first field, since no memory is asked for before. How long the bytes may be is for the
-/// caller to say.
+/// `Metadata` where something that is looked at is not readable, or where there are more than 32
+/// levels of fields, more than 65,536 fields, or names and zones of more than `max_metadata` bytes
+/// together, each visit counted. `Memory` where a growth was refused, so only where the root's
+/// table is readable with its first field, since no memory is asked for before. How long the bytes
+/// may be is for the caller to say.
 pub fn tree(alloc: Global, bytes: &[u8], limits: &Limits) -> Result<MessageTree, MetaFault>
     ensures found { IfOk result (λ t. LiesAtRoot t bytes.now × IsWithin limits.now.max_metadata t) }
     ensures none { IfErr result (λ e. Faulty e
@@ -55,8 +55,8 @@ pub fn tree(alloc: Global, bytes: &[u8], limits: &Limits) -> Result<MessageTree,
     }
 }
 
-/// Reads trees, and counts what it may still read. However the bytes share their tables and texts, no
-/// more is read than was counted.
+/// Reads trees, and counts what it may still read. However the bytes share their tables and texts,
+/// no more is read than was counted.
 #[derive(Drop)]
 struct Reader {
     alloc: Global,
@@ -67,8 +67,8 @@ struct Reader {
 }
 
 impl Reader {
-    /// Pays for a table, and answers how many levels may stand below it. Field tables are opened only
-    /// behind this call.
+    /// Pays for a table, and answers how many levels may stand below it. Field tables are opened
+    /// only behind this call.
     fn enter(&mut self, kind: Kind, levels: u64) -> Result<u64, MetaFault>
         ensures paid { MatchResult result
             (λ below. (below + visit kind ≡ levels)
