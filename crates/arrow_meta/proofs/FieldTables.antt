@@ -14,6 +14,7 @@ shape_in (table kinds.Field xs) = field_of xs ∷ []
 shape_in (table kind xs) = []
 shape_in (tables xs) = []
 
+-- the fields of those of the trees that are Field tables
 abbrev pub shapes_in : List Built → List FieldShape
 shapes_in [] = []
 shapes_in (t ∷ ts) = shape_in (plain t) ++ shapes_in ts

@@ -1,8 +1,8 @@
 -- What a layer says of the trees that lie there.
 use Rattle.std.proofs.Common.{◌≡◌, ℕ, ◌+◌, ◌<◌, ◌⊎◌, inl, inr, List, Option, Some, None, option_map, refl, sym, ap, subst, ◌∙◌, arith}
 use Rattle.arrow_meta.specs.declared.kinds.Kind.{Kind}
-use Rattle.arrow_meta.specs.declared.kinds.Shape.{Shape}
-use Rattle.arrow_meta.specs.declared.kinds.Shape.TheVariants as shapes
+use Rattle.arrow_meta.specs.declared.kinds.FieldForm.{FieldForm}
+use Rattle.arrow_meta.specs.declared.kinds.FieldForm.TheVariants as forms
 use Rattle.arrow_flatbuf.specs.Place.{behind}
 use Rattle.arrow_flatbuf.specs.Table.{table_at, TableAt}
 use Rattle.arrow_flatbuf.specs.Vector.{vector_at, VectorAt}
@@ -15,9 +15,9 @@ use Rattle.arrow_meta.specs.Reads.{NoneFits, NoRowFits}
 use Rattle.arrow_meta.proofs.OneTree.{one}
 
 -- the layer of a field that is there
-pub layer_there : (bytes : List ℕ) (shape : Shape) (place : Option ℕ) (p : ℕ) → place ≡ Some p → layer bytes (record { shape = shape; place = place }) ≡ layer_at bytes shape p
+pub layer_there : (bytes : List ℕ) (form : FieldForm) (place : Option ℕ) (p : ℕ) → place ≡ Some p → layer bytes (record { form = form; place = place }) ≡ layer_at bytes form p
 unfolding layer
-layer_there bytes shape place p e = rw e refl
+layer_there bytes form place p e = rw e refl
 
 -- Nothing stands where no layer does.
 pub none_fits : (bytes : List ℕ) (s : Spot) (most : ℕ) (room : Room) → layer bytes s ≡ None → NoneFits bytes s most room
@@ -65,21 +65,21 @@ no_elements bytes s ss most room e never (tables xs) h fits =
     let P : List Spot → Type 0 = λ ss. AllStand bytes ss xs in
     never xs (subst P spots h.2) (record { levels_fit = fits.levels_fit; visits_fit = fits.visits_fit; text_fits = fits.text_fits })
 
--- a field of a shape that is there, and unreadable
-pub unreadable : (bytes : List ℕ) (shape : Shape) (place : Option ℕ) (most : ℕ) (room : Room) (p : ℕ) → place ≡ Some p → layer_at bytes shape p ≡ None → NoneFits bytes (record { shape = shape; place = place }) most room
-unreadable bytes shape place most room p e f = none_fits bytes (record { shape = shape; place = place }) most room (layer_there bytes shape place p e ∙ f)
+-- a field of a form that is there, and unreadable
+pub unreadable : (bytes : List ℕ) (form : FieldForm) (place : Option ℕ) (most : ℕ) (room : Room) (p : ℕ) → place ≡ Some p → layer_at bytes form p ≡ None → NoneFits bytes (record { form = form; place = place }) most room
+unreadable bytes form place most room p e f = none_fits bytes (record { form = form; place = place }) most room (layer_there bytes form place p e ∙ f)
 
 -- an opened table that is there, and unreadable
 pub unreadable_child : (bytes : List ℕ) (opens : Option Kind) (kind : Kind) (place : Option ℕ) (most : ℕ) (room : Room) (p : ℕ) → opens ≡ Some kind → place ≡ Some p → behind table_at bytes p ≡ None → NoneFits bytes (opened opens place) most room
 unreadable_child bytes opens kind place most room p o e f =
     let P : Option Kind → Type 0 = λ k. NoneFits bytes (opened k place) most room in
-    let here = unreadable bytes (shapes.Table kind) place most room p e (ap (option_map (λ t. table_layer kind (spots_of kind t))) f) in
+    let here = unreadable bytes (forms.Table kind) place most room p e (ap (option_map (λ t. table_layer kind (spots_of kind t))) f) in
     subst P (sym o) here
 
 -- the layer of a vector of tables
-pub vector_layer : (bytes : List ℕ) (kind : Kind) (place : Option ℕ) (p : ℕ) (v : VectorAt) → place ≡ Some p → behind (vector_at 4) bytes p ≡ Some v → layer bytes (record { shape = shapes.Tables kind; place = place }) ≡ Some (tables_layer (elements kind v.place v.count))
-vector_layer bytes kind place p v e f = layer_there bytes (shapes.Tables kind) place p e ∙ ap (option_map (λ v. tables_layer (elements kind v.place v.count))) f
+pub vector_layer : (bytes : List ℕ) (kind : Kind) (place : Option ℕ) (p : ℕ) (v : VectorAt) → place ≡ Some p → behind (vector_at 4) bytes p ≡ Some v → layer bytes (record { form = forms.Tables kind; place = place }) ≡ Some (tables_layer (elements kind v.place v.count))
+vector_layer bytes kind place p v e f = layer_there bytes (forms.Tables kind) place p e ∙ ap (option_map (λ v. tables_layer (elements kind v.place v.count))) f
 
 -- the layer of an element
-pub element_layer : (bytes : List ℕ) (kind : Kind) (p : ℕ) (t : TableAt) → behind table_at bytes p ≡ Some t → layer bytes (record { shape = shapes.Table kind; place = Some p }) ≡ Some (table_layer kind (spots_of kind t))
-element_layer bytes kind p t f = layer_there bytes (shapes.Table kind) (Some p) p refl ∙ ap (option_map (λ t. table_layer kind (spots_of kind t))) f
+pub element_layer : (bytes : List ℕ) (kind : Kind) (p : ℕ) (t : TableAt) → behind table_at bytes p ≡ Some t → layer bytes (record { form = forms.Table kind; place = Some p }) ≡ Some (table_layer kind (spots_of kind t))
+element_layer bytes kind p t f = layer_there bytes (forms.Table kind) (Some p) p refl ∙ ap (option_map (λ t. table_layer kind (spots_of kind t))) f

@@ -10,3 +10,4 @@ pub mod Misfits
 pub mod Shallow
 pub mod Least
 pub mod OneAnswer
+pub mod Decoding

@@ -4,8 +4,8 @@ use Rattle.arrow_types.specs.Field.{width, TypeShape}
 use Rattle.arrow_types.specs.declared.field.Encoding.{Encoding}
 use Rattle.arrow_meta.specs.declared.kinds.Kind.{Kind}
 use Rattle.arrow_meta.specs.declared.kinds.Kind.TheVariants as kinds
-use Rattle.arrow_meta.specs.declared.fields.Refusal.{Refusal}
-use Rattle.arrow_meta.specs.declared.fields.Refusal.TheVariants.{Misfit, Memory}
+use Rattle.arrow_meta.specs.declared.fields.FieldFault.{FieldFault}
+use Rattle.arrow_meta.specs.declared.fields.FieldFault.TheVariants.{Misfit, Memory}
 use Rattle.arrow_meta.specs.Builds.{Refuses, size, size_all, field_by}
 use Rattle.std.proofs.lemmas.Bool.{or_left, or_right}
 use Rattle.arrow_meta.specs.Codes.{type_code}
@@ -20,25 +20,30 @@ any_nth test i none h = absurd (true≢false (sym h))
 any_nth test zero (more x xs) h = or_left (any test x) (any_in test xs) h
 any_nth test (suc i) (more x xs) h = or_right (any test x) (any_in test xs) (any_nth test i xs h)
 
--- a refusal says of more what it says of less
-pub refuses_more : (e : Refusal) (a b : Bool) → (a ≡ true → b ≡ true) → Refuses e a → Refuses e b
+-- a fault says of more what it says of less
+pub refuses_more : (e : FieldFault) (a b : Bool) → (a ≡ true → b ≡ true) → Refuses e a → Refuses e b
 refuses_more Misfit a b f h = f h
 refuses_more Memory a b f h = tt
 
+-- A Field table with another number of children than its type has is a misfit.
 pub misfit_here : (xs : Trees) → not (children_fit (type_code (number_at 2 0 xs)) (width (fields_in (nth 5 xs)))) ≡ true → any is_misfit (table kinds.Field xs) ≡ true
 misfit_here xs h = or_left (is_misfit kinds.Field xs) (any_in is_misfit xs) h
 
+-- A Field table is a misfit where what stands in one of its fields is.
 pub misfit_below : (xs : Trees) (i : ℕ) → any is_misfit (nth i xs) ≡ true → any is_misfit (table kinds.Field xs) ≡ true
 misfit_below xs i h = or_right (is_misfit kinds.Field xs) (any_in is_misfit xs) (any_nth is_misfit i xs h)
 
+-- What stands in a field has no more nodes than the row.
 pub size_nth : (i : ℕ) (xs : Trees) → size (nth i xs) ≤ size_all xs
 size_nth i none = omega arith
 size_nth zero (more x xs) = omega arith
 size_nth (suc i) (more x xs) = omega (arith, size_nth i xs)
 
+-- Every row has a node.
 pub size_positive : (xs : Trees) → 1 ≤ size_all xs
 size_positive none = omega arith
 size_positive (more x xs) = omega arith
 
+-- Fields of equal parts are equal.
 pub joined_same : (n n' : List ℕ) (b b' : Bool) (e e' : Option Encoding) (k k' : TypeShape) → n ≡ n' → b ≡ b' → e ≡ e' → k ≡ k' → field_by n b e k ≡ field_by n' b' e' k'
 joined_same n n' b b' e e' k k' p q r s = cc

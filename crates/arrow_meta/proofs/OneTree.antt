@@ -7,6 +7,7 @@ use Rattle.arrow_meta.specs.Lies.{Stands, AllStand, Lies}
 use Rattle.arrow_meta.specs.Trees.{Tree, leaf, table, tables, Trees, none, more}
 
 mutual
+  -- Two trees that stand at one spot are equal.
   pub one : (bytes : List ℕ) (s : Spot) (x y : Tree) → Stands bytes s x → Stands bytes s y → x ≡ y
   one bytes s (leaf a) (leaf b) h k = cc
   one bytes s (leaf a) (table j ys) h k = cc
@@ -26,6 +27,7 @@ mutual
       let rest = all bytes h.0 xs ys h.2 (subst P (sym e) k.2) in
       cc
 
+  -- Two rows that stand at the same spots are equal.
   pub all : (bytes : List ℕ) (ss : List Spot) (xs ys : Trees) → AllStand bytes ss xs → AllStand bytes ss ys → xs ≡ ys
   all bytes [] none none h k = refl
   all bytes [] none (more y ys) h k = absurd k
@@ -37,6 +39,7 @@ mutual
       let rest = all bytes ss xs ys h.1 k.1 in
       cc
 
+-- Two trees of one kind that lie at one place are equal.
 pub one_table : (kind : Kind) (bytes : List ℕ) (p : ℕ) (x y : Tree) → Lies kind x bytes p → Lies kind y bytes p → x ≡ y
 one_table kind bytes p (leaf a) y h k = absurd h
 one_table kind bytes p (tables xs) y h k = absurd h

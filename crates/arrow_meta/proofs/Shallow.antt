@@ -76,6 +76,7 @@ schema_levels x i =
     let header = nth i (parts x) in
     omega (arith, levels_in (nth 1 (parts header)), levels_nth 1 (parts header), levels_parts header, levels_nth i (parts x), levels_parts x)
 
+-- They are no more than the Field tables of the message.
 pub schema_count : (x : Tree) (i : ℕ) → count (schema_fields (parts (nth i (parts x)))) ≤ visits x
 schema_count x i =
     let header = nth i (parts x) in

@@ -15,19 +15,20 @@ use Rattle.arrow_meta.specs.declared.kinds.Kind.TheVariants as kinds
 use Rattle.arrow_meta.specs.declared.codes.TypeCode.{TypeCode}
 use Rattle.arrow_meta.specs.declared.fault.MetaFault.{MetaFault}
 use Rattle.arrow_meta.specs.declared.fault.MetaFault.TheVariants as faults
-use Rattle.arrow_meta.specs.declared.fields.Refusal.{Refusal}
-use Rattle.arrow_meta.specs.declared.fields.Refusal.TheVariants.{Misfit, Memory}
+use Rattle.arrow_meta.specs.declared.fields.FieldFault.{FieldFault}
+use Rattle.arrow_meta.specs.declared.fields.FieldFault.TheVariants.{Misfit, Memory}
 use Rattle.arrow_meta.specs.declared.message.Header.{Header}
 use Rattle.arrow_meta.specs.declared.message.Message.{Message}
+use Rattle.arrow_meta.specs.Codes.{schema_code}
 use Rattle.arrow_meta.specs.Conditions.{any, any_in, is_misfit, children_fit}
-use Rattle.arrow_meta.specs.Faults.{code_of, header_of, body_of}
+use Rattle.arrow_meta.specs.Faults.{code_of, header_of, body_of, batch_by, batch_parts, HasParts}
 use Rattle.arrow_meta.specs.Means.{header_view, header_by, message_view, meaning_of}
 use Rattle.arrow_meta.specs.Parts.{parts}
 use Rattle.arrow_meta.specs.SchemaMeaning.{field_of, tag_by, schema_fields}
 use Rattle.arrow_meta.specs.Trees.{Tree, leaf, table, tables, Trees, none, more}
 
--- what a refusal says of a tree that is a misfit or not; nothing of want of memory
-abbrev pub Refuses : Refusal → Bool → Type 0
+-- What a fault of the building says of a tree that is a misfit or not: want of memory says nothing.
+abbrev pub Refuses : FieldFault → Bool → Type 0
 Refuses Misfit misfit = misfit ≡ true
 Refuses Memory misfit = Unit {0}
 
@@ -41,17 +42,17 @@ field_by name nullable encoding type =
     record { head = record { name = name; nullable = nullable; tag = type.tag; encoding = encoding }; children = type.children }
 
 -- The field was built that a Field table with these fields says, or the table is a misfit.
-abbrev pub Builds : Result Field Refusal → Trees → Type 0
+abbrev pub Builds : Result Field FieldFault → Trees → Type 0
 Builds (Ok f) xs = field_view f ≡ field_of xs
 Builds (Err e) xs = Refuses e (any is_misfit (table kinds.Field xs))
 
 -- These fields were built, or there is a misfit.
-abbrev pub BuildsAll : Result (Vec Field Global) Refusal → Fields → Bool → Type 0
+abbrev pub BuildsAll : Result (Vec Field Global) FieldFault → Fields → Bool → Type 0
 BuildsAll (Ok v) fields misfit = fields_view v.items ≡ fields
 BuildsAll (Err e) fields misfit = Refuses e misfit
 
 -- The type of a code was built, or it has another number of children.
-abbrev pub BuildsType : Result DataType Refusal → Option TypeCode → Trees → List Field → Type 0
+abbrev pub BuildsType : Result DataType FieldFault → Option TypeCode → Trees → List Field → Type 0
 BuildsType (Ok t) code xs children = type_view t ≡ record { tag = tag_by code xs; children = fields_view children }
 BuildsType (Err e) code xs children = Refuses e (not (children_fit code (length children)))
 
@@ -75,26 +76,30 @@ abbrev pub BuildsSchema : Result Fields MetaFault → ℕ → Trees → Type 0
 BuildsSchema (Ok s) body_len xs = (s ≡ schema_fields xs) × (schema_fault_of (schema_fields xs) ≡ None)
 BuildsSchema (Err e) body_len xs = Late e body_len xs
 
--- The header was built that the table with these fields says, by its code.
+-- The header was built that the table with these fields says, by its code. Of a batch the only fault is want of memory.
 abbrev pub BuildsHeader : Result Header MetaFault → ℕ → ℕ → Trees → Type 0
 BuildsHeader (Ok h) code body_len xs =
-    (header_view h ≡ header_by code xs) × (code ≡ 1 → schema_fault_of (schema_fields xs) ≡ None)
-BuildsHeader (Err e) code body_len xs = (e ≡ faults.Memory) ⊎ ((code ≡ 1) × Late e body_len xs)
+    (header_view h ≡ header_by code xs) × (code ≡ schema_code → schema_fault_of (schema_fields xs) ≡ None)
+BuildsHeader (Err e) code body_len xs =
+    ((e ≡ faults.Memory) × HasParts (batch_by code xs)) ⊎ ((code ≡ schema_code) × Late e body_len xs)
 
 -- The message was built that a Message table with these fields says.
 abbrev pub BuildsMessage : Result Message MetaFault → Trees → Type 0
 BuildsMessage (Ok m) xs =
-    (message_view m ≡ meaning_of xs) × (code_of xs ≡ 1 → schema_fault_of (schema_fields (parts (header_of xs))) ≡ None)
+    (message_view m ≡ meaning_of xs) × (code_of xs ≡ schema_code → schema_fault_of (schema_fields (parts (header_of xs))) ≡ None)
 BuildsMessage (Err e) xs =
-    (e ≡ faults.Memory) ⊎ ((code_of xs ≡ 1) × Late e (body_of xs) (parts (header_of xs)))
+    ((e ≡ faults.Memory) × HasParts (batch_parts xs)) ⊎
+    ((code_of xs ≡ schema_code) × Late e (body_of xs) (parts (header_of xs)))
 
--- How many nodes a tree has, and a row one more for each of its trees: what building goes through.
+-- What building goes through.
 abbrev mutual
+  -- how many nodes a tree has, and one more for each tree of its rows
   pub size : Tree → ℕ
   size (leaf x) = 1
   size (table kind xs) = size_all xs + 1
   size (tables xs) = size_all xs + 1
 
+  -- how many nodes a row has, with one more for each of its trees
   pub size_all : Trees → ℕ
   size_all none = 1
   size_all (more x xs) = size x + size_all xs + 1

@@ -1,5 +1,5 @@
 -- What makes a single table one that no message has, and whether a tree holds such a table.
-use Rattle.std.specs.Prelude.{ℕ, Bool, true, false, ◌||◌, ◌&&◌, not, Option, Some, None, ◌==◌}
+use Rattle.std.specs.Prelude.{ℕ, Bool, true, false, ◌||◌, ◌&&◌, not, Option, Some, None, is_some, ◌==◌}
 use Rattle.std.specs.Option.{is_none}
 use Rattle.arrow_types.specs.DataType.{bits_of, time_width_of}
 use Rattle.arrow_types.specs.Field.{width}
@@ -10,25 +10,27 @@ use Rattle.arrow_meta.specs.declared.codes.TypeCode.{TypeCode}
 use Rattle.arrow_meta.specs.declared.codes.TypeCode.TheVariants as codes
 use Rattle.arrow_meta.specs.declared.conditions.Test.{Test}
 use Rattle.arrow_meta.specs.declared.conditions.Test.TheVariants as tests
-use Rattle.arrow_meta.specs.Codes.{type_code, bit_width, date_unit, time_unit, has_type_table}
+use Rattle.arrow_meta.specs.Codes.{type_code, bit_width, date_unit, time_unit}
+use Rattle.arrow_meta.specs.Kinds.{type_table}
 use Rattle.arrow_meta.specs.Parts.{nth, number_at, is_table}
 use Rattle.arrow_meta.specs.SchemaMeaning.{fields_in}
 use Rattle.arrow_meta.specs.Trees.{Tree, leaf, table, tables, Trees, none, more}
 
--- whether the test holds of a table of the tree, at any depth
 abbrev mutual
+  -- whether the test holds of a table of the tree, at any depth
   pub any : (Kind → Trees → Bool) → Tree → Bool
   any test (leaf x) = false
   any test (table kind xs) = test kind xs || any_in test xs
   any test (tables xs) = any_in test xs
 
+  -- whether the test holds of a table of one of the trees, at any depth
   pub any_in : (Kind → Trees → Bool) → Trees → Bool
   any_in test none = false
   any_in test (more x xs) = any test x || any_in test xs
 
 -- Metadata: the table of an Int, a Date, a Time or a Timestamp, or the data of a dictionary batch, is absent.
 abbrev pub lacks_table : Kind → Trees → Bool
-lacks_table kinds.Field xs = has_type_table (type_code (number_at 2 0 xs)) && not (is_table (nth 3 xs))
+lacks_table kinds.Field xs = is_some (type_table (number_at 2 0 xs)) && not (is_table (nth 3 xs))
 lacks_table kinds.DictionaryBatch xs = not (is_table (nth 1 xs))
 lacks_table kind xs = false
 

@@ -3,6 +3,7 @@ pub mod Trees
 pub mod Lies
 pub mod Within
 pub mod Views
+pub mod Grows
 pub mod Reads
 pub mod Ranks
 pub mod Stored

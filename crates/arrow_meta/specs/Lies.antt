@@ -7,8 +7,8 @@ use Rattle.arrow_flatbuf.specs.Text.{text_at}
 use Rattle.arrow_flatbuf.specs.Vector.{vector_at}
 use Rattle.arrow_meta.specs.declared.kinds.Kind.{Kind}
 use Rattle.arrow_meta.specs.declared.kinds.Kind.TheVariants as kinds
-use Rattle.arrow_meta.specs.declared.kinds.Shape.{Shape}
-use Rattle.arrow_meta.specs.declared.kinds.Shape.TheVariants as shapes
+use Rattle.arrow_meta.specs.declared.kinds.FieldForm.{FieldForm}
+use Rattle.arrow_meta.specs.declared.kinds.FieldForm.TheVariants as forms
 use Rattle.arrow_meta.specs.Kinds.{Spot, spots_of}
 use Rattle.arrow_meta.specs.Trees.{Leaf, absent, number, text, pairs, present, Tree, leaf, table, tables, Trees, none, more}
 
@@ -21,7 +21,7 @@ pub data Layer : Type 0 where
 -- the n elements of a vector of offsets to tables, the first of them at p
 abbrev pub elements : Kind → ℕ → ℕ → List Spot
 elements kind p zero = []
-elements kind p (suc n) = record { shape = shapes.Table kind; place = Some p } ∷ elements kind (p + 4) n
+elements kind p (suc n) = record { form = forms.Table kind; place = Some p } ∷ elements kind (p + 4) n
 
 -- The struct of two 64-bit numbers at p (Message.fbs, "FieldNode" and "Buffer"). The numbers of a readable vector
 -- all lie inside, so the zeroes are never taken.
@@ -39,28 +39,28 @@ number_layer w bytes p = option_map (λ n. leaf_layer (number n)) (number_at w b
 
 -- What stands at the place of a field or an element, none where it is not readable. Numbers stand there
 -- themselves; texts, tables and vectors where the offset there leads.
-abbrev pub layer_at : List ℕ → Shape → ℕ → Option Layer
-layer_at bytes shapes.Byte p = number_layer 1 bytes p
-layer_at bytes shapes.Short p = number_layer 2 bytes p
-layer_at bytes shapes.Int p = number_layer 4 bytes p
-layer_at bytes shapes.Long p = number_layer 8 bytes p
-layer_at bytes shapes.Text p = option_map (λ t. leaf_layer (text t)) (behind text_at bytes p)
-layer_at bytes (shapes.Table kind) p =
+abbrev pub layer_at : List ℕ → FieldForm → ℕ → Option Layer
+layer_at bytes forms.Byte p = number_layer 1 bytes p
+layer_at bytes forms.Short p = number_layer 2 bytes p
+layer_at bytes forms.Int p = number_layer 4 bytes p
+layer_at bytes forms.Long p = number_layer 8 bytes p
+layer_at bytes forms.Text p = option_map (λ t. leaf_layer (text t)) (behind text_at bytes p)
+layer_at bytes (forms.Table kind) p =
     option_map (λ t. table_layer kind (spots_of kind t)) (behind table_at bytes p)
-layer_at bytes (shapes.Tables kind) p =
+layer_at bytes (forms.Tables kind) p =
     option_map (λ v. tables_layer (elements kind v.place v.count)) (behind (vector_at 4) bytes p)
-layer_at bytes shapes.Pairs p =
+layer_at bytes forms.Pairs p =
     option_map (λ v. leaf_layer (pairs (pairs_from bytes v.place v.count))) (behind (vector_at 16) bytes p)
-layer_at bytes shapes.Presence p = Some (leaf_layer present)
-layer_at bytes shapes.Header p = None
-layer_at bytes shapes.Type p = None
+layer_at bytes forms.Presence p = Some (leaf_layer present)
+layer_at bytes forms.Header p = None
+layer_at bytes forms.Type p = None
 
 -- What stands at a spot. An absent one holds nothing, and is readable.
 unfoldable pub layer : List ℕ → Spot → Option Layer
-layer bytes s = elim (s.place) [ None ↦ Some (leaf_layer absent) | Some p ↦ layer_at bytes s.shape p ]
+layer bytes s = elim (s.place) [ None ↦ Some (leaf_layer absent) | Some p ↦ layer_at bytes s.form p ]
 
--- A tree stands at a spot where its own layer stands there, and the trees that belong to it at theirs.
 abbrev mutual
+  -- A tree stands at a spot where its own layer stands there, and the trees that belong to it at theirs.
   pub Stands : List ℕ → Spot → Tree → Type 0
   Stands bytes s (leaf x) = layer bytes s ≡ Some (leaf_layer x)
   Stands bytes s (table kind xs) =
@@ -68,6 +68,7 @@ abbrev mutual
   Stands bytes s (tables xs) =
       (below : List Spot) × (layer bytes s ≡ Some (tables_layer below)) × AllStand bytes below xs
 
+  -- Trees stand at spots one by one: as many as there are, each at its own.
   pub AllStand : List ℕ → List Spot → Trees → Type 0
   AllStand bytes [] none = Unit {0}
   AllStand bytes (s ∷ ss) none = ⊥

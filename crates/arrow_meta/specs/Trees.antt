@@ -11,12 +11,14 @@ pub data Leaf : Type 0 where
   present : Leaf
 
 mutual
-  -- A table has one tree for each of its fields that are looked at, in order of their numbers.
+  -- What stands at a place: a field that holds no table, a table with one tree for each of its fields that are looked
+  -- at, in order of their numbers, or the tables of a vector.
   pub data Tree : Type 0 where
     leaf : Leaf → Tree
     table : Kind → Trees → Tree
     tables : Trees → Tree
 
+  -- a row of trees: the fields of one table, or the tables of one vector
   pub data Trees : Type 0 where
     none : Trees
     more : Tree → Trees → Trees

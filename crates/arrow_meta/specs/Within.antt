@@ -9,39 +9,43 @@ abbrev pub visit : Kind → ℕ
 visit kinds.Field = 1
 visit kind = 0
 
+-- how many bytes a text in a field has, 0 for anything else
 abbrev pub text_length : Leaf → ℕ
 text_length (text s) = length s
 text_length x = 0
 
--- How many Field tables a tree has. One that several offsets lead to counts each time.
 abbrev mutual
+  -- How many Field tables a tree has. One that several offsets lead to counts each time.
   pub visits : Tree → ℕ
   visits (leaf x) = 0
   visits (table kind xs) = visit kind + visits_all xs
   visits (tables xs) = visits_all xs
 
+  -- the Field tables of a row, together
   pub visits_all : Trees → ℕ
   visits_all none = 0
   visits_all (more x xs) = visits x + visits_all xs
 
--- How many Field tables stand below one another. A column is level 1.
 abbrev mutual
+  -- How many Field tables stand below one another. A column is level 1.
   pub levels : Tree → ℕ
   levels (leaf x) = 0
   levels (table kind xs) = visit kind + levels_all xs
   levels (tables xs) = levels_all xs
 
+  -- the levels of the deepest tree of a row
   pub levels_all : Trees → ℕ
   levels_all none = 0
   levels_all (more x xs) = max (levels x) (levels_all xs)
 
--- How many bytes its names and time zones have. One that several offsets lead to counts each time.
 abbrev mutual
+  -- How many bytes a tree's names and time zones have. One that several offsets lead to counts each time.
   pub text_bytes : Tree → ℕ
   text_bytes (leaf x) = text_length x
   text_bytes (table kind xs) = text_bytes_all xs
   text_bytes (tables xs) = text_bytes_all xs
 
+  -- the bytes of names and time zones of a row, together
   pub text_bytes_all : Trees → ℕ
   text_bytes_all none = 0
   text_bytes_all (more x xs) = text_bytes x + text_bytes_all xs

@@ -1,15 +1,16 @@
 //! Messages, built of the fields of their tables.
-ghost use Rattle.std.specs.Prelude.{◌≡◌, IfOk, map};
+ghost use Rattle.std.specs.Prelude.{◌≡◌, ◌<◌, IfOk, IfErr, length, map};
 ghost use Rattle.std.specs.Int.{cast_signed, w64};
 ghost use Rattle.arrow_meta.specs.Builds.{BuildsSchema, BuildsHeader, BuildsMessage, meta_fault};
-ghost use Rattle.arrow_meta.specs.Faults.{version_of};
+ghost use Rattle.arrow_meta.specs.Faults.{HasParts, version_of};
 ghost use Rattle.arrow_meta.specs.Means.{batch_of, batch_view, dictionary, header_view, node_of};
 ghost use Rattle.arrow_meta.specs.Means.{buffer_of};
 ghost use Rattle.arrow_meta.specs.Parts.{nth, number_at, flag_at, parts as parts_of};
 ghost use Rattle.arrow_meta.specs.Views.{plain_all};
 
+use crate::codes::{DICTIONARY_BATCH, SCHEMA};
 use crate::fault::MetaFault;
-use crate::fields::{Refusal, fields};
+use crate::fields::{FieldFault, fields};
 use crate::message::{Header, Message, RecordBatch};
 use crate::message_tree::Tree;
 use crate::parts::{flag_at, into_pairs, into_parts, number_at, take};
@@ -17,10 +18,10 @@ use arrow_types::{Buffer, FieldNode, Schema, SchemaFault};
 use std::alloc::{AllocError, Global};
 
 /// The version that is read: V5 (`Schema.fbs`, enum `MetadataVersion`).
-pub const V5: i16 = 4;
+pub(crate) const V5: i16 = 4;
 
 /// The message that a Message table with these fields says.
-pub fn message(alloc: Global, parts: Vec<Tree>) -> Result<Message, MetaFault>
+pub(crate) fn message(alloc: Global, parts: Vec<Tree>) -> Result<Message, MetaFault>
     requires v5 { version_of (plain_all parts.items) ≡ 4 }
     ensures built { BuildsMessage result (plain_all parts.items) }
 {
@@ -42,12 +43,12 @@ pub fn message(alloc: Global, parts: Vec<Tree>) -> Result<Message, MetaFault>
 fn header(alloc: Global, code: u64, parts: Vec<Tree>, body_len: u64) -> Result<Header, MetaFault>
     ensures built { BuildsHeader result code body_len (plain_all parts.items) }
 {
-    if code == 1 {
+    if code == SCHEMA {
         match schema(alloc, parts, body_len) {
             Ok(schema) => Ok(Header::Schema(schema)),
             Err(fault) => Err(fault),
         }
-    } else if code == 2 {
+    } else if code == DICTIONARY_BATCH {
         match dictionary(alloc, parts) {
             Ok(header) => Ok(header),
             Err(_) => Err(MetaFault::Memory),
@@ -71,8 +72,8 @@ fn schema(alloc: Global, parts: Vec<Tree>, body_len: u64) -> Result<Schema, Meta
             Ok(schema) => Ok(schema),
             Err(fault) => Err(meta_fault(body_len, fault)),
         },
-        Err(Refusal::Misfit) => Err(MetaFault::Schema { body_len }),
-        Err(Refusal::Memory) => Err(MetaFault::Memory),
+        Err(FieldFault::Misfit) => Err(MetaFault::Schema { body_len }),
+        Err(FieldFault::Memory) => Err(MetaFault::Memory),
     }
 }
 
@@ -94,6 +95,7 @@ fn dictionary(alloc: Global, parts: Vec<Tree>) -> Result<Header, AllocError>
     ensures built { let xs = plain_all parts.items in IfOk result (λ h. header_view h
         ≡ dictionary (cast_signed w64 (number_at 0 0 xs)) (flag_at 2 xs)
         (batch_of (parts_of (nth 1 xs)))) }
+    ensures some { IfErr result (λ _. HasParts (parts_of (nth 1 (plain_all parts.items)))) }
 {
     let mut parts = parts;
     let id = number_at(&parts, 0, 0).cast_signed();
@@ -105,6 +107,7 @@ fn dictionary(alloc: Global, parts: Vec<Tree>) -> Result<Header, AllocError>
 /// The record batch that a RecordBatch table with these fields says.
 fn batch(alloc: Global, parts: Vec<Tree>) -> Result<RecordBatch, AllocError>
     ensures built { IfOk result (λ b. batch_view b ≡ batch_of (plain_all parts.items)) }
+    ensures some { IfErr result (λ _. HasParts (plain_all parts.items)) }
 {
     let mut parts = parts;
     let length = number_at(&parts, 0, 0).cast_signed();
@@ -120,6 +123,7 @@ fn batch(alloc: Global, parts: Vec<Tree>) -> Result<RecordBatch, AllocError>
 /// The field nodes of these pairs of numbers.
 fn nodes(alloc: Global, pairs: &[(u64, u64)]) -> Result<Vec<FieldNode>, AllocError>
     ensures nodes { IfOk result (λ v. v.items ≡ map node_of pairs.now) }
+    ensures some { IfErr result (λ _. 0 < length pairs.now) }
 {
     let mut nodes = Vec::new(alloc);
     for pair in pairs {
@@ -134,6 +138,7 @@ fn nodes(alloc: Global, pairs: &[(u64, u64)]) -> Result<Vec<FieldNode>, AllocErr
 /// The buffers of these pairs of numbers.
 fn buffers(alloc: Global, pairs: &[(u64, u64)]) -> Result<Vec<Buffer>, AllocError>
     ensures buffers { IfOk result (λ v. v.items ≡ map buffer_of pairs.now) }
+    ensures some { IfErr result (λ _. 0 < length pairs.now) }
 {
     let mut buffers = Vec::new(alloc);
     for pair in pairs {

@@ -6,15 +6,15 @@ ghost use Rattle.arrow_meta.specs.SchemaMeaning.{fields_in, fields_from, is_fiel
 ghost use Rattle.arrow_meta.specs.Views.{plain, plain_all};
 ghost use Rattle.arrow_types.specs.Field.{width};
 
-use crate::codes::{TypeCode, bit_width, date_unit, has_type_table, time_unit, type_code};
-use crate::kinds::Kind;
+use crate::codes::{TypeCode, bit_width, date_unit, time_unit, type_code};
+use crate::kinds::{Kind, type_table};
 use crate::message_tree::Tree;
 use crate::parts::{has_table, number_at, part};
 use arrow_types::TimeUnit;
 
 /// What makes a table one that no message has.
 #[derive(Clone, Copy, Debug)]
-pub enum Test {
+pub(crate) enum Test {
     /// A table that its code opens, or a dictionary's data, is absent.
     LacksTable,
     /// It holds something outside the profile.
@@ -25,7 +25,7 @@ pub enum Test {
 
 /// Whether the test holds of a table of the tree, at any depth.
 #[cycle(scan)]
-pub fn any(test: Test, tree: &Tree) -> bool
+pub(crate) fn any(test: Test, tree: &Tree) -> bool
     ensures found { result ≡ any (finds test) (plain tree.now) }
 {
     match tree {
@@ -37,7 +37,7 @@ pub fn any(test: Test, tree: &Tree) -> bool
 
 /// Whether the test holds of a table of one of the trees, at any depth.
 #[cycle(scan)]
-pub fn any_in(test: Test, trees: &[Tree]) -> bool
+pub(crate) fn any_in(test: Test, trees: &[Tree]) -> bool
     ensures found { result ≡ any_in (finds test) (plain_all trees.now) }
 {
     for tree in trees {
@@ -54,7 +54,7 @@ fn finds(test: Test, kind: Kind, parts: &[Tree]) -> bool
 {
     match (test, kind) {
         (Test::LacksTable, Kind::Field) => {
-            has_type_table(type_code(number_at(parts, 2, 0))) && !has_table(parts, 3)
+            type_table(number_at(parts, 2, 0)).is_some() && !has_table(parts, 3)
         }
         (Test::LacksTable, Kind::DictionaryBatch) => !has_table(parts, 1),
         (Test::Unsupported, Kind::Schema) => number_at(parts, 0, 0) != 0,

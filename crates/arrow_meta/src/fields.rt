@@ -24,7 +24,7 @@ use std::alloc::{AllocError, Global};
 
 /// Why there are no fields.
 #[derive(Clone, Copy, Debug)]
-pub enum Refusal {
+pub(crate) enum FieldFault {
     /// A type has another number of children.
     Misfit,
     /// A growth was refused.
@@ -33,7 +33,7 @@ pub enum Refusal {
 
 /// The fields of a vector of Field tables, none of anything else.
 #[cycle(fields)]
-pub fn fields(alloc: Global, tree: Tree) -> Result<Vec<Field>, Refusal>
+pub(crate) fn fields(alloc: Global, tree: Tree) -> Result<Vec<Field>, FieldFault>
     ensures built { BuildsAll result (fields_in (plain tree)) (any is_misfit (plain tree)) }
 {
     match tree {
@@ -45,7 +45,7 @@ pub fn fields(alloc: Global, tree: Tree) -> Result<Vec<Field>, Refusal>
 
 /// The fields of those of the tables that are Field tables.
 #[cycle(fields)]
-fn fields_of(alloc: Global, tables: Vec<Tree>) -> Result<Vec<Field>, Refusal>
+fn fields_of(alloc: Global, tables: Vec<Tree>) -> Result<Vec<Field>, FieldFault>
     ensures built { BuildsAll result (fields_from (plain_all tables.items))
         (any_in is_misfit (plain_all tables.items)) }
 {
@@ -54,11 +54,11 @@ fn fields_of(alloc: Global, tables: Vec<Tree>) -> Result<Vec<Field>, Refusal>
         if let Some(parts) = into_field_parts(table) {
             let field = match field(alloc, parts) {
                 Ok(field) => field,
-                Err(refusal) => return Err(refusal),
+                Err(fault) => return Err(fault),
             };
             match add(&mut fields, field) {
                 Ok(()) => (),
-                Err(_) => return Err(Refusal::Memory),
+                Err(_) => return Err(FieldFault::Memory),
             }
         }
     }
@@ -67,7 +67,7 @@ fn fields_of(alloc: Global, tables: Vec<Tree>) -> Result<Vec<Field>, Refusal>
 
 /// The field of a Field table with these fields.
 #[cycle(fields)]
-fn field(alloc: Global, parts: Vec<Tree>) -> Result<Field, Refusal>
+fn field(alloc: Global, parts: Vec<Tree>) -> Result<Field, FieldFault>
     ensures built { Builds result (plain_all parts.items) }
 {
     let nullable = flag_at(&parts, 1);
@@ -76,12 +76,12 @@ fn field(alloc: Global, parts: Vec<Tree>) -> Result<Field, Refusal>
     let moved = move_out(parts);
     let children = match fields(alloc, moved.children) {
         Ok(children) => children,
-        Err(refusal) => return Err(refusal),
+        Err(fault) => return Err(fault),
     };
     let table = into_parts(alloc, moved.table);
     let data_type = match data_type(alloc, code, table, children) {
         Ok(data_type) => data_type,
-        Err(refusal) => return Err(refusal),
+        Err(fault) => return Err(fault),
     };
     Ok(joined(
         into_text(alloc, moved.name),
@@ -153,7 +153,7 @@ fn data_type(
     code: Option<TypeCode>,
     parts: Vec<Tree>,
     children: Vec<Field>,
-) -> Result<DataType, Refusal>
+) -> Result<DataType, FieldFault>
     ensures built { BuildsType result code (plain_all parts.items) children.items }
 {
     match code {
@@ -173,31 +173,31 @@ fn data_type(
 
 /// The type, if there are no children.
 #[tactic(auto, using(crate::proofs::TableFields::no_fields))]
-fn childless(data_type: DataType, children: Vec<Field>) -> Result<DataType, Refusal>
+fn childless(data_type: DataType, children: Vec<Field>) -> Result<DataType, FieldFault>
     ensures alone { MatchResult result
         (λ t. (t ≡ data_type) × (fields_view children.items ≡ empty))
-        (λ e. (e ≡ Refusal.Misfit) × ((length children.items == 0) ≡ false)) }
+        (λ e. (e ≡ FieldFault.Misfit) × ((length children.items == 0) ≡ false)) }
 {
     if children.is_empty() {
         Ok(data_type)
     } else {
-        Err(Refusal::Misfit)
+        Err(FieldFault::Misfit)
     }
 }
 
 /// A list of the one child.
-fn list_type(alloc: Global, children: Vec<Field>) -> Result<DataType, Refusal>
+fn list_type(alloc: Global, children: Vec<Field>) -> Result<DataType, FieldFault>
     ensures built { BuildsType result (Some TypeCode.List) none children.items }
 {
     let mut children = children;
     if children.len() != 1 {
-        return Err(Refusal::Misfit);
+        return Err(FieldFault::Misfit);
     }
     match children.pop() {
-        None => Err(Refusal::Misfit),
+        None => Err(FieldFault::Misfit),
         Some(item) => match boxed(alloc, item) {
             Ok(list) => Ok(list),
-            Err(_) => Err(Refusal::Memory),
+            Err(_) => Err(FieldFault::Memory),
         },
     }
 }

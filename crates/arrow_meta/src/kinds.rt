@@ -1,10 +1,12 @@
 //! Which tables there are, and which of their fields are looked at (`Message.fbs`, `Schema.fbs`).
 ghost use Rattle.std.specs.Prelude.{◌≡◌, ◌≤◌, length};
-ghost use Rattle.arrow_meta.specs.Kinds.{shapes_of, header_table, type_table};
+ghost use Rattle.arrow_meta.specs.Kinds.{forms_of, header_table, type_table};
+
+use crate::codes::{DICTIONARY_BATCH, RECORD_BATCH, SCHEMA, TypeCode, type_code};
 
 /// A table of the standard's `Message.fbs` or `Schema.fbs`, under its name there.
 #[derive(Clone, Copy, Debug, PartialEq, Eq)]
-pub enum Kind {
+pub(crate) enum Kind {
     Message,
     Schema,
     Field,
@@ -19,7 +21,7 @@ pub enum Kind {
 
 /// What a field of a table holds.
 #[derive(Clone, Copy, Debug)]
-pub enum Shape {
+pub(crate) enum FieldForm {
     /// A number of one byte.
     Byte,
     /// A number of two bytes.
@@ -45,57 +47,71 @@ pub enum Shape {
 }
 
 /// The fields of a table that are looked at, in order of their numbers from 0.
-pub fn shapes(kind: Kind) -> &'static [Shape]
-    ensures value { result.now ≡ shapes_of kind }
+pub(crate) fn forms(kind: Kind) -> &'static [FieldForm]
+    ensures value { result.now ≡ forms_of kind }
     ensures few { length result.now ≤ 6 }
 {
     match kind {
-        Kind::Message => &[Shape::Short, Shape::Byte, Shape::Header, Shape::Long],
-        Kind::Schema => &[Shape::Short, Shape::Tables(Kind::Field)],
+        Kind::Message => &[
+            FieldForm::Short,
+            FieldForm::Byte,
+            FieldForm::Header,
+            FieldForm::Long,
+        ],
+        Kind::Schema => &[FieldForm::Short, FieldForm::Tables(Kind::Field)],
         Kind::Field => &[
-            Shape::Text,
-            Shape::Byte,
-            Shape::Byte,
-            Shape::Type,
-            Shape::Table(Kind::DictionaryEncoding),
-            Shape::Tables(Kind::Field),
+            FieldForm::Text,
+            FieldForm::Byte,
+            FieldForm::Byte,
+            FieldForm::Type,
+            FieldForm::Table(Kind::DictionaryEncoding),
+            FieldForm::Tables(Kind::Field),
         ],
         Kind::DictionaryEncoding => &[
-            Shape::Long,
-            Shape::Table(Kind::Int),
-            Shape::Byte,
-            Shape::Short,
+            FieldForm::Long,
+            FieldForm::Table(Kind::Int),
+            FieldForm::Byte,
+            FieldForm::Short,
         ],
-        Kind::RecordBatch => &[Shape::Long, Shape::Pairs, Shape::Pairs, Shape::Presence],
-        Kind::DictionaryBatch => &[Shape::Long, Shape::Table(Kind::RecordBatch), Shape::Byte],
-        Kind::Int => &[Shape::Int, Shape::Byte],
-        Kind::Date => &[Shape::Short],
-        Kind::Time => &[Shape::Short, Shape::Int],
-        Kind::Timestamp => &[Shape::Short, Shape::Text],
+        Kind::RecordBatch => &[
+            FieldForm::Long,
+            FieldForm::Pairs,
+            FieldForm::Pairs,
+            FieldForm::Presence,
+        ],
+        Kind::DictionaryBatch => &[
+            FieldForm::Long,
+            FieldForm::Table(Kind::RecordBatch),
+            FieldForm::Byte,
+        ],
+        Kind::Int => &[FieldForm::Int, FieldForm::Byte],
+        Kind::Date => &[FieldForm::Short],
+        Kind::Time => &[FieldForm::Short, FieldForm::Int],
+        Kind::Timestamp => &[FieldForm::Short, FieldForm::Text],
     }
 }
 
 /// The table that a header's code opens. Of any other code not even the offset is looked at.
-pub fn header_table(code: u64) -> Option<Kind>
+pub(crate) fn header_table(code: u64) -> Option<Kind>
     ensures table { result ≡ header_table code }
 {
     match code {
-        1 => Some(Kind::Schema),
-        2 => Some(Kind::DictionaryBatch),
-        3 => Some(Kind::RecordBatch),
+        SCHEMA => Some(Kind::Schema),
+        DICTIONARY_BATCH => Some(Kind::DictionaryBatch),
+        RECORD_BATCH => Some(Kind::RecordBatch),
         _ => None,
     }
 }
 
 /// The table that a type's code opens. Of any other code not even the offset is looked at.
-pub fn type_table(code: u64) -> Option<Kind>
+pub(crate) fn type_table(code: u64) -> Option<Kind>
     ensures table { result ≡ type_table code }
 {
-    match code {
-        2 => Some(Kind::Int),
-        8 => Some(Kind::Date),
-        9 => Some(Kind::Time),
-        10 => Some(Kind::Timestamp),
+    match type_code(code) {
+        Some(TypeCode::Int) => Some(Kind::Int),
+        Some(TypeCode::Date) => Some(Kind::Date),
+        Some(TypeCode::Time) => Some(Kind::Time),
+        Some(TypeCode::Timestamp) => Some(Kind::Timestamp),
         _ => None,
     }
 }

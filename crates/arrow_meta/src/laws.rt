@@ -10,7 +10,8 @@ ghost use Rattle.arrow_meta.specs.Means.{PlainMessage, Means};
 ghost use Rattle.arrow_meta.specs.Trees.{Tree};
 ghost use Rattle.arrow_types.specs.Limits.{LimitNumbers};
 
-/// Two trees of one kind at one place of the same bytes are equal, and so are two messages that one tree means.
+/// Two trees of one kind at one place of the same bytes are equal, and so are two messages that one
+/// tree means.
 pub fn one_meaning()
     ensures tree { (kind : Kind) (bytes : List ℕ) (p : ℕ) (x y : Tree)
         → Lies kind x bytes p → Lies kind y bytes p → x ≡ y }

@@ -1,31 +1,33 @@
-//! The metadata of Arrow messages: from a stranger's bytes to a schema, a dictionary batch or a record
-//! batch, or to the least fault.
+//! The metadata of Arrow messages: from a stranger's bytes to a schema, a dictionary batch or a
+//! record batch, or to the least fault.
 //!
 //! The layer takes the bytes of one metadata and the limits of `arrow_types`, and stands on
 //! `arrow_flatbuf` for what is readable at a place. It works in two steps, which can be called by
 //! themselves:
 //!
 //! - [`tree`] reads what is looked at into a [`MessageTree`], within the limits.
-//! - [`judge`] answers the [`Message`] that the tree means, or the [`MetaFault`] with the least number
-//!   of those that hold.
+//! - [`judge`] answers the [`Message`] that the tree means, or the [`MetaFault`] with the least
+//!   number of those that hold.
 //!
-//! [`decode`] is one after the other. Each answer is pinned in both directions: a fault comes exactly
-//! where its condition holds and no condition of a lower number does, and a message exactly where none
-//! holds. Only `Memory`, a refused growth, is open.
+//! [`decode`] is one after the other. Each answer is pinned in both directions: a fault comes
+//! exactly where its condition holds and no condition of a lower number does, and a message exactly
+//! where none holds. Of `Memory`, a refused growth, only this is said: reading asks for memory
+//! there, and of a tree none of the other faults holds but unequal types of one dictionary id.
 //!
 //! | Notion | Definition |
 //! |---|---|
-//! | tables, their fields, what a code opens | `specs/Kinds.antt`: `shapes_of`, `header_table`, `type_table` |
+//! | tables, their fields, what a code opens | `specs/Kinds.antt`: `forms_of`, `header_table`, `type_table` |
 //! | the tree that lies at a place | `specs/Lies.antt`: `Lies`, `LiesAtRoot` |
 //! | levels, visits, bytes of names | `specs/Within.antt`: `IsWithin` |
+//! | where reading asks for memory | `specs/Grows.antt`: `Grows`, `GrowsAtRoot` |
 //! | the conditions of the faults | `specs/Conditions.antt`, `specs/Faults.antt`: `conditions`, `fault_of` |
 //! | the message that a tree means | `specs/SchemaMeaning.antt`, `specs/Means.antt`: `Means` |
 //! | what is answered | `specs/Judges.antt`: `Judges`, `Decodes` |
 //!
-//! However offsets share tables and texts, the work is bounded: each visit of a Field table is counted
-//! in one function before the table is read, and the bytes of each name or zone in one before they are
-//! copied. Recursion goes no deeper than the levels of fields, and room for the elements of a vector is
-//! made as they are read, after all were found to lie inside.
+//! However offsets share tables and texts, the work is bounded: each visit of a Field table is
+//! counted in one function before the table is read, and the bytes of each name or zone in one
+//! before they are copied. Recursion goes no deeper than the levels of fields, and room for the
+//! elements of a vector is made as they are read, after all were found to lie inside.
 #![tactic(auto)]
 
 mod build;

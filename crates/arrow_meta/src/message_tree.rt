@@ -4,7 +4,7 @@ use std::marker::Model;
 
 /// What stands in a field that holds no table.
 #[derive(Debug, Drop)]
-pub enum Leaf {
+pub(crate) enum Leaf {
     /// The field is absent, or its table is one that no code opens.
     Absent,
     /// A number of one to eight bytes, not signed.
@@ -19,7 +19,7 @@ pub enum Leaf {
 
 /// What stands at a place, with all that belongs to it.
 #[derive(Debug, Drop)]
-pub enum Tree {
+pub(crate) enum Tree {
     /// A field that holds no table.
     Leaf(Leaf),
     /// A table, with a tree for each of its fields that are looked at, in order of their numbers.
@@ -28,10 +28,11 @@ pub enum Tree {
     Tables(Vec<Tree>),
 }
 
-/// The tree of a message, which has at most 32 levels of fields and 65,536 fields, each visit counted.
+/// The tree of a message, which has at most 32 levels of fields and 65,536 fields, each visit
+/// counted.
 ///
-/// [`crate::tree`] reads one from the bytes of a metadata, and [`crate::judge`] says what it means. A
-/// clause sees the plain tree.
+/// [`crate::tree`] reads one from the bytes of a metadata, and [`crate::judge`] says what it means.
+/// A clause sees the plain tree.
 #[derive(Debug, Drop)]
 pub struct MessageTree {
     pub(crate) root: Tree,

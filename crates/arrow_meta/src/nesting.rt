@@ -1,7 +1,7 @@
 //! Whether a dictionary field stands below a dictionary field.
 //!
-//! It is looked for in the tree, before any field is built: this fault comes before those that stop the
-//! building.
+//! It is looked for in the tree, before any field is built: this fault comes before those that stop
+//! the building.
 ghost use Rattle.std.specs.Prelude.{◌≡◌, is_some};
 ghost use Rattle.arrow_meta.specs.Parts.{nth};
 ghost use Rattle.arrow_meta.specs.SchemaMeaning.{encoding_in, fields_in, fields_from, fields_at};
@@ -16,7 +16,7 @@ use crate::parts::has_table;
 
 /// Whether a dictionary field stands below a dictionary field in the vector of fields.
 #[cycle(nesting)]
-pub fn is_nested(fields: &Tree) -> bool
+pub(crate) fn is_nested(fields: &Tree) -> bool
     ensures nested { result ≡ is_nested (fields_in (plain fields.now)) }
 {
     match fields {

@@ -2,19 +2,20 @@
 ghost use Rattle.std.specs.Prelude.{◌≡◌, ◌<◌, ◌≤◌, ◌+◌, ◌⊎◌, ℕ, Some};
 ghost use Rattle.std.specs.Prelude.{MatchResult, IfOk, IfErr};
 ghost use Rattle.arrow_flatbuf.specs.Table.{field_place};
+ghost use Rattle.arrow_meta.specs.Grows.{GrowsAtRoot};
 ghost use Rattle.arrow_meta.specs.Kinds.{Spot, code_at, spot, spots_of, opened};
 ghost use Rattle.arrow_meta.specs.Views.{plain, plain_all};
 ghost use Rattle.arrow_meta.specs.Lies.{LiesAtRoot, elements, layer, table_layer};
 ghost use Rattle.arrow_meta.specs.Lies.{number_layer, layer_at, pairs_from};
 ghost use Rattle.arrow_meta.specs.Trees.{Tree as PlainTree};
 ghost use Rattle.arrow_meta.specs.Within.{IsWithin, visit};
-ghost use Rattle.arrow_meta.specs.declared.kinds.Shape.{Shape as FieldShape};
-ghost use Rattle.arrow_meta.specs.declared.kinds.Shape.TheVariants as shape;
+ghost use Rattle.arrow_meta.specs.declared.kinds.FieldForm.{FieldForm as Form};
+ghost use Rattle.arrow_meta.specs.declared.kinds.FieldForm.TheVariants as forms;
 ghost use Rattle.arrow_meta.specs.Reads.{ReadsTree, ReadsRow, room, Faulty};
 
 use crate::fault::MetaFault;
 use crate::kinds;
-use crate::kinds::{Kind, Shape};
+use crate::kinds::{FieldForm, Kind};
 use crate::message_tree::{Leaf, MessageTree, Tree};
 use arrow_flatbuf::{Root, Table, Vector};
 use arrow_types::Limits;
@@ -29,14 +30,16 @@ const MAX_VISITS: u64 = 65_536;
 /// The tree of the message whose metadata the bytes are (Columnar Format, "Encapsulated message
 /// format"): the one that lies at the root, if it keeps to the limits.
 ///
-/// `Metadata` where something that is looked at is not readable, or where there are more than 32 levels
-/// of fields, more than 65,536 fields, or names and zones of more than `max_metadata` bytes together,
-/// each visit counted. `Memory` where a growth was refused. How long the bytes may be is for the
-/// caller to say.
+/// `Metadata` where something that is looked at is not readable, or where there are more than 32
+/// levels of fields, more than 65,536 fields, or names and zones of more than `max_metadata` bytes
+/// together, each visit counted. `Memory` where a growth was refused, so only where the root's
+/// table is readable with its first field, since no memory is asked for before. How long the bytes
+/// may be is for the caller to say.
 pub fn tree(alloc: Global, bytes: &[u8], limits: &Limits) -> Result<MessageTree, MetaFault>
     ensures found { IfOk result (λ t. LiesAtRoot t bytes.now × IsWithin limits.now.max_metadata t) }
     ensures none { IfErr result (λ e. Faulty e
-        ((x : PlainTree) → LiesAtRoot x bytes.now → ¬ (IsWithin limits.now.max_metadata x))) }
+        ((x : PlainTree) → LiesAtRoot x bytes.now → ¬ (IsWithin limits.now.max_metadata x))
+        (GrowsAtRoot bytes.now limits.now.max_metadata)) }
 {
     let mut reader = Reader {
         alloc,
@@ -52,8 +55,8 @@ pub fn tree(alloc: Global, bytes: &[u8], limits: &Limits) -> Result<MessageTree,
     }
 }
 
-/// Reads trees, and counts what it may still read. However the bytes share their tables and texts, no
-/// more is read than was counted.
+/// Reads trees, and counts what it may still read. However the bytes share their tables and texts,
+/// no more is read than was counted.
 #[derive(Drop)]
 struct Reader {
     alloc: Global,
@@ -64,8 +67,8 @@ struct Reader {
 }
 
 impl Reader {
-    /// Pays for a table, and answers how many levels may stand below it. Field tables are opened only
-    /// behind this call.
+    /// Pays for a table, and answers how many levels may stand below it. Field tables are opened
+    /// only behind this call.
     fn enter(&mut self, kind: Kind, levels: u64) -> Result<u64, MetaFault>
         ensures paid { MatchResult result
             (λ below. (below + visit kind ≡ levels)
@@ -104,10 +107,10 @@ impl Reader {
         ensures read { ReadsRow (λ v. plain_all v.items) result table.now.bytes
             (spots_of kind table.now) levels (room self.old) (room self.new) }
     {
-        let shapes = kinds::shapes(kind);
+        let forms = kinds::forms(kind);
         let mut trees = Vec::new(self.alloc);
-        for field in 0..shapes.len() as u16 {
-            let tree = self.field(table, field, shapes[field as usize], levels)?;
+        for field in 0..forms.len() as u16 {
+            let tree = self.field(table, field, forms[field as usize], levels)?;
             match trees.push(tree) {
                 Err(_) => return Err(MetaFault::Memory),
                 Ok(()) => {}
@@ -116,33 +119,33 @@ impl Reader {
         Ok(trees)
     }
 
-    /// Reads what stands in a field of this shape.
+    /// Reads what stands in a field of this form.
     #[cycle(trees)]
     fn field(
         &mut self,
         table: &Table,
         field: u16,
-        shape: Shape,
+        form: FieldForm,
         levels: u64,
     ) -> Result<Tree, MetaFault>
-        ensures read { ReadsTree plain result table.now.bytes (spot shape table.now field)
+        ensures read { ReadsTree plain result table.now.bytes (spot form table.now field)
             levels (room self.old) (room self.new) }
     {
-        match shape {
-            Shape::Byte => self.number(table, field, 1),
-            Shape::Short => self.number(table, field, 2),
-            Shape::Int => self.number(table, field, 4),
-            Shape::Long => self.number(table, field, 8),
-            Shape::Text => self.text(table, field),
-            Shape::Pairs => self.pairs(table, field),
-            Shape::Presence => self.presence(table, field),
-            Shape::Table(kind) => self.child(Some(kind), table, field, levels),
-            Shape::Tables(kind) => self.children(kind, table, field, levels),
-            Shape::Header => {
+        match form {
+            FieldForm::Byte => self.number(table, field, 1),
+            FieldForm::Short => self.number(table, field, 2),
+            FieldForm::Int => self.number(table, field, 4),
+            FieldForm::Long => self.number(table, field, 8),
+            FieldForm::Text => self.text(table, field),
+            FieldForm::Pairs => self.pairs(table, field),
+            FieldForm::Presence => self.presence(table, field),
+            FieldForm::Table(kind) => self.child(Some(kind), table, field, levels),
+            FieldForm::Tables(kind) => self.children(kind, table, field, levels),
+            FieldForm::Header => {
                 let kind = kinds::header_table(code_at(table, field.saturating_sub(1)));
                 self.child(kind, table, field, levels)
             }
-            Shape::Type => {
+            FieldForm::Type => {
                 let kind = kinds::type_table(code_at(table, field.saturating_sub(1)));
                 self.child(kind, table, field, levels)
             }
@@ -183,7 +186,7 @@ impl Reader {
         levels: u64,
     ) -> Result<Tree, MetaFault>
         ensures read { ReadsTree plain result table.now.bytes
-            (record { shape = shape.Tables kind; place = field_place table.now field })
+            (record { form = forms.Tables kind; place = field_place table.now field })
             levels (room self.old) (room self.new) }
     {
         match table.vector(field, 4) {
@@ -220,10 +223,10 @@ impl Reader {
     fn number(&mut self, table: &Table, field: u16, width: usize) -> Result<Tree, MetaFault>
         requires low { 1 ≤ width }
         requires high { width ≤ 8 }
-        ensures read { (form : FieldShape) (most : ℕ)
+        ensures read { (form : Form) (most : ℕ)
             → ((p : ℕ) → layer_at table.now.bytes form p ≡ number_layer width table.now.bytes p)
             → ReadsTree plain result table.now.bytes
-            (record { shape = form; place = field_place table.now field })
+            (record { form = form; place = field_place table.now field })
             most (room self.old) (room self.new) }
     {
         match table.scalar(field, width) {
@@ -237,7 +240,7 @@ impl Reader {
     #[tactic(auto, unfolding(crate::specs::Lies::layer))]
     fn text(&mut self, table: &Table, field: u16) -> Result<Tree, MetaFault>
         ensures read { (most : ℕ) → ReadsTree plain result table.now.bytes
-            (record { shape = shape.Text; place = field_place table.now field })
+            (record { form = forms.Text; place = field_place table.now field })
             most (room self.old) (room self.new) }
     {
         match table.text(field) {
@@ -263,7 +266,7 @@ impl Reader {
     #[tactic(auto, unfolding(crate::specs::Lies::layer))]
     fn pairs(&mut self, table: &Table, field: u16) -> Result<Tree, MetaFault>
         ensures read { (most : ℕ) → ReadsTree plain result table.now.bytes
-            (record { shape = shape.Pairs; place = field_place table.now field })
+            (record { form = forms.Pairs; place = field_place table.now field })
             most (room self.old) (room self.new) }
     {
         match table.vector(field, 16) {
@@ -280,7 +283,7 @@ impl Reader {
     #[tactic(auto, unfolding(crate::specs::Lies::layer))]
     fn presence(&mut self, table: &Table, field: u16) -> Result<Tree, MetaFault>
         ensures read { (most : ℕ) → ReadsTree plain result table.now.bytes
-            (record { shape = shape.Presence; place = field_place table.now field })
+            (record { form = forms.Presence; place = field_place table.now field })
             most (room self.old) (room self.new) }
     {
         if table.has(field) {
@@ -303,11 +306,12 @@ fn code_at(table: &Table, field: u16) -> u64
     }
 }
 
-/// The pairs of numbers of a vector.
+/// The pairs of numbers of a vector. Of none no memory is taken.
 fn pairs_of(alloc: Global, vector: &Vector) -> Result<Vec<(u64, u64)>, AllocError>
     requires pairs { vector.now.size ≡ 16 }
     ensures pairs { IfOk result
         (λ v. v.items ≡ pairs_from vector.now.bytes vector.now.place vector.now.count) }
+    ensures some { IfErr result (λ _. 0 < vector.now.count) }
 {
     let mut pairs = Vec::new(alloc);
     for index in 0..vector.len() {
