@@ -51,13 +51,14 @@ impl Model for Dictionary {
     ghost use Rattle.arrow_types.specs.View.{type_view};
     ghost use Rattle.arrow_array.specs.Falls.{most_segments};
 
-    ghost size_decreases = { λ d h. omega (arith, most_segments (type_view d.data_type) d.segments.items h.typed) };
+    ghost size_decreases = { λ d h.
+        omega (arith, most_segments (type_view d.data_type) d.segments.items h.typed) };
 }
 
 #[tactic(auto, using(crate::proofs::Segments::segments))]
 impl Dictionary {
-    /// The dictionary without values, of values of this type, on no level of which is an encoding.
-    pub fn empty(alloc: Global, data_type: DataType) -> Dictionary
+    // The dictionary without values, of values of this type, on no level of which is an encoding.
+    pub(crate) fn empty(alloc: Global, data_type: DataType) -> Dictionary
         requires { has_encoding (type_view data_type).children ≡ false }
         ensures { result ≡ record { data_type = type_view data_type; values = [] } }
     {
@@ -72,7 +73,8 @@ impl Dictionary {
     pub fn from_array(alloc: Global, values: Array) -> Result<Dictionary, AllocError>
         requires plain { values.encoding ≡ None }
         requires flat { has_encoding values.data_type.children ≡ false }
-        ensures { IfOk result (λ d. d ≡ record { data_type = values.data_type; values = values.raw }) }
+        ensures { IfOk result
+            (λ d. d ≡ record { data_type = values.data_type; values = values.raw }) }
     {
         let len = values.len();
         let data_type = values.data_type().copy(alloc)?;
@@ -135,7 +137,8 @@ impl Dictionary {
         requires typed { values.data_type ≡ self.now.data_type }
         requires plain { values.encoding ≡ None }
         requires few { length self.now.values + length values.raw ≤ 2 ^ 62 }
-        ensures ok { OnOk result (self.new ≡ record self.old { values = self.old.values ++ values.raw }) }
+        ensures ok { OnOk result
+            (self.new ≡ record self.old { values = self.old.values ++ values.raw }) }
         ensures err { OnErr result (self.new ≡ self.old) }
     {
         let len = self.len + values.len();
