@@ -67,7 +67,8 @@ impl Model for Array {
     ghost use Rattle.arrow_types.specs.View.{type_view};
     ghost use Rattle.arrow_array.specs.Falls.{depth_le-levels};
 
-    ghost size_decreases = { λ a h. depth_le-levels a.len (type_view a.data_type) a.encoding a.body a.ranges h.1 };
+    ghost size_decreases = { λ a h.
+        depth_le-levels a.len (type_view a.data_type) a.encoding a.body a.ranges h.1 };
 }
 
 // What stands in a slot: the one place that looks at the ranges.
@@ -311,6 +312,7 @@ impl Array {
         requires { i < length self.now.raw }
         ensures { HoldsValue self.now i result }
     {
+        // A field is named so that the proof has at hand what is known of every array.
         let _ = &self.len;
         match self.resolved(i) {
             Some((values, place)) => values.own_slot(place),
@@ -325,6 +327,7 @@ impl Array {
         ensures holds { HoldsValue self.now i result }
         ensures column { IsColumn self.now }
     {
+        // As in `slot`.
         let _ = &self.len;
         self.seen(i).at(i)
     }

@@ -81,9 +81,11 @@ impl Model for Batch {
 
     ghost coded = { table_code };
 
-    ghost view = { λ b. record { schema = b.schema.value; columns = b.columns.items; rows = b.rows } };
+    ghost view = { λ b.
+        record { schema = b.schema.value; columns = b.columns.items; rows = b.rows } };
 
-    ghost invariant = { λ b. IsTable (record { schema = b.schema.value; columns = b.columns.items; rows = b.rows }) };
+    ghost invariant = { λ b. IsTable
+        (record { schema = b.schema.value; columns = b.columns.items; rows = b.rows }) };
 }
 
 impl Batch {

@@ -33,6 +33,9 @@ pub fn has_bools(len: usize, validity: &[u8], values: &[u8]) -> bool
 }
 
 /// Whether there is a number of `width` bytes for each of `len` slots.
+///
+/// A width is one that numbers and indices have: 1, 2, 4 or 8. It is a condition so that no product is taken, which
+/// could wrap: the length of the values is divided, by a constant for each width.
 pub fn has_ints(len: usize, width: usize, validity: &[u8], values: &[u8]) -> bool
     requires { IsWidth width }
     ensures { IsTrue result ↔ HasInts len width validity.now values.now }
@@ -134,7 +137,8 @@ fn are_indices_at_once(len: usize, signed: bool, indices: &[u8], count: usize) -
 // it is not above this one, both read without a sign.
 fn last_index(signed: bool, count: usize) -> u32
     requires { 0 < count }
-    ensures { (n : ℕ) → n < 4294967296 → (n ≤ result) ↔ IsIndex count (if signed then twos_complement 4 n else pos n) }
+    ensures { (n : ℕ) → n < 4294967296 → (n ≤ result)
+        ↔ IsIndex count (if signed then twos_complement 4 n else pos n) }
 {
     let greatest = if signed {
         i32::MAX as usize

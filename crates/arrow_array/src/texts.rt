@@ -29,7 +29,8 @@ pub(crate) fn are_slots_utf8(len: usize, validity: &[u8], offsets: &[u8], bytes:
 fn all_slots<'a>(len: usize, offsets: &[u8], bytes: &'a [u8]) -> &'a [u8]
     requires slots { 0 < len }
     requires rising { HasOffsets len (length bytes.now) offsets.now }
-    ensures same { result.now ≡ slice_range bytes.now (place_of offsets.now 0) (place_of offsets.now len) }
+    ensures same { result.now
+        ≡ slice_range bytes.now (place_of offsets.now 0) (place_of offsets.now len) }
     ensures inside { place_of offsets.now len ≤ length bytes.now }
 {
     let places = Offsets::new_unchecked(offsets, len, bytes.len() as u64);
@@ -40,7 +41,8 @@ fn all_slots<'a>(len: usize, offsets: &[u8], bytes: &'a [u8]) -> &'a [u8]
 fn are_parts(len: usize, validity: &[u8], offsets: &[u8], bytes: &[u8], text: &str) -> bool
     requires laid { HasStrings len validity.now offsets.now bytes.now }
     requires inside { place_of offsets.now len ≤ length bytes.now }
-    requires whole { text.now ≡ slice_range bytes.now (place_of offsets.now 0) (place_of offsets.now len) }
+    requires whole { text.now
+        ≡ slice_range bytes.now (place_of offsets.now 0) (place_of offsets.now len) }
     ensures { IsTrue result ↔ AreTexts len validity.now offsets.now bytes.now }
 {
     for j in 0..len {
@@ -56,7 +58,8 @@ fn is_part(len: usize, validity: &[u8], offsets: &[u8], bytes: &[u8], text: &str
     requires slot { j < len }
     requires laid { HasStrings len validity.now offsets.now bytes.now }
     requires inside { place_of offsets.now len ≤ length bytes.now }
-    requires whole { text.now ≡ slice_range bytes.now (place_of offsets.now 0) (place_of offsets.now len) }
+    requires whole { text.now
+        ≡ slice_range bytes.now (place_of offsets.now 0) (place_of offsets.now len) }
     ensures { IsTrue result
         ↔ (is_valid_at validity.now j ≡ true → IsUtf8 (range_of offsets.now bytes.now j)) }
 {

@@ -124,7 +124,8 @@ impl Store {
     /// Puts the values of the array behind those of the id's dictionary, of which none is copied (Columnar Format,
     /// "Dictionary Messages", of delta dictionaries). After a fault nothing has changed.
     pub fn append(&mut self, alloc: Global, id: i64, values: Array) -> Result<(), StoreFault>
-        requires typed { (d : ValueList) → listed self.old id ≡ Some d → values.data_type ≡ d.data_type }
+        requires typed { (d : ValueList)
+            → listed self.old id ≡ Some d → values.data_type ≡ d.data_type }
         requires plain { (d : ValueList) → listed self.old id ≡ Some d → values.encoding ≡ None }
         ensures { Appends self.old id values result self.new }
     {

@@ -51,14 +51,16 @@ impl ValueFields {
     /// The field of the values of the id's dictionary: of their type, without a name or an encoding, and nullable. None
     /// where no field of the schema gives the id. Takes no memory.
     pub fn get(&self, id: i64) -> Option<&Field>
-        ensures { option_map (λ f. field_view f.now) result ≡ option_map value_field (value_type_of self.now id) }
+        ensures { option_map (λ f. field_view f.now) result
+            ≡ option_map value_field (value_type_of self.now id) }
     {
         self.fields.get(&id)
     }
 
     // Takes the type for the id, unless there is one already.
     fn add(&mut self, alloc: Global, id: i64, data_type: &DataType) -> Result<(), AllocError>
-        ensures { OnOk result (NameSame self.new (self.old ++ record { id = id; value_type = type_view data_type.now } ∷ [])) }
+        ensures { OnOk result (NameSame self.new
+            (self.old ++ record { id = id; value_type = type_view data_type.now } ∷ [])) }
     {
         if self.fields.contains_key(&id) {
             return Ok(());
@@ -101,7 +103,8 @@ fn below(field: &Field) -> &[Field]
 // Adds what the fields say, on all levels, in pre-order.
 #[cycle(named)]
 fn add_fields(alloc: Global, fields: &[Field], found: &mut ValueFields) -> Result<(), AllocError>
-    ensures { OnOk result (NameSame found.new (found.old ++ dictionary_fields (fields_view fields.now))) }
+    ensures { OnOk result
+        (NameSame found.new (found.old ++ dictionary_fields (fields_view fields.now))) }
 {
     for field in fields {
         add_own(alloc, field, found)?;
