@@ -1,6 +1,7 @@
 //! Arrays out of the parts of a node: its buffers in a body, its children, its dictionary.
 
-ghost use Rattle.std.specs.Prelude.{◌≡◌, ◌≤◌, IfOk, None, Some, length, map, false, [], slice_index_or};
+ghost use Rattle.std.specs.Prelude.{◌≡◌, ◌≤◌, IfOk, None, Some, length, map, false, []};
+ghost use Rattle.std.specs.Prelude.{slice_index_or};
 ghost use Rattle.std.specs.List.{AllByRecursion};
 ghost use Rattle.arrow_types.specs.Schema.{has_encoding};
 ghost use Rattle.arrow_types.specs.View.{type_view};
@@ -20,12 +21,14 @@ use bytes::Bytes;
 use std::alloc::{AllocError, Global};
 
 impl Array {
-    /// The array of one node: `len` slots of the field's type, out of its buffers, in the order of the format, its
-    /// children, and for a dictionary-encoded field its dictionary (without one, the empty dictionary).
+    /// The array of one node: `len` slots of the field's type, out of its buffers, in the order of
+    /// the format, its children, and for a dictionary-encoded field its dictionary (without one,
+    /// the empty dictionary).
     ///
-    /// The body is shared and nothing of it is copied; `AllocError` where another growth was refused. An empty range
-    /// stands for an absent validity bitmap, and for the offsets of no slots. That the buffers hold `len` slots, that
-    /// texts are UTF-8 and indices have their values, is known by the caller, and not tested.
+    /// The body is shared and nothing of it is copied; `AllocError` where another growth was
+    /// refused. An empty range stands for an absent validity bitmap, and for the offsets of no
+    /// slots. That the buffers hold `len` slots, that texts are UTF-8 and indices have their
+    /// values, is known by the caller, and not tested.
     pub fn from_parts(
         alloc: Global,
         field: &Field,
