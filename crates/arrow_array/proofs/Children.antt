@@ -2,7 +2,8 @@
 use Rattle.std.proofs.Common.{◌≡◌, ℕ, zero, suc, ◌+◌, ◌<◌, ◌≤◌, Bool, true, false, List, [], ◌∷◌, length, map, get_or, Option, Some, None, slice_get, refl, sym, ap, ◌∙◌, subst, arith, Bor, MatchOption, true≢false, if◌then◌else◌}
 use Rattle.std.specs.List.{AllByRecursion, HoldsAt}
 use Rattle.std.specs.Prelude.{IfSome}
-use Rattle.std.proofs.lemmas.Option.{slice_get_read}
+use Rattle.std.proofs.lemmas.List.Elements.{All-from_recursion}
+use Rattle.std.proofs.lemmas.Option.{get_or_from_slice_get, slice_get_read, slice_get_within}
 use Rattle.arrow_types.specs.DataType.{list, struct}
 use Rattle.arrow_types.specs.Field.{Fields, none, more, TypeShape}
 use Rattle.arrow_array.specs.PlainValue.{PlainValue, value_at, null_value, is_null_value, list_value, struct_value, values_of, field_value, nth_value}
@@ -61,6 +62,7 @@ child_shown c t n v o child is tag typed =
     } in
     subst (λ x. HasChild x child) (sym is) shown
 
+-- value k of a row is that of column k
 nth_row : (of : Column → List PlainValue) (cs : List Column) (k i : ℕ) (a : Column) → slice_get cs k ≡ Some a → nth_value k (values_of (map (λ (c : Column). value_at (of c) i) cs)) ≡ value_at (of a) i
 nth_row of [] k i a e = cc
 nth_row of (c ∷ cs) zero i a e =
@@ -68,12 +70,9 @@ nth_row of (c ∷ cs) zero i a e =
     ap (λ (x : Column). value_at (of x) i) same
 nth_row of (c ∷ cs) (suc k) i a e = nth_row of cs k i a e
 
-all_at : (P : Column → Type 0) (cs : List Column) (k : ℕ) (a : Column) → AllByRecursion P cs → slice_get cs k ≡ Some a → P a
-all_at P [] k a h e = absurd cc
-all_at P (c ∷ cs) zero a h e =
-    let same : c ≡ a = cc in
-    subst P same h.0
-all_at P (c ∷ cs) (suc k) a h e = all_at P cs k a h.1 e
+-- what holds of all columns holds of the one that is found
+holds_of_found : (P : Column → Type 0) (cs : List Column) (k : ℕ) (a : Column) → AllByRecursion P cs → slice_get cs k ≡ Some a → P a
+holds_of_found P cs k a all is = subst P (get_or_from_slice_get cs k a a is) (All-from_recursion P cs all k a (slice_get_within cs k a is))
 
 -- the type of the column of field k
 type_found : (fields : Fields) (cs : List Column) (k : ℕ) (a : Column) → AreOf fields cs → slice_get cs k ≡ Some a → type_of_field fields k ≡ Some (a.data_type, a.encoding)
@@ -85,6 +84,7 @@ type_found (more x b rest) (c ∷ cs) zero a h e =
     (λ i. Some (sym h.0 i, sym h.1 i)) ∙ ap (λ (y : Column). Some (y.data_type, y.encoding)) same
 type_found (more x b rest) (c ∷ cs) (suc k) a h e = type_found rest cs k a h.2 e
 
+-- past the last column there is no field
 type_past : (fields : Fields) (cs : List Column) (k : ℕ) → AreOf fields cs → length cs ≤ k → type_of_field fields k ≡ None
 type_past none cs k h l = refl
 type_past (more x b rest) [] k h l = absurd h
@@ -112,7 +112,7 @@ field_shown t n v cs k (Some a) tag typed longer is =
     let long : length (slots n (λ j. raw j)) ≡ n = length_slots n (λ j. raw j) in
     record {
       typed = ap (λ f. type_of_field f k) fields ∙ type_found t.children cs k a.now typed is;
-      longer = omega (arith, long, all_at (λ (x : Column). n ≤ length x.raw) cs k a.now longer is);
+      longer = omega (arith, long, holds_of_found (λ (x : Column). n ≤ length x.raw) cs k a.now longer is);
       same = λ i h full.
           let inside : i < n = omega (arith, h, long) in
           let here = at_slots n (λ j. raw j) i inside in
@@ -124,6 +124,7 @@ field_shown t n v cs k (Some a) tag typed longer is =
           );
     }
 
+-- the same of a column that is known to be one of structs
 pub field_of_column : (c : Column) (t : TypeShape) (n : ℕ) (v : List ℕ) (cs : List Column) (k : ℕ) (r : Option (Bor Column))
     → c ≡ structs t n v cs → t.tag ≡ struct → AreOf t.children cs → AllByRecursion (λ (d : Column). n ≤ length d.raw) cs
     → MatchOption r (length cs ≤ k) (λ b. slice_get cs k ≡ Some b.now)

@@ -42,6 +42,9 @@ places_order offsets len i k rises order inside =
     let room = length_offsets len offsets in
     omega (arith, offset_found len offsets i (omega (arith, order, inside)), offset_found len offsets k (omega (arith, inside)), rises i k 0 order (omega (arith, room, inside)))
 
+-- how many offsets there are, where they stand, and in which order
+pub ruleset offsets = (length_offsets, offset_found, places_order)
+
 -- the bytes of a slot, in those of all
 pub slot_in : (offsets bytes text : List ℕ) (len j start stop : ℕ) → text ≡ slice_range bytes (place_of offsets 0) (place_of offsets len)
     → place_of offsets 0 ≤ place_of offsets j → place_of offsets j ≤ place_of offsets (j + 1) → place_of offsets (j + 1) ≤ place_of offsets len

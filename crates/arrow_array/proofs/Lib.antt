@@ -10,3 +10,4 @@ pub mod Batches
 pub mod Values
 pub mod Cuts
 pub mod Indices
+pub mod Listing

@@ -1,6 +1,7 @@
 -- The ranges of a node stand for its buffers.
-use Rattle.std.proofs.Common.{◌≡◌, ◌≤◌, ◌<◌, ◌-◌, ℕ, zero, suc, List, [], ◌∷◌, ◌++◌, length, map, get_or, Option, Some, None, refl, sym, ap, ◌∙◌, subst, arith, rules, inl, inr, Bool}
-use Rattle.std.proofs.lemmas.List.{append-nil}
+use Rattle.std.proofs.Common.{◌≡◌, ◌≤◌, ◌<◌, ◌-◌, ℕ, List, [], ◌∷◌, ◌++◌, length, map, get_or, Option, Some, None, refl, sym, ap, ◌∙◌, subst, arith, rules, inl, inr, Bool}
+use Rattle.std.proofs.lemmas.List.{append-nil, get_or-map}
+use Rattle.std.proofs.lemmas.List.Elements.{All-from_recursion}
 use Rattle.std.specs.Global.{Box}
 use Rattle.std.specs.List.{AllByRecursion}
 use Rattle.std.specs.Prelude.{slice_index_or, ⊤, ◌⊎◌, option_map, String, string_bytes}
@@ -30,15 +31,11 @@ use Rattle.arrow_array.specs.declared.byte_range.ByteRange.{ByteRange}
 
 -- the bytes of a buffer that was read
 pub buffer_read : (body : List ℕ) (bs : List ByteRange) (k : ℕ) (d : ByteRange) → k < length bs → buffer (map (bytes_of body) bs) k ≡ bytes_of body (slice_index_or bs k d)
-buffer_read body [] k d h = absurd (omega arith)
-buffer_read body (b ∷ bs) zero d h = refl
-buffer_read body (b ∷ bs) (suc k) d h = buffer_read body bs k d (omega arith)
+buffer_read body bs k d h = get_or-map (bytes_of body) bs k d [] h
 
 -- it lies inside the body
 pub inside_read : (body : List ℕ) (bs : List ByteRange) (k : ℕ) (d : ByteRange) → AllByRecursion (IsInside body) bs → k < length bs → IsInside body (slice_index_or bs k d)
-inside_read body [] k d all h = absurd (omega arith)
-inside_read body (b ∷ bs) zero d all h = all.0
-inside_read body (b ∷ bs) (suc k) d all h = inside_read body bs k d all.1 (omega arith)
+inside_read body bs k d all h = All-from_recursion (IsInside body) bs all k d h
 
 -- the one child of a list, which is the last
 one_child : (head : Head) (children : Fields) (cs : List Column) (d child : Column) → AreOf (more head children none) cs → get_or cs (length cs - 1) d ≡ child → cs ≡ child ∷ []
@@ -46,9 +43,11 @@ one_child head children [] d child h last = absurd h
 one_child head children (a ∷ []) d child h last = ap (λ x. x ∷ []) last
 one_child head children (a ∷ b ∷ cs) d child h last = absurd h.2
 
+-- where a type has one child field, the child that was taken off is the only one
 pub only_child : (t : TypeShape) (head : Head) (children : Fields) (cs : List Column) (d child : Column) → t.children ≡ more head children none → AreOf t.children cs → get_or cs (length cs - 1) d ≡ child → cs ≡ child ∷ []
 only_child t head children cs d child is typed last = one_child head children cs d child (subst (λ f. AreOf f cs) is typed) last
 
+-- where a type has a child field, there is a child
 pub some_child : (t : TypeShape) (head : Head) (children : Fields) (cs : List Column) → t.children ≡ more head children none → AreOf t.children cs → 0 < length cs
 some_child t head children [] is typed = absurd (subst (λ f. AreOf f []) is typed)
 some_child t head children (c ∷ cs) is typed = omega arith
@@ -77,9 +76,11 @@ values_by t tag len b cs = record {
   dictionaries = listed_of cs;
 }
 
+-- the same of a node of lists
 abbrev lists_of : TypeShape → ℕ → List (List ℕ) → List Column → Column
 lists_of t len b cs = values_by t list len b cs
 
+-- its ranges and its child stand for what its buffers and its child do
 pub list_same : (t : TypeShape) (len : ℕ) (body : List ℕ) (bs : List ByteRange) (d : ByteRange) (cs : List Column) (child : Box Array) → t.tag ≡ list → cs ≡ child.value ∷ [] → 2 ≤ length bs
     → column_by t None len body (ranges.Lists (slice_index_or bs 0 d) (slice_index_or bs 1 d) child) ≡ node_column t None len (map (bytes_of body) bs) cs []
 list_same t len body bs d cs child tag one two =
@@ -107,6 +108,7 @@ struct_lies t len body bs d cs tag typed known one inside laid =
       known = known;
     }
 
+-- its ranges and its children stand for what its buffers and its children do
 pub struct_same : (t : TypeShape) (len : ℕ) (body : List ℕ) (bs : List ByteRange) (d : ByteRange) (children : Vec Array Global) → t.tag ≡ struct → 1 ≤ length bs
     → column_by t None len body (ranges.Structs (slice_index_or bs 0 d) children) ≡ node_column t None len (map (bytes_of body) bs) children.items []
 struct_same t len body bs d children tag one =
@@ -128,6 +130,7 @@ IsNumber (time unit) = ⊤
 IsNumber (timestamp unit tz) = ⊤
 IsNumber _ = ⊥
 
+-- they have two buffers
 number_count : (tag : Tag) → IsNumber tag → buffer_count tag None ≡ 2
 number_count (int bits signed) h = refl
 number_count (date unit) h = refl
@@ -140,6 +143,7 @@ number_count utf8 h = absurd h
 number_count list h = absurd h
 number_count struct h = absurd h
 
+-- each slot is a number
 number_slot : (tag : Tag) (b : List (List ℕ)) (values : List (List PlainValue)) → IsNumber tag → value_slot tag b values ≡ int_slot (width_of tag) (is_signed tag) (buffer b 0) (buffer b 1)
 number_slot (int bits signed) b values h = refl
 number_slot (date unit) b values h = refl
@@ -152,6 +156,7 @@ number_slot utf8 b values h = absurd h
 number_slot list b values h = absurd h
 number_slot struct b values h = absurd h
 
+-- and there are no children
 no_children : (cs : List Column) → AreOf none cs → listed_of cs ≡ []
 no_children [] h = refl
 no_children (c ∷ cs) h = absurd h
@@ -191,9 +196,11 @@ time_tag u = search (rules, the_lemmas)
 timestamp_tag : (u : TimeUnit) (z : Option (String Global)) → type_view (types.Timestamp u z) ≡ record { tag = timestamp u (option_map string_bytes z); children = none }
 timestamp_tag u z = search (rules, the_lemmas)
 
+-- what has the shape of a type of numbers is one
 leaf_from_shape : (x y : TypeShape) → x ≡ y → IsNumber y.tag → y.children ≡ none → IsNumber x.tag × (x.children ≡ none)
 leaf_from_shape x y same is leaf = (subst (λ (t : TypeShape). IsNumber t.tag) (sym same) is, ap (λ (t : TypeShape). t.children) same ∙ leaf)
 
+-- a type that is one of the four is a type of numbers, and has no children
 pub number_shape : (x : DataType)
     → ((b : BitWidth) × (s : Bool) × (x ≡ types.Int b s)) ⊎ ((u : DateUnit) × (x ≡ types.Date u)) ⊎ ((u : TimeUnit) × (x ≡ types.Time u)) ⊎ ((u : TimeUnit) × (z : Option (String Global)) × (x ≡ types.Timestamp u z))
     → IsNumber (type_view x).tag × ((type_view x).children ≡ none)
@@ -202,10 +209,11 @@ number_shape x (inr (inl p)) = leaf_from_shape _ _ (ap type_view p.1 ∙ date_ta
 number_shape x (inr (inr (inl p))) = leaf_from_shape _ _ (ap type_view p.1 ∙ time_tag p.0) tt refl
 number_shape x (inr (inr (inr p))) = leaf_from_shape _ _ (ap type_view p.2 ∙ timestamp_tag p.0 p.1) tt refl
 
--- the types with children
+-- a type of lists has the one field as its children
 pub list_tag : (f : Box Field) → type_view (types.List f) ≡ record { tag = list; children = fields_of (field_view f.value ∷ []) }
 list_tag f = search (rules, the_lemmas)
 
+-- a type of structs has its fields as its children
 pub struct_tag : (fs : Vec Field Global) → type_view (types.Struct fs) ≡ record { tag = struct; children = fields_view fs.items }
 struct_tag fs = search (rules, the_lemmas)
 

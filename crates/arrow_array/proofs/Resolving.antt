@@ -1,7 +1,8 @@
 -- Why the resolved values of every array are what its raw values stand for.
-use Rattle.std.proofs.Common.{◌≡◌, ◌≤◌, ◌<◌, ◌||◌, ◌+◌, ◌-◌, ◌*◌, ℕ, zero, suc, ℤ, pos, negsuc, Bool, true, false, List, [], ◌∷◌, ◌++◌, length, map, take, drop, slice_get, get_or, is_some, Option, Some, None, refl, sym, ap, ◌∙◌, subst, arith, if◌then◌else◌}
+use Rattle.std.proofs.Common.{◌≡◌, ◌≤◌, ◌<◌, ◌||◌, ◌+◌, ◌-◌, ◌*◌, ℕ, zero, suc, ℤ, pos, negsuc, Bool, true, false, List, [], ◌∷◌, ◌++◌, length, map, take, drop, get_or, is_some, Option, Some, None, refl, sym, ap, ◌∙◌, subst, arith, if◌then◌else◌}
 use Rattle.std.proofs.lemmas.Bool.{false≢true}
 use Rattle.std.proofs.lemmas.List.{take-map, drop-map}
+use Rattle.std.proofs.lemmas.Option.{slice_get-get_or}
 use Rattle.std.specs.List.{AllByRecursion, range_with_len}
 use Rattle.std.specs.Prelude.{slice_range, option_map}
 use Rattle.std.proofs.lemmas.Bool.{or_parts}
@@ -26,10 +27,12 @@ counted : (n a : ℕ) (f : PlainValue → Option PlainValue) (raw resolved : ℕ
 counted zero a f raw resolved h = refl
 counted (suc n) a f raw resolved h = λ i. h a (omega arith) i ∷ counted n (a + 1) f raw resolved (λ j l. h j (omega arith)) i
 
+-- where each slot resolves, all do
 pub slots_resolve : (n : ℕ) (f : PlainValue → Option PlainValue) (raw resolved : ℕ → PlainValue) → ((j : ℕ) → j < n → f (raw j) ≡ Some (resolved j))
     → map f (slots n raw) ≡ map Some (slots n resolved)
 slots_resolve n f raw resolved h = counted n 0 f raw resolved (λ j l. h j (omega arith))
 
+-- null stands for itself
 pub null_resolves : (e : Option Encoding) (fields : Fields) (d : ℤ → List PlainValue) → resolve e fields d null_value ≡ Some null_value
 null_resolves None fields d = refl
 null_resolves (Some e) fields d = refl
@@ -52,6 +55,7 @@ items_resolve fields d f (x ∷ xs) (y ∷ ys) step p =
 items_resolve fields d f [] (y ∷ ys) step p = cc
 items_resolve fields d f (x ∷ xs) [] step p = cc
 
+-- a part of values that resolve resolves
 pub range_resolves : (f : PlainValue → Option PlainValue) (xs ys : List PlainValue) (a b : ℕ) → map f xs ≡ map Some ys → map f (slice_range xs a b) ≡ map Some (slice_range ys a b)
 range_resolves f xs ys a b p =
     sym (ap (take (b - a)) (drop-map f a xs) ∙ take-map f (b - a) (drop a xs)) ∙ ap (λ zs. take (b - a) (drop a zs)) p ∙ ap (take (b - a)) (drop-map Some a ys) ∙ take-map Some (b - a) (drop a ys)
@@ -95,13 +99,9 @@ struct_resolves (more head children rest) (c ∷ cs) d j typed known agree =
     λ i. before (here i) (others i)
 
 -- an index of a dictionary
-entry_found : (values : List PlainValue) (n : ℕ) → n < length values → slice_get values n ≡ Some (value_at values n)
-entry_found [] n h = absurd (omega arith)
-entry_found (v ∷ values) zero h = refl
-entry_found (v ∷ values) (suc n) h = entry_found values n (omega arith)
-
+-- an index that has its value stands for it
 pub index_resolves : (values : List PlainValue) (z : ℤ) → IsIndex (length values) z → entry_of values z ≡ Some (entry_at values z)
-index_resolves values (pos n) h = entry_found values n h
+index_resolves values (pos n) h = slice_get-get_or values n null_value h
 index_resolves values (negsuc n) h = absurd h
 
 no_encoding : (e : Option Encoding) → is_some e ≡ false → e ≡ None

@@ -1,17 +1,20 @@
 -- The segments of a dictionary, and the search among their starts.
 use Rattle.std.proofs.Common.{◌≡◌, ℕ, zero, suc, ◌+◌, ◌-◌, ◌<◌, ◌≤◌, List, [], ◌∷◌, ◌++◌, length, get_or, refl, sym, ap, ◌∙◌, arith, append_assoc, subst, length-append, map}
-use Rattle.std.proofs.lemmas.List.{append-nil, get_or_read, get_or-map, length-map, map_push}
+use Rattle.std.proofs.lemmas.List.{append-nil, get_or_append_left, get_or-append-add, get_or-map, length-map, map_push}
+use Rattle.std.proofs.lemmas.List.Elements.{All-from_recursion}
 use Rattle.std.specs.List.{AllByRecursion}
 use Rattle.arrow_types.specs.Field.{TypeShape}
-use Rattle.arrow_array.specs.PlainValue.{PlainValue, value_at}
+use Rattle.arrow_array.specs.PlainValue.{value_at, null_value}
 use Rattle.arrow_array.specs.Column.{Column, ValueList, HasValue}
 use Rattle.arrow_array.specs.Segments.{columns_of, joined, IsSegment, starts_from, starts_of, Between}
 use Rattle.arrow_array.specs.declared.dictionary.Segment.{Segment}
 
+-- the values with those of one column more
 pub joined_push : (cs : List Column) (c : Column) → joined (cs ++ c ∷ []) ≡ joined cs ++ c.raw
 joined_push [] c = append-nil c.raw
 joined_push (x ∷ cs) c = ap (λ vs. x.raw ++ vs) (joined_push cs c) ∙ sym (append_assoc x.raw (joined cs) c.raw)
 
+-- one segment more of the type leaves them all of the type
 pub segments_push : (t : TypeShape) (cs : List Column) (c : Column) → AllByRecursion (IsSegment t) cs → IsSegment t c → AllByRecursion (IsSegment t) (cs ++ c ∷ [])
 segments_push t [] c h s = (s, tt)
 segments_push t (x ∷ cs) c h s = (h.0, segments_push t cs c h.1 s)
@@ -23,14 +26,18 @@ starts_push k (x ∷ cs) c =
     let end : k + length x.raw + length (joined cs) ≡ k + length (x.raw ++ joined cs) = omega (arith, length-append x.raw (joined cs)) in
     ap (λ ns. k ∷ ns) (starts_push (k + length x.raw) cs c ∙ ap (λ n. starts_from (k + length x.raw) cs ++ n ∷ []) end)
 
+-- the columns with that of one segment more
 pub columns_push : (parts : List Segment) (s : Segment) → columns_of (parts ++ s ∷ []) ≡ columns_of parts ++ s.array.value ∷ []
 columns_push parts s = map_push (λ (x : Segment). x.array.value) parts s
 
+-- the starts with that of one segment more
 pub starts_of_push : (parts : List Segment) (s : Segment) → starts_of (parts ++ s ∷ []) ≡ starts_of parts ++ s.start ∷ []
 starts_of_push parts s = map_push (λ (x : Segment). x.start) parts s
 
+-- what one segment more changes
 pub ruleset segments = (joined_push, segments_push, length-append, starts_push, columns_push, starts_of_push)
 
+-- where there is a value, there is a first segment, which begins at the first place
 pub first_start : (k : ℕ) (cs : List Column) (i : ℕ) → i < length (joined cs) → (0 < length (starts_from k cs)) × (get_or (starts_from k cs) 0 0 ≡ k)
 first_start k [] i h = absurd (omega arith)
 first_start k (c ∷ cs) i h = (omega arith, refl)
@@ -41,15 +48,7 @@ start_from k [] s h = absurd (omega arith)
 start_from k (c ∷ cs) zero h = omega arith
 start_from k (c ∷ cs) (suc s) h = omega (arith, start_from (k + length c.raw) cs s (omega arith))
 
-at_left : (xs ys : List PlainValue) (i : ℕ) → i < length xs → value_at (xs ++ ys) i ≡ value_at xs i
-at_left [] ys i h = absurd (omega arith)
-at_left (x ∷ xs) ys zero h = refl
-at_left (x ∷ xs) ys (suc i) h = at_left xs ys i (omega arith)
-
-at_right : (xs ys : List PlainValue) (i : ℕ) → value_at (xs ++ ys) (length xs + i) ≡ value_at ys i
-at_right [] ys i = ap (value_at ys) (omega arith)
-at_right (x ∷ xs) ys i = let next : suc (length xs) + i ≡ suc (length xs + i) = omega arith in ap (value_at (x ∷ (xs ++ ys))) next ∙ at_right xs ys i
-
+-- a place before the next start lies in the first column
 first_inside : (k : ℕ) (c : Column) (cs : List Column) (i : ℕ) → k ≤ i → (0 + 1 < length (c ∷ cs) → i < get_or (starts_from k (c ∷ cs)) (0 + 1) 0) → i < k + length (c.raw ++ joined cs) → i - k < length c.raw
 first_inside k c [] i b a t = omega (arith, length-append c.raw [])
 first_inside k c (x ∷ cs) i b a t = let here : i < k + length c.raw = a (omega arith) in omega arith
@@ -60,27 +59,25 @@ pub found_segment : (k : ℕ) (cs : List Column) (s i : ℕ) (d : Column) → s 
 found_segment k [] s i d h b a t = absurd (omega arith)
 found_segment k (c ∷ cs) zero i d h b a t =
     let inside : i - k < length c.raw = first_inside k c cs i b a t in
-    (inside, sym (at_left c.raw (joined cs) (i - k) inside))
+    (inside, sym (get_or_append_left c.raw (joined cs) null_value (i - k) inside))
 found_segment k (c ∷ cs) (suc s) i d h b a t =
     let low : k + length c.raw ≤ get_or (starts_from (k + length c.raw) cs) s 0 = start_from (k + length c.raw) cs s (omega arith) in
     let len : length (c.raw ++ joined cs) ≡ length c.raw + length (joined cs) = length-append c.raw (joined cs) in
     let more = found_segment (k + length c.raw) cs s i d (omega arith) b (λ u. let e : suc s + 1 ≡ suc (s + 1) = omega arith in subst (λ n. i < get_or (starts_from k (c ∷ cs)) n 0) e (a (omega arith))) (omega arith) in
     let place : i - k ≡ length c.raw + (i - (k + length c.raw)) = omega arith in
-    (more.0, more.1 ∙ sym (ap (value_at (c.raw ++ joined cs)) place ∙ at_right c.raw (joined cs) (i - (k + length c.raw))))
+    (more.0, more.1 ∙ sym (ap (value_at (c.raw ++ joined cs)) place ∙ get_or-append-add c.raw (joined cs) (i - (k + length c.raw)) null_value))
 
+-- the column of a segment that was read
 at_columns : (parts : List Segment) (n : ℕ) (s : Segment) → get_or (columns_of parts) n s.array.value ≡ (get_or parts n s).array.value
 at_columns [] n s = refl
 at_columns (x ∷ parts) zero s = refl
 at_columns (x ∷ parts) (suc n) s = at_columns parts n s
 
-segment_at : (t : TypeShape) (cs : List Column) (n : ℕ) (d : Column) → AllByRecursion (IsSegment t) cs → n < length cs → IsSegment t (get_or cs n d)
-segment_at t [] n d h l = absurd (omega arith)
-segment_at t (c ∷ cs) zero d h l = h.0
-segment_at t (c ∷ cs) (suc n) d h l = segment_at t cs n d h.1 (omega arith)
-
+-- there are as many columns as segments
 pub length-columns_of : (parts : List Segment) → length (columns_of parts) ≡ length parts
 length-columns_of parts = length-map parts (λ (s : Segment). s.array.value)
 
+-- and as many starts
 pub length-starts_of : (parts : List Segment) → length (starts_of parts) ≡ length parts
 length-starts_of parts = length-map parts (λ (s : Segment). s.start)
 
@@ -104,7 +101,7 @@ segment_value d parts low high i s from all values within between last is =
     let found = found_segment 0 cs low i s.array.value inside (subst (λ x. get_or x low 0 ≤ i) from between.below) next reached in
     let whole : i - 0 ≡ i = omega arith in
     let place : i - s.start ≡ i - get_or (starts_from 0 cs) low 0 = ap (λ x. i - x) here in
-    let of_type = segment_at d.data_type cs low s.array.value all inside in
+    let of_type = All-from_recursion (IsSegment d.data_type) cs all low s.array.value inside in
     record {
       inside = rw (place, ← same) found.0;
       typed = rw (← same) of_type.0;

@@ -25,6 +25,7 @@ slot_inside width i n m (inr (inl e)) h long = subst (λ w. w * i + w ≤ m) (sy
 slot_inside width i n m (inr (inr (inl e))) h long = subst (λ w. w * i + w ≤ m) (sym e) (omega (arith, subst (λ w. w * n ≤ m) e long))
 slot_inside width i n m (inr (inr (inr e))) h long = subst (λ w. w * i + w ≤ m) (sym e) (omega (arith, subst (λ w. w * n ≤ m) e long))
 
+-- how many slots there are, what stands in each, and where its bytes are
 pub ruleset shown = (length_slots, at_slots, slot_inside)
 
 -- the values at a slot of the columns' values are those of the columns

@@ -26,10 +26,12 @@ is_alone (list_value items) = false
 is_alone (struct_value parts) = false
 is_alone value = true
 
+-- a list or a struct that is seen as a value without others is null, and its resolved value too
 alone_slot : (valid : Bool) (x y : PlainValue) → is_alone x ≡ false → is_alone (if valid then x else null_value) ≡ true → (if valid then y else null_value) ≡ (if valid then x else null_value)
 alone_slot true x y h a = absurd (false≢true (sym h ∙ a))
 alone_slot false x y h a = refl
 
+-- an index that is seen as null is null, and its resolved value too
 index_slot : (valid : Bool) (z : ℤ) (y : PlainValue) → (if valid then int_value z else null_value) ≡ null_value → (if valid then y else null_value) ≡ (if valid then int_value z else null_value)
 index_slot true z y h = absurd (cc)
 index_slot false z y h = refl
@@ -47,6 +49,7 @@ own_slot_same len t e body (ranges.Structs v children) j ok own alone = alone_sl
 own_slot_same len t None body (ranges.Indices n d) j ok own alone = absurd ok
 own_slot_same len t (Some e) body (ranges.Indices n d) j ok own alone = index_slot (is_valid_at (bytes_of body n.validity) j) _ _ (own refl)
 
+-- so it does in a column
 of_inside : (a : Inside) (i : ℕ) (v : PlainValue) → IsArray a → i < length (column_of a).raw → HasNoIndex (column_of a) i → value_at (column_of a).raw i ≡ v → is_alone v ≡ true
     → value_at (column_of a).resolved i ≡ v
 of_inside a i v ok within own is alone =

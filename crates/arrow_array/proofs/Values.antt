@@ -7,9 +7,11 @@ use Rattle.arrow_array.specs.Value.{value_view, values_view}
 use Rattle.arrow_array.specs.declared.value.Value.{Value, List as lists, Struct as structs, the_lemmas}
 use Rattle.arrow_array.proofs.Sameness.{values_same}
 
+-- what a list of values says
 list_view : (v : Vec Value Global) → value_view (lists v) ≡ list_value (values_of (values_view v.items))
 list_view v = search (rules, the_lemmas)
 
+-- what a struct of values says
 struct_view : (v : Vec Value Global) → value_view (structs v) ≡ struct_value (values_of (values_view v.items))
 struct_view v = search (rules, the_lemmas)
 
@@ -23,6 +25,7 @@ lists_agree x y v u r p q same =
           let inner : values_of (values_view v.items) ≡ values_of (values_view u.items) = cc in same.1 (values_same _ _ inner),
     )
 
+-- structs are equal where their parts are
 pub structs_agree : (x y : Value) (v u : Vec Value Global) (r : Bool) → x ≡ structs v → y ≡ structs u → (IsTrue r ↔ (values_view v.items ≡ values_view u.items)) → IsTrue r ↔ (value_view x ≡ value_view y)
 structs_agree x y v u r p q same =
     let left = ap value_view p ∙ struct_view v in

@@ -9,12 +9,13 @@ use Rattle.arrow_array.specs.Column.{Column, AreOf, column_code}
 use Rattle.arrow_array.specs.declared.batch.BatchFault.{BatchFault}
 use Rattle.arrow_array.specs.declared.batch.BatchFault.TheVariants.{ColumnCount, ColumnType, ColumnLength, IndexRange, Memory}
 
--- the fields of a schema, a column of each, and the number of rows
+-- What a record batch is to contracts: the fields of a schema, a column of each, and the number of rows.
 pub record Table : Type 0 where
   pub schema : Fields
   pub columns : List Column
   pub rows : ℕ
 
+-- how the logic stores batches
 abbrev pub table_code : Coded Table
 table_code = code_by (Fields × (List Column × ℕ)) (coded× fields_code (coded× (coded_list column_code) coded_ℕ))
     (λ t. (t.schema, (t.columns, t.rows))) (λ p. record { schema = p.0; columns = p.1.0; rows = p.1.1 }) (λ _. refl)

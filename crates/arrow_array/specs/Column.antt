@@ -12,7 +12,7 @@ use Rattle.arrow_array.specs.PlainValue.{PlainValue, value_at, null_value, list_
 use Rattle.arrow_array.specs.Resolve.{resolve}
 use Rattle.arrow_array.specs.Stored.{value_code}
 
--- An array: its type, its encoding, and the value of each slot, raw (where it is dictionary-encoded, the index) and
+-- What an array is to contracts: its type, its encoding, and the value of each slot, raw (where it is dictionary-encoded, the index) and
 -- resolved. Beside these, for each dictionary-encoded field of it in pre-order, the id and the values of the dictionary.
 pub record Column : Type 0 where
   pub data_type : TypeShape
@@ -21,6 +21,7 @@ pub record Column : Type 0 where
   pub resolved : List PlainValue
   pub dictionaries : List (ℤ × List PlainValue)
 
+-- how the logic stores arrays
 abbrev pub column_code : Coded Column
 column_code =
     code_by (TypeShape × (Option Encoding × (List PlainValue × (List PlainValue × List (ℤ × List PlainValue)))))
@@ -33,11 +34,12 @@ column_code =
 abbrev pub plain_column : TypeShape → List PlainValue → Column
 plain_column data_type values = record { data_type = data_type; encoding = None; raw = values; resolved = values; dictionaries = [] }
 
--- A dictionary: the type of its values, and the values.
+-- What a dictionary is to contracts: the type of its values, and the values.
 pub record ValueList : Type 0 where
   pub data_type : TypeShape
   pub values : List PlainValue
 
+-- how the logic stores dictionaries
 abbrev pub value_list_code : Coded ValueList
 value_list_code = code_by (TypeShape × List PlainValue) (coded× type_code (coded_list value_code))
     (λ d. (d.data_type, d.values)) (λ p. record { data_type = p.0; values = p.1 }) (λ _. refl)
@@ -47,9 +49,11 @@ abbrev pub index_levels : Option Encoding → ℕ
 index_levels None = 0
 index_levels (Some e) = 2
 
+-- how high an array stands: three steps for each level of its children, two more for its dictionary
 abbrev pub column_size : Column → ℕ
 column_size c = 3 * levels c.data_type.children + index_levels c.encoding
 
+-- how high a dictionary stands: one step above the arrays of its values, below those that refer to it
 abbrev pub value_list_size : ValueList → ℕ
 value_list_size d = 3 * levels d.data_type.children + 1
 
@@ -127,6 +131,7 @@ abbrev pub struct_fields_of : Tag → Option Encoding → Fields → Fields
 struct_fields_of struct None children = children
 struct_fields_of _ _ children = none
 
+-- the fields whose values stand side by side in each slot of the column
 abbrev pub struct_fields : Column → Fields
 struct_fields c = struct_fields_of c.data_type.tag c.encoding c.data_type.children
 

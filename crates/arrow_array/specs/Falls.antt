@@ -13,16 +13,19 @@ use Rattle.arrow_array.specs.declared.array.Ranges.TheVariants as ranges
 use Rattle.arrow_array.specs.declared.array.Array.TheDeep.{deep-Ranges, deep-Segment}
 use Rattle.arrow_array.specs.declared.dictionary.Segment.{Segment}
 
+-- a dictionary adds two steps at most
 index_levels-le : (e : Option Encoding) → index_levels e ≤ 2
 index_levels-le None = omega arith
 index_levels-le (Some e) = omega arith
 
+-- the arrays of fields stand below the array that has these fields as its children
 pub most_le-levels : (fields : Fields) (cs : List Column) → AreOf fields cs → most (λ c. column_size c + 1) cs ≤ 3 * levels fields
 most_le-levels none [] h = omega arith
 most_le-levels none (c ∷ cs) h = absurd h
 most_le-levels (more x b rest) [] h = absurd h
 most_le-levels (more x b rest) (c ∷ cs) h = omega (arith, ap (λ (t : TypeShape). levels t.children) h.0, most_le-levels rest cs h.2, index_levels-le c.encoding)
 
+-- what the ranges of an array hold stands below the array
 pub depth_le-levels : (len : ℕ) (t : TypeShape) (e : Option Encoding) (body : List ℕ) (r : Ranges) → AreRanges len t e body r → max (deep-Ranges r) 0 ≤ 3 * levels t.children + index_levels e
 depth_le-levels len t e body ranges.Nulls h = omega arith
 depth_le-levels len t e body (ranges.Bools b) h = omega arith
@@ -34,6 +37,7 @@ depth_le-levels len t e body (ranges.Structs v children) h = omega (arith, most_
 depth_le-levels len t None body (ranges.Indices n d) h = absurd h
 depth_le-levels len t (Some e) body (ranges.Indices n d) h = omega (arith, ap (λ (x : TypeShape). levels x.children) h.typed)
 
+-- the arrays of a dictionary's values stand below the dictionary
 pub most_segments : (t : TypeShape) (segments : List Segment) → AllByRecursion (IsSegment t) (columns_of segments) → most deep-Segment segments ≤ 3 * levels t.children + 1
 most_segments t [] h = omega arith
 most_segments t (s ∷ ss) h = omega (arith, ap (λ (x : TypeShape). levels x.children) h.0.0, ap index_levels h.0.1, most_segments t ss h.1)

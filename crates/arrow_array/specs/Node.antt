@@ -26,18 +26,23 @@ bytes_of body r = slice_range body r.start r.end
 abbrev pub IsInside : List ℕ → ByteRange → Type 0
 IsInside body r = (r.start ≤ r.end) × (r.end ≤ length body)
 
+-- the truth value of a slot, out of the ranges of the body
 abbrev pub bool_at : List ℕ → Bools → ℕ → PlainValue
 bool_at body b j = bool_slot (bytes_of body b.validity) (bytes_of body b.values) j
 
+-- the number of a slot
 abbrev pub int_at : List ℕ → Ints → ℕ → PlainValue
 int_at body n j = int_slot n.width n.signed (bytes_of body n.validity) (bytes_of body n.values) j
 
+-- the byte string of a slot
 abbrev pub binary_at : List ℕ → Strings → ℕ → PlainValue
 binary_at body s j = binary_slot (bytes_of body s.validity) (bytes_of body s.offsets) (bytes_of body s.bytes) j
 
+-- the text of a slot
 abbrev pub utf8_at : List ℕ → Strings → ℕ → PlainValue
 utf8_at body s j = utf8_slot (bytes_of body s.validity) (bytes_of body s.offsets) (bytes_of body s.bytes) j
 
+-- the value that the index of a slot refers to
 abbrev pub entry_in : List ℕ → Ints → List PlainValue → ℕ → PlainValue
 entry_in body n values j = entry_slot n.width n.signed (bytes_of body n.validity) (bytes_of body n.values) values j
 
@@ -68,29 +73,34 @@ abbrev pub listed_by : Option Encoding → List PlainValue → List (ℤ × List
 listed_by None values = []
 listed_by (Some e) values = (e.id, values) ∷ []
 
+-- the dictionaries that a node refers to, itself and below it
 abbrev pub dictionaries_of : Option Encoding → Ranges → List (ℤ × List PlainValue)
 dictionaries_of e (ranges.Lists v o child) = child.value.dictionaries
 dictionaries_of e (ranges.Structs v children) = listed_of children.items
 dictionaries_of e (ranges.Indices n d) = listed_by e d.value.values
 dictionaries_of e _ = []
 
+-- the ranges hold a truth value for each slot
 pub record AreBools (len : ℕ) (body : List ℕ) (b : Bools) : Type 0 where
   pub validity : IsInside body b.validity
   pub values : IsInside body b.values
   pub laid : HasBools len (bytes_of body b.validity) (bytes_of body b.values)
 
+-- the ranges hold a number of the width for each slot
 pub record AreInts (len : ℕ) (body : List ℕ) (n : Ints) : Type 0 where
   pub whole : IsWidth n.width
   pub validity : IsInside body n.validity
   pub values : IsInside body n.values
   pub laid : HasInts len n.width (bytes_of body n.validity) (bytes_of body n.values)
 
+-- the ranges hold a part of the bytes for each slot
 pub record AreStrings (len : ℕ) (body : List ℕ) (s : Strings) : Type 0 where
   pub validity : IsInside body s.validity
   pub offsets : IsInside body s.offsets
   pub bytes : IsInside body s.bytes
   pub laid : HasStrings len (bytes_of body s.validity) (bytes_of body s.offsets) (bytes_of body s.bytes)
 
+-- the ranges hold a part of the child's slots for each slot, and the child is of the type's one field
 pub record AreLists (len : ℕ) (t : TypeShape) (body : List ℕ) (v o : ByteRange) (child : Column) : Type 0 where
   pub validity : IsInside body v
   pub offsets : IsInside body o
@@ -98,6 +108,7 @@ pub record AreLists (len : ℕ) (t : TypeShape) (body : List ℕ) (v o : ByteRan
   pub typed : AreOf t.children (child ∷ [])
   pub known : IsColumn child
 
+-- the range holds the validity of each slot, and the children are of the type's fields and no shorter
 pub record AreStructs (len : ℕ) (t : TypeShape) (body : List ℕ) (v : ByteRange) (children : List Column) : Type 0 where
   pub validity : IsInside body v
   pub laid : HasStructs len (bytes_of body v) (counts_of children)
@@ -108,6 +119,7 @@ pub record AreStructs (len : ℕ) (t : TypeShape) (body : List ℕ) (v : ByteRan
 abbrev pub IsFormat : ℕ → Bool → Ints → Type 0
 IsFormat width signed n = (n.width ≡ width) × (n.signed ≡ signed)
 
+-- the ranges hold an index for each slot, which has its value where it is valid, in a dictionary of the type
 pub record AreEntries (len : ℕ) (t : TypeShape) (e : Encoding) (body : List ℕ) (n : Ints) (d : ValueList) : Type 0 where
   pub format : IsFormat (index_width e.index) e.index.signed n
   pub ints : AreInts len body n
@@ -141,6 +153,7 @@ column_by t e len body r = record {
   dictionaries = dictionaries_of e r;
 }
 
+-- what an array stands for
 abbrev pub column_of : Inside → Column
 column_of a = column_by (type_view a.data_type) a.encoding a.len a.body a.ranges
 

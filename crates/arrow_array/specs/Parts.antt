@@ -23,10 +23,11 @@ value_slot list b children j = list_slot (buffer b 0) (buffer b 1) (get_or child
 value_slot struct b children j = struct_slot (buffer b 0) children j
 value_slot tag b children j = int_slot (width_of tag) (is_signed tag) (buffer b 0) (buffer b 1) j
 
--- the index in a slot, and the value that it refers to
+-- the index in a slot
 abbrev pub index_slot : Encoding → List (List ℕ) → ℕ → PlainValue
 index_slot e b j = int_slot (index_width e.index) e.index.signed (buffer b 0) (buffer b 1) j
 
+-- the value that the index in a slot refers to
 abbrev pub entry_of_slot : Encoding → List (List ℕ) → List PlainValue → ℕ → PlainValue
 entry_of_slot e b values j = entry_slot (index_width e.index) e.index.signed (buffer b 0) (buffer b 1) values j
 

@@ -17,6 +17,7 @@ mutual
     no_values : PlainValues
     more_values : PlainValue → PlainValues → PlainValues
 
+-- the values of a list, in their order
 abbrev pub values_of : List PlainValue → PlainValues
 values_of [] = no_values
 values_of (value ∷ values) = more_values value (values_of values)
@@ -25,6 +26,7 @@ values_of (value ∷ values) = more_values value (values_of values)
 abbrev pub value_at : List PlainValue → ℕ → PlainValue
 value_at values j = slice_index_or values j null_value
 
+-- whether it is null
 abbrev pub is_null_value : PlainValue → Bool
 is_null_value null_value = true
 is_null_value _ = false
@@ -54,6 +56,7 @@ abbrev pub items_in : PlainValue → Option PlainValues
 items_in (list_value values) = Some values
 items_in _ = None
 
+-- value k, null where there are fewer
 abbrev pub nth_value : ℕ → PlainValues → PlainValue
 nth_value k no_values = null_value
 nth_value zero (more_values value _) = value

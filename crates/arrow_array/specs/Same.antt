@@ -13,6 +13,7 @@ use Rattle.arrow_array.specs.Stored.{value_code}
 abbrev pub same_values : ValueList → ValueList → Bool
 same_values = on (λ (d : ValueList). d.values) (is_equal (coded_list value_code))
 
+-- it is a partial equivalence, as equality by `==` asks
 pub same_values_laws : IsPartialEquivalence same_values
 same_values_laws = on_per (λ (d : ValueList). d.values) (partial_equiv_from_equiv (is_equal_equivalence (coded_list value_code)))
 
@@ -20,11 +21,14 @@ same_values_laws = on_per (λ (d : ValueList). d.values) (partial_equiv_from_equ
 abbrev pub HaveSlot : ℕ → List Column → Type 0
 HaveSlot i cs = AllByRecursion (λ (c : Column). i + 1 ≤ length c.raw) cs
 
+-- what falls from a slot to its items or parts, and from these to a slot of theirs
 abbrev pub slot_measure : Column → ℕ
 slot_measure c = 2 * column_size c + 1
 
+-- the same of the items in an array
 abbrev pub items_measure : Column → ℕ
 items_measure c = 2 * column_size c + 2
 
+-- the same of one slot of several arrays
 abbrev pub parts_measure : List Column → ℕ
 parts_measure cs = 2 * most (λ c. column_size c + 1) cs

@@ -30,9 +30,11 @@ starts_from k (c ∷ cs) = k ∷ starts_from (k + length c.raw) cs
 abbrev pub starts_of : List Segment → List ℕ
 starts_of segments = map (λ (s : Segment). s.start) segments
 
+-- what a dictionary stands for: the values of its segments
 abbrev pub value_list_of : Inside → ValueList
 value_list_of d = record { data_type = type_view d.data_type; values = joined (columns_of d.segments.items) }
 
+-- what is known of the segments: their types, where each begins, and how many values they are
 pub record IsDictionary (d : Inside) : Type 0 where
   pub known : IsValueList (value_list_of d)
   pub typed : AllByRecursion (IsSegment (type_view d.data_type)) (columns_of d.segments.items)

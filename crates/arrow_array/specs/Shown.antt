@@ -8,6 +8,7 @@ use Rattle.arrow_array.specs.declared.array.SlotValue.{SlotValue}
 use Rattle.arrow_array.specs.declared.array.SlotValue.TheVariants as values
 use Rattle.arrow_array.specs.declared.array.Seen.TheVariants.{Nothing, Truth, Number, Binary, Text, Items, Parts}
 
+-- what is seen in slot i is its raw value
 abbrev pub Shows : Column → ℕ → Seen → Type 0
 Shows c i Nothing = value_at c.raw i ≡ null_value
 Shows c i (Truth b) = value_at c.raw i ≡ bool_value b

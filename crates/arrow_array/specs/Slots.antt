@@ -17,10 +17,11 @@ is_valid_at validity j = nat_eq (length validity) 0 || bit_of validity j
 abbrev pub or_null : List ℕ → ℕ → PlainValue → PlainValue
 or_null validity j value = if is_valid_at validity j then value else null_value
 
+-- the truth value of slot j: bit j (Columnar Format, "Fixed-size Primitive Layout")
 abbrev pub bool_slot : List ℕ → List ℕ → ℕ → PlainValue
 bool_slot validity values j = or_null validity j (bool_value (bit_of values j))
 
--- (Columnar Format, "Fixed-size Primitive Layout")
+-- the number of slot j (Columnar Format, "Fixed-size Primitive Layout")
 abbrev pub int_slot : ℕ → Bool → List ℕ → List ℕ → ℕ → PlainValue
 int_slot width signed validity values j = or_null validity j (int_value (int_of values (width * j) width signed))
 
@@ -32,9 +33,11 @@ place_of offsets j = number_at offsets (4 * j) 4
 abbrev pub range_of : {A : Type 0} → List ℕ → List A → ℕ → List A
 range_of offsets xs j = slice_range xs (place_of offsets j) (place_of offsets (j + 1))
 
+-- the byte string of slot j (Columnar Format, "Variable-size Binary Layout")
 abbrev pub binary_slot : List ℕ → List ℕ → List ℕ → ℕ → PlainValue
 binary_slot validity offsets bytes j = or_null validity j (binary_value (range_of offsets bytes j))
 
+-- the text of slot j, laid as a byte string is
 abbrev pub utf8_slot : List ℕ → List ℕ → List ℕ → ℕ → PlainValue
 utf8_slot validity offsets bytes j = or_null validity j (utf8_value (range_of offsets bytes j))
 

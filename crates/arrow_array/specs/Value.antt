@@ -14,8 +14,10 @@ value_step (Value-F.Text text) = utf8_value (string_bytes text)
 value_step (Value-F.List values) = list_value (values_of values.items)
 value_step (Value-F.Struct values) = struct_value (values_of values.items)
 
+-- what a value says
 abbrev pub value_view : Value → PlainValue
 value_view = fold-Value PlainValue value_step
 
+-- what each of them says, in their order
 abbrev pub values_view : List Value → List PlainValue
 values_view values = map value_view values

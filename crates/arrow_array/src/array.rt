@@ -2,8 +2,11 @@
 
 ghost use Rattle.std.specs.Prelude.{◌≡◌, ◌<◌, length, option_map, MatchOption, None};
 ghost use Rattle.arrow_types.specs.View.{type_view};
-ghost use Rattle.arrow_array.specs.Column.{HasItems, HasChild, HasField, HasEntry, HasNoIndex, HasDictionary, IsColumn, IsList, struct_fields, type_of_field};
-ghost use Rattle.arrow_array.specs.PlainValue.{value_at, is_null_value, bool_in, int_in, binary_in, utf8_in, items_in};
+ghost use Rattle.arrow_array.specs.Column.{HasItems, HasChild, HasField, HasEntry, HasNoIndex};
+ghost use Rattle.arrow_array.specs.Column.{HasDictionary, IsColumn, IsList, struct_fields};
+ghost use Rattle.arrow_array.specs.Column.{type_of_field};
+ghost use Rattle.arrow_array.specs.PlainValue.{value_at, is_null_value, bool_in, int_in, binary_in};
+ghost use Rattle.arrow_array.specs.PlainValue.{utf8_in, items_in};
 ghost use Rattle.arrow_array.specs.Shown.{HoldsValue, Shows, value_shown};
 
 use crate::buffers::{Bools, Ints, Strings};
@@ -37,8 +40,9 @@ pub(crate) enum Ranges {
 
 /// A column: its type, and a value in each slot (Columnar Format, "Physical Memory Layout").
 ///
-/// The values stay in the body of the message that brought them, which arrays share. Slots count from 0. In a
-/// dictionary-encoded column a slot holds an index, and the value is the one of that number in the column's dictionary.
+/// The values stay in the body of the message that brought them, which arrays share. Slots count
+/// from 0. In a dictionary-encoded column a slot holds an index, and the value is the one of that
+/// number in the column's dictionary.
 #[cycle(arrays)]
 #[derive(Drop)]
 pub struct Array {
@@ -67,7 +71,8 @@ impl Model for Array {
     ghost use Rattle.arrow_types.specs.View.{type_view};
     ghost use Rattle.arrow_array.specs.Falls.{depth_le-levels};
 
-    ghost size_decreases = { λ a h. depth_le-levels a.len (type_view a.data_type) a.encoding a.body a.ranges h.1 };
+    ghost size_decreases = { λ a h.
+        depth_le-levels a.len (type_view a.data_type) a.encoding a.body a.ranges h.1 };
 }
 
 // What stands in a slot: the one place that looks at the ranges.
@@ -95,7 +100,8 @@ pub enum SlotValue<'a> {
     Bytes(&'a [u8]),
     /// A text.
     Text(&'a str),
-    /// A list: the first and the end of the slots that its items stand in, and the array that has these slots.
+    /// A list: the first and the end of the slots that its items stand in, and the array that has
+    /// these slots.
     List(usize, usize, &'a Array),
     /// A struct: the arrays of its fields, and the slot in which each of them has its value.
     Struct(&'a [Array], usize),
@@ -128,7 +134,8 @@ impl Array {
         self.len
     }
 
-    /// The type of the values. In a dictionary-encoded column it is the type of the dictionary's values.
+    /// The type of the values. In a dictionary-encoded column it is the type of the dictionary's
+    /// values.
     pub fn data_type(&self) -> &DataType
         ensures { type_view result.now ≡ self.now.data_type }
     {
@@ -205,8 +212,9 @@ impl Array {
         }
     }
 
-    /// The number in slot `i` of a column of type Int, Date, Time or Timestamp, or the index in slot `i` of a
-    /// dictionary-encoded column of any type. None where the slot is null or holds something else.
+    /// The number in slot `i` of a column of type Int, Date, Time or Timestamp, or the index in
+    /// slot `i` of a dictionary-encoded column of any type. None where the slot is null or holds
+    /// something else.
     #[inline(always)]
     pub fn int_at(&self, i: usize) -> Option<i128>
         requires { i < length self.now.raw }
@@ -242,8 +250,8 @@ impl Array {
         }
     }
 
-    /// The items in slot `i`: the first and the end of their slots in the child array, and the child array. None where
-    /// the slot is null or holds something else.
+    /// The items in slot `i`: the first and the end of their slots in the child array, and the
+    /// child array. None where the slot is null or holds something else.
     #[inline(always)]
     pub fn list_at(&self, i: usize) -> Option<(usize, usize, &Array)>
         requires { i < length self.now.raw }
@@ -266,8 +274,8 @@ impl Array {
         }
     }
 
-    /// The array of field `k` of a struct: slot i of the struct is slot i of this array. It may have more slots. None
-    /// where slots do not hold structs, or these have no field `k`.
+    /// The array of field `k` of a struct: slot i of the struct is slot i of this array. It may
+    /// have more slots. None where slots do not hold structs, or these have no field `k`.
     pub fn field(&self, k: usize) -> Option<&Array>
         ensures { MatchOption result (type_of_field (struct_fields self.now) k ≡ None)
             (λ child. HasField self.now k child.now) }
@@ -278,7 +286,8 @@ impl Array {
         }
     }
 
-    /// The dictionary that the indices of the column refer to. None where the column is not dictionary-encoded.
+    /// The dictionary that the indices of the column refer to. None where the column is not
+    /// dictionary-encoded.
     pub fn dictionary(&self) -> Option<&Dictionary>
         ensures { MatchOption result (self.now.encoding ≡ None)
             (λ dictionary. HasDictionary self.now dictionary.now) }
@@ -289,8 +298,8 @@ impl Array {
         }
     }
 
-    /// Where the value that slot `i` refers to stands: an array and a place there. None where the slot is null, or the
-    /// column is not dictionary-encoded.
+    /// Where the value that slot `i` refers to stands: an array and a place there. None where the
+    /// slot is null, or the column is not dictionary-encoded.
     pub fn resolved(&self, i: usize) -> Option<(&Array, usize)>
         requires { i < length self.now.raw }
         ensures { MatchOption result (HasNoIndex self.now i)
@@ -305,12 +314,13 @@ impl Array {
         }
     }
 
-    /// The value of slot `i`, whatever its type. In a dictionary-encoded column it is the dictionary's value, and null
-    /// where the index or that value is. No memory is taken.
+    /// The value of slot `i`, whatever its type. In a dictionary-encoded column it is the
+    /// dictionary's value, and null where the index or that value is. No memory is taken.
     pub fn slot(&self, i: usize) -> SlotValue<'_>
         requires { i < length self.now.raw }
         ensures { HoldsValue self.now i result }
     {
+        // A field is named so that the proof has at hand what is known of every array.
         let _ = &self.len;
         match self.resolved(i) {
             Some((values, place)) => values.own_slot(place),
@@ -325,6 +335,7 @@ impl Array {
         ensures holds { HoldsValue self.now i result }
         ensures column { IsColumn self.now }
     {
+        // As in `slot`.
         let _ = &self.len;
         self.seen(i).at(i)
     }

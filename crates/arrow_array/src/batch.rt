@@ -21,7 +21,8 @@ pub enum BatchFault {
     ColumnType,
     /// A column has more or fewer slots than the batch has rows.
     ColumnLength,
-    /// An index has no value in its dictionary. No array brings it, since none is made with such an index.
+    /// An index has no value in its dictionary. No array brings it, since none is made with such an
+    /// index.
     IndexRange,
     /// A growth was refused. None is asked for.
     Memory,
@@ -63,10 +64,11 @@ impl fmt::Display for BatchFault {
 
 impl Error for BatchFault {}
 
-/// Rows of a schema, kept as one column for each of its fields (`Message.fbs`, table `RecordBatch`).
+/// Rows of a schema, kept as one column for each of its fields (`Message.fbs`, table
+/// `RecordBatch`).
 ///
-/// Each column has the type and the encoding of its field and a slot for each row. Nobody who holds a batch has to test
-/// that again. Batches share their schema.
+/// Each column has the type and the encoding of its field and a slot for each row. Nobody who holds
+/// a batch has to test that again. Batches share their schema.
 #[derive(Drop)]
 pub struct Batch {
     schema: Rc<Schema>,
@@ -81,16 +83,18 @@ impl Model for Batch {
 
     ghost coded = { table_code };
 
-    ghost view = { λ b. record { schema = b.schema.value; columns = b.columns.items; rows = b.rows } };
+    ghost view = { λ b.
+        record { schema = b.schema.value; columns = b.columns.items; rows = b.rows } };
 
-    ghost invariant = { λ b. IsTable (record { schema = b.schema.value; columns = b.columns.items; rows = b.rows }) };
+    ghost invariant = { λ b. IsTable
+        (record { schema = b.schema.value; columns = b.columns.items; rows = b.rows }) };
 }
 
 impl Batch {
     /// The batch of these columns, or the fault with the least number of those that apply.
     ///
-    /// Columns have no names of their own: the types, the encodings and the lengths are compared. A batch without
-    /// columns has `rows` rows all the same. Takes no memory.
+    /// Columns have no names of their own: the types, the encodings and the lengths are compared. A
+    /// batch without columns has `rows` rows all the same. Takes no memory.
     #[tactic(auto, using(crate::proofs::Batches::batches))]
     pub fn new(schema: Rc<Schema>, columns: Vec<Array>, rows: usize) -> Result<Batch, BatchFault>
         ensures { Judges result schema.value columns.items rows }

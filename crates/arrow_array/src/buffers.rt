@@ -1,8 +1,10 @@
 //! The buffers of the layouts without children, each as its range of the body.
 
 ghost use Rattle.std.specs.Prelude.{◌≡◌, ◌<◌, MatchOption};
-ghost use Rattle.arrow_array.specs.Node.{AreBools, AreInts, AreStrings, bool_at, int_at, binary_at, utf8_at, bytes_of};
-ghost use Rattle.arrow_array.specs.PlainValue.{null_value, bool_value, int_value, binary_value, utf8_value};
+ghost use Rattle.arrow_array.specs.Node.{AreBools, AreInts, AreStrings, bool_at, int_at, binary_at};
+ghost use Rattle.arrow_array.specs.Node.{utf8_at, bytes_of};
+ghost use Rattle.arrow_array.specs.PlainValue.{null_value, bool_value, int_value, binary_value};
+ghost use Rattle.arrow_array.specs.PlainValue.{utf8_value};
 ghost use Rattle.arrow_array.specs.Slots.{AreTexts};
 
 use crate::byte_range::{ByteRange, bytes_in};

@@ -17,6 +17,9 @@ impl ByteRange {
     pub const EMPTY: ByteRange = ByteRange { start: 0, end: 0 };
 }
 
+// It has no bytes, and lies inside of every body.
+const _: () = prove!(ByteRange::EMPTY.start == 0 && ByteRange::EMPTY.end == 0);
+
 // The bytes of a range.
 pub(crate) fn bytes_in(body: &[u8], range: ByteRange) -> &[u8]
     requires { IsInside body.now range }

@@ -1,6 +1,7 @@
 //! Dictionaries: values of one type that columns refer to by number.
 
-ghost use Rattle.std.specs.Prelude.{◌≡◌, ◌≤◌, ◌<◌, ◌+◌, ◌^◌, ◌++◌, ◌↔◌, length, IfOk, IsTrue, None, false, OnOk, OnErr, []};
+ghost use Rattle.std.specs.Prelude.{◌≡◌, ◌≤◌, ◌<◌, ◌+◌, ◌^◌, ◌++◌, ◌↔◌, length, IfOk, IsTrue, None};
+ghost use Rattle.std.specs.Prelude.{false, OnOk, OnErr, []};
 ghost use Rattle.arrow_types.specs.Schema.{has_encoding};
 ghost use Rattle.arrow_types.specs.View.{type_view};
 ghost use Rattle.arrow_array.specs.Column.{HasValue, IsValueList};
@@ -20,10 +21,11 @@ pub(crate) struct Segment {
     pub(crate) array: Rc<Array>,
 }
 
-/// A list of values of one type (Columnar Format, "Dictionary-encoded Layout"). A value may be null.
+/// A list of values of one type (Columnar Format, "Dictionary-encoded Layout"). A value may be
+/// null.
 ///
-/// It is kept as the arrays that brought its values, one after another. Copies share these arrays, so that a copy, and
-/// a dictionary that grows, cost nothing for the values that are there.
+/// It is kept as the arrays that brought its values, one after another. Copies share these arrays,
+/// so that a copy, and a dictionary that grows, cost nothing for the values that are there.
 #[cycle(arrays)]
 #[derive(Drop)]
 pub struct Dictionary {
@@ -51,13 +53,14 @@ impl Model for Dictionary {
     ghost use Rattle.arrow_types.specs.View.{type_view};
     ghost use Rattle.arrow_array.specs.Falls.{most_segments};
 
-    ghost size_decreases = { λ d h. omega (arith, most_segments (type_view d.data_type) d.segments.items h.typed) };
+    ghost size_decreases = { λ d h.
+        omega (arith, most_segments (type_view d.data_type) d.segments.items h.typed) };
 }
 
 #[tactic(auto, using(crate::proofs::Segments::segments))]
 impl Dictionary {
-    /// The dictionary without values, of values of this type, on no level of which is an encoding.
-    pub fn empty(alloc: Global, data_type: DataType) -> Dictionary
+    // The dictionary without values, of values of this type, on no level of which is an encoding.
+    pub(crate) fn empty(alloc: Global, data_type: DataType) -> Dictionary
         requires { has_encoding (type_view data_type).children ≡ false }
         ensures { result ≡ record { data_type = type_view data_type; values = [] } }
     {
@@ -68,11 +71,13 @@ impl Dictionary {
         }
     }
 
-    /// The dictionary of the values of an array, which has an encoding on no level. No value is copied.
+    /// The dictionary of the values of an array, which has an encoding on no level. No value is
+    /// copied.
     pub fn from_array(alloc: Global, values: Array) -> Result<Dictionary, AllocError>
         requires plain { values.encoding ≡ None }
         requires flat { has_encoding values.data_type.children ≡ false }
-        ensures { IfOk result (λ d. d ≡ record { data_type = values.data_type; values = values.raw }) }
+        ensures { IfOk result
+            (λ d. d ≡ record { data_type = values.data_type; values = values.raw }) }
     {
         let len = values.len();
         let data_type = values.data_type().copy(alloc)?;
@@ -129,13 +134,14 @@ impl Dictionary {
         (&segment.array, i - segment.start)
     }
 
-    /// Puts the values of the array behind those that are there, of which none is copied. Where a growth is refused
-    /// nothing changes.
+    /// Puts the values of the array behind those that are there, of which none is copied. Where a
+    /// growth is refused nothing changes.
     pub fn append(&mut self, alloc: Global, values: Array) -> Result<(), AllocError>
         requires typed { values.data_type ≡ self.now.data_type }
         requires plain { values.encoding ≡ None }
         requires few { length self.now.values + length values.raw ≤ 2 ^ 62 }
-        ensures ok { OnOk result (self.new ≡ record self.old { values = self.old.values ++ values.raw }) }
+        ensures ok { OnOk result
+            (self.new ≡ record self.old { values = self.old.values ++ values.raw }) }
         ensures err { OnErr result (self.new ≡ self.old) }
     {
         let len = self.len + values.len();
@@ -148,7 +154,8 @@ impl Dictionary {
         Ok(())
     }
 
-    /// An equal dictionary of the same type, which shares the values, or `AllocError` where a growth was refused.
+    /// An equal dictionary of the same type, which shares the values, or `AllocError` where a
+    /// growth was refused.
     pub fn copy(&self, alloc: Global) -> Result<Dictionary, AllocError>
         ensures { IfOk result (λ d. d ≡ self.now) }
     {
@@ -160,7 +167,8 @@ impl Dictionary {
     }
 }
 
-/// Dictionaries are equal where their values are, one by one, whatever their types and segments. No memory is taken.
+/// Dictionaries are equal where their values are, one by one, whatever their types and segments. No
+/// memory is taken.
 impl PartialEq for Dictionary {
     ghost use Rattle.arrow_array.specs.Same.{same_values, same_values_laws};
 

@@ -1,13 +1,17 @@
-//! Whether buffers hold the slots of a node: exact tests of what arrays ask for where they are made.
+//! Whether buffers hold the slots of a node: exact tests of what arrays ask for where they are
+//! made.
 //!
-//! A buffer is given by its bytes. An empty validity bitmap stands for none, and for no slots the offsets may be left out.
-//! Nothing here takes memory. The tests of offsets, texts and indices look at each slot, the others at the lengths.
+//! A buffer is given by its bytes. An empty validity bitmap stands for none, and for no slots the
+//! offsets may be left out. Nothing here takes memory. The tests of offsets, texts and indices look
+//! at each slot, the others at the lengths.
 
-ghost use Rattle.std.specs.Prelude.{◌≡◌, ◌↔◌, ◌≤◌, ◌<◌, ◌*◌, ℕ, pos, [], length, map, if◌then◌else◌, IsTrue};
+ghost use Rattle.std.specs.Prelude.{◌≡◌, ◌↔◌, ◌≤◌, ◌<◌, ◌*◌, ℕ, pos, [], length, map};
+ghost use Rattle.std.specs.Prelude.{if◌then◌else◌, IsTrue};
 ghost use Rattle.arrow_bits.specs.Numbers.{IsWidth, twos_complement};
 ghost use Rattle.std.specs.List.{AllByRecursion};
 ghost use Rattle.arrow_types.specs.View.{type_view};
-ghost use Rattle.arrow_array.specs.Layout.{HasBools, HasInts, HasLists, HasStrings, IsLaid, buffer, buffer_count};
+ghost use Rattle.arrow_array.specs.Layout.{HasBools, HasInts, HasLists, HasStrings, IsLaid, buffer};
+ghost use Rattle.arrow_array.specs.Layout.{buffer_count};
 ghost use Rattle.arrow_array.specs.Node.{bytes_of, IsInside};
 ghost use Rattle.arrow_array.specs.Slots.{HasBits, HasOffsets, AreIndices, AreTexts, IsIndex};
 
@@ -33,6 +37,9 @@ pub fn has_bools(len: usize, validity: &[u8], values: &[u8]) -> bool
 }
 
 /// Whether there is a number of `width` bytes for each of `len` slots.
+///
+/// A width is one that numbers and indices have: 1, 2, 4 or 8. It is a condition so that no product
+/// is taken, which could wrap: the length of the values is divided, by a constant for each width.
 pub fn has_ints(len: usize, width: usize, validity: &[u8], values: &[u8]) -> bool
     requires { IsWidth width }
     ensures { IsTrue result ↔ HasInts len width validity.now values.now }
@@ -67,7 +74,7 @@ pub fn has_offsets(len: usize, offsets: &[u8], top: usize) -> bool
     (len == 0 && offsets.is_empty()) || Offsets::check(offsets, len, top as u64)
 }
 
-/// Whether each valid slot of `len` is UTF-8.
+/// Whether each valid slot of `len` is UTF-8, where the buffers hold as many slots (`has_strings`).
 pub fn are_texts(len: usize, validity: &[u8], offsets: &[u8], bytes: &[u8]) -> bool
     requires { HasStrings len validity.now offsets.now bytes.now }
     ensures { IsTrue result ↔ AreTexts len validity.now offsets.now bytes.now }
@@ -75,7 +82,8 @@ pub fn are_texts(len: usize, validity: &[u8], offsets: &[u8], bytes: &[u8]) -> b
     are_slots_utf8(len, validity, offsets, bytes)
 }
 
-/// Whether each valid slot of `len` has an index to one of `count` values.
+/// Whether each valid slot of `len` has an index to one of `count` values, where the buffers hold
+/// as many slots (`has_ints`).
 pub fn are_indices(
     len: usize,
     width: usize,
@@ -119,7 +127,8 @@ fn are_indices_one_by_one(
     true
 }
 
-// The same of `len` indices of 32 bits that all are valid, compared without a sign: a negative one is then above the rest.
+// The same of `len` indices of 32 bits that all are valid, compared without a sign: a negative one
+// is then above the rest.
 fn are_indices_at_once(len: usize, signed: bool, indices: &[u8], count: usize) -> bool
     requires { 4 * len ≤ length indices.now }
     ensures { IsTrue result ↔ AreIndices len 4 signed [] indices.now count }
@@ -130,11 +139,12 @@ fn are_indices_at_once(len: usize, signed: bool, indices: &[u8], count: usize) -
     are_at_most(indices, len, last_index(signed, count))
 }
 
-// The last index of 32 bits to one of `count` values. A number of 32 bits is an index, by its sign or without one, where
-// it is not above this one, both read without a sign.
+// The last index of 32 bits to one of `count` values. A number of 32 bits is an index, by its sign
+// or without one, where it is not above this one, both read without a sign.
 fn last_index(signed: bool, count: usize) -> u32
     requires { 0 < count }
-    ensures { (n : ℕ) → n < 4294967296 → (n ≤ result) ↔ IsIndex count (if signed then twos_complement 4 n else pos n) }
+    ensures { (n : ℕ) → n < 4294967296 → (n ≤ result)
+        ↔ IsIndex count (if signed then twos_complement 4 n else pos n) }
 {
     let greatest = if signed {
         i32::MAX as usize
@@ -144,7 +154,8 @@ fn last_index(signed: bool, count: usize) -> u32
     (count - 1).min(greatest) as u32
 }
 
-/// How many buffers a node of this type and encoding has: a dictionary-encoded one has those of its indices.
+/// How many buffers a node of this type and encoding has: a dictionary-encoded one has those of its
+/// indices.
 pub fn buffer_count(data_type: &DataType, encoding: Option<Encoding>) -> usize
     ensures { result ≡ buffer_count (type_view data_type.now).tag encoding }
 {
@@ -164,7 +175,8 @@ pub fn buffer_count(data_type: &DataType, encoding: Option<Encoding>) -> usize
     }
 }
 
-/// Whether the buffers of a node of this type and encoding, and children of so many slots, hold `len` slots.
+/// Whether the buffers of a node of this type and encoding, and children of so many slots, hold
+/// `len` slots.
 pub fn is_laid(
     data_type: &DataType,
     encoding: Option<Encoding>,

@@ -1,14 +1,14 @@
 //! Arrays: columns of values that stay where they lie in a message body.
 //!
-//! An `Array` is made of a type, a number of slots, a body that it shares, and the ranges of the body that are its
-//! buffers; lists and structs hold the arrays of their children. Nothing of the body is copied. The accessors give the
-//! value of a slot by its index.
+//! An `Array` is made of a type, a number of slots, a body that it shares, and the ranges of the
+//! body that are its buffers; lists and structs hold the arrays of their children. Nothing of the
+//! body is copied. The accessors give the value of a slot by its index.
 //!
-//! Contracts name no range and no buffer: to them an array is a `Column`, its type and the plain value of each slot
-//! (`specs/Column.antt`, `specs/PlainValue.antt`). What bytes stand for which value is said by index in
-//! `specs/Slots.antt`. That the ranges lie inside the body, that offsets never fall and end inside, and that texts are
-//! UTF-8, is known of every array (`IsArray` in `specs/Node.antt`): it is asked for where one is made, and tested
-//! nowhere again.
+//! Contracts name no range and no buffer: to them an array is a `Column`, its type and the plain
+//! value of each slot (`specs/Column.antt`, `specs/PlainValue.antt`). What bytes stand for which
+//! value is said by index in `specs/Slots.antt`. That the ranges lie inside the body, that offsets
+//! never fall and end inside, and that texts are UTF-8, is known of every array (`IsArray` in
+//! `specs/Node.antt`): it is asked for where one is made, and tested nowhere again.
 #![tactic(auto)]
 
 mod array;

@@ -1,6 +1,7 @@
 //! Arrays out of the parts of a node: its buffers in a body, its children, its dictionary.
 
-ghost use Rattle.std.specs.Prelude.{◌≡◌, ◌≤◌, IfOk, None, Some, length, map, false, [], slice_index_or};
+ghost use Rattle.std.specs.Prelude.{◌≡◌, ◌≤◌, IfOk, None, Some, length, map, false, []};
+ghost use Rattle.std.specs.Prelude.{slice_index_or};
 ghost use Rattle.std.specs.List.{AllByRecursion};
 ghost use Rattle.arrow_types.specs.Schema.{has_encoding};
 ghost use Rattle.arrow_types.specs.View.{type_view};
@@ -20,12 +21,14 @@ use bytes::Bytes;
 use std::alloc::{AllocError, Global};
 
 impl Array {
-    /// The array of one node: `len` slots of the field's type, out of its buffers, in the order of the format, its
-    /// children, and for a dictionary-encoded field its dictionary (without one, the empty dictionary).
+    /// The array of one node: `len` slots of the field's type, out of its buffers, in the order of
+    /// the format, its children, and for a dictionary-encoded field its dictionary (without one,
+    /// the empty dictionary).
     ///
-    /// The body is shared and nothing of it is copied; `AllocError` where another growth was refused. An empty range
-    /// stands for an absent validity bitmap, and for the offsets of no slots. That the buffers hold `len` slots, that
-    /// texts are UTF-8 and indices have their values, is known by the caller, and not tested.
+    /// The body is shared and nothing of it is copied; `AllocError` where another growth was
+    /// refused. An empty range stands for an absent validity bitmap, and for the offsets of no
+    /// slots. That the buffers hold `len` slots, that texts are UTF-8 and indices have their
+    /// values, is known by the caller, and not tested.
     pub fn from_parts(
         alloc: Global,
         field: &Field,
@@ -36,9 +39,11 @@ impl Array {
         dictionary: Option<Dictionary>,
     ) -> Result<Array, AllocError>
         requires few { len ≤ 2147483647 }
-        requires children { AreChildren (type_view field.now.data_type) field.now.dictionary children.items }
+        requires children { AreChildren (type_view field.now.data_type) field.now.dictionary
+            children.items }
         requires dictionary { IsOfType (type_view field.now.data_type) dictionary }
-        requires count { buffer_count (type_view field.now.data_type).tag field.now.dictionary ≤ length buffers.now }
+        requires count { buffer_count (type_view field.now.data_type).tag field.now.dictionary
+            ≤ length buffers.now }
         requires inside { AllByRecursion (IsInside body.now) buffers.now }
         requires layout { IsLaid (type_view field.now.data_type).tag field.now.dictionary
             len (map (bytes_of body.now) buffers.now) (counts_of children.items) }
@@ -46,7 +51,8 @@ impl Array {
             len (map (bytes_of body.now) buffers.now) }
         requires index { IsIndexed field.now.dictionary
             len (map (bytes_of body.now) buffers.now) (values_in dictionary) }
-        ensures { IfOk result (λ a. a ≡ node_column (type_view field.now.data_type) field.now.dictionary
+        ensures { IfOk result
+            (λ a. a ≡ node_column (type_view field.now.data_type) field.now.dictionary
             len (map (bytes_of body.now) buffers.now) children.items (values_in dictionary)) }
     {
         match field.dictionary {
@@ -84,7 +90,8 @@ fn of_ranges(
 ) -> Result<Array, AllocError>
     requires few { len ≤ 2147483647 }
     requires lies { AreRanges len (type_view data_type.now) encoding body.now ranges }
-    ensures { IfOk result (λ a. a ≡ column_by (type_view data_type.now) encoding len body.now ranges) }
+    ensures { IfOk result
+        (λ a. a ≡ column_by (type_view data_type.now) encoding len body.now ranges) }
 {
     Ok(Array {
         data_type: data_type.copy(alloc)?,
@@ -103,13 +110,15 @@ fn or_empty(
 ) -> Result<Dictionary, AllocError>
     requires flat { has_encoding (type_view data_type.now).children ≡ false }
     requires typed { IsOfType (type_view data_type.now) dictionary }
-    ensures same { IfOk result (λ d. d ≡ record { data_type = type_view data_type.now; values = values_in dictionary }) }
+    ensures same { IfOk result
+        (λ d. d ≡ record { data_type = type_view data_type.now; values = values_in dictionary }) }
     ensures known { IfOk result IsValueList }
 {
     let dictionary = match dictionary {
         Some(dictionary) => dictionary,
         None => Dictionary::empty(alloc, data_type.copy(alloc)?),
     };
+    // Called for what it says of every dictionary.
     dictionary.data_type();
     Ok(dictionary)
 }
@@ -132,7 +141,8 @@ fn indices(encoding: Encoding, buffers: &[ByteRange]) -> Ints
 // The buffers of numbers of the type.
 fn numbers(data_type: &DataType, buffers: &[ByteRange]) -> Ints
     requires { 2 ≤ length buffers.now }
-    ensures format { IsFormat (width_of (type_view data_type.now).tag) (is_signed (type_view data_type.now).tag) result }
+    ensures format { IsFormat (width_of (type_view data_type.now).tag)
+        (is_signed (type_view data_type.now).tag) result }
     ensures validity { result.validity ≡ slice_index_or buffers.now 0 result.validity }
     ensures values { result.values ≡ slice_index_or buffers.now 1 result.values }
 {
@@ -156,11 +166,14 @@ fn value_ranges(
     requires children { AreOf (type_view data_type.now).children children.items }
     requires count { buffer_count (type_view data_type.now).tag None ≤ length buffers.now }
     requires inside { AllByRecursion (IsInside body.now) buffers.now }
-    requires layout { IsLaid (type_view data_type.now).tag None len (map (bytes_of body.now) buffers.now) (counts_of children.items) }
-    requires text { IsText (type_view data_type.now).tag None len (map (bytes_of body.now) buffers.now) }
+    requires layout { IsLaid (type_view data_type.now).tag None
+        len (map (bytes_of body.now) buffers.now) (counts_of children.items) }
+    requires text { IsText (type_view data_type.now).tag None
+        len (map (bytes_of body.now) buffers.now) }
     ensures lies { IfOk result (λ r. AreRanges len (type_view data_type.now) None body.now r) }
     ensures same { IfOk result (λ r. column_by (type_view data_type.now) None len body.now r
-        ≡ node_column (type_view data_type.now) None len (map (bytes_of body.now) buffers.now) children.items []) }
+        ≡ node_column (type_view data_type.now) None
+        len (map (bytes_of body.now) buffers.now) children.items []) }
 {
     opened(&children);
     match data_type {
@@ -182,7 +195,7 @@ fn value_ranges(
         DataType::List(_) => {
             let mut children = children;
             let Some(child) = children.pop() else {
-                return Err(AllocError);
+                unreachable!()
             };
             Ok(Ranges::Lists {
                 validity: buffers[0],

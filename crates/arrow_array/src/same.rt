@@ -8,8 +8,9 @@ ghost use Rattle.arrow_array.specs.Same.{HaveSlot};
 use crate::array::{Array, Seen};
 
 impl Array {
-    /// Whether slot `i` and slot `j` of another array hold equal values, whatever the types of the two arrays are. Two
-    /// nulls are equal. Lists and structs are compared value by value, wherever their items lie. No memory is taken.
+    /// Whether slot `i` and slot `j` of another array hold equal values, whatever the types of the
+    /// two arrays are. Two nulls are equal. Lists and structs are compared value by value, wherever
+    /// their items lie. No memory is taken.
     #[cycle(same)]
     pub fn same_slot(&self, i: usize, other: &Array, j: usize) -> bool
         requires here { i < length self.now.raw }

@@ -3,7 +3,8 @@
 ghost use Rattle.std.specs.Prelude.{◌≡◌, ◌+◌, ◌*◌, ◌<◌, ◌≤◌, length, MatchOption, true, false};
 ghost use Rattle.arrow_bits.specs.Numbers.{IsWidth};
 ghost use Rattle.arrow_array.specs.PlainValue.{null_value, bool_value, int_value};
-ghost use Rattle.arrow_array.specs.Slots.{is_valid_at, place_of, range_of, HasBits, HasOffsets, AreTexts, bool_slot, int_slot};
+ghost use Rattle.arrow_array.specs.Slots.{is_valid_at, place_of, range_of, HasBits, HasOffsets};
+ghost use Rattle.arrow_array.specs.Slots.{AreTexts, bool_slot, int_slot};
 
 use arrow_bits::{Offsets, bit, int_at};
 
@@ -51,7 +52,7 @@ pub(crate) fn number_at(
 }
 
 // Where the range of slot `i` of `len` begins and ends, where it is valid.
-#[tactic(auto, using(arrow_bits::proofs::Rising::length_offsets, arrow_bits::proofs::Rising::offset_found))]
+#[tactic(auto, using(crate::proofs::Cuts::offsets))]
 pub(crate) fn range_at(
     validity: &[u8],
     offsets: &[u8],

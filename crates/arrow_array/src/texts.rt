@@ -1,9 +1,11 @@
 //! Whether slots hold texts.
 //!
-//! The bytes of all slots are looked at together. Where they are a text, a slot of them is one exactly where it begins
-//! and ends between characters. Where they are not, as null slots may hide any bytes, each slot is looked at by itself.
+//! The bytes of all slots are looked at together. Where they are a text, a slot of them is one
+//! exactly where it begins and ends between characters. Where they are not, as null slots may hide
+//! any bytes, each slot is looked at by itself.
 
-ghost use Rattle.std.specs.Prelude.{◌≡◌, ◌↔◌, ◌-◌, ◌+◌, ◌≤◌, ◌<◌, length, slice_range, true, IsTrue, IsUtf8, IsCharBoundary};
+ghost use Rattle.std.specs.Prelude.{◌≡◌, ◌↔◌, ◌-◌, ◌+◌, ◌≤◌, ◌<◌, length, slice_range, true};
+ghost use Rattle.std.specs.Prelude.{IsTrue, IsUtf8, IsCharBoundary};
 ghost use Rattle.arrow_array.specs.Layout.{HasStrings};
 ghost use Rattle.arrow_array.specs.Slots.{place_of, range_of, is_valid_at, AreTexts, HasOffsets};
 
@@ -25,11 +27,12 @@ pub(crate) fn are_slots_utf8(len: usize, validity: &[u8], offsets: &[u8], bytes:
 }
 
 // The bytes of all slots, whether these are valid or not.
-#[tactic(auto, using(arrow_bits::proofs::Rising::length_offsets, arrow_bits::proofs::Rising::offset_found, crate::proofs::Cuts::places_order))]
+#[tactic(auto, using(crate::proofs::Cuts::offsets))]
 fn all_slots<'a>(len: usize, offsets: &[u8], bytes: &'a [u8]) -> &'a [u8]
     requires slots { 0 < len }
     requires rising { HasOffsets len (length bytes.now) offsets.now }
-    ensures same { result.now ≡ slice_range bytes.now (place_of offsets.now 0) (place_of offsets.now len) }
+    ensures same { result.now
+        ≡ slice_range bytes.now (place_of offsets.now 0) (place_of offsets.now len) }
     ensures inside { place_of offsets.now len ≤ length bytes.now }
 {
     let places = Offsets::new_unchecked(offsets, len, bytes.len() as u64);
@@ -40,7 +43,8 @@ fn all_slots<'a>(len: usize, offsets: &[u8], bytes: &'a [u8]) -> &'a [u8]
 fn are_parts(len: usize, validity: &[u8], offsets: &[u8], bytes: &[u8], text: &str) -> bool
     requires laid { HasStrings len validity.now offsets.now bytes.now }
     requires inside { place_of offsets.now len ≤ length bytes.now }
-    requires whole { text.now ≡ slice_range bytes.now (place_of offsets.now 0) (place_of offsets.now len) }
+    requires whole { text.now
+        ≡ slice_range bytes.now (place_of offsets.now 0) (place_of offsets.now len) }
     ensures { IsTrue result ↔ AreTexts len validity.now offsets.now bytes.now }
 {
     for j in 0..len {
@@ -56,7 +60,8 @@ fn is_part(len: usize, validity: &[u8], offsets: &[u8], bytes: &[u8], text: &str
     requires slot { j < len }
     requires laid { HasStrings len validity.now offsets.now bytes.now }
     requires inside { place_of offsets.now len ≤ length bytes.now }
-    requires whole { text.now ≡ slice_range bytes.now (place_of offsets.now 0) (place_of offsets.now len) }
+    requires whole { text.now
+        ≡ slice_range bytes.now (place_of offsets.now 0) (place_of offsets.now len) }
     ensures { IsTrue result
         ↔ (is_valid_at validity.now j ≡ true → IsUtf8 (range_of offsets.now bytes.now j)) }
 {
@@ -68,7 +73,7 @@ fn is_part(len: usize, validity: &[u8], offsets: &[u8], bytes: &[u8], text: &str
 }
 
 // Where slot `j` begins and ends in the bytes of all slots.
-#[tactic(auto, using(arrow_bits::proofs::Rising::length_offsets, arrow_bits::proofs::Rising::offset_found, crate::proofs::Cuts::places_order))]
+#[tactic(auto, using(crate::proofs::Cuts::offsets))]
 fn places_of(len: usize, offsets: &[u8], top: usize, j: usize) -> (usize, usize)
     requires slot { j < len }
     requires rising { HasOffsets len top offsets.now }

@@ -11,8 +11,8 @@ use std::alloc::{AllocError, Global};
 
 /// The value of one slot (Columnar Format, "Terminology").
 ///
-/// Dates, times and timestamps are their numbers in their unit. In a dictionary-encoded column the value of a slot is
-/// its index.
+/// Dates, times and timestamps are their numbers in their unit. In a dictionary-encoded column the
+/// value of a slot is its index.
 #[derive(Debug, Drop)]
 pub enum Value {
     /// No value.

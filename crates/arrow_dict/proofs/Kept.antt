@@ -24,6 +24,7 @@ type_in f = type_of (field_view f)
 abbrev pub kept_for : ℤ → List (ℤ × Field) → Option Field
 kept_for id es = lookup (is_at (int_cmp id)) es
 
+-- the type of the field that a test chooses
 map_cond : (b : Bool) (f : Field) (o : Option Field) → option_map type_in (cond b (Some f) o) ≡ cond b (Some (type_in f)) (option_map type_in o)
 map_cond true f o = refl
 map_cond false f o = refl
@@ -36,6 +37,7 @@ named_kept (e ∷ es) id =
     ∙ ap (λ b. cond b (Some (type_in e.1)) (option_map type_in (kept_for id es))) (int_eq_equiv.symm e.0 id)
     ∙ sym (map_cond (int_eq id e.0) e.1 (kept_for id es))
 
+-- a field that a test chooses is that of values of its type
 shown_cond : (b : Bool) (f : Field) (o : Option Field) → field_view f ≡ value_field (type_in f) → option_map field_view o ≡ option_map value_field (option_map type_in o)
     → option_map field_view (cond b (Some f) o) ≡ option_map value_field (option_map type_in (cond b (Some f) o))
 shown_cond true f o here rest = ap (λ x. Some x) here
@@ -46,6 +48,7 @@ shown_kept : (es : List (ℤ × Field)) (id : ℤ) → AllByRecursion IsValueFie
 shown_kept [] id all = refl
 shown_kept (e ∷ es) id all = shown_cond (int_eq id e.0) e.1 (kept_for id es) all.0 (shown_kept es id all.1)
 
+-- a field that was looked up says what the kept one says
 copied : (r : Option (Bor Field)) → option_map (λ (f : Bor Field). field_view f.now) r ≡ option_map field_view (option_copied r)
 copied None = refl
 copied (Some f) = refl
@@ -56,6 +59,7 @@ pub answered : (es : List (ℤ × Field)) (id x : ℤ) (r : Option (Bor Field)) 
 answered es id x r all passed is =
     copied r ∙ ap (option_map field_view) (is ∙ ap (λ y. kept_for y es) passed) ∙ shown_kept es id all ∙ ap (option_map value_field) (sym (named_kept es id))
 
+-- where a field is kept for the id, one more of that id changes nothing
 there_kept : (ds : List DictionaryField) (d : DictionaryField) (o : Option Field) → value_type_of ds d.id ≡ option_map type_in o → true ≡ is_some o → NameSame ds (ds ++ d ∷ [])
 there_kept ds d None is some = cc
 there_kept ds d (Some f) is some = same_old ds d (type_in f) is
@@ -64,6 +68,7 @@ there_kept ds d (Some f) is some = same_old ds d (type_in f) is
 pub kept_old : (es : List (ℤ × Field)) (d : DictionaryField) (x : ℤ) → x ≡ d.id → true ≡ is_some (kept_for x es) → NameSame (map named es) (map named es ++ d ∷ [])
 kept_old es d x passed some = there_kept (map named es) d (kept_for d.id es) (named_kept es d.id) (some ∙ ap (λ y. is_some (kept_for y es)) passed)
 
+-- where none is kept, no type is named
 not_kept : (o : Option Field) → false ≡ is_some o → option_map type_in o ≡ None
 not_kept None none = refl
 not_kept (Some f) none = cc
@@ -79,6 +84,7 @@ kept_new es fs d x f passed typed none step =
     ∙ ap (λ t. cond (int_eq d.id q) (Some t) (option_map type_in (kept_for q es))) typed
     ∙ ap (λ o. cond (int_eq d.id q) (Some d.value_type) o) (sym (named_kept es q)))
 
+-- what holds of all three holds of the one that an order chooses
 by_ordering : (P : List (ℤ × Field) → Type 0) (o : Ordering) (a b c : List (ℤ × Field)) → P a → P b → P c → P (match_ordering o a b c)
 by_ordering P Less a b c less equal greater = less
 by_ordering P Equal a b c less equal greater = equal
@@ -95,5 +101,6 @@ all_kept (e ∷ es) x f all here =
 pub made_shown : (x : ℤ) (f : Field) (t : TypeShape) → field_view f ≡ value_field t → IsValueField (x, f)
 made_shown x f t shown = shown ∙ ap (λ s. value_field (type_of s)) (sym shown)
 
+-- and its values have that type
 pub made_typed : (f : Field) (t : TypeShape) → field_view f ≡ value_field t → type_in f ≡ t
 made_typed f t shown = ap type_of shown

@@ -14,6 +14,7 @@ abbrev pub first_of : Option TypeShape → Option TypeShape → Option TypeShape
 first_of (Some t) o = Some t
 first_of None o = o
 
+-- a test before the first type
 first_under : (b : Bool) (t : TypeShape) (o p : Option TypeShape) → cond b (Some t) (first_of o p) ≡ first_of (cond b (Some t) o) p
 first_under true t o p = refl
 first_under false t o p = refl
@@ -30,10 +31,12 @@ pub same_append : (ds es more : List DictionaryField) → NameSame ds es → Nam
 same_append ds es more same id =
     named_append ds more id ∙ ap (λ o. first_of o (value_type_of more id)) (same id) ∙ sym (named_append es more id)
 
+-- a type with none behind it
 first_alone : (o : Option TypeShape) → first_of o None ≡ o
 first_alone (Some t) = refl
 first_alone None = refl
 
+-- a type that is there comes first
 type_there : (o : Option TypeShape) (t : TypeShape) (p : Option TypeShape) → o ≡ Some t → o ≡ first_of o p
 type_there (Some u) t p is = refl
 type_there None t p is = cc
@@ -75,6 +78,7 @@ same_step start found own below rest all after_own after by_own by_below invaria
     (append_assoc (found ++ own) below rest ∙ append_assoc found own (below ++ rest) ∙ ap (λ ds. found ++ ds) (sym (append_assoc own below rest)))
     ∙ invariant id
 
+-- fields that share an id have one type, and so have those behind the first
 one_type_behind : (d : DictionaryField) (ds : List DictionaryField) → OneType (d ∷ ds) → OneType ds
 one_type_behind d ds one i j e f at_i at_j same = one (suc i) (suc j) e f at_i at_j same
 

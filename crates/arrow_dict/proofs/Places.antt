@@ -1,6 +1,6 @@
 -- What stands at the place of an id among rising ones.
 use Rattle.std.proofs.Common.{◌≡◌, ◌≢◌, ◌<◌, ◌+◌, ◌<ℤ◌, ℕ, zero, suc, ℤ, false, List, [], ◌∷◌, length, get_or, set, Some, None, Result, Ok, Err, MatchResult, ⊎_elim, refl, sym, ap, ◌∙◌, subst, arith}
-use Rattle.std.specs.List.{AllByRecursion, insert}
+use Rattle.std.specs.List.{insert}
 use Rattle.std.specs.List.Sorted.{IsSearchInRange, IsBinarySearchResult, IsNonDecreasingBy}
 use Rattle.std.specs.Ordering.{int_cmp, is_lt, ordering_index}
 use Rattle.std.proofs.lemmas.Bool.{cases_lt}
@@ -9,26 +9,23 @@ use Rattle.std.proofs.lemmas.Int.{ints, to_z-of_z}
 use mir.Syntax.{w64}
 use mir.Val.{SFits, of_z, to_z}
 use Rattle.std.proofs.lemmas.List.{set-get_or}
+use Rattle.std.proofs.lemmas.List.Elements.{All-from_recursion}
 use Rattle.std.proofs.lemmas.List.Sorted.{searchable_from_sorted}
 use Rattle.arrow_array.specs.Column.{ValueList}
 use Rattle.arrow_array.specs.Listed.{listed}
+use Rattle.arrow_array.proofs.Listing.{listed_absent, listed_at}
 use Rattle.arrow_dict.specs.Dictionaries.{IsRising, placed}
 use Rattle.arrow_dict.specs.Places.{IsAt, IsGap}
-use Rattle.arrow_dict.proofs.Placing.{apart, by_order, lesser_apart, listed_first, listed_next, placed_before, placed_behind, placed_over, rising_placed}
-
--- what holds of all holds of each
-all_at : (P : ℤ × ValueList → Type 0) (ds : List (ℤ × ValueList)) (i : ℕ) (e : ℤ × ValueList) → AllByRecursion P ds → i < length ds → P (get_or ds i e)
-all_at P [] i e all h = absurd (omega arith)
-all_at P (d ∷ ds) zero e all h = all.0
-all_at P (d ∷ ds) (suc i) e all h = all_at P ds i e all.1 (omega arith)
+use Rattle.arrow_dict.proofs.Placing.{by_order, lesser_other, placed_before, placed_behind, placed_over, rising_placed}
 
 -- ids rise from place to place
 rises : (ds : List (ℤ × ValueList)) (i j : ℕ) (e : ℤ × ValueList) → IsRising ds → i < j → j < length ds → (get_or ds i e).0 <ℤ (get_or ds j e).0
 rises [] i j e rising less h = absurd (omega arith)
 rises (d ∷ ds) i zero e rising less h = absurd (omega arith)
-rises (d ∷ ds) zero (suc j) e rising less h = all_at (λ f. d.0 <ℤ f.0) ds j e rising.0 (omega arith)
+rises (d ∷ ds) zero (suc j) e rising less h = All-from_recursion (λ (f : ℤ × ValueList). d.0 <ℤ f.0) ds rising.0 j e (omega arith)
 rises (d ∷ ds) (suc i) (suc j) e rising less h = rises ds i j e rising.1 (omega arith) (omega arith)
 
+-- what is greater is not less
 not_less : (x y : ℤ) → y <ℤ x → is_lt (int_cmp x y) ≡ false
 not_less x y greater = by_order x y (λ is less. absurd (omega (arith, ints))) (λ is same. ap is_lt is) (λ is h. ap is_lt is)
 
@@ -51,28 +48,19 @@ searched ds id (Err i) rising inside parted =
     }
 
 -- the entry that stands at the place of its id is listed for it
-pub listed_at : (ds : List (ℤ × ValueList)) (i : ℕ) (e : ℤ × ValueList) → IsRising ds → i < length ds → listed ds (get_or ds i e).0 ≡ Some (get_or ds i e).1
-listed_at [] i e rising h = absurd (omega arith)
-listed_at (d ∷ ds) zero e rising h = listed_first d.0 d.1 ds
-listed_at (d ∷ ds) (suc i) e rising h =
-    listed_next d ds (get_or ds i e).0 (lesser_apart d.0 (get_or ds i e).0 (all_at (λ f. d.0 <ℤ f.0) ds i e rising.0 (omega arith)))
-    ∙ listed_at ds i e rising.1 (omega arith)
+entry_listed : (ds : List (ℤ × ValueList)) (i : ℕ) (e : ℤ × ValueList) → IsRising ds → i < length ds → listed ds (get_or ds i e).0 ≡ Some (get_or ds i e).1
+entry_listed ds i e rising h =
+    listed_at ds (get_or ds i e).0 i e (λ k l. lesser_other (get_or ds k e).0 (get_or ds i e).0 (rises ds k i e rising l h)) h refl
 
 -- an entry that is put in place of it
 pub placed_at : (ds : List (ℤ × ValueList)) (i : ℕ) (e : ℤ × ValueList) (v : ValueList) → IsRising ds → i < length ds → placed (get_or ds i e).0 v ds ≡ set ds i ((get_or ds i e).0, v)
 placed_at [] i e v rising h = absurd (omega arith)
 placed_at (d ∷ ds) zero e v rising h = placed_over d.0 v d ds refl
 placed_at (d ∷ ds) (suc i) e v rising h =
-    placed_behind (get_or ds i e).0 v d ds (all_at (λ f. d.0 <ℤ f.0) ds i e rising.0 (omega arith))
+    placed_behind (get_or ds i e).0 v d ds (All-from_recursion (λ (f : ℤ × ValueList). d.0 <ℤ f.0) ds rising.0 i e (omega arith))
     ∙ ap (λ es. d ∷ es) (placed_at ds i e v rising.1 (omega arith))
 
--- nothing is listed for an id that no entry has
-listed_absent : (ds : List (ℤ × ValueList)) (id : ℤ) → ((k : ℕ) (e : ℤ × ValueList) → k < length ds → (get_or ds k e).0 ≢ id) → listed ds id ≡ None
-listed_absent [] id absent = refl
-listed_absent (d ∷ ds) id absent =
-    listed_next d ds id (apart d.0 id (absent 0 d (omega arith)))
-    ∙ listed_absent ds id (λ k e h. absent (suc k) e (omega arith))
-
+-- no entry has an id that stands in a gap
 not_in_gap : (ds : List (ℤ × ValueList)) (id : ℤ) (i k : ℕ) (e : ℤ × ValueList) → IsGap ds id i → k < length ds → (get_or ds k e).0 ≢ id
 not_in_gap ds id i k e gap h same =
     ⊎_elim
@@ -80,6 +68,7 @@ not_in_gap ds id i k e gap h same =
     (λ above. let greater : id <ℤ (get_or ds k e).0 = gap.above k e above h in omega (arith, ints))
     (cases_lt k i)
 
+-- nothing is listed for it
 pub listed_gap : (ds : List (ℤ × ValueList)) (id : ℤ) (i : ℕ) → IsGap ds id i → listed ds id ≡ None
 listed_gap ds id i gap = listed_absent ds id (λ k e h. not_in_gap ds id i k e gap h)
 
@@ -103,7 +92,7 @@ module _ (ds : List (ℤ × ValueList)) (id : ℤ) (i : ℕ) (e : ℤ × ValueLi
 
   -- what was read is what is listed
   pub found : listed ds id ≡ Some e.1
-  found = ap (λ x. listed ds x) (sym (at.has e)) ∙ listed_at ds i e rising at.inside ∙ ap (λ (x : ℤ × ValueList). Some x.1) (sym is)
+  found = ap (λ x. listed ds x) (sym (at.has e)) ∙ entry_listed ds i e rising at.inside ∙ ap (λ (x : ℤ × ValueList). Some x.1) (sym is)
 
   -- what is written there is what is placed
   pub placed_found : (v : ValueList) → placed id v ds ≡ set ds i (id, v)
@@ -118,6 +107,7 @@ module _ (ds : List (ℤ × ValueList)) (id : ℤ) (i : ℕ) (e : ℤ × ValueLi
 pub at_passed : (ds old : List (ℤ × ValueList)) (id : ℤ) (i : ℕ) → ds ≡ old → SFits w64 id → IsAt old (to_z w64 (of_z w64 id)) i → IsAt ds id i
 at_passed ds old id i view fits at = subst (λ x. IsAt x id i) (sym view) (subst (λ x. IsAt old x i) (to_z-of_z w64 id fits) at)
 
+-- and a gap
 pub gap_passed : (ds old : List (ℤ × ValueList)) (id : ℤ) (i : ℕ) → ds ≡ old → SFits w64 id → IsGap old (to_z w64 (of_z w64 id)) i → IsGap ds id i
 gap_passed ds old id i view fits gap = subst (λ x. IsGap x id i) (sym view) (subst (λ x. IsGap old x i) (to_z-of_z w64 id fits) gap)
 
@@ -126,6 +116,7 @@ module _ (ds old : List (ℤ × ValueList)) (id x : ℤ) (i : ℕ) (v : ValueLis
   pub written : (e : ℤ × ValueList) → IsAt ds id i → e ≡ get_or ds i e → set ds i (x, v) ≡ placed id v old
   written e at is = ap (λ y. set ds i (y, v)) passed ∙ sym (placed_found ds id i e rising at is v) ∙ ap (placed id v) view
 
+  -- the ids go on rising
   pub written_rises : (e : ℤ × ValueList) → IsAt ds id i → e ≡ get_or ds i e → IsRising (set ds i (x, v))
   written_rises e at is = subst IsRising (sym (written e at is)) (rising_placed old id v (subst IsRising view rising))
 
@@ -133,5 +124,6 @@ module _ (ds old : List (ℤ × ValueList)) (id x : ℤ) (i : ℕ) (v : ValueLis
   pub put_in : IsGap ds id i → insert ds i (x, v) ≡ placed id v old
   put_in gap = ap (λ y. insert ds i (y, v)) passed ∙ sym (placed_gap ds id i v gap) ∙ ap (placed id v) view
 
+  -- the ids go on rising
   pub put_in_rises : IsGap ds id i → IsRising (insert ds i (x, v))
   put_in_rises gap = subst IsRising (sym (put_in gap)) (rising_placed old id v (subst IsRising view rising))

@@ -1,4 +1,5 @@
-//! Laws of the definitions alone: a store is a finite map from ids to dictionaries, and of a schema each id has one type.
+//! Laws of the definitions alone: a store is a finite map from ids to dictionaries, and of a schema
+//! each id has one type.
 
 ghost use Rattle.arrow_dict.specs.Laws.{NamesEach, PlacedElsewhere, PlacedHere, StaysRising};
 
@@ -17,7 +18,8 @@ pub fn stays_rising()
     ensures { StaysRising }
 {}
 
-/// Of a schema's fields, each dictionary-encoded one has the type that is named for its id, and not the first alone.
+/// Of a schema's fields, each dictionary-encoded one has the type that is named for its id, and not
+/// the first alone.
 pub fn names_each()
     ensures { NamesEach }
 {}

@@ -1,15 +1,16 @@
 //! The dictionaries that a reader of a stream holds, and the types that their values have.
 //!
-//! A dictionary batch brings values for an id (Columnar Format, "Dictionary Messages"): they stand for themselves, and
-//! then take the place of what the id had, or they are a delta and go behind it. [`Store`] takes both, as a
-//! `Dictionary` or as an `Array` to append, and gives the dictionary of an id, or all of them by rising id, as a record
-//! batch is loaded over. [`ValueFields`] takes a schema, and gives for an id the field that a dictionary batch of that
-//! id has.
+//! A dictionary batch brings values for an id (Columnar Format, "Dictionary Messages"): they stand
+//! for themselves, and then take the place of what the id had, or they are a delta and go behind
+//! it. [`Store`] takes both, as a `Dictionary` or as an `Array` to append, and gives the dictionary
+//! of an id, or all of them by rising id, as a record batch is loaded over. [`ValueFields`] takes a
+//! schema, and gives for an id the field that a dictionary batch of that id has.
 //!
-//! To contracts a store is a list of ids and dictionaries: `listed` (of `arrow_array`, `specs/Listed.antt`) is what an
-//! id has, `placed` and `IsRising` (`specs/Dictionaries.antt`) are how the list changes and what is known of it, and
-//! [`laws`] says that these make it a finite map. `Appends` (`specs/Appends.antt`) says when values are appended and
-//! which fault comes when, `value_type_of` (`specs/ValueTypes.antt`) which type a schema's fields name for an id.
+//! To contracts a store is a list of ids and dictionaries: `listed` (of `arrow_array`,
+//! `specs/Listed.antt`) is what an id has, `placed` and `IsRising` (`specs/Dictionaries.antt`) are
+//! how the list changes and what is known of it, and [`laws`] says that these make it a finite map.
+//! `Appends` (`specs/Appends.antt`) says when values are appended and which fault comes when,
+//! `value_type_of` (`specs/ValueTypes.antt`) which type a schema's fields name for an id.
 #![tactic(auto)]
 
 pub mod laws;

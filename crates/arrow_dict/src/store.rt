@@ -1,6 +1,7 @@
 //! Dictionaries by their ids.
 
-ghost use Rattle.std.specs.Prelude.{◌≡◌, IsTrue, MatchResult, None, OnErr, OnOk, Some, [], is_ok, is_some, option_map};
+ghost use Rattle.std.specs.Prelude.{◌≡◌, IsTrue, MatchResult, None, OnErr, OnOk, Some, [], is_ok};
+ghost use Rattle.std.specs.Prelude.{is_some, option_map};
 ghost use Rattle.arrow_array.specs.Column.{ValueList};
 ghost use Rattle.arrow_array.specs.Listed.{listed};
 ghost use Rattle.arrow_dict.specs.Appends.{Appends, number_of};
@@ -105,8 +106,8 @@ impl Store {
         &self.entries
     }
 
-    /// Takes the dictionary for the id, in place of the one that was there. Memory may be asked for only where there
-    /// was none; where it is refused nothing changes.
+    /// Takes the dictionary for the id, in place of the one that was there. Memory may be asked for
+    /// only where there was none; where it is refused nothing changes.
     pub fn replace(&mut self, id: i64, dictionary: Dictionary) -> Result<(), AllocError>
         ensures ok { OnOk result (self.new ≡ placed id dictionary self.old) }
         ensures err { OnErr result (self.new ≡ self.old) }
@@ -121,10 +122,12 @@ impl Store {
         }
     }
 
-    /// Puts the values of the array behind those of the id's dictionary, of which none is copied (Columnar Format,
-    /// "Dictionary Messages", of delta dictionaries). After a fault nothing has changed.
+    /// Puts the values of the array behind those of the id's dictionary, of which none is copied
+    /// (Columnar Format, "Dictionary Messages", of delta dictionaries). After a fault nothing has
+    /// changed.
     pub fn append(&mut self, alloc: Global, id: i64, values: Array) -> Result<(), StoreFault>
-        requires typed { (d : ValueList) → listed self.old id ≡ Some d → values.data_type ≡ d.data_type }
+        requires typed { (d : ValueList)
+            → listed self.old id ≡ Some d → values.data_type ≡ d.data_type }
         requires plain { (d : ValueList) → listed self.old id ≡ Some d → values.encoding ≡ None }
         ensures { Appends self.old id values result self.new }
     {

@@ -10,8 +10,8 @@ use std::alloc::{AllocError, Global};
 use std::collections::BTreeMap;
 use std::marker::Model;
 
-/// For each dictionary id that the fields of a schema give, a field of the type of the dictionary's values, as the
-/// message of a dictionary has one (Message.fbs, table `DictionaryBatch`).
+/// For each dictionary id that the fields of a schema give, a field of the type of the dictionary's
+/// values, as the message of a dictionary has one (Message.fbs, table `DictionaryBatch`).
 #[derive(Drop)]
 pub struct ValueFields {
     fields: BTreeMap<i64, Field>,
@@ -34,9 +34,10 @@ impl Model for ValueFields {
 }
 
 impl ValueFields {
-    /// The fields of the values of all dictionaries that the schema's fields refer to, on every level. Where several
-    /// fields share an id, the first one's type is taken, which in a schema is that of all. The time grows as n log n
-    /// with the number of fields, and the type of each id is copied once.
+    /// The fields of the values of all dictionaries that the schema's fields refer to, on every
+    /// level. Where several fields share an id, the first one's type is taken, which in a schema is
+    /// that of all. The time grows as n log n with the number of fields, and the type of each id is
+    /// copied once.
     pub fn of(alloc: Global, schema: &Schema) -> Result<ValueFields, AllocError>
         ensures names { IfOk result (λ fields. NameSame fields (dictionary_fields schema.now)) }
         ensures known { IfOk result (λ _. IsSchema schema.now) }
@@ -48,17 +49,19 @@ impl ValueFields {
         Ok(found)
     }
 
-    /// The field of the values of the id's dictionary: of their type, without a name or an encoding, and nullable. None
-    /// where no field of the schema gives the id. Takes no memory.
+    /// The field of the values of the id's dictionary: of their type, without a name or an
+    /// encoding, and nullable. None where no field of the schema gives the id. Takes no memory.
     pub fn get(&self, id: i64) -> Option<&Field>
-        ensures { option_map (λ f. field_view f.now) result ≡ option_map value_field (value_type_of self.now id) }
+        ensures { option_map (λ f. field_view f.now) result
+            ≡ option_map value_field (value_type_of self.now id) }
     {
         self.fields.get(&id)
     }
 
     // Takes the type for the id, unless there is one already.
     fn add(&mut self, alloc: Global, id: i64, data_type: &DataType) -> Result<(), AllocError>
-        ensures { OnOk result (NameSame self.new (self.old ++ record { id = id; value_type = type_view data_type.now } ∷ [])) }
+        ensures { OnOk result (NameSame self.new
+            (self.old ++ record { id = id; value_type = type_view data_type.now } ∷ [])) }
     {
         if self.fields.contains_key(&id) {
             return Ok(());
@@ -101,7 +104,8 @@ fn below(field: &Field) -> &[Field]
 // Adds what the fields say, on all levels, in pre-order.
 #[cycle(named)]
 fn add_fields(alloc: Global, fields: &[Field], found: &mut ValueFields) -> Result<(), AllocError>
-    ensures { OnOk result (NameSame found.new (found.old ++ dictionary_fields (fields_view fields.now))) }
+    ensures { OnOk result
+        (NameSame found.new (found.old ++ dictionary_fields (fields_view fields.now))) }
 {
     for field in fields {
         add_own(alloc, field, found)?;

@@ -5,7 +5,6 @@ use super::making::{NO_COLUMN, append, dictionary, one};
 use super::same::is_same_told;
 use super::told::{are_values_told, is_told, is_value_told};
 use arrow_array::{Array, Dictionary};
-use arrow_types::DataType;
 use std::process::Abort;
 
 // The texts of one letter each.
@@ -110,7 +109,8 @@ fn equality_of_values(rt: HostRuntime) {
 
 #[test]
 fn an_empty_dictionary_of_another_type(rt: HostRuntime) {
-    let other = Dictionary::empty(rt.alloc(), DataType::Null);
+    let none = leaf(&rt, &(Form::Null, &[], (0, &[]))).expect(&rt, NO_COLUMN);
+    let other = dictionary(&rt, one(&rt, none));
     are_values_told(&rt, &other, "0 values (none) of Null");
     are_equal(&rt, 0, &other, &spelled(&rt, &[""]), true);
 }
