@@ -8,12 +8,7 @@ use Rattle.std.proofs.lemmas.Int.{ints}
 use Rattle.std.proofs.lemmas.List.{get_or_default}
 use Rattle.arrow_array.specs.Column.{ValueList}
 use Rattle.arrow_array.specs.Listed.{listed}
-
-int_eq-false : (a b : ℤ) → (a ≡ b → ⊥) → int_eq a b ≡ false
-int_eq-false a b differ = elim (int_eq a b) as (λ v. int_eq a b ≡ v → v ≡ false) [
-  | true ↦ λ same. absurd (differ ((Decides-int_eq a b).0 same))
-  | false ↦ λ same. refl
-] refl
+use Rattle.arrow_array.proofs.Listing.{listed_absent, listed_at}
 
 up_up : (a b c : ℤ) → a ≤ℤ b → b ≤ℤ c → a ≤ℤ c
 up_up a b c h k = omega (arith, ints, h, k)
@@ -39,24 +34,6 @@ not_below_from a b h = grind (arith, ints)
 
 is_below : (a b : ℤ) → a <ℤ b → int_lt a b ≡ true
 is_below a b h = grind (arith, ints)
-
--- an id that no entry before the place has is looked for from there on
-listed_at : (ds : List (ℤ × ValueList)) (id : ℤ) (at : ℕ) (d : ℤ × ValueList) → ((k : ℕ) (e : ℤ × ValueList) → k < at → int_eq (get_or ds k e).0 id ≡ false) → at < length ds → d ≡ get_or ds at d → int_eq d.0 id ≡ true
-    → listed ds id ≡ Some d.1
-listed_at [] id at d before l is same = absurd (omega arith)
-listed_at (x ∷ ds) id zero d before l is same =
-    let found : int_eq x.0 id ≡ true = subst (λ (y : ℤ × ValueList). int_eq y.0 id ≡ true) is same in
-    rw found (ap (λ (y : ℤ × ValueList). Some y.1) (sym is))
-listed_at (x ∷ ds) id (suc at) d before l is same =
-    let other : int_eq x.0 id ≡ false = before zero d (omega arith) in
-    rw other (listed_at ds id at d (λ k e h. before (suc k) e (omega arith)) (omega arith) is same)
-
--- an id that no entry has
-pub listed_nowhere : (ds : List (ℤ × ValueList)) (id : ℤ) → ((k : ℕ) (e : ℤ × ValueList) → k < length ds → int_eq (get_or ds k e).0 id ≡ false) → listed ds id ≡ None
-listed_nowhere [] id none = refl
-listed_nowhere (x ∷ ds) id none =
-    let other : int_eq x.0 id ≡ false = none zero x (omega arith) in
-    rw other (listed_nowhere ds id (λ k e h. none (suc k) e (omega arith)))
 
 -- the ids of the first entries rise
 abbrev pub RisesTo : List (ℤ × ValueList) → ℕ → Type 0
@@ -95,7 +72,10 @@ parted ds id up i j d h l below = is_below (get_or ds i d).0 id (up_below (get_o
 
 -- the place of an id from which on ids are not below it
 pub met : (ds : List (ℤ × ValueList)) (id : ℤ) (at : ℕ) (d : ℤ × ValueList) → ((k : ℕ) (e : ℤ × ValueList) → 0 ≤ k → k < at → int_lt (get_or ds k e).0 id ≡ true) → at < length ds → d ≡ get_or ds at d → d.0 ≡ id → Some d.1 ≡ listed ds id
-met ds id at d before l is same = sym (listed_at ds id at d (λ k e h. int_eq-false (get_or ds k e).0 id (λ level. up_down id (get_or ds k e).0 (up_same id (get_or ds k e).0 (sym level)) (below_from (get_or ds k e).0 id (before k e (omega arith) h)))) l is ((Decides-int_eq d.0 id).1 same))
+met ds id at d before l is same =
+    ap (λ (y : ℤ × ValueList). Some y.1) is ∙ sym (listed_at ds id at d
+    (λ k h level. up_down id (get_or ds k d).0 (up_same id (get_or ds k d).0 (sym level)) (below_from (get_or ds k d).0 id (before k d (omega arith) h)))
+    l (ap (λ (y : ℤ × ValueList). y.0) (sym is) ∙ same))
 
 -- an id that stands nowhere from the place on where those that are not below it begin
 pub missed : (ds : List (ℤ × ValueList)) (id : ℤ) (at : ℕ) → RisesTo ds (length ds) → at ≤ length ds
@@ -103,9 +83,9 @@ pub missed : (ds : List (ℤ × ValueList)) (id : ℤ) (at : ℕ) → RisesTo ds
     → ((k : ℕ) (e : ℤ × ValueList) → at ≤ k → k < length ds → int_lt (get_or ds k e).0 id ≡ false)
     → ((e : ℤ × ValueList) → at < length ds → (get_or ds at e).0 ≡ id → ⊥)
     → None ≡ listed ds id
-missed ds id at up bound before from other = sym (listed_nowhere ds id (λ k e l. int_eq-false (get_or ds k e).0 id (⊎_elim
+missed ds id at up bound before from other = sym (listed_absent ds id (λ k e l. ⊎_elim
     (λ (lower : k < at). λ same. up_down id (get_or ds k e).0 (up_same id (get_or ds k e).0 (sym same)) (below_from (get_or ds k e).0 id (before k e (omega arith) lower)))
     (λ (behind : at ≤ k). λ same.
     let first : id ≤ℤ (get_or ds at e).0 = not_below_from (get_or ds at e).0 id (from at e (omega arith) (omega arith)) in
     other e (omega arith) (both_up (get_or ds at e).0 id (subst (λ z. (get_or ds at e).0 ≤ℤ z) same (up at k e behind l)) first))
-    (cases_lt k at))))
+    (cases_lt k at)))

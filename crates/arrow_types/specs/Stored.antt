@@ -1,6 +1,6 @@
 -- How the logic stores plain types and fields: as trees of numbers, another one for each other value.
 use Rattle.std.specs.Prelude.{◌≡◌, ℕ, Bool, List, Option}
-use Rattle.std.proofs.Common.{ap, subst, sym, refl}
+use Rattle.std.proofs.Common.{ap, refl}
 use Rattle.std.specs.Coded.{Coded, code_by, coded×, coded_ℕ, coded_bool, coded_list, coded_option}
 use base.Stored.{Gv, gnil, gnum, gcons}
 use Rattle.arrow_types.specs.declared.field.Encoding.{Encoding}
@@ -10,24 +10,6 @@ use Rattle.arrow_types.specs.contracts.data_type.TimeUnit.{the_row as time_row}
 use Rattle.arrow_types.specs.contracts.field.Encoding.{the_row as encoding_row}
 use Rattle.arrow_types.specs.DataType.{Tag, null, boolean, int, binary, utf8, date, time, timestamp, list, struct}
 use Rattle.arrow_types.specs.Field.{Head, Fields, none, more, TypeShape, FieldShape}
-
--- the left half of a pair
-abbrev first : Gv → Gv
-first gnil = gnil
-first (gnum n) = gnil
-first (gcons a b) = a
-
--- the right half of a pair
-abbrev second : Gv → Gv
-second gnil = gnil
-second (gnum n) = gnil
-second (gcons a b) = b
-
--- a tree that has two halves
-abbrev IsPair : Gv → Type 0
-IsPair gnil = ⊥
-IsPair (gnum n) = ⊥
-IsPair (gcons a b) = Unit {0}
 
 -- the name of a time zone, or that there is none
 abbrev zone_code : Coded (Option (List ℕ))
@@ -54,12 +36,10 @@ tag_inj binary binary p = refl
 tag_inj utf8 utf8 p = refl
 tag_inj list list p = refl
 tag_inj struct struct p = refl
-tag_inj (int a s) (int b t) p =
-    λ i. int (width_row.coded.inj a b (ap (λ g. first (second g)) p) i) (coded_bool.inj s t (ap (λ g. second (second g)) p) i)
-tag_inj (date u) (date v) p = λ i. date (date_row.coded.inj u v (ap second p) i)
-tag_inj (time u) (time v) p = λ i. time (time_row.coded.inj u v (ap second p) i)
-tag_inj (timestamp u x) (timestamp v y) p =
-    λ i. timestamp (time_row.coded.inj u v (ap (λ g. first (second g)) p) i) (zone_code.inj x y (ap (λ g. second (second g)) p) i)
+tag_inj (int a s) (int b t) p = λ i. int (width_row.coded.inj a b (cc) i) (coded_bool.inj s t (cc) i)
+tag_inj (date u) (date v) p = ap date (date_row.coded.inj u v (cc))
+tag_inj (time u) (time v) p = ap time (time_row.coded.inj u v (cc))
+tag_inj (timestamp u x) (timestamp v y) p = λ i. timestamp (time_row.coded.inj u v (cc) i) (zone_code.inj x y (cc) i)
 tag_inj x y p = cc
 
 -- so these trees tell types' own parts apart
@@ -82,10 +62,8 @@ fields_gv (more head children rest) = gcons (head_code.code head) (gcons (fields
 -- fields with one tree are equal
 pub fields_inj : (x y : Fields) → fields_gv x ≡ fields_gv y → x ≡ y
 fields_inj none none p = refl
-fields_inj (more h b r) (more h' b' r') p =
-    λ i. more (head_code.inj h h' (ap first p) i) (fields_inj b b' (ap (λ g. first (second g)) p) i) (fields_inj r r' (ap (λ g. second (second g)) p) i)
-fields_inj none (more h b r) p = absurd (subst IsPair (sym p) tt)
-fields_inj (more h b r) none p = absurd (subst IsPair p tt)
+fields_inj (more h b r) (more h' b' r') p = λ i. more (head_code.inj h h' (cc) i) (fields_inj b b' (cc) i) (fields_inj r r' (cc) i)
+fields_inj x y p = cc
 
 -- so these trees tell fields apart
 abbrev pub fields_code : Coded Fields
