@@ -1,5 +1,5 @@
 -- A metadata means one thing, no message has a body over the limit, and what the layer below answers is what is meant.
-use Rattle.std.proofs.Common.{◌≡◌, ℕ, ◌≤◌, Bool, true, false, cond, List, ◌+◌, length, refl, sym, ap, ◌∙◌, arith, Option, Some, None, Result, Ok, Err}
+use Rattle.std.proofs.Common.{◌≡◌, ℕ, ◌≤◌, Bool, true, false, cond, List, ◌+◌, length, refl, sym, ap, ◌∙◌, subst, arith, inl, inr, Option, Some, None, Result, Ok, Err}
 use Rattle.std.specs.Prelude.{◌||◌, ◌&&◌, ◌==◌, not, nat_lt, is_some}
 use Rattle.std.proofs.lemmas.Bool.{ltb-false}
 use Rattle.std.proofs.lemmas.Bool.{or_parts}
@@ -67,7 +67,7 @@ decoded_fault l b faults.Memory n h = absurd (n refl)
 -- what is understood of a metadata with a fault
 pub fault_understood : (l : LimitNumbers) (s : StreamState) (start : ℕ) (b : List ℕ) (f : MetaFault) (stop : Stop) →
     Decodes (Err f) l b → StopsBy stop (is_some s.schema) (start + length b) f → Understood l s start b (Err stop)
-fault_understood l s start b f Memory d h = tt
+fault_understood l s start b f Memory d h = inl (subst (λ x. Decodes (Err x) l b) h d)
 fault_understood l s start b f (Refused k) d h = record { meant = Err f; means = decoded_fault l b f h.0 d; says = ap Err h.1 }
 
 -- what is understood of a metadata that means a message
@@ -75,4 +75,4 @@ pub message_understood : (l : LimitNumbers) (s : StreamState) (start : ℕ) (b :
     MetadataMeans l b m → Placed l.max_rows s (start + length b) m r → Understood l s start b r
 message_understood l s start b m (Ok t) h p = record { meant = Ok (announced m); means = decoded_means l b m h; says = p }
 message_understood l s start b m (Err (Refused k)) h p = record { meant = Ok (announced m); means = decoded_means l b m h; says = p }
-message_understood l s start b m (Err Memory) h p = tt
+message_understood l s start b m (Err Memory) h p = inr (announced m, record { meant = Ok (announced m); means = decoded_means l b m h; says = sym p })

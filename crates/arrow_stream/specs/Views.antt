@@ -1,5 +1,5 @@
 -- What the values of the program say.
-use Rattle.std.specs.Prelude.{◌≡◌, ◌≤◌, ℕ, ℤ, List, [], ◌∷◌, Bool, false, None, Some, is_some, Result, Ok, Err}
+use Rattle.std.specs.Prelude.{◌≡◌, ◌≤◌, ◌⊎◌, ℕ, ℤ, List, [], ◌∷◌, Bool, false, None, Some, is_some, Result, Ok, Err}
 use Rattle.arrow_types.specs.Field.{Fields, TypeShape}
 use Rattle.arrow_types.specs.Limits.{LimitNumbers}
 use Rattle.arrow_types.specs.Schema.{dictionary_fields, has_encoding}
@@ -9,6 +9,7 @@ use Rattle.arrow_array.specs.Listed.{listed}
 use Rattle.arrow_dict.specs.ValueTypes.{value_type_of}
 use Rattle.arrow_meta.specs.declared.fault.MetaFault.{MetaFault}
 use Rattle.arrow_meta.specs.declared.fault.MetaFault.TheVariants as faults
+use Rattle.arrow_meta.specs.Grows.{GrowsAtRoot}
 use Rattle.arrow_meta.specs.Means.{PlainBatch, PlainHeader, PlainMessage, schema, dictionary, batch, batch_view}
 use Rattle.arrow_stream.specs.declared.item.Item.{Item}
 use Rattle.arrow_stream.specs.declared.item.Item.TheVariants as items
@@ -56,11 +57,13 @@ Placed max_rows s end m (Ok r) = Ok (message_of r) ≡ judged max_rows s end (Ok
 Placed max_rows s end m (Err (Refused k)) = Err k ≡ judged max_rows s end (Ok (announced m))
 Placed max_rows s end m (Err Memory) = judged max_rows s end (Ok (announced m)) ≡ Ok (announced m)
 
--- what a metadata says that begins at this place; want of memory says nothing of it
+-- What a metadata says that begins at this place. Memory may be wanted while the metadata is read, or for a message against
+-- which nothing stands.
 abbrev pub Understood : LimitNumbers → StreamState → ℕ → List ℕ → Result HeldMessage Stop → Type 0
 Understood limits s start metadata (Ok m) = MetadataSays limits s start metadata (Ok (message_of m))
 Understood limits s start metadata (Err (Refused k)) = MetadataSays limits s start metadata (Err k)
-Understood limits s start metadata (Err Memory) = Unit {0}
+Understood limits s start metadata (Err Memory) =
+    GrowsAtRoot metadata limits.max_metadata ⊎ ((m : Message) × MetadataSays limits s start metadata (Ok m))
 
 -- Each dictionary has the type of the values of the fields that give its id.
 pub record IsFit (s : StreamState) : Type 0 where
