@@ -5,8 +5,9 @@ use Rattle.arrow_types.specs.Field.{Fields}
 use Rattle.arrow_types.specs.Limits.{LimitNumbers}
 use Rattle.arrow_meta.specs.Means.{PlainHeader}
 use Rattle.arrow_stream.specs.declared.kind.Refusal.{Refusal}
-use Rattle.arrow_stream.specs.Frame.{is_out_of_order, BodySays, schema_comes, dictionary_comes, batch_comes, Outcome, First, whole, short_prefix, short_metadata, short_body, bad_prefix, bad_metadata, bad_body, end_marker, message_comes}
+use Rattle.arrow_stream.specs.Frame.{is_out_of_order, BodySays, schema_comes, dictionary_comes, batch_comes, Outcome, First, whole}
 use Rattle.arrow_stream.specs.State.{StreamState, Given, nothing_yet, schema_given}
+use Rattle.arrow_stream.proofs.Firsts.{whole_says}
 use Rattle.arrow_stream.proofs.Works.{message_in_order}
 
 -- what leaves these fields and no dictionaries, as a schema does
@@ -25,15 +26,6 @@ body_gives (batch_comes h i) n o s' g e = let q = sym (ap (λ (t : StreamState).
 
 -- a whole message at the front of a stream's bytes is a schema
 pub whole_gives : {l : LimitNumbers} {s : StreamState} {p : ℕ} {b : List ℕ} {o : Outcome} → First l s p b o → s ≡ nothing_yet → (n : ℕ) (s' : StreamState) (g : Given) → o ≡ whole n s' g → IsBegun s' g
-whole_gives (short_prefix h) z n s' g e = absurd (cc)
-whole_gives (short_metadata h i) z n s' g e = absurd (cc)
-whole_gives (short_body h i) z n s' g e = absurd (cc)
-whole_gives (bad_prefix h) z n s' g e = absurd (cc)
-whole_gives (bad_metadata h) z n s' g e = absurd (cc)
-whole_gives (bad_body h) z n s' g e = absurd (cc)
-whole_gives (end_marker h) z n s' g e = absurd (cc)
-whole_gives (message_comes {s' = s''} {g = g'} h) z n s' g e =
-    let states : s'' ≡ s' = cc in
-    let given : g' ≡ g = cc in
-    let w = body_gives h.says z (message_in_order h.metadata) s'' g' refl in
-    record { fields = w.fields; state = sym states ∙ w.state; given = sym given ∙ w.given }
+whole_gives first z n s' g e =
+    let frame = whole_says first n s' g e in
+    body_gives frame.body.says z (message_in_order frame.body.metadata) s' g refl

@@ -208,6 +208,27 @@ module _ {l : LimitNumbers} {s : StreamState} {p : ℕ} {b : List ℕ} where
   one_first (end_marker h) y = sym (after_prefix h y)
   one_first (message_comes h) y = sym (after_body h y)
 
+-- a whole message is a frame whose body says what it leaves and gives
+pub record IsFrame (l : LimitNumbers) (s : StreamState) (p : ℕ) (b : List ℕ) (n : ℕ) (s' : StreamState) (g : Given) : Type 0 where
+  pub size : ℕ
+  pub message : Message
+  pub body : HasBody l s p b size message (Ok (s', g))
+  pub ends : n ≡ 8 + size + message.body_len
+
+pub whole_says : {l : LimitNumbers} {s : StreamState} {p : ℕ} {b : List ℕ} {o : Outcome} → First l s p b o →
+    (n : ℕ) (s' : StreamState) (g : Given) → o ≡ whole n s' g → IsFrame l s p b n s' g
+whole_says (short_prefix h) n s' g e = absurd (cc)
+whole_says (short_metadata h i) n s' g e = absurd (cc)
+whole_says (short_body h i) n s' g e = absurd (cc)
+whole_says (bad_prefix h) n s' g e = absurd (cc)
+whole_says (bad_metadata h) n s' g e = absurd (cc)
+whole_says (bad_body h) n s' g e = absurd (cc)
+whole_says (end_marker h) n s' g e = absurd (cc)
+whole_says {l} {s} {p} {b} (message_comes {m = m} {message = t} {s' = s''} {g = g'} h) n s' g e =
+    let states : s'' ≡ s' = cc in
+    let given : g' ≡ g = cc in
+    record { size = m; message = t; body = subst (λ x. HasBody l s p b m t (Ok (x, g))) states (subst (λ x. HasBody l s p b m t (Ok (s'', x))) given h); ends = (cc) }
+
 -- a whole message lies within the bytes, and has some
 pub First-within : {l : LimitNumbers} {s : StreamState} {p : ℕ} {b : List ℕ} {n : ℕ} {s' : StreamState} {g : Given} →
     First l s p b (whole n s' g) → n ≤ length b
