@@ -9,7 +9,7 @@ use Rattle.arrow_array.specs.Column.{Column, AreOf, column_code}
 use Rattle.arrow_array.specs.declared.batch.BatchFault.{BatchFault}
 use Rattle.arrow_array.specs.declared.batch.BatchFault.TheVariants.{ColumnCount, ColumnType, ColumnLength, IndexRange, Memory}
 
--- What a record batch is to contracts: the fields of a schema, a column of each, and the number of rows.
+-- What a record batch is to contracts, a table: the fields of a schema, a column of each, and the number of rows.
 pub record Table : Type 0 where
   pub schema : Fields
   pub columns : List Column

@@ -12,8 +12,9 @@ use Rattle.arrow_array.specs.PlainValue.{PlainValue, value_at, null_value, list_
 use Rattle.arrow_array.specs.Resolve.{resolve}
 use Rattle.arrow_array.specs.Stored.{value_code}
 
--- What an array is to contracts: its type, its encoding, and the value of each slot, raw (where it is dictionary-encoded, the index) and
--- resolved. Beside these, for each dictionary-encoded field of it in pre-order, the id and the values of the dictionary.
+-- What an array is to contracts: its type, its encoding, and the value of each slot, raw (where it is
+-- dictionary-encoded, the index) and resolved. Beside these, for each dictionary-encoded field of it in pre-order, the
+-- id and the values of the dictionary.
 pub record Column : Type 0 where
   pub data_type : TypeShape
   pub encoding : Option Encoding
