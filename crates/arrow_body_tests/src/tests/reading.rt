@@ -1,9 +1,9 @@
-// What `load` answers.
+// What `load` answers, and `check` with `load_unchecked`.
 
 use super::fields::{Kind, fields_of};
 use super::shown::shown;
 use arrow_array::{Array, Dictionary};
-use arrow_body::{BodyFault, are_fit, load};
+use arrow_body::{BodyFault, are_fit, check, load, load_unchecked};
 use arrow_types::{Buffer, Field, FieldNode};
 use bytes::Bytes;
 use std::process::Abort;
@@ -45,6 +45,23 @@ pub(super) fn loaded(
     load(rt.alloc(), fields, &nodes, &buffers, &body, dictionaries)
 }
 
+// The same by a test of the bytes, and then of a copy of them.
+fn loaded_in_two(
+    rt: &(impl Abort + AllocGlobal),
+    fields: &[Field],
+    nodes: Pairs<'_>,
+    buffers: Pairs<'_>,
+    body: &[u8],
+) -> Result<Vec<Array>, BodyFault> {
+    let nodes = nodes_of_pairs(rt, nodes);
+    let buffers = buffers_of_pairs(rt, buffers);
+    assert!(rt; are_fit(fields, &[]));
+    check(fields, &nodes, &buffers, body, &[])?;
+    let body = Bytes::copy_from_slice(rt.alloc(), body).expect(rt, "memory");
+    let columns = load_unchecked(rt.alloc(), fields, &nodes, &buffers, &body, &[]);
+    Ok(columns.expect(rt, "memory"))
+}
+
 // What the columns show, or the name of the fault.
 pub(super) fn told(
     rt: &(impl Abort + AllocGlobal),
@@ -71,9 +88,20 @@ pub(super) const NUMBERS: [u8; 24] = [
     5, 0, 0, 0, 0, 0, 0, 0, 1, 0, 0, 0, 0, 0, 0, 0, 3, 0, 0, 0, 0, 0, 0, 0,
 ];
 
+// In one call and in two.
 pub(super) fn compare(rt: &(impl Abort + AllocGlobal), case: &Case<'_>) {
     let fields = fields_of(rt, case.of);
     let columns = loaded(rt, &fields, case.nodes, case.buffers, case.body, &[]);
+    is_told(rt, case, columns);
+    let columns = loaded_in_two(rt, &fields, case.nodes, case.buffers, case.body);
+    is_told(rt, case, columns);
+}
+
+fn is_told(
+    rt: &(impl Abort + AllocGlobal),
+    case: &Case<'_>,
+    columns: Result<Vec<Array>, BodyFault>,
+) {
     let got = told(rt, columns);
     assert_eq!(rt;
         got.as_str(),
