@@ -21,7 +21,7 @@ use Rattle.arrow_meta.specs.declared.message.Header.{Header}
 use Rattle.arrow_meta.specs.declared.message.Message.{Message}
 use Rattle.arrow_meta.specs.Codes.{schema_code}
 use Rattle.arrow_meta.specs.Conditions.{any, any_in, is_misfit, children_fit}
-use Rattle.arrow_meta.specs.Faults.{code_of, header_of, body_of, batch_by, batch_parts, HasParts}
+use Rattle.arrow_meta.specs.Faults.{code_of, header_of, body_of, batch_by, batch_parts, HasNodeOrBuffer}
 use Rattle.arrow_meta.specs.Means.{header_view, header_by, message_view, meaning_of}
 use Rattle.arrow_meta.specs.Parts.{parts}
 use Rattle.arrow_meta.specs.SchemaMeaning.{field_of, tag_by, schema_fields}
@@ -81,14 +81,14 @@ abbrev pub BuildsHeader : Result Header MetaFault → ℕ → ℕ → Trees → 
 BuildsHeader (Ok h) code body_len xs =
     (header_view h ≡ header_by code xs) × (code ≡ schema_code → schema_fault_of (schema_fields xs) ≡ None)
 BuildsHeader (Err e) code body_len xs =
-    ((e ≡ faults.Memory) × HasParts (batch_by code xs)) ⊎ ((code ≡ schema_code) × Late e body_len xs)
+    ((e ≡ faults.Memory) × HasNodeOrBuffer (batch_by code xs)) ⊎ ((code ≡ schema_code) × Late e body_len xs)
 
 -- The message was built that a Message table with these fields says.
 abbrev pub BuildsMessage : Result Message MetaFault → Trees → Type 0
 BuildsMessage (Ok m) xs =
     (message_view m ≡ meaning_of xs) × (code_of xs ≡ schema_code → schema_fault_of (schema_fields (parts (header_of xs))) ≡ None)
 BuildsMessage (Err e) xs =
-    ((e ≡ faults.Memory) × HasParts (batch_parts xs)) ⊎
+    ((e ≡ faults.Memory) × HasNodeOrBuffer (batch_parts xs)) ⊎
     ((code_of xs ≡ schema_code) × Late e (body_of xs) (parts (header_of xs)))
 
 -- What building goes through.
