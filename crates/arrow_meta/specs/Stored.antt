@@ -3,7 +3,7 @@ use Rattle.std.specs.Prelude.{◌≡◌, ℕ, List}
 use Rattle.std.proofs.Common.{ap, subst, sym, refl}
 use Rattle.std.specs.Coded.{Coded, coded×, coded_ℕ, coded_list}
 use base.Stored.{Gv, gnil, gnum, gcons}
-use Rattle.arrow_meta.specs.contracts.kinds.Kind.{the_row as kind_row}
+use Rattle.arrow_meta.specs.contracts.kinds.TableKind.{the_row as kind_row}
 use Rattle.arrow_meta.specs.Trees.{Leaf, absent, number, text, pairs, present, Tree, leaf, table, tables, Trees, none, more}
 
 -- the first half of a pair
