@@ -6,7 +6,7 @@ use crate::codes::{DICTIONARY_BATCH, RECORD_BATCH, SCHEMA, TypeCode, type_code};
 
 /// A table of the standard's `Message.fbs` or `Schema.fbs`, under its name there.
 #[derive(Clone, Copy, Debug, PartialEq, Eq)]
-pub(crate) enum Kind {
+pub(crate) enum TableKind {
     Message,
     Schema,
     Field,
@@ -37,9 +37,9 @@ pub(crate) enum FieldForm {
     /// Something of which only the presence is looked at.
     Presence,
     /// A table.
-    Table(Kind),
+    Table(TableKind),
     /// A vector of offsets to tables.
-    Tables(Kind),
+    Tables(TableKind),
     /// A message's header, whose table the code in the field before it tells.
     Header,
     /// A field's type, whose table the code in the field before it tells.
@@ -47,71 +47,71 @@ pub(crate) enum FieldForm {
 }
 
 /// The fields of a table that are looked at, in order of their numbers from 0.
-pub(crate) fn forms(kind: Kind) -> &'static [FieldForm]
+pub(crate) fn forms(kind: TableKind) -> &'static [FieldForm]
     ensures value { result.now ≡ forms_of kind }
     ensures few { length result.now ≤ 6 }
 {
     match kind {
-        Kind::Message => &[
+        TableKind::Message => &[
             FieldForm::Short,
             FieldForm::Byte,
             FieldForm::Header,
             FieldForm::Long,
         ],
-        Kind::Schema => &[FieldForm::Short, FieldForm::Tables(Kind::Field)],
-        Kind::Field => &[
+        TableKind::Schema => &[FieldForm::Short, FieldForm::Tables(TableKind::Field)],
+        TableKind::Field => &[
             FieldForm::Text,
             FieldForm::Byte,
             FieldForm::Byte,
             FieldForm::Type,
-            FieldForm::Table(Kind::DictionaryEncoding),
-            FieldForm::Tables(Kind::Field),
+            FieldForm::Table(TableKind::DictionaryEncoding),
+            FieldForm::Tables(TableKind::Field),
         ],
-        Kind::DictionaryEncoding => &[
+        TableKind::DictionaryEncoding => &[
             FieldForm::Long,
-            FieldForm::Table(Kind::Int),
+            FieldForm::Table(TableKind::Int),
             FieldForm::Byte,
             FieldForm::Short,
         ],
-        Kind::RecordBatch => &[
+        TableKind::RecordBatch => &[
             FieldForm::Long,
             FieldForm::Pairs,
             FieldForm::Pairs,
             FieldForm::Presence,
         ],
-        Kind::DictionaryBatch => &[
+        TableKind::DictionaryBatch => &[
             FieldForm::Long,
-            FieldForm::Table(Kind::RecordBatch),
+            FieldForm::Table(TableKind::RecordBatch),
             FieldForm::Byte,
         ],
-        Kind::Int => &[FieldForm::Int, FieldForm::Byte],
-        Kind::Date => &[FieldForm::Short],
-        Kind::Time => &[FieldForm::Short, FieldForm::Int],
-        Kind::Timestamp => &[FieldForm::Short, FieldForm::Text],
+        TableKind::Int => &[FieldForm::Int, FieldForm::Byte],
+        TableKind::Date => &[FieldForm::Short],
+        TableKind::Time => &[FieldForm::Short, FieldForm::Int],
+        TableKind::Timestamp => &[FieldForm::Short, FieldForm::Text],
     }
 }
 
 /// The table that a header's code opens. Of any other code not even the offset is looked at.
-pub(crate) fn header_table(code: u64) -> Option<Kind>
+pub(crate) fn header_table(code: u64) -> Option<TableKind>
     ensures table { result ≡ header_table code }
 {
     match code {
-        SCHEMA => Some(Kind::Schema),
-        DICTIONARY_BATCH => Some(Kind::DictionaryBatch),
-        RECORD_BATCH => Some(Kind::RecordBatch),
+        SCHEMA => Some(TableKind::Schema),
+        DICTIONARY_BATCH => Some(TableKind::DictionaryBatch),
+        RECORD_BATCH => Some(TableKind::RecordBatch),
         _ => None,
     }
 }
 
 /// The table that a type's code opens. Of any other code not even the offset is looked at.
-pub(crate) fn type_table(code: u64) -> Option<Kind>
+pub(crate) fn type_table(code: u64) -> Option<TableKind>
     ensures table { result ≡ type_table code }
 {
     match type_code(code) {
-        Some(TypeCode::Int) => Some(Kind::Int),
-        Some(TypeCode::Date) => Some(Kind::Date),
-        Some(TypeCode::Time) => Some(Kind::Time),
-        Some(TypeCode::Timestamp) => Some(Kind::Timestamp),
+        Some(TypeCode::Int) => Some(TableKind::Int),
+        Some(TypeCode::Date) => Some(TableKind::Date),
+        Some(TypeCode::Time) => Some(TableKind::Time),
+        Some(TypeCode::Timestamp) => Some(TableKind::Timestamp),
         _ => None,
     }
 }

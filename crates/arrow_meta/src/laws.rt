@@ -3,7 +3,7 @@
 //! Each is the contract of a function that does nothing. In a law a number is any number.
 ghost use Rattle.std.specs.Prelude.{◌≡◌, ℕ, List};
 ghost use Rattle.arrow_meta.specs.declared.fault.MetaFault.{MetaFault};
-ghost use Rattle.arrow_meta.specs.declared.kinds.Kind.{Kind};
+ghost use Rattle.arrow_meta.specs.declared.kinds.TableKind.{TableKind};
 ghost use Rattle.arrow_meta.specs.Judges.{MetadataMeans, MetadataFails};
 ghost use Rattle.arrow_meta.specs.Lies.{Lies};
 ghost use Rattle.arrow_meta.specs.Means.{PlainMessage, Means};
@@ -13,7 +13,7 @@ ghost use Rattle.arrow_types.specs.Limits.{LimitNumbers};
 /// Two trees of one kind at one place of the same bytes are equal, and so are two messages that one
 /// tree means.
 pub fn one_meaning()
-    ensures tree { (kind : Kind) (bytes : List ℕ) (p : ℕ) (x y : Tree)
+    ensures tree { (kind : TableKind) (bytes : List ℕ) (p : ℕ) (x y : Tree)
         → Lies kind x bytes p → Lies kind y bytes p → x ≡ y }
     ensures message { (max_body : ℕ) (x : Tree) (m n : PlainMessage)
         → Means max_body x m → Means max_body x n → m ≡ n }

@@ -16,11 +16,11 @@
 //!
 //! | Notion | Definition |
 //! |---|---|
-//! | tables, their fields, what a code opens | `specs/Kinds.antt`: `forms_of`, `header_table`, `type_table` |
+//! | tables and their fields | `specs/Kinds.antt`: `forms_of`, `header_table`, `type_table` |
 //! | the tree that lies at a place | `specs/Lies.antt`: `Lies`, `LiesAtRoot` |
 //! | levels, visits, bytes of names | `specs/Within.antt`: `IsWithin` |
 //! | where reading asks for memory | `specs/Grows.antt`: `Grows`, `GrowsAtRoot` |
-//! | the conditions of the faults | `specs/Conditions.antt`, `specs/Faults.antt`: `conditions`, `fault_of` |
+//! | the conditions of faults | `specs/Conditions.antt`; `specs/Faults.antt`: `fault_of` |
 //! | the message that a tree means | `specs/SchemaMeaning.antt`, `specs/Means.antt`: `Means` |
 //! | what is answered | `specs/Judges.antt`: `Judges`, `Decodes` |
 //!
