@@ -7,4 +7,5 @@ mod Schemas
 mod Growing
 mod Sent
 mod Told
+mod Reading
 mod Reporting

@@ -1,7 +1,7 @@
 //! The program's command line: one word for the command, then its names and options.
 
-ghost use Rattle.std.specs.Prelude.{IfOk};
-ghost use Rattle.arrowflow.specs.CommandLine.{HasNoGlobals, NeedsSubcommand};
+ghost use Rattle.std.specs.Prelude.{◌≡◌, IfOk};
+ghost use Rattle.arrowflow.specs.CommandLine.{HasNoGlobals, NeedsSubcommand, plan_by};
 
 use crate::plans::Plan;
 use clap::{Arg, ArgMatches, Command};
@@ -126,9 +126,17 @@ pub fn plan(alloc: Global, words: &[&str]) -> Result<Plan, ArgFault> {
         unreachable!();
     };
     let file = name_of(alloc, given, "FILE")?;
-    Ok(match command {
+    Ok(plan_of(command, file))
+}
+
+/// The plan of the command of this name, for this file. A line names one of the three commands, so that any other name
+/// stands for `schema`.
+fn plan_of(command: &str, file: String) -> Plan
+    ensures { result ≡ plan_by command.now file }
+{
+    match command {
         "check" => Plan::Check(file),
         "show" => Plan::Show(file),
         _ => Plan::Schema(file),
-    })
+    }
 }

@@ -1,12 +1,13 @@
 //! Streams told as they come: their messages, or their rows.
 
-ghost use Rattle.std.specs.Prelude.{◌≡◌, ◌<◌, ◌-◌, ◌^◌, [], OnOk, length};
+ghost use Rattle.std.specs.Prelude.{◌≡◌, ◌<◌, ◌-◌, ◌^◌, [], IfOk, OnOk, length};
 ghost use Rattle.arrow_stream.specs.declared.reader.Verdict.TheVariants.{Open};
 ghost use Rattle.arrow_stream.specs.Stream.{Stands};
+ghost use Rattle.arrowflow.specs.Reads.{BlamesNoInput, answer_by};
 ghost use Rattle.arrowflow.specs.Reports.{ReportsInput};
 ghost use Rattle.arrowflow.specs.declared.report.Report.TheVariants.{Messages, Rows};
 
-use crate::pieces::room_for_a_piece;
+use crate::pieces::{ReadFailed, answer_of, read_piece, room_for_a_piece};
 use crate::report::Report;
 use crate::sending::flush;
 use crate::telling::{tell_end, tell_piece};
@@ -82,14 +83,14 @@ fn report<R: Read, S: Sink>(
 {
     let mut reader = StreamReader::new(alloc, *limits);
     match room_for_a_piece(alloc) {
-        Ok(mut room) => report_pieces(alloc, report, &mut reader, input, output, &mut room),
+        Ok(mut room) => {
+            answer_of(report_pieces(alloc, report, &mut reader, input, output, &mut room))
+        }
         Err(_) => Err(ToolFault::Memory),
     }
 }
 
-/// Tells the pieces of a stream, one by one.
-///
-/// No stream is so long that the turns of the loop run out.
+/// Tells the pieces of a stream, one by one. No stream is longer than the last place allows, so that this ends.
 fn report_pieces<R: Read, S: Sink>(
     alloc: Global,
     report: Report,
@@ -97,31 +98,30 @@ fn report_pieces<R: Read, S: Sink>(
     input: &mut R,
     output: &mut S,
     room: &mut [u8],
-) -> Result<(), ToolFault>
+) -> Result<Result<(), ToolFault>, ReadFailed>
     requires failed { S.failed output.old < 2 ^ 64 - 1 }
     requires start { Stands reader.old [] [] }
     requires open { reader.old.at.verdict ≡ Open }
-    requires room { 0 < length room.old }
+    requires room { length room.old ≡ 65536 }
     ensures written { ReportsInput report reader.old.limits (R.remaining input.old) (R.remaining input.new)
-        (S.contents output.old) (S.failed output.old) result (S.contents output.new) (S.failed output.new) }
-    ensures passed { OnOk result (S.is_passed_on output.new) }
+        (S.contents output.old) (S.failed output.old) (answer_by result) (S.contents output.new)
+        (S.failed output.new) }
+    ensures blameless { IfOk result BlamesNoInput }
+    ensures passed { OnOk (answer_by result) (S.is_passed_on output.new) }
 {
     let mut number = 0;
-    for _ in 0..u64::MAX {
-        let Ok(count) = input.read(room) else {
-            return Err(ToolFault::Input(0));
-        };
+    loop {
+        let count = read_piece(input, room)?;
         if count == 0 {
-            return match tell_end(alloc, report, reader, output) {
+            return Ok(match tell_end(alloc, report, reader, output) {
                 Ok(()) => flush(output),
                 Err(fault) => Err(fault),
-            };
+            });
         }
         match tell_piece(alloc, report, reader, &mut number, output, &room[..count]) {
-            Ok(true) => return flush(output),
+            Ok(true) => return Ok(flush(output)),
             Ok(false) => {}
-            Err(fault) => return Err(fault),
+            Err(fault) => return Ok(Err(fault)),
         }
     }
-    Err(ToolFault::Input(0))
 }
