@@ -38,8 +38,8 @@ const SHOW_EXAMPLE: &str =
 /// Why a command line has no plan.
 #[derive(Debug, Drop)]
 pub enum ArgFault {
-    /// The words are no command, or ask for help. The error prints itself, help to standard output and all else to
-    /// standard error, and has the exit status: 0 for help, else 2.
+    /// The words are no command, or ask for help. The error prints itself, help to standard output
+    /// and all else to standard error, and has the exit status: 0 for help, else 2.
     Line(clap::Error),
     /// A growth was refused.
     Memory,
@@ -118,8 +118,8 @@ fn name_of(alloc: Global, matches: &ArgMatches<'_>, argument: &str) -> Result<St
 
 /// What the words of a command line ask for. The first word is the program's own name.
 ///
-/// `ArgFault::Line` where the words are not a command with its names, or ask for help; `ArgFault::Memory` where a
-/// growth was refused.
+/// `ArgFault::Line` where the words are not a command with its names, or ask for help;
+/// `ArgFault::Memory` where a growth was refused.
 pub fn plan(alloc: Global, words: &[&str]) -> Result<Plan, ArgFault> {
     let matches = command(alloc)?.try_get_matches_from(words)?;
     let Some((command, given)) = matches.subcommand() else {
@@ -129,8 +129,8 @@ pub fn plan(alloc: Global, words: &[&str]) -> Result<Plan, ArgFault> {
     Ok(plan_of(command, file))
 }
 
-/// The plan of the command of this name, for this file. A line names one of the three commands, so that any other name
-/// stands for `schema`.
+/// The plan of the command of this name, for this file. A line names one of the three commands, so
+/// that any other name stands for `schema`.
 fn plan_of(command: &str, file: String) -> Plan
     ensures { result ≡ plan_by command.now file }
 {

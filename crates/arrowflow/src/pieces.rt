@@ -13,7 +13,8 @@ use std::io::Read;
 /// How many bytes one read asks for.
 const PIECE: usize = 65_536;
 
-/// A read that failed. Only [`read_piece`] makes one, so that no other call can hold an input to have failed.
+/// A read that failed. Only [`read_piece`] makes one, so that no other call can hold an input to
+/// have failed.
 #[derive(Drop)]
 pub(crate) struct ReadFailed(());
 
@@ -31,8 +32,9 @@ fn zeroes(alloc: Global, len: usize) -> Result<Vec<u8>, AllocError>
     Vec::from_elem(alloc, 0u8, len)
 }
 
-/// Reads a piece: its bytes stand at the front of the room, and the answer is how many they are, none at the end of the
-/// input alone. `ReadFailed` where the read failed, an interrupted one included: then nothing was taken.
+/// Reads a piece: its bytes stand at the front of the room, and the answer is how many they are,
+/// none at the end of the input alone. `ReadFailed` where the read failed, an interrupted one
+/// included: then nothing was taken.
 pub(crate) fn read_piece<R: Read>(input: &mut R, room: &mut [u8]) -> Result<usize, ReadFailed>
     ensures bound { ReadsAtMost result room.new }
     ensures bytes { ReadConsumes (R.remaining input.old) (R.remaining input.new) result room.new }
@@ -50,7 +52,8 @@ fn took(read: io::Result<usize>) -> Result<usize, ReadFailed>
     }
 }
 
-/// The answer of a call that read an input: what the bytes decided, or `Input(0)` where a read failed.
+/// The answer of a call that read an input: what the bytes decided, or `Input(0)` where a read
+/// failed.
 pub(crate) fn answer_of(read: Result<Result<(), ToolFault>, ReadFailed>) -> Result<(), ToolFault>
     ensures { result ≡ answer_by read }
 {

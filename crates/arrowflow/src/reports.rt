@@ -20,10 +20,10 @@ use std::io::Read;
 
 /// Writes a line for each message of a stream, and hands the output back.
 ///
-/// `at P: schema, K columns`, `at P: dictionary ID, now N values`, `at P: batch B, N rows`, and last `at P: end marker` or
-/// `at P: end of input`, where `P` is the place of the message's first byte and batches are counted from 0. Where the
-/// stream is refused, or ends too early, the lines of the whole messages stand there, and no last one. What the lines
-/// say is shown by tests.
+/// `at P: schema, K columns`, `at P: dictionary ID, now N values`, `at P: batch B, N rows`, and
+/// last `at P: end marker` or `at P: end of input`, where `P` is the place of the message's first
+/// byte and batches are counted from 0. Where the stream is refused, or ends too early, the lines
+/// of the whole messages stand there, and no last one. What the lines say is shown by tests.
 ///
 /// The input is read, and the call ends, as [`show`] does.
 pub fn check<R: Read, S: Sink>(
@@ -33,8 +33,9 @@ pub fn check<R: Read, S: Sink>(
     limits: &Limits,
 ) -> (S, Result<(), ToolFault>)
     requires { S.failed output < 2 ^ 64 - 1 }
-    ensures written { ReportsInput Messages limits.now (R.remaining input.old) (R.remaining input.new)
-        (S.contents output) (S.failed output) result.1 (S.contents result.0) (S.failed result.0) }
+    ensures written { ReportsInput Messages limits.now (R.remaining input.old)
+        (R.remaining input.new) (S.contents output) (S.failed output) result.1
+        (S.contents result.0) (S.failed result.0) }
     ensures passed { OnOk result.1 (S.is_passed_on result.0) }
 {
     let mut output = output;
@@ -44,14 +45,16 @@ pub fn check<R: Read, S: Sink>(
 
 /// Writes the rows of a stream as records of comma-separated values, and hands the output back.
 ///
-/// A record of the word `batch` and the names of the columns comes first, then one for each row: the number of its batch,
-/// counted from 0, and the texts of its values, with indices looked up (`arrow_csv`). Rows are written as their batches
-/// come, so that memory is bounded by a message, whatever the stream's length.
+/// A record of the word `batch` and the names of the columns comes first, then one for each row:
+/// the number of its batch, counted from 0, and the texts of its values, with indices looked up
+/// (`arrow_csv`). Rows are written as their batches come, so that memory is bounded by a message,
+/// whatever the stream's length.
 ///
-/// The input is read in pieces of 65,536 bytes up to an end marker, or to its end; the output is flushed once, before
-/// `Ok`. `Stream` where the stream is refused, or where it ends without being at the end of a message behind its schema;
-/// `Input(0)` where a read failed, an interrupted one included: then the rows of the whole messages stand there. `Output`
-/// where the output failed, and `Memory` where a growth was refused: then a beginning of them does.
+/// The input is read in pieces of 65,536 bytes up to an end marker, or to its end; the output is
+/// flushed once, before `Ok`. `Stream` where the stream is refused, or where it ends without being
+/// at the end of a message behind its schema; `Input(0)` where a read failed, an interrupted one
+/// included: then the rows of the whole messages stand there. `Output` where the output failed, and
+/// `Memory` where a growth was refused: then a beginning of them does.
 pub fn show<R: Read, S: Sink>(
     alloc: Global,
     input: &mut R,
@@ -59,8 +62,9 @@ pub fn show<R: Read, S: Sink>(
     limits: &Limits,
 ) -> (S, Result<(), ToolFault>)
     requires { S.failed output < 2 ^ 64 - 1 }
-    ensures written { ReportsInput Rows limits.now (R.remaining input.old) (R.remaining input.new)
-        (S.contents output) (S.failed output) result.1 (S.contents result.0) (S.failed result.0) }
+    ensures written { ReportsInput Rows limits.now (R.remaining input.old)
+        (R.remaining input.new) (S.contents output) (S.failed output) result.1
+        (S.contents result.0) (S.failed result.0) }
     ensures passed { OnOk result.1 (S.is_passed_on result.0) }
 {
     let mut output = output;
@@ -77,8 +81,9 @@ fn report<R: Read, S: Sink>(
     limits: &Limits,
 ) -> Result<(), ToolFault>
     requires { S.failed output.old < 2 ^ 64 - 1 }
-    ensures written { ReportsInput report limits.now (R.remaining input.old) (R.remaining input.new)
-        (S.contents output.old) (S.failed output.old) result (S.contents output.new) (S.failed output.new) }
+    ensures written { ReportsInput report limits.now (R.remaining input.old)
+        (R.remaining input.new) (S.contents output.old) (S.failed output.old) result
+        (S.contents output.new) (S.failed output.new) }
     ensures passed { OnOk result (S.is_passed_on output.new) }
 {
     let mut reader = StreamReader::new(alloc, *limits);
@@ -90,7 +95,8 @@ fn report<R: Read, S: Sink>(
     }
 }
 
-/// Tells the pieces of a stream, one by one. No stream is longer than the last place allows, so that this ends.
+/// Tells the pieces of a stream, one by one. No stream is longer than the last place allows, so
+/// that this ends.
 fn report_pieces<R: Read, S: Sink>(
     alloc: Global,
     report: Report,
@@ -103,9 +109,9 @@ fn report_pieces<R: Read, S: Sink>(
     requires start { Stands reader.old [] [] }
     requires open { reader.old.at.verdict ≡ Open }
     requires room { length room.old ≡ 65536 }
-    ensures written { ReportsInput report reader.old.limits (R.remaining input.old) (R.remaining input.new)
-        (S.contents output.old) (S.failed output.old) (answer_by result) (S.contents output.new)
-        (S.failed output.new) }
+    ensures written { ReportsInput report reader.old.limits (R.remaining input.old)
+        (R.remaining input.new) (S.contents output.old) (S.failed output.old) (answer_by result)
+        (S.contents output.new) (S.failed output.new) }
     ensures blameless { IfOk result BlamesNoInput }
     ensures passed { OnOk (answer_by result) (S.is_passed_on output.new) }
 {

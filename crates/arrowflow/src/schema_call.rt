@@ -15,15 +15,17 @@ use arrow_types::Limits;
 use std::alloc::Global;
 use std::io::Read;
 
-/// The text of the schema of a stream: a line a field in pre-order, each with its line feed, two spaces of
-/// indentation for each level below the first. A schema without columns has the empty text.
+/// The text of the schema of a stream: a line a field in pre-order, each with its line feed, two
+/// spaces of indentation for each level below the first. A schema without columns has the empty
+/// text.
 ///
-/// The input is read in pieces of 65,536 bytes until its first message is whole, and no further; what the last piece
-/// has behind that message is not looked at.
+/// The input is read in pieces of 65,536 bytes until its first message is whole, and no further;
+/// what the last piece has behind that message is not looked at.
 ///
-/// `Stream` with the reader's fault where the first message is refused, at byte 0, and with `NoSchema` where the
-/// input ends before it is whole. `Input(0)` where a read failed before that, an interrupted one included. `Memory`
-/// where a growth was refused: nothing is said of the stream then.
+/// `Stream` with the reader's fault where the first message is refused, at byte 0, and with
+/// `NoSchema` where the input ends before it is whole. `Input(0)` where a read failed before that,
+/// an interrupted one included. `Memory` where a growth was refused: nothing is said of the stream
+/// then.
 pub fn schema_text<R: Read>(
     alloc: Global,
     input: &mut R,
@@ -47,8 +49,8 @@ pub fn schema_text<R: Read>(
     }
 }
 
-/// Reads the input piece by piece until the reader has the first message. No message is longer than the reader's limits
-/// allow, so that this ends.
+/// Reads the input piece by piece until the reader has the first message. No message is longer than
+/// the reader's limits allow, so that this ends.
 fn read_first<R: Read>(
     reader: &mut StreamReader,
     input: &mut R,
