@@ -1,3 +1,4 @@
+mod Asked
 mod Chars
 mod First
 mod Found

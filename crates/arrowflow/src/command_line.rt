@@ -1,7 +1,9 @@
 //! The program's command line: one word for the command, then its names and options.
 
-ghost use Rattle.std.specs.Prelude.{◌≡◌, IfOk};
-ghost use Rattle.arrowflow.specs.CommandLine.{HasNoGlobals, NeedsSubcommand, plan_by};
+ghost use Rattle.std.specs.Prelude.{◌≡◌, [], IfOk, map, string_bytes, unwrap_or};
+ghost use Rattle.clap.specs.Words.{app_of, first_value, found_of};
+ghost use Rattle.arrowflow.specs.CommandLine.{HasNoGlobals, IsAskedFor, NeedsSubcommand};
+ghost use Rattle.arrowflow.specs.CommandLine.{file_app, plan_by, program_app};
 
 use crate::plans::Plan;
 use clap::{Arg, ArgMatches, Command};
@@ -85,7 +87,8 @@ fn file_command<'a>(
     about: &'a str,
     example: &'a str,
 ) -> Result<Command<'a>, AllocError>
-    ensures { IfOk result HasNoGlobals }
+    ensures globals { IfOk result HasNoGlobals }
+    ensures app { IfOk result (λ c. app_of c ≡ file_app name.now) }
 {
     let file = Arg::new(alloc, "FILE").required(true).help(
         "A file with an Arrow IPC stream; /dev/stdin is standard input",
@@ -100,6 +103,7 @@ fn file_command<'a>(
 fn command<'a>(alloc: Global) -> Result<Command<'a>, AllocError>
     ensures globals { IfOk result HasNoGlobals }
     ensures needs { IfOk result NeedsSubcommand }
+    ensures app { IfOk result (λ c. app_of c ≡ program_app) }
 {
     let whole = Command::new(alloc, "arrowflow")
         .bin_name("arrowflow")?
@@ -112,7 +116,10 @@ fn command<'a>(alloc: Global) -> Result<Command<'a>, AllocError>
 }
 
 /// The name that an argument was given.
-fn name_of(alloc: Global, matches: &ArgMatches<'_>, argument: &str) -> Result<String, AllocError> {
+fn name_of(alloc: Global, matches: &ArgMatches<'_>, argument: &str) -> Result<String, AllocError>
+    ensures { IfOk result (λ s. string_bytes s
+        ≡ unwrap_or (first_value (found_of matches.now) argument.now) []) }
+{
     String::from_str(alloc, matches.get_str(argument).unwrap_or(""))
 }
 
@@ -120,7 +127,9 @@ fn name_of(alloc: Global, matches: &ArgMatches<'_>, argument: &str) -> Result<St
 ///
 /// `ArgFault::Line` where the words are not a command with its names, or ask for help;
 /// `ArgFault::Memory` where a growth was refused.
-pub fn plan(alloc: Global, words: &[&str]) -> Result<Plan, ArgFault> {
+pub fn plan(alloc: Global, words: &[&str]) -> Result<Plan, ArgFault>
+    ensures { IfOk result (IsAskedFor (map (λ w. w.now) words.now)) }
+{
     let matches = command(alloc)?.try_get_matches_from(words)?;
     let Some((command, given)) = matches.subcommand() else {
         unreachable!();

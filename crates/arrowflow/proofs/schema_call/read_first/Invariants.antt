@@ -1,4 +1,4 @@
-use Rattle.std.proofs.Common.{◌≡◌, ◌+◌, ◌-◌, ◌^◌, [], List, ℕ, length}
+use Rattle.std.proofs.Common.{◌≡◌, ◌+◌, ◌-◌, ◌^◌, [], List, ℕ}
 use Rattle.std.specs.Io.KnownBytes.{Consumes}
 use Rattle.arrow_stream.specs.declared.reader.Verdict.TheVariants.{Open}
 use Rattle.arrow_stream.specs.Stream.{Stands}
