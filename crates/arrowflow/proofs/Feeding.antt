@@ -89,6 +89,7 @@ module _ (first now new : Shows) (h h' : List Table) (taken rest : List ℕ) (a 
       let f = a t es at in
       record { more = f.more; stands = stands_at (append_assoc t taken rest) refl (b (t ++ taken) (es ++ f.more) f.stands); tables = f.tables }
 
+  -- no item came
   pub fed_all : (n : ℕ) → ((t : List ℕ) (es : List Entry) → Stands now t es → TakesOn now rest n new t es) → Feeds first h (taken ++ rest) new h'
   fed_all n b = fed_last (λ t es at. taken_all now new rest n t es (b t es at))
 
@@ -96,6 +97,7 @@ module _ (first now new : Shows) (h h' : List Table) (taken rest : List ℕ) (a 
   refused_by fault t es n (inl m) = absurd (n (ap (λ (f : Fault). f.kind) m.fault_is))
   refused_by fault t es n (inr r) = r.stands
 
+  -- a fault came that is no want of memory
   pub fed_fault : (fault : Fault) → (fault.kind ≡ Memory → ⊥) → ((t : List ℕ) (es : List Entry) → Stands now t es → WantsMemory now fault new ⊎ Refuses rest fault new t es) → Feeds first h (taken ++ rest) new h'
   fed_fault fault n b = fed_last (λ t es at. refused_by fault t es n (b t es at))
 
@@ -109,6 +111,7 @@ pub record IsReceiving (limits : LimitNumbers) (bytes : List ℕ) (now : Shows) 
   pub same_limits : now.limits ≡ limits
 
 module _ {l : LimitNumbers} {bytes : List ℕ} {now : Shows} {h : List Table} {rest : List ℕ} (new : Shows) (i : IsReceiving l bytes now h rest) where
+  -- one piece more was given
   pub receiving_next : (h' : List Table) (piece rest' : List ℕ) → Feeds now h piece new h' → piece ++ rest' ≡ rest → new.limits ≡ now.limits → IsReceiving l bytes new h' rest'
   receiving_next h' piece rest' f e k =
       let g = f i.taken i.entries i.stands in

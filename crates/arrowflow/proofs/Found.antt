@@ -1,6 +1,5 @@
 -- What the reader's answers say of the input that it was given.
-use Rattle.std.proofs.Common.{◌≡◌, ℕ, List, [], ◌++◌, take, drop, Option, Some, Ok, Err, ◌⊎◌, inl, inr, refl, sym, ap, ◌∙◌, subst, append_assoc, take-append-drop, is_some, length, arith}
-use Rattle.std.specs.Prelude.{MatchResult, ⊤}
+use Rattle.std.proofs.Common.{◌≡◌, ℕ, List, [], ◌++◌, take, drop, Option, Some, Err, ◌⊎◌, inl, inr, refl, sym, ap, ◌∙◌, subst, append_assoc, take-append-drop, is_some, length, arith}
 use Rattle.std.proofs.lemmas.List.{take_all}
 use Rattle.std.specs.Io.KnownBytes.{IsAtEnd}
 use Rattle.arrow_types.specs.Field.{Fields}
@@ -10,12 +9,11 @@ use Rattle.arrow_stream.specs.declared.kind.Kind.TheVariants.{NoSchema}
 use Rattle.arrow_stream.specs.declared.kind.Refusal.{Refusal}
 use Rattle.arrow_stream.specs.declared.kind.Refusal.TheVariants as refusals
 use Rattle.arrow_stream.specs.declared.reader.Verdict.TheVariants.{Open}
-use Rattle.arrow_stream.specs.Frame.{First, waits}
 use Rattle.arrow_stream.specs.Kind.{kind_of}
 use Rattle.arrow_stream.specs.State.{nothing_yet}
 use Rattle.arrow_stream.specs.Stream.{Shows, Stands, TakesOn, GivesNext, Refuses, WantsMemory, ended_by, ended_so}
-use Rattle.arrowflow.specs.Faults.{told}
-use Rattle.arrowflow.specs.SchemaCall.{BeginWithSchema, Finds}
+use Rattle.arrowflow.specs.Faults.{told, told_end}
+use Rattle.arrowflow.specs.SchemaCall.{AreNoMessage, BeginWithSchema, Finds}
 use Rattle.arrowflow.specs.declared.tool_fault.ToolFault.TheVariants.{Stream}
 use Rattle.arrowflow.proofs.First.{open_waits, bad_refused, one_entry}
 
@@ -40,7 +38,7 @@ told_refusal refusals.Index p = refl
 told_refusal refusals.NoSchema p = refl
 
 -- a reader that stands at bytes without a message waits
-pub still_waits : (r : Shows) (bytes : List ℕ) → Stands r bytes [] → r.at.verdict ≡ Open → First r.limits nothing_yet 0 bytes waits
+pub still_waits : (r : Shows) (bytes : List ℕ) → Stands r bytes [] → r.at.verdict ≡ Open → AreNoMessage r.limits bytes
 still_waits r bytes s o = (open_waits s.front refl o).0
 
 -- what such a reader answers at the end of the input
@@ -51,14 +49,11 @@ ended_early r bytes s o =
     ∙ ap (λ t. ended_by Open (is_some t.schema) r.at.rest r.at.place) w.1
     ∙ ap (λ p. ended_by Open (is_some nothing_yet.schema) r.at.rest p) w.2
 
-pub end_found : (r : Shows) (bytes : List ℕ) (left : Option (List ℕ)) (schema : Option Fields) (f : Fault) → Stands r bytes [] → r.at.verdict ≡ Open → IsAtEnd left → Err f ≡ ended_so r.at → Finds r.limits bytes left schema (Err (told f))
-end_found r bytes left schema f s o end e =
-    let same : record { kind = NoSchema; place = 0 } ≡ f = let q = sym (ended_early r bytes s o) ∙ sym e in cc in
-    subst (λ g. Finds r.limits bytes left schema (Err (told g))) same
+-- so it finds the end of the input too early
+pub end_found : (r : Shows) (bytes : List ℕ) (left : Option (List ℕ)) (schema : Option Fields) → Stands r bytes [] → r.at.verdict ≡ Open → IsAtEnd left → Finds r.limits bytes left schema (told_end (ended_so r.at))
+end_found r bytes left schema s o end =
+    subst (λ a. Finds r.limits bytes left schema (told_end a)) (sym (ended_early r bytes s o))
     (inr (record { waiting = still_waits r bytes s o; over = end; told = refl }))
-
-pub end_not_ok : (r : Shows) (bytes : List ℕ) (u : Unit {0}) → Stands r bytes [] → r.at.verdict ≡ Open → Ok u ≡ ended_so r.at → ⊥
-end_not_ok r bytes u s o e = subst (λ a. MatchResult a (λ _. ⊤) (λ _. ⊥)) (e ∙ ended_early r bytes s o) tt
 
 -- the first item is a schema
 pub item_found : (new : Shows) (bytes piece : List ℕ) (n : ℕ) (item : Item) → GivesNext piece n item new bytes [] → (fields : Fields) × BeginWithSchema new.limits (bytes ++ piece) fields × (new.at.state.schema ≡ Some fields)

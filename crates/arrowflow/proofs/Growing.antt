@@ -33,6 +33,7 @@ same_rest : (es : List Entry) (x : Entry) (more : List Entry) → es ++ x ∷ []
 same_rest [] x more q = q
 same_rest (e ∷ es) x more q = let rest : es ++ x ∷ [] ≡ es ++ more = cc in same_rest es x more rest
 
+-- one message more adds its batch, if it has one
 pub one_table : (es : List Entry) (x : Entry) → tables_of (es ++ x ∷ []) ≡ tables_of es ++ table_in x.given
 one_table es x = tables-append es (x ∷ []) ∙ ap (λ ts. tables_of es ++ ts) (append-nil (table_in x.given))
 
@@ -73,5 +74,6 @@ text_grows {l} {b} c {es} {e} {f} x old o new = by e.state.schema refl
     by None k = before_schema es k old new
     by (Some fields) k = behind_schema fields k
 
+-- the same for all fronts, as the law says it
 pub text_grows_law : TextGrows
 text_grows_law limits bytes more entries x e f old o new = text_grows more x old o new

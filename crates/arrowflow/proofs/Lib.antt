@@ -1,3 +1,4 @@
+mod Asked
 mod Chars
 mod First
 mod Found
@@ -7,4 +8,5 @@ mod Schemas
 mod Growing
 mod Sent
 mod Told
+mod Reading
 mod Reporting

@@ -8,7 +8,9 @@ use Rattle.arrow_array.specs.Batch.{Table}
 use Rattle.arrow_sink.specs.Sinks.{AcceptsBeginning}
 use Rattle.arrow_stream.specs.Front.{Entry, Standing, FrontOf}
 use Rattle.arrow_stream.specs.Stream.{Shows, Stands, ended_by, ended_so}
-use Rattle.arrowflow.specs.Reports.{IsTextOf, IsEnding, EndTold, Sends, IsTold, IsCutOff, PieceTold, IsWritten, IsBegun, EndsWell, Reports}
+use Rattle.arrow_stream.specs.declared.reader.Verdict.TheVariants.{Open}
+use Rattle.arrowflow.specs.Reads.{BlamesNoInput}
+use Rattle.arrowflow.specs.Reports.{IsOpenAt, IsTextOf, IsEnding, EndTold, Sends, IsTold, IsCutOff, PieceTold, IsWritten, IsBegun, EndsWell, Reports}
 use Rattle.arrowflow.specs.Session.{tables_of}
 use Rattle.arrowflow.specs.declared.report.Report.{Report}
 use Rattle.arrowflow.specs.declared.report.Report.TheVariants.{Messages, Rows}
@@ -18,8 +20,18 @@ use Rattle.arrowflow.proofs.Feeding.{ended_same}
 use Rattle.arrowflow.proofs.First.{state_stays}
 use Rattle.arrowflow.proofs.Sent.{begun_behind}
 
+-- where a reader's stream has come to, with this rest
 abbrev pub standing_of : Shows → List ℕ → Standing
 standing_of r rest = record { state = r.at.state; place = r.at.place; rest = rest; verdict = r.at.verdict }
+
+-- a stream goes on at the bytes at which an open reader stands
+pub open_at : (limits : LimitNumbers) (bytes : List ℕ) (r : Shows) (es : List Entry) → Stands r bytes es → r.limits ≡ limits → r.at.verdict ≡ Open → IsOpenAt limits bytes
+open_at limits bytes r es at same o = record {
+  entries = es;
+  standing = standing_of r at.rest;
+  front = subst (λ l. FrontOf l bytes es (standing_of r at.rest)) same at.front;
+  goes_on = o;
+}
 
 -- at its beginning a stream has no text
 pub told_nothing : (report : Report) (held : Option (List ℕ)) (r : Shows) → Stands r [] [] → IsTold report held held 0 r [] []
@@ -120,6 +132,14 @@ module _ (report : Report) (limits : LimitNumbers) (bytes piece : List ℕ) (lef
     wrote = c.wrote;
   }
 
+  -- a piece that was not told to its end blames no input
+  pub piece_blameless : (f : ToolFault) → PieceTold report first failed bytes piece (Err f) held failed' number r → BlamesNoInput (Err f)
+  piece_blameless (Input n) told = absurd told
+  piece_blameless Output told = tt
+  piece_blameless Memory told = tt
+  piece_blameless (Stream f) told = tt
+
+  -- the call ends with such a piece
   pub piece_reported : (f : ToolFault) → PieceTold report first failed bytes piece (Err f) held failed' number r → Reports report limits (bytes ++ piece) left first start (Err f) held failed'
   piece_reported (Input n) told = absurd told
   piece_reported Output told = (cut_begun told.0, told.1 ∙ ap (λ n. n + 1) count)

@@ -24,6 +24,7 @@ pub record GoesOn (l : LimitNumbers) (e : Standing) (c : List ℕ) (es fs : List
   pub joined : fs ≡ es ++ more
   pub behind : Front l e.state e.place (e.rest ++ c) more f
 
+-- more bytes behind an open front add messages to it, and take none away
 pub front_behind : {l : LimitNumbers} {s : StreamState} {p : ℕ} {b : List ℕ} {es fs : List Entry} {e f : Standing} (c : List ℕ) → Front l s p b es e → e.verdict ≡ Open → Front l s p (b ++ c) fs f → GoesOn l e c es fs f
 front_behind {fs = fs} c (rests x) o y = record { more = fs; joined = refl; behind = y }
 front_behind c (fails x) o y = absurd (cc)
@@ -38,11 +39,12 @@ pub record Keeps (fields : Fields) (s : StreamState) (g : Given) : Type 0 where
   pub schema : s.schema ≡ Some fields
   pub other : g ≡ schema_given → ⊥
 
--- what an answer leaves and gives, where it is one
+-- what an answer leaves, where it is one
 abbrev state_in : Result (StreamState × Given) Refusal → StreamState
 state_in (Ok p) = p.0
 state_in (Err k) = nothing_yet
 
+-- what an answer gives, where it is one
 abbrev pub given_in : Result (StreamState × Given) Refusal → Given
 given_in (Ok p) = p.1
 given_in (Err k) = schema_given
@@ -91,6 +93,7 @@ pub record Keep (fields : Fields) (es : List Entry) (e : Standing) : Type 0 wher
   pub schema : e.state.schema ≡ Some fields
   pub others : AllByRecursion (λ (x : Entry). x.given ≡ schema_given → ⊥) es
 
+-- no message behind a schema changes it
 pub front_keeps : {l : LimitNumbers} {s : StreamState} {p : ℕ} {b : List ℕ} {es : List Entry} {e : Standing} → Front l s p b es e → (fields : Fields) → s.schema ≡ Some fields → Keep fields es e
 front_keeps (rests x) fields k = record { schema = k; others = tt }
 front_keeps (fails x) fields k = record { schema = k; others = tt }
@@ -110,6 +113,7 @@ pub record Begins (es : List Entry) (e : Standing) : Type 0 where
   pub given : first.given ≡ schema_given
   pub others : AllByRecursion (λ (x : Entry). x.given ≡ schema_given → ⊥) rest
 
+-- the first message of a stream is its schema
 pub front_begins : {l : LimitNumbers} {s : StreamState} {p : ℕ} {b : List ℕ} {es : List Entry} {e : Standing} → Front l s p b es e → s ≡ nothing_yet → (es ≡ [] → ⊥) → Begins es e
 front_begins (rests x) n some = absurd (some refl)
 front_begins (fails x) n some = absurd (some refl)

@@ -50,6 +50,7 @@ item_in (Err f) = None
 abbrev pub took : ℕ → Option Item → Result (ℕ × Option Item) Fault
 took n o = Ok (n, o)
 
+-- a reader that answered an item was open
 pub open_by_item : (v : Verdict) (n : ℕ) (o : Option Item) (item : Item) → o ≡ Some item → (v ≡ Done → took n o ≡ took 0 None) → ((k : Refusal) → v ≡ Bad k → (f : Fault) × (took n o ≡ Err f)) → v ≡ Open
 open_by_item v n o item is done failed = open_by v (λ d. let q : o ≡ None = ap item_in (done d) in absurd (cc)) (λ k b. let q : o ≡ None = ap item_in (failed k b).1 in absurd (cc))
 
@@ -126,6 +127,7 @@ text_more Rows c {es} {e} {f} x number text added old o new k is more =
 
 module _ (report : Report) (first held : Option (List ℕ)) (number : ℕ) (now new : Shows) (u rest : List ℕ) (es : List Entry) (n : ℕ) (item : Item) (is_open : now.at.verdict ≡ Open) (limits : new.limits ≡ now.limits)
     (x : IsTold report first held number now u es) (gives : GivesNext rest n item new u es) (added : List ℕ) (is_added : IsAdded report new.at.state.schema number (given item) added) where
+  -- the message that came
   abbrev pub entry : Entry
   entry = record { given = given item; end = length u + n }
 
@@ -134,6 +136,7 @@ module _ (report : Report) (first held : Option (List ℕ)) (number : ℕ) (now 
       let standing : Standing = record { state = new.at.state; place = new.at.place; rest = gives.stands.rest; verdict = new.at.verdict } in
       text_more report (take n rest) entry number x.text added x.stands.front is_open (subst (λ l. FrontOf l (u ++ take n rest) (es ++ entry ∷ []) standing) limits gives.stands.front) x.counted x.is is_added
 
+  -- its text was sent: the text of all that came stands there
   pub told_next : (held' : Option (List ℕ)) → Appends held held' added → IsTold report first held' (number + length (table_in (given item))) new (u ++ take n rest) (es ++ entry ∷ [])
   told_next held' h = record {
     text = x.text ++ added;
@@ -143,6 +146,7 @@ module _ (report : Report) (first held : Option (List ℕ)) (number : ℕ) (now 
     counted = ap (λ m. m + length (table_in (given item))) x.counted ∙ sym (ap length (one_table es entry) ∙ length-append (tables_of es) (table_in (given item)));
   }
 
+  -- a beginning of its text was sent
   pub cut_next : (held' : Option (List ℕ)) → AcceptsBeginning held held' added → IsCutOff report first held' new u rest
   cut_next held' h = record {
     taken = take n rest;
@@ -172,12 +176,14 @@ told_at report first held number r u v es e x = subst (λ y. IsTold report first
 
 -- ---- the loop over a piece
 
+-- all of a piece but this rest was given to the reader, and its text was sent
 pub record IsTelling (report : Report) (old : Shows) (before : Option (List ℕ)) (number : ℕ) (piece : List ℕ) (now : Shows) (held : Option (List ℕ)) (number' : ℕ) (rest : List ℕ) : Type 0 where
   pub taken : List ℕ
   pub whole : taken ++ rest ≡ piece
   pub told : (first : Option (List ℕ)) (t : List ℕ) (es : List Entry) → IsTold report first before number old t es → (fs : List Entry) × IsTold report first held number' now (t ++ taken) fs
   pub limits : now.limits ≡ old.limits
 
+-- before the first message nothing of a piece was given
 pub telling_nothing : (report : Report) (old : Shows) (before : Option (List ℕ)) (number : ℕ) (piece : List ℕ) → IsTelling report old before number piece old before number piece
 telling_nothing report old before number piece = record {
   taken = [];

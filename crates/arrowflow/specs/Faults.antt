@@ -1,5 +1,5 @@
 -- What the program says of a fault, and its exit status. (Both are this project's own.)
-use Rattle.std.specs.Prelude.{ℕ, List, ◌++◌, codes}
+use Rattle.std.specs.Prelude.{ℕ, List, ◌++◌, codes, Result, Ok, Err}
 use Rattle.std.specs.Fmt.{decimal}
 use Rattle.arrow_stream.specs.declared.fault.Fault.{Fault}
 use Rattle.arrow_stream.specs.declared.kind.Kind.{Kind}
@@ -48,5 +48,11 @@ abbrev told_as : Kind → Fault → ToolFault
 told_as kinds.Memory fault = Memory
 told_as kind fault = Stream fault
 
+-- the same, by its own kind
 abbrev pub told : Fault → ToolFault
 told fault = told_as fault.kind fault
+
+-- what a reader answers of a stream that ends, as an answer of the program's
+abbrev pub told_end : Result (Unit {0}) Fault → Result (Unit {0}) ToolFault
+told_end (Ok done) = Ok done
+told_end (Err fault) = Err (told fault)

@@ -14,6 +14,7 @@ use Rattle.arrow_stream.specs.Front.{Entry, Standing, FrontOf}
 use Rattle.arrow_stream.specs.Kind.{kind_of}
 use Rattle.arrow_stream.specs.State.{Given}
 use Rattle.arrow_stream.specs.Stream.{Shows, Stands, ended_so}
+use Rattle.arrowflow.specs.Reads.{IsReadWhile}
 use Rattle.arrowflow.specs.Session.{tables_of}
 use Rattle.arrowflow.specs.Shown.{text_in}
 use Rattle.arrowflow.specs.declared.report.Report.{Report}
@@ -64,6 +65,7 @@ pub record IsCutOff (report : Report) (first held : Option (List ℕ)) (r : Show
   pub is : IsTextOf report r.at.state.schema (tables_of entries) text
   pub wrote : AcceptsBeginning first held text
 
+-- the verdict refuses the message at this place, and this is the fault that tells so
 abbrev pub IsBadBy : Verdict → ℕ → Fault → Type 0
 IsBadBy verdict place fault = (k : Refusal) × (verdict ≡ Bad k) × (fault ≡ record { kind = kind_of k; place = place })
 
@@ -125,10 +127,19 @@ Reports report limits bytes left before failed (Err Output) after failed' =
 Reports report limits bytes left before failed (Err Memory) after failed' =
     IsBegun report limits bytes before after × (failed' ≡ failed)
 
--- the same of an input that had these bytes before the call and has these behind it
+-- at these bytes the stream goes on: no message of them is refused, and no end marker came
+pub record IsOpenAt (limits : LimitNumbers) (bytes : List ℕ) : Type 0 where
+  pub entries : List Entry
+  pub standing : Standing
+  pub front : FrontOf limits bytes entries standing
+  pub goes_on : standing.verdict ≡ Open
+
+-- The same of an input that had these bytes before the call and has these behind it, and that no piece was read behind the
+-- one in which the stream is refused or ends with its marker.
 abbrev pub ReportsInput : Report → LimitNumbers → Option (List ℕ) → Option (List ℕ) → Option (List ℕ) → ℕ → Result (Unit {0}) ToolFault → Option (List ℕ) → ℕ → Type 0
 ReportsInput report limits had left before failed answer after failed' =
-    (bytes : List ℕ) × Consumes had left bytes × Reports report limits bytes left before failed answer after failed'
+    (bytes : List ℕ) × Consumes had left bytes × IsReadWhile (IsOpenAt limits) bytes
+    × Reports report limits bytes left before failed answer after failed'
 
 -- what stands behind the text of the messages where the input ends: nothing behind rows
 abbrev pub IsEnding : Report → List ℕ → Type 0

@@ -12,6 +12,7 @@ use Rattle.arrow_stream.specs.declared.kind.Refusal.{Refusal}
 use Rattle.arrow_stream.specs.Frame.{First, whole, refused, waits}
 use Rattle.arrow_stream.specs.Kind.{kind_of}
 use Rattle.arrow_stream.specs.State.{nothing_yet, schema_given}
+use Rattle.arrowflow.specs.Reads.{IsReadWhile}
 use Rattle.arrowflow.specs.SchemaText.{schema_lines}
 use Rattle.arrowflow.specs.declared.tool_fault.ToolFault.{ToolFault}
 use Rattle.arrowflow.specs.declared.tool_fault.ToolFault.TheVariants.{Input, Output, Stream, Memory}
@@ -30,14 +31,18 @@ pub record AreRefused (limits : LimitNumbers) (bytes : List ℕ) (fault : Fault)
   pub comes : First limits nothing_yet 0 bytes (refused refusal)
   pub told : fault ≡ record { kind = kind_of refusal; place = 0 }
 
+-- the bytes are less than a message
+abbrev pub AreNoMessage : LimitNumbers → List ℕ → Type 0
+AreNoMessage limits bytes = First limits nothing_yet 0 bytes waits
+
 -- the bytes are less than a message, and nothing is left of the input
 pub record EndEarly (limits : LimitNumbers) (bytes : List ℕ) (left : Option (List ℕ)) (fault : Fault) : Type 0 where
-  pub waiting : First limits nothing_yet 0 bytes waits
+  pub waiting : AreNoMessage limits bytes
   pub over : IsAtEnd left
   pub told : fault ≡ record { kind = NoSchema; place = 0 }
 
 -- the bytes begin with a schema, of which this is the text
-pub record IsTextOf (limits : LimitNumbers) (bytes : List ℕ) (text : List ℕ) : Type 0 where
+pub record BeginWithText (limits : LimitNumbers) (bytes : List ℕ) (text : List ℕ) : Type 0 where
   pub fields : Fields
   pub begins : BeginWithSchema limits bytes fields
   pub lines : text ≡ schema_lines fields
@@ -45,23 +50,27 @@ pub record IsTextOf (limits : LimitNumbers) (bytes : List ℕ) (text : List ℕ)
 -- What is answered when these bytes were read of an input and these are left. The input fails where the bytes read are
 -- less than a message; want of memory may come at any time.
 abbrev pub Answers : LimitNumbers → List ℕ → Option (List ℕ) → Result (String Global) ToolFault → Type 0
-Answers limits bytes left (Ok text) = IsTextOf limits bytes (string_bytes text)
+Answers limits bytes left (Ok text) = BeginWithText limits bytes (string_bytes text)
 Answers limits bytes left (Err (Stream fault)) = AreRefused limits bytes fault ⊎ EndEarly limits bytes left fault
-Answers limits bytes left (Err (Input number)) = (number ≡ 0) × First limits nothing_yet 0 bytes waits
+Answers limits bytes left (Err (Input number)) = (number ≡ 0) × AreNoMessage limits bytes
 Answers limits bytes left (Err Output) = ⊥
 Answers limits bytes left (Err Memory) = ⊤
 
--- what is answered of an input that had these bytes before the call and has these behind it
+-- What is answered of an input that had these bytes before the call and has these behind it, and that no piece was read
+-- behind the one in which the first message ends.
 abbrev pub AnswersInput : LimitNumbers → Option (List ℕ) → Option (List ℕ) → Result (String Global) ToolFault → Type 0
-AnswersInput limits before left result = (bytes : List ℕ) × Consumes before left bytes × Answers limits bytes left result
+AnswersInput limits before left result =
+    (bytes : List ℕ) × Consumes before left bytes × IsReadWhile (AreNoMessage limits) bytes × Answers limits bytes left result
 
 -- the same of the reader, which shows the schema once its message was whole
 abbrev pub Finds : LimitNumbers → List ℕ → Option (List ℕ) → Option Fields → Result (Unit {0}) ToolFault → Type 0
 Finds limits bytes left schema (Ok done) = (fields : Fields) × BeginWithSchema limits bytes fields × (schema ≡ Some fields)
 Finds limits bytes left schema (Err (Stream fault)) = AreRefused limits bytes fault ⊎ EndEarly limits bytes left fault
-Finds limits bytes left schema (Err (Input number)) = (number ≡ 0) × First limits nothing_yet 0 bytes waits
+Finds limits bytes left schema (Err (Input number)) = (number ≡ 0) × AreNoMessage limits bytes
 Finds limits bytes left schema (Err Output) = ⊥
 Finds limits bytes left schema (Err Memory) = ⊤
 
+-- what it has found in an input that had these bytes before the call and has these behind it
 abbrev pub FindsIn : LimitNumbers → Option (List ℕ) → Option (List ℕ) → Option Fields → Result (Unit {0}) ToolFault → Type 0
-FindsIn limits before left schema result = (bytes : List ℕ) × Consumes before left bytes × Finds limits bytes left schema result
+FindsIn limits before left schema result =
+    (bytes : List ℕ) × Consumes before left bytes × IsReadWhile (AreNoMessage limits) bytes × Finds limits bytes left schema result

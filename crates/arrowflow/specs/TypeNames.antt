@@ -23,10 +23,12 @@ int_name Sixteen false = codes "uint16"
 int_name ThirtyTwo false = codes "uint32"
 int_name SixtyFour false = codes "uint64"
 
+-- a date's type by its unit
 abbrev pub date_name : DateUnit → List ℕ
 date_name dates.Day = codes "date[day]"
 date_name dates.Millisecond = codes "date[ms]"
 
+-- the unit of times and timestamps
 abbrev pub unit_name : TimeUnit → List ℕ
 unit_name times.Second = codes "s"
 unit_name times.Millisecond = codes "ms"

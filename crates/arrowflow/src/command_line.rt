@@ -1,7 +1,9 @@
 //! The program's command line: one word for the command, then its names and options.
 
-ghost use Rattle.std.specs.Prelude.{IfOk};
-ghost use Rattle.arrowflow.specs.CommandLine.{HasNoGlobals, NeedsSubcommand};
+ghost use Rattle.std.specs.Prelude.{◌≡◌, [], IfOk, map, string_bytes, unwrap_or};
+ghost use Rattle.clap.specs.Words.{app_of, first_value, found_of};
+ghost use Rattle.arrowflow.specs.CommandLine.{HasNoGlobals, IsAskedFor, NeedsSubcommand};
+ghost use Rattle.arrowflow.specs.CommandLine.{file_app, plan_by, program_app};
 
 use crate::plans::Plan;
 use clap::{Arg, ArgMatches, Command};
@@ -38,8 +40,8 @@ const SHOW_EXAMPLE: &str =
 /// Why a command line has no plan.
 #[derive(Debug, Drop)]
 pub enum ArgFault {
-    /// The words are no command, or ask for help. The error prints itself, help to standard output and all else to
-    /// standard error, and has the exit status: 0 for help, else 2.
+    /// The words are no command, or ask for help. The error prints itself, help to standard output
+    /// and all else to standard error, and has the exit status: 0 for help, else 2.
     Line(clap::Error),
     /// A growth was refused.
     Memory,
@@ -85,7 +87,8 @@ fn file_command<'a>(
     about: &'a str,
     example: &'a str,
 ) -> Result<Command<'a>, AllocError>
-    ensures { IfOk result HasNoGlobals }
+    ensures globals { IfOk result HasNoGlobals }
+    ensures app { IfOk result (λ c. app_of c ≡ file_app name.now) }
 {
     let file = Arg::new(alloc, "FILE").required(true).help(
         "A file with an Arrow IPC stream; /dev/stdin is standard input",
@@ -100,6 +103,7 @@ fn file_command<'a>(
 fn command<'a>(alloc: Global) -> Result<Command<'a>, AllocError>
     ensures globals { IfOk result HasNoGlobals }
     ensures needs { IfOk result NeedsSubcommand }
+    ensures app { IfOk result (λ c. app_of c ≡ program_app) }
 {
     let whole = Command::new(alloc, "arrowflow")
         .bin_name("arrowflow")?
@@ -112,23 +116,36 @@ fn command<'a>(alloc: Global) -> Result<Command<'a>, AllocError>
 }
 
 /// The name that an argument was given.
-fn name_of(alloc: Global, matches: &ArgMatches<'_>, argument: &str) -> Result<String, AllocError> {
+fn name_of(alloc: Global, matches: &ArgMatches<'_>, argument: &str) -> Result<String, AllocError>
+    ensures { IfOk result (λ s. string_bytes s
+        ≡ unwrap_or (first_value (found_of matches.now) argument.now) []) }
+{
     String::from_str(alloc, matches.get_str(argument).unwrap_or(""))
 }
 
 /// What the words of a command line ask for. The first word is the program's own name.
 ///
-/// `ArgFault::Line` where the words are not a command with its names, or ask for help; `ArgFault::Memory` where a
-/// growth was refused.
-pub fn plan(alloc: Global, words: &[&str]) -> Result<Plan, ArgFault> {
+/// `ArgFault::Line` where the words are not a command with its names, or ask for help;
+/// `ArgFault::Memory` where a growth was refused.
+pub fn plan(alloc: Global, words: &[&str]) -> Result<Plan, ArgFault>
+    ensures { IfOk result (IsAskedFor (map (λ w. w.now) words.now)) }
+{
     let matches = command(alloc)?.try_get_matches_from(words)?;
     let Some((command, given)) = matches.subcommand() else {
         unreachable!();
     };
     let file = name_of(alloc, given, "FILE")?;
-    Ok(match command {
+    Ok(plan_of(command, file))
+}
+
+/// The plan of the command of this name, for this file. A line names one of the three commands, so
+/// that any other name stands for `schema`.
+fn plan_of(command: &str, file: String) -> Plan
+    ensures { result ≡ plan_by command.now file }
+{
+    match command {
         "check" => Plan::Check(file),
         "show" => Plan::Show(file),
         _ => Plan::Schema(file),
-    })
+    }
 }

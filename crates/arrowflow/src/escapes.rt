@@ -5,8 +5,8 @@ ghost use Rattle.arrowflow.specs.Escapes.{is_escaped, hex_digit, byte_number, es
 
 use std::alloc::AllocError;
 
-/// Appends the text as it stands in a line: each byte below 20 hexadecimal, 7f and the backslash as `\x` and two
-/// lower-case hexadecimal digits, all others as they are.
+/// Appends the text as it stands in a line: each byte below 20 hexadecimal, 7f and the backslash as
+/// `\x` and two lower-case hexadecimal digits, all others as they are.
 pub(crate) fn push_escaped(line: &mut String, text: &str) -> Result<(), AllocError>
     ensures { OnOk result (string_bytes line.new ≡ string_bytes line.old ++ escaped text.now) }
 {
@@ -19,7 +19,8 @@ pub(crate) fn push_escaped(line: &mut String, text: &str) -> Result<(), AllocErr
 /// Appends one character of a text.
 #[tactic(auto, using(crate::proofs::Chars::escaped_plain, crate::proofs::Chars::escaped_low))]
 fn push_char(line: &mut String, ch: char) -> Result<(), AllocError>
-    ensures { OnOk result (string_bytes line.new ≡ string_bytes line.old ++ escaped (encode_utf8 ch)) }
+    ensures { OnOk result (string_bytes line.new
+        ≡ string_bytes line.old ++ escaped (encode_utf8 ch)) }
 {
     if is_shown_by_number(ch) {
         push_number(line, ch as u32)

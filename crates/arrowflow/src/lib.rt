@@ -1,16 +1,19 @@
 //! What the program `arrowflow` does, as calls over readers and values.
 //!
-//! [`session::receive`] gives a reader the bytes of one connection in pieces, and hands out the batches at their front,
-//! the dictionaries that the whole messages left, and the ending. The rest takes an input with a stream and gives text
-//! to print, or a [`ToolFault`] with the line and the exit status that the program ends with. [`plan`] reads a command
-//! line. The program opens files, makes one of these calls and prints what it gives; it adds nothing of its own.
+//! [`session::receive`] gives a reader the bytes of one connection in pieces, and hands out the
+//! batches at their front, the dictionaries that the whole messages left, and the ending. The rest
+//! takes an input with a stream and gives text to print, or a [`ToolFault`] with the line and the
+//! exit status that the program ends with. [`plan`] reads a command line. The program opens files,
+//! makes one of these calls and prints what it gives; it adds nothing of its own.
 //!
-//! What is received of bytes is said by `Receives` (`specs/Session.antt`). The text of a schema is a definition,
-//! `schema_lines` (`specs/SchemaText.antt`), and [`schema_lines_of`] gives it for every schema. Which bytes of an input
-//! decide what [`schema_text`] answers is said by `AnswersInput` (`specs/SchemaCall.antt`), in the words of the layer that
-//! reads streams; what is said of a fault by `specs/Faults.antt`. [`show`] writes the rows of a stream and [`check`] a line for each of its messages, as they come: what
-//! is written, and how that ends, is said by `ReportsInput` (`specs/Reports.antt`). What each message adds to the text of a
-//! stream's rows is said by `specs/Shown.antt`, and that the text grows so by [`laws`].
+//! What is received of bytes is said by `Receives` (`specs/Session.antt`). The text of a schema is
+//! a definition, `schema_lines` (`specs/SchemaText.antt`), and [`schema_lines_of`] gives it for
+//! every schema. Which bytes of an input decide what [`schema_text`] answers is said by
+//! `AnswersInput` (`specs/SchemaCall.antt`), in the words of the layer that reads streams; what is
+//! said of a fault by `specs/Faults.antt`. [`show`] writes the rows of a stream and [`check`] a
+//! line for each of its messages, as they come: what is written, and how that ends, is said by
+//! `ReportsInput` (`specs/Reports.antt`). What each message adds to the text of a stream's rows is
+//! said by `specs/Shown.antt`, and that the text grows so by [`laws`].
 #![tactic(auto)]
 
 mod command_line;

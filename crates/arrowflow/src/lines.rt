@@ -3,8 +3,8 @@
 use arrow_stream::{Item, StreamReader};
 use std::alloc::{AllocError, Global};
 
-/// The line of a message, with its line feed. The message began at this place, and so many batches came before it; the
-/// reader is the one that has just read it.
+/// The line of a message, with its line feed. The message began at this place, and so many batches
+/// came before it; the reader is the one that has just read it.
 pub(crate) fn message_line(
     alloc: Global,
     reader: &StreamReader,

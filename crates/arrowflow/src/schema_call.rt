@@ -1,11 +1,13 @@
 //! The text of the schema of an input.
 
-ghost use Rattle.std.specs.Prelude.{◌≡◌, ◌<◌, [], length};
+ghost use Rattle.std.specs.Prelude.{◌≡◌, [], IfOk, length};
 ghost use Rattle.arrow_stream.specs.declared.reader.Verdict.TheVariants.{Open};
-ghost use Rattle.arrow_stream.specs.Stream.{Stands};
+ghost use Rattle.arrow_stream.specs.Stream.{Stands, ended_so};
+ghost use Rattle.arrowflow.specs.Faults.{told_end};
+ghost use Rattle.arrowflow.specs.Reads.{BlamesNoInput, answer_by};
 ghost use Rattle.arrowflow.specs.SchemaCall.{AnswersInput, FindsIn};
 
-use crate::pieces::room_for_a_piece;
+use crate::pieces::{ReadFailed, answer_of, read_piece, room_for_a_piece};
 use crate::schema_lines::schema_lines_of;
 use crate::tool_fault::ToolFault;
 use arrow_stream::StreamReader;
@@ -13,15 +15,17 @@ use arrow_types::Limits;
 use std::alloc::Global;
 use std::io::Read;
 
-/// The text of the schema of a stream: a line a field in pre-order, each with its line feed, two spaces of
-/// indentation for each level below the first. A schema without columns has the empty text.
+/// The text of the schema of a stream: a line a field in pre-order, each with its line feed, two
+/// spaces of indentation for each level below the first. A schema without columns has the empty
+/// text.
 ///
-/// The input is read in pieces of 65,536 bytes until its first message is whole, and no further; what the last piece
-/// has behind that message is not looked at.
+/// The input is read in pieces of 65,536 bytes until its first message is whole, and no further;
+/// what the last piece has behind that message is not looked at.
 ///
-/// `Stream` with the reader's fault where the first message is refused, at byte 0, and with `NoSchema` where the
-/// input ends before it is whole. `Input(0)` where a read failed before that, an interrupted one included. `Memory`
-/// where a growth was refused: nothing is said of the stream then.
+/// `Stream` with the reader's fault where the first message is refused, at byte 0, and with
+/// `NoSchema` where the input ends before it is whole. `Input(0)` where a read failed before that,
+/// an interrupted one included. `Memory` where a growth was refused: nothing is said of the stream
+/// then.
 pub fn schema_text<R: Read>(
     alloc: Global,
     input: &mut R,
@@ -33,7 +37,7 @@ pub fn schema_text<R: Read>(
     let Ok(mut room) = room_for_a_piece(alloc) else {
         return Err(ToolFault::Memory);
     };
-    if let Err(fault) = read_first(&mut reader, input, &mut room) {
+    if let Err(fault) = answer_of(read_first(&mut reader, input, &mut room)) {
         return Err(fault);
     }
     let Some(schema) = reader.schema() else {
@@ -45,35 +49,39 @@ pub fn schema_text<R: Read>(
     }
 }
 
-/// Reads the input piece by piece until the reader has the first message.
-///
-/// No message is longer than the reader's limits allow, so the turns of the loop never run out.
+/// Reads the input piece by piece until the reader has the first message. No message is longer than
+/// the reader's limits allow, so that this ends.
 fn read_first<R: Read>(
     reader: &mut StreamReader,
     input: &mut R,
     room: &mut [u8],
-) -> Result<(), ToolFault>
+) -> Result<Result<(), ToolFault>, ReadFailed>
     requires fresh { Stands reader.old [] [] }
     requires open { reader.old.at.verdict ≡ Open }
-    requires room { 0 < length room.old }
-    ensures { FindsIn reader.old.limits (R.remaining input.old) (R.remaining input.new)
-        reader.new.at.state.schema result }
+    requires room { length room.old ≡ 65536 }
+    ensures found { FindsIn reader.old.limits (R.remaining input.old) (R.remaining input.new)
+        reader.new.at.state.schema (answer_by result) }
+    ensures blameless { IfOk result BlamesNoInput }
 {
-    'pieces: for _ in 0..u64::MAX {
-        let Ok(count) = input.read(room) else {
-            return Err(ToolFault::Input(0));
-        };
+    loop {
+        let count = read_piece(input, room)?;
         if count == 0 {
-            return match reader.end() {
-                Ok(()) => Ok(()),
-                Err(fault) => Err(ToolFault::from(fault)),
-            };
+            return Ok(end_of(reader));
         }
         match reader.read(&room[..count]) {
-            Ok((_, Some(_))) => return Ok(()),
+            Ok((_, Some(_))) => return Ok(Ok(())),
             Ok((_, None)) => {}
-            Err(fault) => return Err(ToolFault::from(fault)),
+            Err(fault) => return Ok(Err(ToolFault::from(fault))),
         }
     }
-    Err(ToolFault::Input(0))
+}
+
+/// What is answered where the input ends: what the reader says of a stream that ends there.
+fn end_of(reader: &StreamReader) -> Result<(), ToolFault>
+    ensures { result ≡ told_end (ended_so reader.now.at) }
+{
+    match reader.end() {
+        Ok(()) => Ok(()),
+        Err(fault) => Err(ToolFault::from(fault)),
+    }
 }

@@ -16,8 +16,8 @@ const ROWS: usize = 1_024;
 /// Sends a text.
 pub(crate) fn send_text<S: Sink>(output: &mut S, text: &[u8]) -> Result<(), ToolFault>
     requires { S.failed output.old < 2 ^ 64 - 1 }
-    ensures { Sends (S.contents output.old) (S.failed output.old) text.now result (S.contents output.new)
-        (S.failed output.new) }
+    ensures { Sends (S.contents output.old) (S.failed output.old) text.now result
+        (S.contents output.new) (S.failed output.new) }
 {
     match send(output, text) {
         Ok(()) => Ok(()),
@@ -33,8 +33,9 @@ pub(crate) fn send_rows<S: Sink>(
     output: &mut S,
 ) -> Result<(), ToolFault>
     requires { S.failed output.old < 2 ^ 64 - 1 }
-    ensures { Sends (S.contents output.old) (S.failed output.old) (batch_rows number batch.now 0 batch.now.rows)
-        result (S.contents output.new) (S.failed output.new) }
+    ensures { Sends (S.contents output.old) (S.failed output.old)
+        (batch_rows number batch.now 0 batch.now.rows) result (S.contents output.new)
+        (S.failed output.new) }
 {
     let mut start = 0;
     while start < batch.rows() {
@@ -53,8 +54,8 @@ pub(crate) fn send_rows<S: Sink>(
 /// Passes on what was sent.
 pub(crate) fn flush<S: Sink>(output: &mut S) -> Result<(), ToolFault>
     requires { S.failed output.old < 2 ^ 64 - 1 }
-    ensures kept { Sends (S.contents output.old) (S.failed output.old) [] result (S.contents output.new)
-        (S.failed output.new) }
+    ensures kept { Sends (S.contents output.old) (S.failed output.old) [] result
+        (S.contents output.new) (S.failed output.new) }
     ensures passed { OnOk result (S.is_passed_on output.new) }
 {
     match output.flush() {

@@ -23,23 +23,26 @@ pub enum Ending {
 pub struct Received {
     /// The batches, in the order of their messages.
     pub handed: Vec<Batch>,
-    /// The ids and their dictionaries as the whole messages left them, by rising id. They share their values with the
-    /// reader's.
+    /// The ids and their dictionaries as the whole messages left them, by rising id. They share
+    /// their values with the reader's.
     pub reader_dictionaries: Vec<(i64, Dictionary)>,
     /// How the connection ended.
     pub ending: Ending,
 }
 
-/// Gives a reader the bytes of one stream from its beginning, in pieces, and takes what it hands out (Columnar Format,
-/// "IPC Streaming Format").
+/// Gives a reader the bytes of one stream from its beginning, in pieces, and takes what it hands
+/// out (Columnar Format, "IPC Streaming Format").
 ///
-/// The reader begins anew. The pieces have the lengths in `cuts`, in bytes; what is left behind the last cut is one
-/// piece more. A cut past the end takes the rest, and a cut of 0 gives an empty piece. What a reader leaves of a piece
-/// is given again, so that all of it is taken, but for the bytes behind an end marker or a refusal.
+/// The reader begins anew. The pieces have the lengths in `cuts`, in bytes; what is left behind the
+/// last cut is one piece more. A cut past the end takes the rest, and a cut of 0 gives an empty
+/// piece. What a reader leaves of a piece is given again, so that all of it is taken, but for the
+/// bytes behind an end marker or a refusal.
 ///
-/// `Receives` (`specs/Session.antt`) says what comes of it in the words of the whole list of bytes, and names no cut.
+/// `Receives` (`specs/Session.antt`) says what comes of it in the words of the whole list of bytes,
+/// and names no cut.
 ///
-/// `AllocError` where a growth was refused, in the reader or here: the reader then stands at some beginning of the bytes.
+/// `AllocError` where a growth was refused, in the reader or here: the reader then stands at some
+/// beginning of the bytes.
 pub fn receive(
     alloc: Global,
     reader: &mut StreamReader,
@@ -62,7 +65,8 @@ pub fn receive(
     })
 }
 
-/// Gives a reader the bytes of one stream from its beginning, in pieces of these lengths, and takes the batches.
+/// Gives a reader the bytes of one stream from its beginning, in pieces of these lengths, and takes
+/// the batches.
 fn hand_out(
     alloc: Global,
     reader: &mut StreamReader,
@@ -87,7 +91,8 @@ fn hand_out(
 
 /// Gives the reader a piece, and what it leaves of it again.
 fn feed(reader: &mut StreamReader, handed: &mut Vec<Batch>, piece: &[u8]) -> Result<(), AllocError>
-    ensures feeds { OnOk result (Feeds reader.old handed.old.items piece.now reader.new handed.new.items) }
+    ensures feeds { OnOk result (Feeds reader.old handed.old.items piece.now reader.new
+        handed.new.items) }
     ensures limits { reader.new.limits ≡ reader.old.limits }
     ensures inside { OnErr result (FeedsInside reader.old piece.now reader.new) }
 {

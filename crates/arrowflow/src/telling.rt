@@ -16,8 +16,8 @@ use arrow_sink::Sink;
 use arrow_stream::{Item, StreamReader};
 use std::alloc::Global;
 
-/// Gives the reader a piece, and sends the text of its messages. The answer tells whether an end marker came: what stands
-/// behind it in the piece is not looked at.
+/// Gives the reader a piece, and sends the text of its messages. The answer tells whether an end
+/// marker came: what stands behind it in the piece is not looked at.
 pub(crate) fn tell_piece<S: Sink>(
     alloc: Global,
     report: Report,
@@ -27,8 +27,9 @@ pub(crate) fn tell_piece<S: Sink>(
     piece: &[u8],
 ) -> Result<bool, ToolFault>
     requires { S.failed output.old < 2 ^ 64 - 1 }
-    ensures told { TellsPiece report reader.old (S.contents output.old) (S.failed output.old) number.old piece.now
-        result reader.new (S.contents output.new) (S.failed output.new) number.new }
+    ensures told { TellsPiece report reader.old (S.contents output.old) (S.failed output.old)
+        number.old piece.now result reader.new (S.contents output.new) (S.failed output.new)
+        number.new }
     ensures limits { reader.new.limits ≡ reader.old.limits }
     ensures open { reader.old.at.verdict ≡ Open → result ≡ Ok false → reader.new.at.verdict ≡ Open }
 {
@@ -63,7 +64,8 @@ fn tell_item<S: Sink>(
 ) -> Result<(), ToolFault>
     requires { S.failed output.old < 2 ^ 64 - 1 }
     ensures sent { SendsSome (IsAdded report reader.now.at.state.schema number.old (given item.now))
-        (S.contents output.old) (S.failed output.old) result (S.contents output.new) (S.failed output.new) }
+        (S.contents output.old) (S.failed output.old) result (S.contents output.new)
+        (S.failed output.new) }
     ensures counted { OnOk result (number.new ≡ number.old + length (table_in (given item.now))) }
 {
     let before = *number;
@@ -89,8 +91,8 @@ fn tell_message<S: Sink>(
     output: &mut S,
 ) -> Result<(), ToolFault>
     requires { S.failed output.old < 2 ^ 64 - 1 }
-    ensures { SendsSome (λ _. ⊤) (S.contents output.old) (S.failed output.old) result (S.contents output.new)
-        (S.failed output.new) }
+    ensures { SendsSome (λ _. ⊤) (S.contents output.old) (S.failed output.old) result
+        (S.contents output.new) (S.failed output.new) }
 {
     match message_line(alloc, reader, place, number, item) {
         Ok(line) => send_text(output, line.as_bytes()),

@@ -11,7 +11,8 @@ use thiserror::Error;
 /// Why a command gives no answer.
 #[derive(Debug, Drop, Error)]
 pub enum ToolFault {
-    /// The input of this number, counted from 0, could not be read. An interrupted read counts as failed.
+    /// The input of this number, counted from 0, could not be read. An interrupted read counts as
+    /// failed.
     #[error("cannot read input {0}")]
     Input(u64),
     /// The output failed.
@@ -38,13 +39,15 @@ impl From<Fault> for ToolFault {
 }
 
 impl ToolFault {
-    /// The line that the program prints of the fault to standard error, without its line feed, or `AllocError` where
-    /// a growth was refused. `read` is the name of the input that failed, and `written` that of the output.
+    /// The line that the program prints of the fault to standard error, without its line feed, or
+    /// `AllocError` where a growth was refused. `read` is the name of the input that failed, and
+    /// `written` that of the output.
     ///
-    /// `cannot read NAME`, `cannot write NAME`, `fault at byte P: KIND` with the place of the message in bytes from the
-    /// stream's beginning and the kind by its name, or `out of memory`.
+    /// `cannot read NAME`, `cannot write NAME`, `fault at byte P: KIND` with the place of the
+    /// message in bytes from the stream's beginning and the kind by its name, or `out of memory`.
     pub fn line(&self, alloc: Global, read: &str, written: &str) -> Result<String, AllocError>
-        ensures { IfOk result (λ line. string_bytes line ≡ fault_line self.now read.now written.now) }
+        ensures { IfOk result (λ line. string_bytes line
+            ≡ fault_line self.now read.now written.now) }
     {
         let mut line = String::new(alloc);
         match self {
@@ -67,7 +70,8 @@ impl ToolFault {
         Ok(line)
     }
 
-    /// The program's exit status: 1 where a stream was refused, 2 where an input, the output or memory failed.
+    /// The program's exit status: 1 where a stream was refused, 2 where an input, the output or
+    /// memory failed.
     pub fn status(&self) -> u8
         ensures { result ≡ status_of self.now }
     {

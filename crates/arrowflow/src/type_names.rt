@@ -3,14 +3,16 @@
 ghost use Rattle.std.specs.Prelude.{◌≡◌, ◌++◌, OnOk, string_bytes, option_map};
 ghost use Rattle.arrow_types.specs.DataType.{time, timestamp};
 ghost use Rattle.arrow_types.specs.View.{type_view};
-ghost use Rattle.arrowflow.specs.TypeNames.{int_name, date_name, unit_name, type_name, index_text, id_text, column_type};
+ghost use Rattle.arrowflow.specs.TypeNames.{int_name, date_name, unit_name, type_name};
+ghost use Rattle.arrowflow.specs.TypeNames.{index_text, id_text, column_type};
 
 use crate::escapes::push_escaped;
 use arrow_types::{BitWidth, DataType, DateUnit, Encoding, TimeUnit};
 use std::alloc::AllocError;
 use std::fmt::Write;
 
-/// Appends a column's type: that of its values, or with a dictionary, of its indices and of the dictionary's values.
+/// Appends a column's type: that of its values, or with a dictionary, of its indices and of the
+/// dictionary's values.
 pub(crate) fn push_column_type(
     line: &mut String,
     data_type: &DataType,
