@@ -8,7 +8,7 @@ use Rattle.arrow_stream.specs.Frame.{Outcome, First, whole, waits, short_prefix,
 use Rattle.arrow_stream.specs.Front.{Entry, Standing, Front, rests, fails, closes, goes_on}
 use Rattle.arrow_stream.specs.State.{StreamState, Given}
 use Rattle.arrow_stream.specs.Stream.{Shows, Stands}
-use Rattle.arrow_stream.proofs.Firsts.{First-within}
+use Rattle.arrow_stream.proofs.Firsts.{First-within, whole_says}
 use Rattle.arrow_stream.proofs.Fronts.{front_place}
 use Rattle.arrow_stream.proofs.Works.{size_small, frame_small}
 use Rattle.arrowflow.specs.Reads.{IsReadWhile, answer_by}
@@ -29,17 +29,10 @@ waits_near (message_comes h) e n = absurd (cc)
 
 -- a whole message ends by the last place
 whole_near : {l : LimitNumbers} {s : StreamState} {p : ℕ} {b : List ℕ} {o : Outcome} → First l s p b o → (n : ℕ) (s' : StreamState) (g : Given) → o ≡ whole n s' g → p + n ≤ 2 ^ 62
-whole_near (short_prefix h) n s' g e = absurd (cc)
-whole_near (short_metadata h i) n s' g e = absurd (cc)
-whole_near (short_body h i) n s' g e = absurd (cc)
-whole_near (bad_prefix h) n s' g e = absurd (cc)
-whole_near (bad_metadata h) n s' g e = absurd (cc)
-whole_near (bad_body h) n s' g e = absurd (cc)
-whole_near (end_marker h) n s' g e = absurd (cc)
-whole_near (message_comes {m = m} {message = t} h) n s' g e =
-    let w = frame_small h.metadata in
-    let size : 8 + m + t.body_len ≡ n = cc in
-    omega (arith, w.2, size)
+whole_near first n s' g e =
+    let frame = whole_says first n s' g e in
+    let w = frame_small frame.body.metadata in
+    omega (arith, w.2, frame.ends)
 
 -- so does a stream that goes on
 open_near : {l : LimitNumbers} {s : StreamState} {p : ℕ} {b : List ℕ} {es : List Entry} {e : Standing} → Front l s p b es e → e.verdict ≡ Open → p ≤ 2 ^ 62 → p + length b ≤ 2 ^ 62 + 8

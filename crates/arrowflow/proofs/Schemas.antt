@@ -9,11 +9,11 @@ use Rattle.arrow_array.specs.Column.{Column}
 use Rattle.arrow_stream.specs.declared.kind.Refusal.{Refusal}
 use Rattle.arrow_stream.specs.declared.reader.Verdict.TheVariants.{Open}
 use Rattle.arrow_stream.specs.Batch.{with_values}
-use Rattle.arrow_stream.specs.Frame.{is_out_of_order, BodySays, schema_comes, dictionary_comes, batch_comes, Outcome, First, whole, short_prefix, short_metadata, short_body, bad_prefix, bad_metadata, bad_body, end_marker, message_comes}
+use Rattle.arrow_stream.specs.Frame.{is_out_of_order, BodySays, schema_comes, dictionary_comes, batch_comes, Outcome, First, whole}
 use Rattle.arrow_stream.specs.Front.{Entry, Standing, Front, rests, fails, closes, goes_on}
 use Rattle.arrow_stream.specs.State.{StreamState, Given, nothing_yet, schema_given, dictionary_given, batch_given, ended}
 use Rattle.arrow_stream.proofs.Beginnings.{whole_gives}
-use Rattle.arrow_stream.proofs.Firsts.{First-append, First-within}
+use Rattle.arrow_stream.proofs.Firsts.{whole_says, First-append, First-within}
 use Rattle.arrow_stream.proofs.Fronts.{at_bytes, front_follows}
 use Rattle.arrow_stream.proofs.Works.{message_in_order}
 use Rattle.arrowflow.proofs.First.{not_marker}
@@ -75,18 +75,9 @@ body_keeps {s} (batch_comes {cs = Ok cs} h i) fields known o s' g e =
 -- a whole message behind a schema
 pub whole_keeps : {l : LimitNumbers} {s : StreamState} {p : ℕ} {b : List ℕ} {o : Outcome} → First l s p b o → (fields : Fields) → s.schema ≡ Some fields
     → (n : ℕ) (s' : StreamState) (g : Given) → o ≡ whole n s' g → Keeps fields s' g
-whole_keeps (short_prefix h) fields k n s' g e = absurd (cc)
-whole_keeps (short_metadata h i) fields k n s' g e = absurd (cc)
-whole_keeps (short_body h i) fields k n s' g e = absurd (cc)
-whole_keeps (bad_prefix h) fields k n s' g e = absurd (cc)
-whole_keeps (bad_metadata h) fields k n s' g e = absurd (cc)
-whole_keeps (bad_body h) fields k n s' g e = absurd (cc)
-whole_keeps (end_marker h) fields k n s' g e = absurd (cc)
-whole_keeps (message_comes {s' = s''} {g = g'} h) fields k n s' g e =
-    let states : s'' ≡ s' = cc in
-    let given : g' ≡ g = cc in
-    let w = body_keeps h.says fields k (message_in_order h.metadata) s'' g' refl in
-    record { schema = ap (λ t. t.schema) (sym states) ∙ w.schema; other = λ q. w.other (given ∙ q) }
+whole_keeps first fields k n s' g e =
+    let frame = whole_says first n s' g e in
+    body_keeps frame.body.says fields k (message_in_order frame.body.metadata) s' g refl
 
 -- a front behind a schema leaves it, and gives no other
 pub record Keep (fields : Fields) (es : List Entry) (e : Standing) : Type 0 where

@@ -13,12 +13,13 @@ use Rattle.arrow_stream.specs.declared.item.Item.TheVariants.{End}
 use Rattle.arrow_stream.specs.declared.kind.Refusal.{Refusal}
 use Rattle.arrow_stream.specs.declared.reader.Verdict.{Verdict}
 use Rattle.arrow_stream.specs.declared.reader.Verdict.TheVariants.{Open, Done, Bad}
-use Rattle.arrow_stream.specs.Frame.{BodySays, schema_comes, dictionary_comes, batch_comes, Outcome, First, whole, short_prefix, short_metadata, short_body, bad_prefix, bad_metadata, bad_body, end_marker, message_comes}
+use Rattle.arrow_stream.specs.Frame.{BodySays, schema_comes, dictionary_comes, batch_comes, Outcome, First, whole}
 use Rattle.arrow_stream.specs.Front.{Entry, Standing, Front, FrontOf, rests, fails, closes, goes_on}
 use Rattle.arrow_stream.specs.Kind.{kind_of}
 use Rattle.arrow_stream.specs.State.{StreamState, Given, ended, schema_given, dictionary_given, batch_given}
 use Rattle.arrow_stream.specs.Stream.{Shows, Stands, GoesOn, GivesNext, TakesOn, Refuses, WantsMemory}
 use Rattle.arrow_stream.specs.Views.{given}
+use Rattle.arrow_stream.proofs.Firsts.{whole_says}
 use Rattle.arrow_stream.proofs.Fronts.{more_bytes}
 use Rattle.arrow_stream.proofs.Streams.{ended_stands}
 use Rattle.arrowflow.specs.Faults.{told}
@@ -93,14 +94,7 @@ body_gives_no_end (batch_comes {cs = Ok cs} h i) = ap (λ r. is_end (given_in r)
 body_gives_no_end (batch_comes {cs = Err k} h i) = ap (λ r. is_end (given_in r)) i
 
 no_end_in : {l : LimitNumbers} {s : StreamState} {p : ℕ} {b : List ℕ} {o : Outcome} → First l s p b o → (n : ℕ) (s' : StreamState) (g : Given) → o ≡ whole n s' g → is_end g ≡ false
-no_end_in (short_prefix h) n s' g e = absurd (cc)
-no_end_in (short_metadata h i) n s' g e = absurd (cc)
-no_end_in (short_body h i) n s' g e = absurd (cc)
-no_end_in (bad_prefix h) n s' g e = absurd (cc)
-no_end_in (bad_metadata h) n s' g e = absurd (cc)
-no_end_in (bad_body h) n s' g e = absurd (cc)
-no_end_in (end_marker h) n s' g e = absurd (cc)
-no_end_in (message_comes {g = g'} h) n s' g e = let same : g' ≡ g = cc in ap is_end (sym same) ∙ body_gives_no_end h.says
+no_end_in first n s' g e = body_gives_no_end (whole_says first n s' g e).body.says
 
 -- a front whose last entry is the end marker is done
 pub end_is_done : {l : LimitNumbers} {s : StreamState} {p : ℕ} {b : List ℕ} {fs : List Entry} {e : Standing} → Front l s p b fs e → (es : List Entry) (x : Entry) → fs ≡ es ++ x ∷ [] → x.given ≡ ended → e.verdict ≡ Done
