@@ -1,12 +1,14 @@
 -- What the words of a command line ask for, in the terms of clap: what it reads of a command, and what it finds in words.
-use Rattle.std.specs.Prelude.{◌≡◌, ℕ, List, [], true, false, codes, if◌then◌else◌, Some, string_bytes, unwrap_or}
+use Rattle.std.specs.Prelude.{◌≡◌, ℕ, List, [], true, false, codes, if◌then◌else◌, Some, Result, Ok, Err, ⊤, string_bytes, unwrap_or}
 use Rattle.std.specs.Str.{bytes_eq}
 use Rattle.std.specs.declared.string.String.{String}
 use Rattle.std.specs.declared.alloc.Global.{Global}
 use Rattle.clap.specs.declared.builder.command.Command.{Command}
 use Rattle.clap.specs.declared.builder.command.Command.TheViews.{out-Command}
 use Rattle.clap.specs.Simple.{on_top}
-use Rattle.clap.specs.Words.{App, Row, Text, first_of, new_app, new_rule, subcommand_of, with_rule, with_subcommand}
+use Rattle.clap.specs.Words.{App, HasKind, Row, Text, fault_of, first_of, new_app, new_rule, subcommand_of, with_rule, with_subcommand}
+use Rattle.arrowflow.specs.declared.command_line.ArgFault.{ArgFault}
+use Rattle.arrowflow.specs.declared.command_line.ArgFault.TheVariants.{Line, Memory}
 use Rattle.arrowflow.specs.declared.plans.Plan.{Plan}
 use Rattle.arrowflow.specs.declared.plans.Plan.TheVariants.{Schema, Check, Show}
 
@@ -45,3 +47,10 @@ pub record IsAskedFor (words : List Text) (plan : Plan) : Type 0 where
   pub file : String Global
   pub given : string_bytes file ≡ unwrap_or (first_of (codes "FILE") rows) []
   pub is : plan ≡ plan_by name file
+
+-- What is answered of the words of a line: a plan where clap has no fault for them, else an error of a kind that it has.
+-- Want of memory may come at any time.
+abbrev pub AnswersLine : List Text → Result Plan ArgFault → Type 0
+AnswersLine words (Ok plan) = IsAskedFor words plan × (fault_of program_app words ≡ [])
+AnswersLine words (Err (Line error)) = HasKind (fault_of program_app words) error
+AnswersLine words (Err Memory) = ⊤

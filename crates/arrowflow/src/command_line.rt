@@ -2,7 +2,7 @@
 
 ghost use Rattle.std.specs.Prelude.{◌≡◌, [], IfOk, map, string_bytes, unwrap_or};
 ghost use Rattle.clap.specs.Words.{app_of, first_value, found_of};
-ghost use Rattle.arrowflow.specs.CommandLine.{HasNoGlobals, IsAskedFor, NeedsSubcommand};
+ghost use Rattle.arrowflow.specs.CommandLine.{AnswersLine, HasNoGlobals, NeedsSubcommand};
 ghost use Rattle.arrowflow.specs.CommandLine.{file_app, plan_by, program_app};
 
 use crate::plans::Plan;
@@ -128,7 +128,7 @@ fn name_of(alloc: Global, matches: &ArgMatches<'_>, argument: &str) -> Result<St
 /// `ArgFault::Line` where the words are not a command with its names, or ask for help;
 /// `ArgFault::Memory` where a growth was refused.
 pub fn plan(alloc: Global, words: &[&str]) -> Result<Plan, ArgFault>
-    ensures { IfOk result (IsAskedFor (map (λ w. w.now) words.now)) }
+    ensures { AnswersLine (map (λ w. w.now) words.now) result }
 {
     let matches = command(alloc)?.try_get_matches_from(words)?;
     let Some((command, given)) = matches.subcommand() else {

@@ -12,8 +12,10 @@
 //! `AnswersInput` (`specs/SchemaCall.antt`), in the words of the layer that reads streams; what is
 //! said of a fault by `specs/Faults.antt`. [`show`] writes the rows of a stream and [`check`] a
 //! line for each of its messages, as they come: what is written, and how that ends, is said by
-//! `ReportsInput` (`specs/Reports.antt`). What each message adds to the text of a stream's rows is
-//! said by `specs/Shown.antt`, and that the text grows so by [`laws`].
+//! `ReportsInput` (`specs/Reports.antt`). How far both read their input is said by
+//! `specs/Reads.antt`. What each message adds to the text of a stream's rows is said by
+//! `specs/Shown.antt`, and that the text grows so by [`laws`]. What the words of a line ask for is
+//! said by `AnswersLine` (`specs/CommandLine.antt`), in the words of clap.
 #![tactic(auto)]
 
 mod command_line;
