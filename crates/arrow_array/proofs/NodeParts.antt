@@ -1,5 +1,5 @@
 -- The ranges of a node stand for its buffers.
-use Rattle.std.proofs.Common.{◌≡◌, ◌≤◌, ◌<◌, ◌-◌, ℕ, List, [], ◌∷◌, ◌++◌, length, map, get_or, Option, Some, None, refl, sym, ap, ◌∙◌, subst, arith, rules, inl, inr, Bool}
+use Rattle.std.proofs.Common.{◌≡◌, ◌≤◌, ◌<◌, ℕ, List, [], ◌∷◌, ◌++◌, length, map, Option, Some, None, refl, sym, ap, ◌∙◌, subst, arith, rules, inl, inr, Bool}
 use Rattle.std.proofs.lemmas.List.{append-nil, get_or-map}
 use Rattle.std.proofs.lemmas.List.Elements.{All-from_recursion}
 use Rattle.std.specs.Global.{Box}
@@ -13,17 +13,18 @@ use Rattle.arrow_types.specs.declared.data_type.BitWidth.{BitWidth}
 use Rattle.arrow_types.specs.declared.data_type.TimeUnit.{TimeUnit}
 use Rattle.arrow_types.specs.declared.field.Encoding.{Encoding}
 use Rattle.arrow_array.specs.Column.{Column, AreOf, IsColumn, counts_of, listed_of, plain_column}
-use Rattle.arrow_array.specs.Layout.{buffer, buffer_count, IsLaid}
-use Rattle.arrow_array.specs.Node.{column_by, AreLists, AreStructs, bytes_of, IsInside, IsFormat}
+use Rattle.arrow_array.specs.Layout.{buffer, buffer_count, HasStrings, IsLaid}
+use Rattle.arrow_array.specs.Node.{column_by, AreLists, AreStrings, AreStructs, bytes_of, IsInside, IsFormat}
 use Rattle.arrow_array.specs.Parts.{node_column, value_slot}
 use Rattle.arrow_array.specs.PlainValue.{PlainValue}
-use Rattle.arrow_array.specs.Slots.{slots, index_width, entry_slot, int_slot, list_slot, struct_slot, width_of, is_signed}
+use Rattle.arrow_array.specs.Slots.{AreTexts, slots, index_width, entry_slot, int_slot, list_slot, struct_slot, width_of, is_signed}
 use Rattle.arrow_types.specs.View.{type_view, field_view, fields_view}
 use Rattle.arrow_types.specs.declared.data_type.DataType.{DataType, the_lemmas}
 use Rattle.arrow_types.specs.declared.data_type.DataType as types
 use Rattle.arrow_types.specs.declared.data_type.DateUnit.{DateUnit}
 use Rattle.arrow_types.specs.declared.field.Field.{Field}
 use Rattle.arrow_array.specs.declared.buffers.Ints.{Ints}
+use Rattle.arrow_array.specs.declared.buffers.Strings.{Strings}
 use Rattle.arrow_array.specs.declared.array.Array.{Array}
 use Rattle.arrow_array.specs.declared.array.Ranges.TheVariants as ranges
 use Rattle.arrow_array.specs.declared.dictionary.Dictionary.{Dictionary}
@@ -37,20 +38,15 @@ buffer_read body bs k d h = get_or-map (bytes_of body) bs k d [] h
 pub inside_read : (body : List ℕ) (bs : List ByteRange) (k : ℕ) (d : ByteRange) → AllByRecursion (IsInside body) bs → k < length bs → IsInside body (slice_index_or bs k d)
 inside_read body bs k d all h = All-from_recursion (IsInside body) bs all k d h
 
--- the one child of a list, which is the last
-one_child : (head : Head) (children : Fields) (cs : List Column) (d child : Column) → AreOf (more head children none) cs → get_or cs (length cs - 1) d ≡ child → cs ≡ child ∷ []
-one_child head children [] d child h last = absurd h
-one_child head children (a ∷ []) d child h last = ap (λ x. x ∷ []) last
-one_child head children (a ∷ b ∷ cs) d child h last = absurd h.2
+-- arrays of one field are one array
+one_of_one : (head : Head) (children : Fields) (cs : List Column) → AreOf (more head children none) cs → length cs ≡ 1
+one_of_one head children [] h = absurd h
+one_of_one head children (a ∷ []) h = refl
+one_of_one head children (a ∷ b ∷ cs) h = absurd h.2
 
--- where a type has one child field, the child that was taken off is the only one
-pub only_child : (t : TypeShape) (head : Head) (children : Fields) (cs : List Column) (d child : Column) → t.children ≡ more head children none → AreOf t.children cs → get_or cs (length cs - 1) d ≡ child → cs ≡ child ∷ []
-only_child t head children cs d child is typed last = one_child head children cs d child (subst (λ f. AreOf f cs) is typed) last
-
--- where a type has a child field, there is a child
-pub some_child : (t : TypeShape) (head : Head) (children : Fields) (cs : List Column) → t.children ≡ more head children none → AreOf t.children cs → 0 < length cs
-some_child t head children [] is typed = absurd (subst (λ f. AreOf f []) is typed)
-some_child t head children (c ∷ cs) is typed = omega arith
+-- where a type has one child field, there is one child
+pub one_child : (t : TypeShape) (head : Head) (children : Fields) (cs : List Column) → t.children ≡ more head children none → AreOf t.children cs → length cs ≡ 1
+one_child t head children cs is typed = one_of_one head children cs (subst (λ f. AreOf f cs) is typed)
 
 -- a node of a list
 pub list_lies : (t : TypeShape) (len : ℕ) (body : List ℕ) (bs : List ByteRange) (d : ByteRange) (cs : List Column) (child : Column) → t.tag ≡ list → cs ≡ child ∷ [] → AreOf t.children cs → AllByRecursion IsColumn cs
@@ -122,6 +118,52 @@ struct_same t len body bs d children tag one =
     } in
     literal ∙ ap (λ x. values_by t x len (map (bytes_of body) bs) children.items) (sym tag)
 
+-- the bytes of a range that is that of a buffer
+read_as : (body : List ℕ) (bs : List ByteRange) (k : ℕ) (r : ByteRange) → k < length bs → r ≡ slice_index_or bs k r → bytes_of body r ≡ buffer (map (bytes_of body) bs) k
+read_as body bs k r h e = ap (bytes_of body) e ∙ sym (buffer_read body bs k r h)
+
+-- and there are no children
+no_children : (cs : List Column) → AreOf none cs → listed_of cs ≡ []
+no_children [] h = refl
+no_children (c ∷ cs) h = absurd h
+
+module _ (body : List ℕ) (bs : List ByteRange) (s : Strings) (three : 3 ≤ length bs)
+    (v : s.validity ≡ slice_index_or bs 0 s.validity) (o : s.offsets ≡ slice_index_or bs 1 s.offsets) (b : s.bytes ≡ slice_index_or bs 2 s.bytes) where
+  -- the three ranges of a node of bytes or of texts lie in the body
+  pub strings_lie : (len : ℕ) → AllByRecursion (IsInside body) bs
+      → HasStrings len (buffer (map (bytes_of body) bs) 0) (buffer (map (bytes_of body) bs) 1) (buffer (map (bytes_of body) bs) 2) → AreStrings len body s
+  strings_lie len inside laid = record {
+    validity = subst (IsInside body) (sym v) (inside_read body bs 0 s.validity inside (omega (arith, three)));
+    offsets = subst (IsInside body) (sym o) (inside_read body bs 1 s.offsets inside (omega (arith, three)));
+    bytes = subst (IsInside body) (sym b) (inside_read body bs 2 s.bytes inside (omega (arith, three)));
+    laid = rw (read_as body bs 0 s.validity (omega (arith, three)) v, read_as body bs 1 s.offsets (omega (arith, three)) o, read_as body bs 2 s.bytes (omega (arith, three)) b) laid;
+  }
+
+  -- texts in the buffers are texts in the ranges
+  pub texts_lie : (len : ℕ) → AreTexts len (buffer (map (bytes_of body) bs) 0) (buffer (map (bytes_of body) bs) 1) (buffer (map (bytes_of body) bs) 2)
+      → AreTexts len (bytes_of body s.validity) (bytes_of body s.offsets) (bytes_of body s.bytes)
+  texts_lie len texts = rw (read_as body bs 0 s.validity (omega (arith, three)) v, read_as body bs 1 s.offsets (omega (arith, three)) o, read_as body bs 2 s.bytes (omega (arith, three)) b) texts
+
+  -- the ranges stand for what the buffers do, whether a slot is read as bytes or as a text
+  pub strings_same : (t : TypeShape) (len : ℕ) (cs : List Column) (slot : List ℕ → List ℕ → List ℕ → ℕ → PlainValue)
+      → ((children : List (List PlainValue)) → value_slot t.tag (map (bytes_of body) bs) children ≡ slot (buffer (map (bytes_of body) bs) 0) (buffer (map (bytes_of body) bs) 1) (buffer (map (bytes_of body) bs) 2))
+      → t.children ≡ none → AreOf t.children cs
+      → plain_column t (slots len (slot (bytes_of body s.validity) (bytes_of body s.offsets) (bytes_of body s.bytes))) ≡ node_column t None len (map (bytes_of body) bs) cs []
+  strings_same t len cs slot read leaf typed =
+      let first = read_as body bs 0 s.validity (omega (arith, three)) v in
+      let second = read_as body bs 1 s.offsets (omega (arith, three)) o in
+      let third = read_as body bs 2 s.bytes (omega (arith, three)) b in
+      let listed : listed_of cs ≡ [] = no_children cs (subst (λ f. AreOf f cs) leaf typed) in
+      let raw = read (map (λ (c : Column). c.raw) cs) in
+      let resolved = read (map (λ (c : Column). c.resolved) cs) in
+      ap (λ x. plain_column t (slots len x)) (λ i. slot (first i) (second i) (third i)) ∙ (λ i. record {
+        data_type = t;
+        encoding = None;
+        raw = slots len (sym raw i);
+        resolved = slots len (sym resolved i);
+        dictionaries = sym listed i;
+      })
+
 -- the types of numbers
 abbrev pub IsNumber : Tag → Type 0
 IsNumber (int bits signed) = ⊤
@@ -155,11 +197,6 @@ number_slot binary b values h = absurd h
 number_slot utf8 b values h = absurd h
 number_slot list b values h = absurd h
 number_slot struct b values h = absurd h
-
--- and there are no children
-no_children : (cs : List Column) → AreOf none cs → listed_of cs ≡ []
-no_children [] h = refl
-no_children (c ∷ cs) h = absurd h
 
 -- a node of numbers
 pub number_same : (t : TypeShape) (len : ℕ) (body : List ℕ) (bs : List ByteRange) (cs : List Column) (n : Ints) → IsNumber t.tag → t.children ≡ none → AreOf t.children cs → buffer_count t.tag None ≤ length bs
@@ -208,6 +245,13 @@ number_shape x (inl p) = leaf_from_shape _ _ (ap type_view p.2 ∙ int_tag p.0 p
 number_shape x (inr (inl p)) = leaf_from_shape _ _ (ap type_view p.1 ∙ date_tag p.0) tt refl
 number_shape x (inr (inr (inl p))) = leaf_from_shape _ _ (ap type_view p.1 ∙ time_tag p.0) tt refl
 number_shape x (inr (inr (inr p))) = leaf_from_shape _ _ (ap type_view p.2 ∙ timestamp_tag p.0 p.1) tt refl
+
+-- byte strings and texts have no children
+pub binary_tag : type_view types.Binary ≡ record { tag = binary; children = none }
+binary_tag = search (rules, the_lemmas)
+
+pub utf8_tag : type_view types.Utf8 ≡ record { tag = utf8; children = none }
+utf8_tag = search (rules, the_lemmas)
 
 -- a type of lists has the one field as its children
 pub list_tag : (f : Box Field) → type_view (types.List f) ≡ record { tag = list; children = fields_of (field_view f.value ∷ []) }

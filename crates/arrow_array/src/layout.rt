@@ -191,13 +191,7 @@ pub fn is_laid(
         len (map (bytes_of body.now) buffers.now) counts.now }
 {
     if let Some(encoding) = encoding {
-        let width = index_width(encoding.index);
-        return has_ints(
-            len,
-            width,
-            buffer(body, buffers, 0),
-            buffer(body, buffers, 1),
-        );
+        return are_ints(len, index_width(encoding.index), body, buffers);
     }
     match data_type {
         DataType::Null => true,
@@ -218,14 +212,26 @@ pub fn is_laid(
             has_bits(len, buffer(body, buffers, 0)) && are_longer(len, counts)
         }
         DataType::Int { .. } | DataType::Date(_) | DataType::Time(_) | DataType::Timestamp(..) => {
-            has_ints(
-                len,
-                width(data_type),
-                buffer(body, buffers, 0),
-                buffer(body, buffers, 1),
-            )
+            are_ints(len, width(data_type), body, buffers)
         }
     }
+}
+
+// Whether the first two of these buffers hold a number of `width` bytes for each of `len` slots.
+fn are_ints(len: usize, width: usize, body: &[u8], buffers: &[ByteRange]) -> bool
+    requires width { IsWidth width }
+    requires count { 2 ≤ length buffers.now }
+    requires inside { AllByRecursion (IsInside body.now) buffers.now }
+    ensures { IsTrue result ↔ HasInts len width
+        (buffer (map (bytes_of body.now) buffers.now) 0)
+        (buffer (map (bytes_of body.now) buffers.now) 1) }
+{
+    has_ints(
+        len,
+        width,
+        buffer(body, buffers, 0),
+        buffer(body, buffers, 1),
+    )
 }
 
 // Whether no count is below `len`.

@@ -1,6 +1,6 @@
 //! Arrays out of the parts of a node: its buffers in a body, its children, its dictionary.
 
-ghost use Rattle.std.specs.Prelude.{◌≡◌, ◌≤◌, IfOk, None, Some, length, map, false, []};
+ghost use Rattle.std.specs.Prelude.{◌≡◌, ◌≤◌, IfOk, None, Some, length, map, false, [], ◌∷◌};
 ghost use Rattle.std.specs.Prelude.{slice_index_or};
 ghost use Rattle.std.specs.List.{AllByRecursion};
 ghost use Rattle.arrow_types.specs.Schema.{has_encoding};
@@ -55,25 +55,16 @@ impl Array {
             (λ a. a ≡ node_column (type_view field.now.data_type) field.now.dictionary
             len (map (bytes_of body.now) buffers.now) children.items (values_in dictionary)) }
     {
+        let data_type = &field.data_type;
         match field.dictionary {
             Some(encoding) => {
-                let dictionary = or_empty(alloc, &field.data_type, dictionary)?;
-                let ranges = Ranges::Indices(
-                    indices(encoding, buffers),
-                    Box::new(alloc, dictionary)?,
-                );
-                of_ranges(alloc, &field.data_type, Some(encoding), len, body, ranges)
+                let dictionary = Box::new(alloc, or_empty(alloc, data_type, dictionary)?)?;
+                let ranges = Ranges::Indices(indices(encoding, buffers), dictionary);
+                of_ranges(alloc, data_type, Some(encoding), len, body, ranges)
             }
             None => {
-                let ranges = value_ranges(
-                    alloc,
-                    &field.data_type,
-                    len,
-                    body.as_slice(),
-                    buffers,
-                    children,
-                )?;
-                of_ranges(alloc, &field.data_type, None, len, body, ranges)
+                let ranges = value_ranges(alloc, data_type, len, body, buffers, children)?;
+                of_ranges(alloc, data_type, None, len, body, ranges)
             }
         }
     }
@@ -154,12 +145,50 @@ fn numbers(data_type: &DataType, buffers: &[ByteRange]) -> Ints
     }
 }
 
+// The buffers of truth values.
+fn bools(buffers: &[ByteRange]) -> Bools
+    requires { 2 ≤ length buffers.now }
+    ensures validity { result.validity ≡ slice_index_or buffers.now 0 result.validity }
+    ensures values { result.values ≡ slice_index_or buffers.now 1 result.values }
+{
+    Bools {
+        validity: buffers[0],
+        values: buffers[1],
+    }
+}
+
+// The buffers of texts, and of bytes.
+fn strings(buffers: &[ByteRange]) -> Strings
+    requires { 3 ≤ length buffers.now }
+    ensures validity { result.validity ≡ slice_index_or buffers.now 0 result.validity }
+    ensures offsets { result.offsets ≡ slice_index_or buffers.now 1 result.offsets }
+    ensures bytes { result.bytes ≡ slice_index_or buffers.now 2 result.bytes }
+{
+    Strings {
+        validity: buffers[0],
+        offsets: buffers[1],
+        bytes: buffers[2],
+    }
+}
+
+// The one array there is.
+fn only(arrays: Vec<Array>) -> Array
+    requires { length arrays.items ≡ 1 }
+    ensures { arrays.items ≡ result ∷ [] }
+{
+    let mut arrays = arrays;
+    match arrays.pop() {
+        Some(array) => array,
+        None => unreachable!(),
+    }
+}
+
 // The ranges of a node of values.
 fn value_ranges(
     alloc: Global,
     data_type: &DataType,
     len: usize,
-    body: &[u8],
+    body: &Bytes,
     buffers: &[ByteRange],
     children: Vec<Array>,
 ) -> Result<Ranges, AllocError>
@@ -178,31 +207,14 @@ fn value_ranges(
     opened(&children);
     match data_type {
         DataType::Null => Ok(Ranges::Nulls),
-        DataType::Bool => Ok(Ranges::Bools(Bools {
-            validity: buffers[0],
-            values: buffers[1],
-        })),
-        DataType::Binary => Ok(Ranges::Binaries(Strings {
-            validity: buffers[0],
-            offsets: buffers[1],
-            bytes: buffers[2],
-        })),
-        DataType::Utf8 => Ok(Ranges::Texts(Strings {
+        DataType::Bool => Ok(Ranges::Bools(bools(buffers))),
+        DataType::Binary => Ok(Ranges::Binaries(strings(buffers))),
+        DataType::Utf8 => Ok(Ranges::Texts(strings(buffers))),
+        DataType::List(_) => Ok(Ranges::Lists {
             validity: buffers[0],
             offsets: buffers[1],
-            bytes: buffers[2],
-        })),
-        DataType::List(_) => {
-            let mut children = children;
-            let Some(child) = children.pop() else {
-                unreachable!()
-            };
-            Ok(Ranges::Lists {
-                validity: buffers[0],
-                offsets: buffers[1],
-                child: Box::new(alloc, child)?,
-            })
-        }
+            child: Box::new(alloc, only(children))?,
+        }),
         DataType::Struct(_) => Ok(Ranges::Structs {
             validity: buffers[0],
             children,

@@ -22,7 +22,8 @@ use std::fmt;
 /// Why nodes, buffers and a body are no columns of the fields, in the order of the faults' numbers.
 #[derive(Clone, Copy, Debug, PartialEq, Eq)]
 pub enum BodyFault {
-    /// Nodes or buffers are missing, lie outside of the body, are too short for their slots, or contradict one another.
+    /// Nodes or buffers are missing, lie outside of the body, are too short for their slots, or
+    /// contradict one another.
     Layout,
     /// A valid slot of a column of texts is not UTF-8.
     Text,
@@ -64,15 +65,17 @@ impl fmt::Display for BodyFault {
 
 impl Error for BodyFault {}
 
-/// The fault with the least number of those that apply to any of the columns of the fields, `Ok` where none does.
+/// The fault with the least number of those that apply to any of the columns of the fields, `Ok`
+/// where none does.
 ///
-/// Nodes and buffers stand in pre-order, depth first; those behind the last that is taken are not looked at. Three passes
-/// over all columns, which take no memory: only the texts, offsets and indices are looked at slot by slot, so that a
-/// length alone costs nothing. `Memory` is not answered.
+/// Nodes and buffers stand in pre-order, depth first; those behind the last that is taken are not
+/// looked at. Three passes over all columns, which take no memory: only the texts, offsets and
+/// indices are looked at slot by slot, so that a length alone costs nothing. `Memory` is not
+/// answered.
 ///
-/// A dictionary-encoded column refers to the first dictionary that is listed for its id, or to the empty one where none
-/// is; that a listed dictionary has the type of the field's values is known by the caller. They may be listed in any
-/// order; where their ids rise, each is found by halves.
+/// A dictionary-encoded column refers to the first dictionary that is listed for its id, or to the
+/// empty one where none is; that a listed dictionary has the type of the field's values is known by
+/// the caller. They may be listed in any order; where their ids rise, each is found by halves.
 pub fn check(
     fields: &[Field],
     nodes: &[FieldNode],
@@ -99,11 +102,11 @@ pub fn check(
     Ok(())
 }
 
-/// The columns of the fields, or the fault with the least number of those that apply to any of them: what `check` tells,
-/// or `Memory` where it tells none and a growth was refused.
+/// The columns of the fields, or the fault with the least number of those that apply to any of
+/// them: what `check` tells, or `Memory` where it tells none and a growth was refused.
 ///
-/// The columns share the body: nothing of it is copied, and how often memory is asked for doesn't depend on how many
-/// slots there are.
+/// The columns share the body: nothing of it is copied, and how often memory is asked for doesn't
+/// depend on how many slots there are.
 pub fn load(
     alloc: Global,
     fields: &[Field],

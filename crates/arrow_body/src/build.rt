@@ -57,26 +57,24 @@ fn build_node(
         (below (field_view field.now).head.encoding (field_view field.now).children)
         (drop 1 left.nodes.now) (drop (own_buffers (field_view field.now).head) left.buffers.now) }
     ensures { IfOk result (λ a. a ≡ node_column (type_view field.now.data_type) field.now.dictionary
-        (slots_at left.entry.nodes.now) (own_bytes body.now (field_view field.now).head left.entry.buffers.now)
-        children.items (values_in (dictionary_for dictionaries.entry.entries.now field.now.dictionary))) }
+        (slots_at left.entry.nodes.now)
+        (own_bytes body.now (field_view field.now).head left.entry.buffers.now) children.items
+        (values_in (dictionary_for dictionaries.entry.entries.now field.now.dictionary))) }
 {
     let own = own_buffers(field);
-    match own_ranges(body.as_slice(), left.buffers, own) {
-        Some(ranges) => {
-            let dictionary = dictionary_of(alloc, field.dictionary, dictionaries)?;
-            let len = slots(left.nodes);
-            Array::from_parts(
-                alloc,
-                field,
-                len,
-                body,
-                &ranges[..own],
-                children,
-                dictionary,
-            )
-        }
-        None => unreachable!(),
-    }
+    let Some(ranges) = own_ranges(body.as_slice(), left.buffers, own) else {
+        unreachable!()
+    };
+    let dictionary = dictionary_of(alloc, field.dictionary, dictionaries)?;
+    Array::from_parts(
+        alloc,
+        field,
+        slots(left.nodes),
+        body,
+        &ranges[..own],
+        children,
+        dictionary,
+    )
 }
 
 // The arrays of the fields.

@@ -10,17 +10,18 @@ use crate::laid::slots;
 use crate::taken::below;
 use arrow_types::{Field, FieldNode};
 
-/// The nodes that the fields take, one for each field on each level, as far as they are there (Columnar Format,
-/// "RecordBatch message": nodes stand in pre-order). A dictionary-encoded field takes one node, and none for what stands
-/// below it. Takes no memory.
+/// The nodes that the fields take, one for each field on each level, as far as they are there
+/// (Columnar Format, "RecordBatch message": nodes stand in pre-order). A dictionary-encoded field
+/// takes one node, and none for what stands below it. Takes no memory.
 pub fn nodes_of<'a>(fields: &[Field], nodes: &'a [FieldNode]) -> &'a [FieldNode]
     ensures { result.now ≡ take (taken_nodes (fields_view fields.now)) nodes.now }
 {
     &nodes[..nodes.len() - behind(fields, nodes).len()]
 }
 
-/// Whether the own node of each of these fields has `rows` slots, as the fields of a record batch have. Nodes of fields
-/// below are not looked at. A node that is missing, or whose length is negative, has 0 slots. Takes no memory.
+/// Whether the own node of each of these fields has `rows` slots, as the fields of a record batch
+/// have. Nodes of fields below are not looked at. A node that is missing, or whose length is
+/// negative, has 0 slots. Takes no memory.
 pub fn have_length(fields: &[Field], nodes: &[FieldNode], rows: usize) -> bool
     ensures { IsTrue result
         ↔ AllByRecursion (λ n. n ≡ rows) (lengths_of (fields_view fields.now) nodes.now) }

@@ -9,9 +9,9 @@ use crate::taken::below;
 use arrow_array::Dictionary;
 use arrow_types::Field;
 
-/// Whether the dictionary that is listed first for the id of a field has the type of its values, for each
-/// dictionary-encoded field on every level, and no field below such a one is dictionary-encoded: what `load` asks for.
-/// Takes no memory.
+/// Whether the dictionary that is listed first for the id of a field has the type of its values,
+/// for each dictionary-encoded field on every level, and no field below such a one is
+/// dictionary-encoded: what `load` asks for. Takes no memory.
 pub fn are_fit(fields: &[Field], dictionaries: &[(i64, Dictionary)]) -> bool
     ensures { IsTrue result ↔ AreFit dictionaries.now (fields_view fields.now) }
 {

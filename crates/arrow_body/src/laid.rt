@@ -84,7 +84,8 @@ fn are_buffers_laid(
     ensures { IsTrue result
         ↔ IsLaid (field_view field.now).head.tag (field_view field.now).head.encoding
         len (map (bytes_of body.now) ranges.now)
-        (lengths_of (below (field_view field.now).head.encoding (field_view field.now).children) left.entry.nodes.now) }
+        (lengths_of (below (field_view field.now).head.encoding (field_view field.now).children)
+        left.entry.nodes.now) }
 {
     match (field.dictionary, &field.data_type) {
         (None, DataType::List(_)) => {
@@ -135,7 +136,8 @@ impl<'a> Condition for Places<'a> {
     }
 }
 
-// Whether the number of nulls of a field is that of its bitmap; of a field of type Null any number is taken.
+// Whether the number of nulls of a field is that of its bitmap; of a field of type Null any number
+// is taken.
 fn is_counted(field: &Field, node: FieldNode, len: usize, body: &[u8], ranges: &[ByteRange]) -> bool
     requires count { own_buffers (field_view field.now).head ≡ length ranges.now }
     requires inside { AllByRecursion (IsInside body.now) ranges.now }

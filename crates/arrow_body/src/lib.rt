@@ -1,15 +1,18 @@
 //! Bodies of batches, read: nodes, buffers and a body are columns, or are refused.
 //!
-//! A record batch's metadata lists a node for each field and the places of their buffers in the body. `load` looks at all
-//! of them before any array is made: in three passes over all columns it tests that nodes and buffers hold what their
-//! types ask for (Layout), that texts are UTF-8 (Text), and that indices have their values (Index). Only then the arrays
-//! are made, as ranges of the one body, which they share. Who has no `Bytes` yet calls `check`, which takes none, and
-//! then `load_unchecked` with the copy.
+//! A record batch's metadata lists a node for each field and the places of their buffers in the
+//! body. `load` looks at all of them before any array is made: in three passes over all columns it
+//! tests that nodes and buffers hold what their types ask for (Layout), that texts are UTF-8
+//! (Text), and that indices have their values (Index). Only then the arrays are made, as ranges of
+//! the one body, which they share. Who has no `Bytes` yet calls `check`, which takes none, and then
+//! `load_unchecked` with the copy.
 //!
-//! What fields take of nodes and buffers stands in `specs/Taken.antt`, where a buffer lies in `specs/Held.antt`, and when
-//! all is sound, and which columns it then is, in `specs/Sound.antt`. The contract of `load` says both ways when it
-//! answers columns and when which fault; that of `check` says the same without memory. `nodes_of` and `have_length` answer what a reader asks of nodes before that: which
-//! of them the fields take, and whether all columns have as many slots as the batch has rows.
+//! What fields take of nodes and buffers stands in `specs/Taken.antt`, where a buffer lies in
+//! `specs/Held.antt`, and when all is sound, and which columns it then is, in `specs/Sound.antt`.
+//! The contract of `load` says both ways when it answers columns and when which fault; that of
+//! `check` says the same without memory. `nodes_of` and `have_length` answer what a reader asks of
+//! nodes before that: which of them the fields take, and whether all columns have as many slots as
+//! the batch has rows.
 #![tactic(auto)]
 
 mod body;

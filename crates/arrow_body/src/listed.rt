@@ -26,7 +26,8 @@ impl<'a> Listed<'a> {
         }
     }
 
-    // The dictionary that is listed first for the id: by halves where the ids rise, one after the other where they don't.
+    // The dictionary that is listed first for the id: by halves where the ids rise, one after the
+    // other where they don't.
     pub(crate) fn find(self, id: i64) -> Option<&'a Dictionary>
         ensures { option_map (λ d. d.now) result ≡ listed self.entry.entries.now id }
     {

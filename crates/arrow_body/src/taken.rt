@@ -54,7 +54,8 @@ pub(crate) fn after<'a>(fields: &[Field], left: Left<'a>) -> Option<Left<'a>>
         (AreThere (fields_view fields.now) left.entry.nodes.now left.entry.buffers.now → ⊥)
         (λ rest. AreThere (fields_view fields.now) left.entry.nodes.now left.entry.buffers.now
         × (rest.nodes.now ≡ drop (taken_nodes (fields_view fields.now)) left.entry.nodes.now)
-        × (rest.buffers.now ≡ drop (taken_buffers (fields_view fields.now)) left.entry.buffers.now)) }
+        × (rest.buffers.now
+        ≡ drop (taken_buffers (fields_view fields.now)) left.entry.buffers.now)) }
 {
     let mut rest = left;
     for field in fields {

@@ -50,7 +50,7 @@ one_body : {s : StreamState} {m : PlainHeader} {b : List ℕ} {r q : Result (Str
     BodySays s m b r → BodySays s m b q → r ≡ q
 one_body schema_comes schema_comes = refl
 one_body {s} (dictionary_comes {id = id} {delta = delta} h e) (dictionary_comes g f) = e ∙ ap (dictionary_left s id delta) (one_holding h g) ∙ sym f
-one_body {s} (batch_comes {rows = rows} h e) (batch_comes g f) = e ∙ ap (batch_left s rows) (one_holding h g) ∙ sym f
+one_body {s} (batch_comes {outline = outline} h e) (batch_comes g f) = e ∙ ap (batch_left s outline) (one_holding h g) ∙ sym f
 
 -- THE PARTS OF A FRAME
 

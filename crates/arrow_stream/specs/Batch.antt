@@ -1,4 +1,5 @@
--- What a batch and its body say (Message.fbs, tables "RecordBatch" and "DictionaryBatch").
+-- What a batch and its body say (Message.fbs, tables "RecordBatch" and "DictionaryBatch"). The outline of a batch is
+-- what its metadata tell of the body: the number of rows, the nodes and the buffers.
 use Rattle.std.specs.Prelude.{◌≡◌, ℕ, ℤ, pos, negsuc, Bool, true, false, ◌||◌, nat_lt, List, [], ◌∷◌, ◌++◌, take, Option, None, Some, Result, Ok, Err}
 use Rattle.std.specs.List.{AllByRecursion, list_any}
 use Rattle.arrow_types.specs.Field.{Fields, none, fields_of, TypeShape}
@@ -33,9 +34,9 @@ is_bad_length max (negsuc n) = true
 
 -- the length of the batch, or that of a node which the fields take, is
 abbrev pub has_bad_length : ℕ → Fields → PlainBatch → Bool
-has_bad_length max fields rows =
-    is_bad_length max rows.length
-    || list_any (λ (n : FieldNode). is_bad_length max n.length) (take (taken_nodes fields) rows.nodes)
+has_bad_length max fields outline =
+    is_bad_length max outline.length
+    || list_any (λ (n : FieldNode). is_bad_length max n.length) (take (taken_nodes fields) outline.nodes)
 
 -- the values that a delta finds, none where the batch is no delta or there is no dictionary
 abbrev pub base_of : Bool → Option ValueList → List PlainValue
@@ -45,22 +46,22 @@ base_of false d = []
 
 -- the columns have as many slots as the batch has rows
 abbrev pub AreLong : Fields → PlainBatch → Type 0
-AreLong fields rows = AllByRecursion (λ (n : ℕ). n ≡ count_of rows.length) (lengths_of fields rows.nodes)
+AreLong fields outline = AllByRecursion (λ (n : ℕ). n ≡ count_of outline.length) (lengths_of fields outline.nodes)
 
 -- nodes and buffers are there, lie in the body as the fields ask for, and the columns have the batch's length
-pub record IsLayout (body : List ℕ) (fields : Fields) (rows : PlainBatch) : Type 0 where
-  pub there : AreThere fields rows.nodes rows.buffers
-  pub laid : AreLaid body fields rows.nodes rows.buffers
-  pub long : AreLong fields rows
+pub record IsLayout (body : List ℕ) (fields : Fields) (outline : PlainBatch) : Type 0 where
+  pub there : AreThere fields outline.nodes outline.buffers
+  pub laid : AreLaid body fields outline.nodes outline.buffers
+  pub long : AreLong fields outline
 
 -- What a body says that holds these columns: them, or the first of Layout, Text and Index that applies to any of them.
-pub data Holds (body : List ℕ) (ds : List (ℤ × ValueList)) (fields : Fields) (rows : PlainBatch) : Result (List Column) Refusal → Type 0 where
-  columns : IsLayout body fields rows → AreText body fields rows.nodes rows.buffers → AreIndexed body ds fields rows.nodes rows.buffers →
-      Holds body ds fields rows (Ok (columns_of body ds fields rows.nodes rows.buffers))
-  bad_layout : (IsLayout body fields rows → ⊥) → Holds body ds fields rows (Err Layout)
-  bad_text : IsLayout body fields rows → (AreText body fields rows.nodes rows.buffers → ⊥) → Holds body ds fields rows (Err Text)
-  bad_index : IsLayout body fields rows → AreText body fields rows.nodes rows.buffers →
-      (AreIndexed body ds fields rows.nodes rows.buffers → ⊥) → Holds body ds fields rows (Err Index)
+pub data Holds (body : List ℕ) (ds : List (ℤ × ValueList)) (fields : Fields) (outline : PlainBatch) : Result (List Column) Refusal → Type 0 where
+  columns : IsLayout body fields outline → AreText body fields outline.nodes outline.buffers → AreIndexed body ds fields outline.nodes outline.buffers →
+      Holds body ds fields outline (Ok (columns_of body ds fields outline.nodes outline.buffers))
+  bad_layout : (IsLayout body fields outline → ⊥) → Holds body ds fields outline (Err Layout)
+  bad_text : IsLayout body fields outline → (AreText body fields outline.nodes outline.buffers → ⊥) → Holds body ds fields outline (Err Text)
+  bad_index : IsLayout body fields outline → AreText body fields outline.nodes outline.buffers →
+      (AreIndexed body ds fields outline.nodes outline.buffers → ⊥) → Holds body ds fields outline (Err Index)
 
 -- The state behind a dictionary batch of this one column: its values stand in place of those of its id, or, where the
 -- batch is a delta, behind them.
@@ -77,5 +78,5 @@ dictionary_left s id delta (Err k) = Err k
 
 -- what a record batch leaves and gives
 abbrev pub batch_left : StreamState → PlainBatch → Result (List Column) Refusal → Result (StreamState × Given) Refusal
-batch_left s rows (Ok cs) = Ok (s, batch_given (record { schema = fields_in s.schema; columns = cs; rows = count_of rows.length }))
-batch_left s rows (Err k) = Err k
+batch_left s outline (Ok cs) = Ok (s, batch_given (record { schema = fields_in s.schema; columns = cs; rows = count_of outline.length }))
+batch_left s outline (Err k) = Err k

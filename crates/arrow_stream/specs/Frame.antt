@@ -44,8 +44,8 @@ prefix_says limits has_schema place b =
 -- whether a message may not stand here: a schema behind a schema, a batch before it
 abbrev pub is_out_of_order : Bool → PlainHeader → Bool
 is_out_of_order has_schema (schema fields) = has_schema
-is_out_of_order has_schema (dictionary id delta rows) = not has_schema
-is_out_of_order has_schema (batch rows) = not has_schema
+is_out_of_order has_schema (dictionary id delta outline) = not has_schema
+is_out_of_order has_schema (batch outline) = not has_schema
 
 -- The kind that a message's place decides, if one does: its body would end past 2^62, or it is out of order.
 abbrev pub misplaced : ℕ → ℕ → Bool → Option Refusal
@@ -55,18 +55,18 @@ misplaced end body_len out_of_order =
 -- The kind that stands against a dictionary batch, if one does: no field gives its id, a delta finds no dictionary, or
 -- there are too many rows, in the batch or in the dictionary behind it.
 abbrev pub against_dictionary : ℕ → StreamState → ℤ → Bool → PlainBatch → Option Refusal
-against_dictionary max_rows s id delta rows =
+against_dictionary max_rows s id delta outline =
     if not (is_some (value_type_of (dictionary_fields (fields_in s.schema)) id)) then Some UnknownId else
     (if delta && not (is_some (listed s.dictionaries id)) then Some NoBase else
-    (if has_bad_length max_rows (value_fields s.schema id) rows then Some Rows else
-    (if nat_lt max_rows (length (base_of delta (listed s.dictionaries id)) + count_of rows.length) then Some Rows else
+    (if has_bad_length max_rows (value_fields s.schema id) outline then Some Rows else
+    (if nat_lt max_rows (length (base_of delta (listed s.dictionaries id)) + count_of outline.length) then Some Rows else
     None)))
 
 -- The kind that stands against a message by what was read before it, if one does.
 abbrev pub against : ℕ → StreamState → PlainHeader → Option Refusal
 against max_rows s (schema fields) = None
-against max_rows s (dictionary id delta rows) = against_dictionary max_rows s id delta rows
-against max_rows s (batch rows) = if has_bad_length max_rows (fields_in s.schema) rows then Some Rows else None
+against max_rows s (dictionary id delta outline) = against_dictionary max_rows s id delta outline
+against max_rows s (batch outline) = if has_bad_length max_rows (fields_in s.schema) outline then Some Rows else None
 
 -- that kind, or else one with a greater number
 abbrev pub least_kind : Option Refusal → Refusal → Refusal
@@ -112,12 +112,12 @@ pub record MetadataSays (limits : LimitNumbers) (s : StreamState) (start : ℕ) 
 pub data BodySays (s : StreamState) : PlainHeader → List ℕ → Result (StreamState × Given) Refusal → Type 0 where
   schema_comes : {fields : Fields} {body : List ℕ} →
       BodySays s (schema fields) body (Ok (record { schema = Some fields; dictionaries = [] }, schema_given))
-  dictionary_comes : {id : ℤ} {delta : Bool} {rows : PlainBatch} {body : List ℕ} {cs : Result (List Column) Refusal}
-      {r : Result (StreamState × Given) Refusal} → Holds body [] (value_fields s.schema id) rows cs →
-      r ≡ dictionary_left s id delta cs → BodySays s (dictionary id delta rows) body r
-  batch_comes : {rows : PlainBatch} {body : List ℕ} {cs : Result (List Column) Refusal}
-      {r : Result (StreamState × Given) Refusal} → Holds body s.dictionaries (fields_in s.schema) rows cs →
-      r ≡ batch_left s rows cs → BodySays s (batch rows) body r
+  dictionary_comes : {id : ℤ} {delta : Bool} {outline : PlainBatch} {body : List ℕ} {cs : Result (List Column) Refusal}
+      {r : Result (StreamState × Given) Refusal} → Holds body [] (value_fields s.schema id) outline cs →
+      r ≡ dictionary_left s id delta cs → BodySays s (dictionary id delta outline) body r
+  batch_comes : {outline : PlainBatch} {body : List ℕ} {cs : Result (List Column) Refusal}
+      {r : Result (StreamState × Given) Refusal} → Holds body s.dictionaries (fields_in s.schema) outline cs →
+      r ≡ batch_left s outline cs → BodySays s (batch outline) body r
 
 -- b begins with eight bytes that say r
 pub record HasPrefix (limits : LimitNumbers) (s : StreamState) (place : ℕ) (b : List ℕ)

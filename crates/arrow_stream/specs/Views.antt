@@ -39,8 +39,8 @@ given items.End = ended
 -- what a message holds, as the layer below tells it
 abbrev pub content_of : HeldContent → PlainHeader
 content_of (held.Schema s) = schema s
-content_of (held.Dictionary id delta rows) = dictionary id delta (batch_view rows)
-content_of (held.Batch rows) = batch (batch_view rows)
+content_of (held.Dictionary id delta outline) = dictionary id delta (batch_view outline)
+content_of (held.Batch outline) = batch (batch_view outline)
 
 -- the message that is held
 abbrev pub message_of : HeldMessage → Message
@@ -79,25 +79,25 @@ pub record Ready (s : StreamState) (m : PlainHeader) : Type 0 where
 
 -- the body is not refused: it holds columns
 abbrev pub HoldsSome : List ℕ → List (ℤ × ValueList) → Fields → PlainBatch → Type 0
-HoldsSome body ds fields rows = (columns : List Column) × Holds body ds fields rows (Ok columns)
+HoldsSome body ds fields outline = (columns : List Column) × Holds body ds fields outline (Ok columns)
 
 -- why there are no columns of a body: its refusal, or want of memory for those that it holds
 abbrev pub HasNoColumns : List ℕ → List (ℤ × ValueList) → Fields → PlainBatch → Stop → Type 0
-HasNoColumns body ds fields rows (Refused k) = Holds body ds fields rows (Err k)
-HasNoColumns body ds fields rows Memory = HoldsSome body ds fields rows
+HasNoColumns body ds fields outline (Refused k) = Holds body ds fields outline (Err k)
+HasNoColumns body ds fields outline Memory = HoldsSome body ds fields outline
 
 -- The one column of a dictionary batch is of the type of the dictionary's values
-pub record AreValues (s : StreamState) (id : ℤ) (rows : PlainBatch) (body : List ℕ) (c : Column) : Type 0 where
-  pub holds : Holds body [] (value_fields s.schema id) rows (Ok (c ∷ []))
+pub record AreValues (s : StreamState) (id : ℤ) (outline : PlainBatch) (body : List ℕ) (c : Column) : Type 0 where
+  pub holds : Holds body [] (value_fields s.schema id) outline (Ok (c ∷ []))
   pub typed : value_type_of (dictionary_fields (fields_in s.schema)) id ≡ Some c.data_type
   pub plain : c.encoding ≡ None
   pub flat : has_encoding c.data_type.children ≡ false
 
 -- what a dictionary batch is answered with: its one column, or why there is none
 abbrev pub HeldValues : StreamState → ℤ → PlainBatch → List ℕ → Result Column Stop → Type 0
-HeldValues s id rows body (Ok c) = AreValues s id rows body c
-HeldValues s id rows body (Err (Refused k)) = Holds body [] (value_fields s.schema id) rows (Err k)
-HeldValues s id rows body (Err Memory) = HoldsSome body [] (value_fields s.schema id) rows
+HeldValues s id outline body (Ok c) = AreValues s id outline body c
+HeldValues s id outline body (Err (Refused k)) = Holds body [] (value_fields s.schema id) outline (Err k)
+HeldValues s id outline body (Err Memory) = HoldsSome body [] (value_fields s.schema id) outline
 
 -- the body is not refused: there is what the message leaves and gives
 abbrev pub IsApplicable : StreamState → PlainHeader → List ℕ → Type 0
@@ -105,15 +105,15 @@ IsApplicable s m body = (left : StreamState × Given) × BodySays s m body (Ok l
 
 -- what a dictionary batch leaves, or its refusal; where it is not taken nothing changes
 abbrev pub Updates : StreamState → ℤ → Bool → PlainBatch → List ℕ → Result (Unit {0}) Stop → StreamState → Type 0
-Updates s id delta rows body (Ok x) s' = BodySays s (dictionary id delta rows) body (Ok (s', dictionary_given id))
-Updates s id delta rows body (Err (Refused k)) s' = BodySays s (dictionary id delta rows) body (Err k) × (s' ≡ s)
-Updates s id delta rows body (Err Memory) s' = IsApplicable s (dictionary id delta rows) body × (s' ≡ s)
+Updates s id delta outline body (Ok x) s' = BodySays s (dictionary id delta outline) body (Ok (s', dictionary_given id))
+Updates s id delta outline body (Err (Refused k)) s' = BodySays s (dictionary id delta outline) body (Err k) × (s' ≡ s)
+Updates s id delta outline body (Err Memory) s' = IsApplicable s (dictionary id delta outline) body × (s' ≡ s)
 
 -- the rows that a record batch gives, or its refusal
 abbrev pub Gives : StreamState → PlainBatch → List ℕ → Result Table Stop → Type 0
-Gives s rows body (Ok b) = BodySays s (batch rows) body (Ok (s, batch_given b))
-Gives s rows body (Err (Refused k)) = BodySays s (batch rows) body (Err k)
-Gives s rows body (Err Memory) = IsApplicable s (batch rows) body
+Gives s outline body (Ok b) = BodySays s (batch outline) body (Ok (s, batch_given b))
+Gives s outline body (Err (Refused k)) = BodySays s (batch outline) body (Err k)
+Gives s outline body (Err Memory) = IsApplicable s (batch outline) body
 
 -- What a message with its whole body leaves and gives, or its refusal. Where it is not applied nothing changes, and the
 -- message is handed back.

@@ -18,34 +18,37 @@ use bytes::Bytes;
 use std::alloc::Global;
 
 /// How many rows a batch has whose length is not negative.
-pub(crate) fn row_count(rows: &RecordBatch) -> usize
-    requires sign { pos 0 ≤ℤ rows.now.length }
-    ensures count { result ≡ count_of rows.now.length }
+pub(crate) fn row_count(outline: &RecordBatch) -> usize
+    requires sign { pos 0 ≤ℤ outline.now.length }
+    ensures count { result ≡ count_of outline.now.length }
 {
-    rows.length as usize
+    outline.length as usize
 }
 
-/// The columns of the fields that a body holds, or the first of Layout, Text and Index that applies to any of them.
-/// They share one copy of the body, which is made where none applies.
+/// The columns of the fields that a body holds, or the first of Layout, Text and Index that applies
+/// to any of them. They share one copy of the body, which is made where none applies.
+///
+/// The outline is what the metadata tell of the body: the number of its rows, its nodes and its
+/// buffers.
 pub(crate) fn hold(
     alloc: Global,
     fields: &[Field],
-    rows: &RecordBatch,
+    outline: &RecordBatch,
     body: &[u8],
     dictionaries: &[(i64, Dictionary)],
 ) -> Result<Vec<Array>, Stop>
-    requires sign { pos 0 ≤ℤ rows.now.length }
+    requires sign { pos 0 ≤ℤ outline.now.length }
     requires fit { AreFit dictionaries.now (fields_view fields.now) }
     ensures held { MatchResult result
-        (λ columns. Holds body.now dictionaries.now (fields_view fields.now) (batch_view rows.now)
-        (Ok columns.items))
+        (λ columns. Holds body.now dictionaries.now (fields_view fields.now)
+        (batch_view outline.now) (Ok columns.items))
         (λ stop. HasNoColumns body.now dictionaries.now (fields_view fields.now)
-        (batch_view rows.now) stop) }
+        (batch_view outline.now) stop) }
 {
-    if !have_length(fields, &rows.nodes, row_count(rows)) {
+    if !have_length(fields, &outline.nodes, row_count(outline)) {
         return Err(Stop::Refused(Refusal::Layout));
     }
-    match check(fields, &rows.nodes, &rows.buffers, body, dictionaries) {
+    match check(fields, &outline.nodes, &outline.buffers, body, dictionaries) {
         Ok(()) => {}
         Err(BodyFault::Layout) => return Err(Stop::Refused(Refusal::Layout)),
         Err(BodyFault::Text) => return Err(Stop::Refused(Refusal::Text)),
@@ -58,8 +61,8 @@ pub(crate) fn hold(
     match load_unchecked(
         alloc,
         fields,
-        &rows.nodes,
-        &rows.buffers,
+        &outline.nodes,
+        &outline.buffers,
         &body,
         dictionaries,
     ) {

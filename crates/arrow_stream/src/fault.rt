@@ -4,8 +4,8 @@ use crate::kind::Kind;
 
 /// Why a call of a reader answers no item.
 ///
-/// `place` is that of the first byte of the message in work, counted in bytes from 0 at the stream's
-/// beginning.
+/// `place` is that of the first byte of the message in work, counted in bytes from 0 at the
+/// stream's beginning.
 #[derive(Clone, Copy, Debug, PartialEq, Eq)]
 pub struct Fault {
     /// Why.

@@ -1,7 +1,8 @@
 //! Why a stream is refused, with the numbers by which the kinds are told.
 
-/// Why the bytes of a stream are refused: the kinds 1 to 17, in the order of their numbers. What stands here is said
-/// of bytes alone, so that no reader can have failed by want of memory or by an end that is still to come.
+/// Why the bytes of a stream are refused: the kinds 1 to 17, in the order of their numbers. What
+/// stands here is said of bytes alone, so that no reader can have failed by want of memory or by an
+/// end that is still to come.
 #[derive(Clone, Copy, Debug, PartialEq, Eq)]
 pub(crate) enum Refusal {
     Continuation,
@@ -23,17 +24,20 @@ pub(crate) enum Refusal {
     NoSchema,
 }
 
-/// Why a call of a reader answers no item, in the order of the kinds' numbers, 1 to 19. Of several kinds that
-/// hold of a message the one with the least number is answered, among those that are decided by then: kinds 1, 2
-/// and 17 by the first eight bytes of a message, 3 to 13 by its whole metadata, 14 to 16 by its whole body.
+/// Why a call of a reader answers no item, in the order of the kinds' numbers, 1 to 19. Of several
+/// kinds that hold of a message the one with the least number is answered, among those that are
+/// decided by then: kinds 1, 2 and 17 by the first eight bytes of a message, 3 to 13 by its whole
+/// metadata, 14 to 16 by its whole body.
 #[derive(Clone, Copy, Debug, PartialEq, Eq)]
 pub enum Kind {
     /// 1: the first four bytes of a message are not `FF FF FF FF`.
     Continuation,
-    /// 2: a size of the metadata below 0 or above `max_metadata`, or with which they go on behind place 2^62.
+    /// 2: a size of the metadata below 0 or above `max_metadata`, or with which they go on behind
+    /// place 2^62.
     MetadataSize,
-    /// 3: something of the metadata that is looked at is not readable, a table that must be there is absent,
-    /// or a fixed limit is passed: 32 levels, 65,536 fields, or `max_metadata` bytes of names and zones.
+    /// 3: something of the metadata that is looked at is not readable, a table that must be there
+    /// is absent, or a fixed limit is passed: 32 levels, 65,536 fields, or `max_metadata` bytes of
+    /// names and zones.
     Metadata,
     /// 4: the metadata's version is not V5.
     Version,
@@ -43,11 +47,11 @@ pub enum Kind {
     BodyLength,
     /// 7: a second schema, or a batch before the schema.
     Order,
-    /// 8: the schema is big-endian, or has a type that is not read, a dictionary of an unknown kind, or a
-    /// dictionary below a dictionary.
+    /// 8: the schema is big-endian, or has a type that is not read, a dictionary of an unknown
+    /// kind, or a dictionary below a dictionary.
     Unsupported,
-    /// 9: the schema has a width or a unit outside its list, a type with another number of children, or one
-    /// dictionary id with unequal value types.
+    /// 9: the schema has a width or a unit outside its list, a type with another number of
+    /// children, or one dictionary id with unequal value types.
     Schema,
     /// 10: the body is compressed.
     Compressed,
@@ -55,14 +59,15 @@ pub enum Kind {
     UnknownId,
     /// 12: a delta for an id without a dictionary.
     NoBase,
-    /// 13: the batch's length, or that of a node which is taken, is negative or over `max_rows`, or a delta would make
-    /// its dictionary longer than `max_rows`.
+    /// 13: the batch's length, or that of a node which is taken, is negative or over `max_rows`, or
+    /// a delta would make its dictionary longer than `max_rows`.
     Rows,
     /// 14: the body contradicts its nodes and buffers.
     Layout,
     /// 15: a valid text is not UTF-8.
     Text,
-    /// 16: a valid index is negative, or not below the length of its dictionary as it stands at this message.
+    /// 16: a valid index is negative, or not below the length of its dictionary as it stands at
+    /// this message.
     Index,
     /// 17: the stream ended, by its end marker or otherwise, and no schema message was whole.
     NoSchema,

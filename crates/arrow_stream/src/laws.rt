@@ -1,4 +1,5 @@
-//! Laws of the definitions, which no code stands behind. Each is the contract of a function that does nothing.
+//! Laws of the definitions, which no code stands behind. Each is the contract of a function that
+//! does nothing.
 
 ghost use Rattle.arrow_stream.specs.Laws.{OneFront, MoreBytes, SameStanding, LessWaits};
 
@@ -7,8 +8,9 @@ pub fn one_front()
     ensures single { OneFront }
 {}
 
-/// A list of bytes has one front, and the items of a longer list begin with those of a shorter one; where the shorter
-/// one has ended, by a refusal or by its end marker, so has the longer one, at the same place.
+/// A list of bytes has one front, and the items of a longer list begin with those of a shorter one;
+/// where the shorter one has ended, by a refusal or by its end marker, so has the longer one, at
+/// the same place.
 pub fn front_grows()
     ensures single { OneFront }
     ensures grows { MoreBytes }
@@ -19,7 +21,8 @@ pub fn same_standing()
     ensures same { SameStanding }
 {}
 
-/// Less than a whole message waits for more bytes: no part of it is judged, applied or handed out before.
+/// Less than a whole message waits for more bytes: no part of it is judged, applied or handed out
+/// before.
 pub fn less_waits()
     ensures waits { LessWaits }
 {}

@@ -1,16 +1,19 @@
-//! Streams of Arrow messages, read from bytes that come in any pieces (Columnar Format, "IPC Streaming Format").
+//! Streams of Arrow messages, read from bytes that come in any pieces (Columnar Format, "IPC
+//! Streaming Format").
 //!
-//! This layer takes bytes and gives items: a schema, dictionaries and batches, each once its message is whole, and the
-//! end marker. It stands on `arrow_meta`, which says what a message's metadata mean by themselves, on `arrow_body`, which
-//! says which columns a body holds, and on `arrow_dict`, which keeps the dictionaries. It adds what hangs on the stream:
-//! the frame around the metadata, the place where a message stands, the order of messages, and what was read before.
+//! This layer takes bytes and gives items: a schema, dictionaries and batches, each once its
+//! message is whole, and the end marker. It stands on `arrow_meta`, which says what a message's
+//! metadata mean by themselves, on `arrow_body`, which says which columns a body holds, and on
+//! `arrow_dict`, which keeps the dictionaries. It adds what hangs on the stream: the frame around
+//! the metadata, the place where a message stands, the order of messages, and what was read before.
 //!
-//! [`StreamReader`] keeps the bytes of one unfinished message and nothing of what it took before. What it is measured by
-//! is a relation over whole lists of bytes: `First` (`specs/Frame.antt`) says what stands at the front of a list, one
-//! message, the end marker, a refusal or less than that, and `Front` (`specs/Front.antt`) says the same of all messages,
-//! one behind the other; what a batch says by its body stands in `specs/Batch.antt`. `Stands` (`specs/Stream.antt`) says
-//! at which bytes a reader stands. So a reader's answers hang on the bytes alone and on no cut between them: the
-//! functions of [`laws`] say so.
+//! [`StreamReader`] keeps the bytes of one unfinished message and nothing of what it took before.
+//! What it is measured by is a relation over whole lists of bytes: `First` (`specs/Frame.antt`)
+//! says what stands at the front of a list, one message, the end marker, a refusal or less than
+//! that, and `Front` (`specs/Front.antt`) says the same of all messages, one behind the other; what
+//! a batch says by its body stands in `specs/Batch.antt`. `Stands` (`specs/Stream.antt`) says at
+//! which bytes a reader stands. So a reader's answers hang on the bytes alone and on no cut between
+//! them: the functions of [`laws`] say so.
 #![tactic(auto)]
 
 mod body;

@@ -18,7 +18,8 @@ use std::alloc::{AllocError, Global};
 pub(crate) enum Content {
     /// The schema of the stream.
     Schema(StreamSchema),
-    /// Values for the dictionary of this id: with true they are appended to it, with false they replace it.
+    /// Values for the dictionary of this id: with true they are appended to it, with false they
+    /// replace it.
     Dictionary(i64, bool, RecordBatch),
     /// Rows.
     Batch(RecordBatch),
@@ -41,8 +42,8 @@ pub(crate) enum Stop {
     Memory,
 }
 
-/// What a metadata says that begins at the place `start` of a stream, behind what was read before. What the message
-/// needs to be applied is made here, but for what its body holds.
+/// What a metadata says that begins at the place `start` of a stream, behind what was read before.
+/// What the message needs to be applied is made here, but for what its body holds.
 pub(crate) fn understand(
     alloc: Global,
     limits: &Limits,
@@ -62,8 +63,8 @@ pub(crate) fn understand(
     }
 }
 
-/// The message where its metadata end at the place `end`, or the least kind that its place and what was read before
-/// decide.
+/// The message where its metadata end at the place `end`, or the least kind that its place and what
+/// was read before decide.
 fn place(
     alloc: Global,
     max_rows: u64,
@@ -94,13 +95,13 @@ fn content_by(alloc: Global, header: Header) -> Result<Content, AllocError>
 {
     Ok(match header {
         Header::Schema(schema) => Content::Schema(StreamSchema::of(alloc, schema)?),
-        Header::Dictionary(id, is_delta, rows) => Content::Dictionary(id, is_delta, rows),
-        Header::Batch(rows) => Content::Batch(rows),
+        Header::Dictionary(id, is_delta, outline) => Content::Dictionary(id, is_delta, outline),
+        Header::Batch(outline) => Content::Batch(outline),
     })
 }
 
-/// Why a metadata with this fault is not read on that ends at the place `end`: the least kind of its own and of
-/// those that the place decides.
+/// Why a metadata with this fault is not read on that ends at the place `end`: the least kind of
+/// its own and of those that the place decides.
 fn stop_by(has_schema: bool, end: u64, fault: MetaFault) -> Stop
     requires near { end ≤ 2 ^ 62 }
     ensures stop { StopsBy result has_schema end fault }

@@ -1,4 +1,5 @@
-//! The eight bytes that begin a frame and the end marker (Columnar Format, "Encapsulated message format").
+//! The eight bytes that begin a frame and the end marker (Columnar Format, "Encapsulated message
+//! format").
 
 ghost use Rattle.std.specs.Prelude.{◌≡◌, ◌^◌, ◌≤◌, length};
 ghost use Rattle.arrow_stream.specs.Frame.{prefix_says};

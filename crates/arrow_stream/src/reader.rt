@@ -32,13 +32,14 @@ pub(crate) enum Verdict {
 
 /// Reads a stream whose bytes come in any pieces (Columnar Format, "IPC Streaming Format").
 ///
-/// A reader is given pieces by [`StreamReader::read`], which hands out one item at a time, and is told by
-/// [`StreamReader::end`] that no more will come. It keeps the bytes of one unfinished message, the schema, the
-/// dictionaries as they stand and its place, and nothing else. Where a stream was cut into pieces changes no answer.
+/// A reader is given pieces by [`StreamReader::read`], which hands out one item at a time, and is
+/// told by [`StreamReader::end`] that no more will come. It keeps the bytes of one unfinished
+/// message, the schema, the dictionaries as they stand and its place, and nothing else. Where a
+/// stream was cut into pieces changes no answer.
 ///
 /// After a refusal the reader has failed: it takes nothing and answers the same fault, until
-/// [`StreamReader::restart`]. After the end marker it takes nothing either. Where a growth was refused nothing has
-/// changed and nothing was taken, and the same call may be made again.
+/// [`StreamReader::restart`]. After the end marker it takes nothing either. Where a growth was
+/// refused nothing has changed and nothing was taken, and the same call may be made again.
 #[derive(Drop)]
 pub struct StreamReader {
     work: Work,
@@ -79,20 +80,22 @@ impl StreamReader {
         }
     }
 
-    /// Takes bytes of a piece up to the end of one message, and answers how many it took, with the item that the
-    /// message gave; or takes the whole piece, where no message of it is whole, and answers no item. The bytes
-    /// behind an item are left for the next call.
+    /// Takes bytes of a piece up to the end of one message, and answers how many it took, with the
+    /// item that the message gave; or takes the whole piece, where no message of it is whole, and
+    /// answers no item. The bytes behind an item are left for the next call.
     ///
-    /// A schema message gives [`Item::Schema`] once its body is whole too, which is not looked at. A dictionary batch
-    /// is applied once it is whole, and gives [`Item::Dictionary`]. A record batch gives [`Item::Batch`], whose columns
-    /// share one copy of its body and keep the dictionaries as they stand then. The end marker gives [`Item::End`].
-    /// After it nothing is taken, and the answer is `(0, None)`.
+    /// A schema message gives [`Item::Schema`] once its body is whole too, which is not looked at.
+    /// A dictionary batch is applied once it is whole, and gives [`Item::Dictionary`]. A record
+    /// batch gives [`Item::Batch`], whose columns share one copy of its body and keep the
+    /// dictionaries as they stand then. The end marker gives [`Item::End`]. After it nothing is
+    /// taken, and the answer is `(0, None)`.
     ///
-    /// A fault tells the least kind of those decided, and the place of the message's first byte. Kinds 1, 2 and 17
-    /// are decided by the first eight bytes of a message, kinds 3 to 13 by its whole metadata, and kinds 14 to 16 by
-    /// its whole body: `read` answers each in the call that brings the last byte that decides it, and none sooner.
-    /// After such a fault the reader holds nothing, takes nothing and answers the same fault. After `Memory` it is
-    /// unchanged and took nothing.
+    /// A fault tells the least kind of those decided, and the place of the message's first byte.
+    /// Kinds 1, 2 and 17 are decided by the first eight bytes of a message, kinds 3 to 13 by its
+    /// whole metadata, and kinds 14 to 16 by its whole body: `read` answers each in the call that
+    /// brings the last byte that decides it, and none sooner. After such a fault the reader holds
+    /// nothing, takes nothing and answers the same fault. After `Memory` it is unchanged and took
+    /// nothing.
     ///
     /// An empty piece, a piece after the end marker and a piece after a refusal take no memory.
     pub fn read(&mut self, piece: &[u8]) -> Result<(usize, Option<Item>), Fault>
@@ -162,11 +165,12 @@ impl StreamReader {
         }
     }
 
-    /// What a stream that ends here answers, with the place of the message in work. It changes nothing, and takes
-    /// no memory.
+    /// What a stream that ends here answers, with the place of the message in work. It changes
+    /// nothing, and takes no memory.
     ///
-    /// After a refusal it is that fault. Else, after the end marker, `Ok`. Else `NoSchema` where no schema message
-    /// was whole, `Truncated` where bytes of an unfinished message are held, and `Ok` at the end of a message.
+    /// After a refusal it is that fault. Else, after the end marker, `Ok`. Else `NoSchema` where no
+    /// schema message was whole, `Truncated` where bytes of an unfinished message are held, and
+    /// `Ok` at the end of a message.
     pub fn end(&self) -> Result<(), Fault>
         ensures ended { result ≡ ended_so self.now.at }
     {
@@ -183,7 +187,8 @@ impl StreamReader {
         })
     }
 
-    /// Begins a new stream, with the same limits: nothing of the old one is left. It takes no memory.
+    /// Begins a new stream, with the same limits: nothing of the old one is left. It takes no
+    /// memory.
     pub fn restart(&mut self)
         ensures fresh { self.new ≡ fresh self.old.limits }
         ensures start { Stands self.new [] [] }
@@ -192,9 +197,10 @@ impl StreamReader {
         self.verdict = Verdict::Open;
     }
 
-    /// How many bytes are held of an unfinished message: those taken since the last whole message, 0 after a
-    /// refusal or the end marker. They are never more than 8, the most bytes of a metadata and the most bytes of a
-    /// body together, and grow with what has come, whatever a message declares.
+    /// How many bytes are held of an unfinished message: those taken since the last whole message,
+    /// 0 after a refusal or the end marker. They are never more than 8, the most bytes of a
+    /// metadata and the most bytes of a body together, and grow with what has come, whatever a
+    /// message declares.
     pub fn held(&self) -> u64
         ensures held { result ≡ length self.now.at.rest }
         ensures closed { (self.now.at.verdict ≡ Open → ⊥) → result ≡ 0 }
@@ -203,8 +209,9 @@ impl StreamReader {
         self.work.held.len() as u64
     }
 
-    /// The place of the first byte of the message in work, counted in bytes from 0 at the stream's beginning. After
-    /// a refusal it is that of the message that was refused, and after the end marker that behind it.
+    /// The place of the first byte of the message in work, counted in bytes from 0 at the stream's
+    /// beginning. After a refusal it is that of the message that was refused, and after the end
+    /// marker that behind it.
     pub fn place(&self) -> u64
         ensures place { result ≡ self.now.at.place }
     {

@@ -16,8 +16,8 @@ use arrow_meta::{Header, RecordBatch};
 use arrow_types::{Field, FieldNode, Limits};
 use std::slice;
 
-/// The kind that the place of a message decides, if one does: a body that would end past the last place, or the
-/// order of messages.
+/// The kind that the place of a message decides, if one does: a body that would end past the last
+/// place, or the order of messages.
 pub(crate) fn misplaced(end: u64, body_len: u64, out_of_order: bool) -> Option<Refusal>
     requires near { end ≤ 2 ^ 62 }
     ensures kind { result ≡ misplaced end body_len out_of_order }
@@ -31,7 +31,8 @@ pub(crate) fn misplaced(end: u64, body_len: u64, out_of_order: bool) -> Option<R
     None
 }
 
-/// Whether a message with this header may not stand here: a schema behind a schema, a batch before it.
+/// Whether a message with this header may not stand here: a schema behind a schema, a batch before
+/// it.
 pub(crate) fn is_out_of_order(has_schema: bool, header: &Header) -> bool
     ensures order { result ≡ is_out_of_order has_schema (header_view header.now) }
 {
@@ -48,11 +49,11 @@ pub(crate) fn against(max_rows: u64, state: &State, header: &Header) -> Option<R
 {
     match header {
         Header::Schema(_) => None,
-        Header::Dictionary(id, is_delta, rows) => {
-            against_dictionary(max_rows, state, *id, *is_delta, rows)
+        Header::Dictionary(id, is_delta, outline) => {
+            against_dictionary(max_rows, state, *id, *is_delta, outline)
         }
-        Header::Batch(rows) => {
-            if has_bad_length(max_rows, state.fields(), rows) {
+        Header::Batch(outline) => {
+            if has_bad_length(max_rows, state.fields(), outline) {
                 Some(Refusal::Rows)
             } else {
                 None
@@ -67,10 +68,10 @@ fn against_dictionary(
     state: &State,
     id: i64,
     is_delta: bool,
-    rows: &RecordBatch,
+    outline: &RecordBatch,
 ) -> Option<Refusal>
     ensures kind { result
-        ≡ against_dictionary max_rows (plain state.now) id is_delta (batch_view rows.now) }
+        ≡ against_dictionary max_rows (plain state.now) id is_delta (batch_view outline.now) }
 {
     let Some(field) = state.value_field(id) else {
         return Some(Refusal::UnknownId);
@@ -79,11 +80,11 @@ fn against_dictionary(
     if is_delta && base.is_none() {
         return Some(Refusal::NoBase);
     }
-    if has_bad_length(max_rows, slice::from_ref(field), rows) {
+    if has_bad_length(max_rows, slice::from_ref(field), outline) {
         return Some(Refusal::Rows);
     }
     let found = if is_delta { base.unwrap_or(0) } else { 0 };
-    if grows_over(max_rows, found, row_count(rows)) {
+    if grows_over(max_rows, found, row_count(outline)) {
         return Some(Refusal::Rows);
     }
     None
@@ -96,11 +97,12 @@ fn grows_over(max_rows: u64, found: usize, more: usize) -> bool
     max_rows < found as u64 || max_rows - (found as u64) < more as u64
 }
 
-/// Whether the length of the batch, or that of a node which the fields take, is negative or over the limit.
-fn has_bad_length(max: u64, fields: &[Field], rows: &RecordBatch) -> bool
-    ensures bad { result ≡ has_bad_length max (fields_view fields.now) (batch_view rows.now) }
+/// Whether the length of the batch, or that of a node which the fields take, is negative or over
+/// the limit.
+fn has_bad_length(max: u64, fields: &[Field], outline: &RecordBatch) -> bool
+    ensures bad { result ≡ has_bad_length max (fields_view fields.now) (batch_view outline.now) }
 {
-    is_bad_length(max, rows.length) || have_bad_length(max, nodes_of(fields, &rows.nodes))
+    is_bad_length(max, outline.length) || have_bad_length(max, nodes_of(fields, &outline.nodes))
 }
 
 /// Whether the length of a node is negative or over the limit.

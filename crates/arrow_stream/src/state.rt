@@ -54,7 +54,8 @@ impl State {
         }
     }
 
-    /// The field of the values of the dictionary with this id, if a field of the schema gives the id.
+    /// The field of the values of the dictionary with this id, if a field of the schema gives the
+    /// id.
     pub(crate) fn value_field(&self, id: i64) -> Option<&Field>
         ensures field { option_map (λ f. field_view f.now) result
             ≡ option_map value_field
@@ -99,40 +100,46 @@ impl State {
     }
 
     /// The rows of a record batch with this body.
-    fn batch(&self, alloc: Global, rows: &RecordBatch, body: &[u8]) -> Result<Batch, Stop>
-        requires ready { Ready (plain self.now) (batch (batch_view rows.now)) }
+    fn batch(&self, alloc: Global, outline: &RecordBatch, body: &[u8]) -> Result<Batch, Stop>
+        requires ready { Ready (plain self.now) (batch (batch_view outline.now)) }
         requires fit { IsFit (plain self.now) }
-        ensures gives { Gives (plain self.now) (batch_view rows.now) body.now result }
+        ensures gives { Gives (plain self.now) (batch_view outline.now) body.now result }
     {
         let Some(schema) = &self.schema else {
             unreachable!();
         };
         let schema = schema.shared();
         let dictionaries = self.dictionaries.entries();
-        let arrays = match hold(alloc, schema.fields(), rows, body, dictionaries) {
+        let arrays = match hold(alloc, schema.fields(), outline, body, dictionaries) {
             Ok(arrays) => arrays,
             Err(stop) => return Err(stop),
         };
         let Ok(schema) = schema.clone() else {
             return Err(Stop::Memory);
         };
-        match Batch::new(schema, arrays, row_count(rows)) {
+        match Batch::new(schema, arrays, row_count(outline)) {
             Ok(batch) => Ok(batch),
             Err(_) => unreachable!(),
         }
     }
 
     /// The values of a dictionary batch with this body.
-    fn values(&self, alloc: Global, id: i64, rows: &RecordBatch, body: &[u8]) -> Result<Array, Stop>
-        requires sign { pos 0 ≤ℤ rows.now.length }
+    fn values(
+        &self,
+        alloc: Global,
+        id: i64,
+        outline: &RecordBatch,
+        body: &[u8],
+    ) -> Result<Array, Stop>
+        requires sign { pos 0 ≤ℤ outline.now.length }
         requires named { IsTrue
             (is_some (value_type_of (dictionary_fields (fields_in (plain self.now).schema)) id)) }
-        ensures values { HeldValues (plain self.now) id (batch_view rows.now) body.now result }
+        ensures values { HeldValues (plain self.now) id (batch_view outline.now) body.now result }
     {
         let Some(field) = self.value_field(id) else {
             unreachable!();
         };
-        match hold(alloc, slice::from_ref(field), rows, body, &[]) {
+        match hold(alloc, slice::from_ref(field), outline, body, &[]) {
             Ok(mut arrays) => match arrays.pop() {
                 Some(values) => Ok(values),
                 None => unreachable!(),
@@ -141,22 +148,23 @@ impl State {
         }
     }
 
-    /// Takes the values of a dictionary batch with this body: in place of those of its id, or behind them.
+    /// Takes the values of a dictionary batch with this body: in place of those of its id, or
+    /// behind them.
     fn update(
         &mut self,
         alloc: Global,
         id: i64,
         is_delta: bool,
-        rows: &RecordBatch,
+        outline: &RecordBatch,
         body: &[u8],
     ) -> Result<(), Stop>
-        requires ready { Ready (plain self.old) (dictionary id is_delta (batch_view rows.now)) }
+        requires ready { Ready (plain self.old) (dictionary id is_delta (batch_view outline.now)) }
         requires fit { IsFit (plain self.old) }
-        ensures updates { Updates (plain self.old) id is_delta (batch_view rows.now) body.now result
-            (plain self.new) }
+        ensures updates { Updates (plain self.old) id is_delta (batch_view outline.now) body.now
+            result (plain self.new) }
         ensures fit { IsFit (plain self.new) }
     {
-        let values = match self.values(alloc, id, rows, body) {
+        let values = match self.values(alloc, id, outline, body) {
             Ok(values) => values,
             Err(stop) => return Err(stop),
         };
@@ -178,8 +186,8 @@ impl State {
     }
 }
 
-/// Applies a message whose body is whole, and answers what it gives. Where the body is refused or a growth is, nothing
-/// has changed and the message is handed back.
+/// Applies a message whose body is whole, and answers what it gives. Where the body is refused or a
+/// growth is, nothing has changed and the message is handed back.
 pub(crate) fn apply(
     state: &mut State,
     alloc: Global,
@@ -197,15 +205,15 @@ pub(crate) fn apply(
             state.begin(schema);
             Ok(Item::Schema)
         }
-        Content::Dictionary(id, is_delta, rows) => {
-            match state.update(alloc, id, is_delta, &rows, body) {
+        Content::Dictionary(id, is_delta, outline) => {
+            match state.update(alloc, id, is_delta, &outline, body) {
                 Ok(()) => Ok(Item::Dictionary(id)),
-                Err(stop) => Err((stop, Content::Dictionary(id, is_delta, rows))),
+                Err(stop) => Err((stop, Content::Dictionary(id, is_delta, outline))),
             }
         }
-        Content::Batch(rows) => match state.batch(alloc, &rows, body) {
+        Content::Batch(outline) => match state.batch(alloc, &outline, body) {
             Ok(batch) => Ok(Item::Batch(batch)),
-            Err(stop) => Err((stop, Content::Batch(rows))),
+            Err(stop) => Err((stop, Content::Batch(outline))),
         },
     }
 }

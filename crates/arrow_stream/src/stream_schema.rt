@@ -11,8 +11,8 @@ use std::alloc::{AllocError, Global};
 use std::marker::Model;
 use std::rc::Rc;
 
-/// The schema of a stream, and for each dictionary id a field of the dictionary's values. A clause sees the fields of the
-/// schema.
+/// The schema of a stream, and for each dictionary id a field of the dictionary's values. A clause
+/// sees the fields of the schema.
 #[derive(Drop)]
 pub(crate) struct StreamSchema {
     schema: Rc<Schema>,

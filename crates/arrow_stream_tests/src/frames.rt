@@ -1,12 +1,14 @@
 //! Frames laid out by hand, each byte from the standard's tables (`Message.fbs`, `Schema.fbs`).
 //!
-//! Those of the modules below are written by `examples/make`, which lays out the same bytes for these.
+//! Those of the modules below are written by `examples/make`, which lays out the same bytes for
+//! these.
 
 pub(crate) mod columns;
 pub(crate) mod encoded;
 pub(crate) mod letters;
 
-/// The frame of a schema of one nullable field `n` of signed 32-bit integers: 8 bytes, then 144 of metadata.
+/// The frame of a schema of one nullable field `n` of signed 32-bit integers: 8 bytes, then 144 of
+/// metadata.
 pub(crate) const SCHEMA: [u8; 152] = [
     0xff, 0xff, 0xff, 0xff, 0x90, 0x00, 0x00, 0x00, 0x10, 0x00, 0x00, 0x00, 0x0c, 0x00, 0x18, 0x00,
     0x04, 0x00, 0x06, 0x00, 0x08, 0x00, 0x10, 0x00, 0x0c, 0x00, 0x00, 0x00, 0x04, 0x00, 0x01, 0x00,

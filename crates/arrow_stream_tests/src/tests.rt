@@ -1,7 +1,7 @@
 //! What no clause says: that the definitions say what the format means, and that calls succeed.
 //!
-//! Each stream comes in one piece, in pieces of one byte, and cut in two at every place. A row changes bytes of a stream at
-//! places counted from its first byte.
+//! Each stream comes in one piece, in pieces of one byte, and cut in two at every place. A row
+//! changes bytes of a stream at places counted from its first byte.
 
 mod answers;
 mod calls;

@@ -1,5 +1,5 @@
-//! The program `arrowflow`: reads its command line, opens the files, makes one call of the library, prints what that
-//! gives, and ends with the call's exit status.
+//! The program `arrowflow`: reads its command line, opens the files, makes one call of the library,
+//! prints what that gives, and ends with the call's exit status.
 #![tactic(auto)]
 
 mod pipe;
@@ -58,7 +58,8 @@ where
     }
 }
 
-/// Prints what clap says of the command line, and gives the exit status: help is fine, any other word is not.
+/// Prints what clap says of the command line, and gives the exit status: help is fine, any other
+/// word is not.
 fn print_help<R: Print + Eprint>(rt: &R, error: &clap::Error) -> u8 {
     if error.print(rt).is_ok() && error.exit_code() == 0 {
         FINE
@@ -114,7 +115,8 @@ where
     status_of(rt, alloc, answer, name, &output.into_inner())
 }
 
-/// Tells how a call ended that read the input of this name and wrote standard output, and gives its status.
+/// Tells how a call ended that read the input of this name and wrote standard output, and gives its
+/// status.
 fn status_of<R: Eprint, W: Write>(
     rt: &R,
     alloc: Global,
@@ -130,7 +132,8 @@ fn status_of<R: Eprint, W: Write>(
     }
 }
 
-/// Tells a fault of a call that read the input of this name and wrote standard output, and gives its status.
+/// Tells a fault of a call that read the input of this name and wrote standard output, and gives
+/// its status.
 fn tell<R: Eprint>(rt: &R, alloc: Global, fault: &ToolFault, read: &str) -> u8 {
     let Ok(line) = fault.line(alloc, read, "standard output") else {
         return out_of_memory(rt);

@@ -78,8 +78,8 @@ fn a_batch_without_columns_has_rows(rt: HostRuntime) {
     assert!(rt; batch.columns().is_empty());
 }
 
-// The type of the schema's one column, whether it is dictionary-encoded, the slots of each column of numbers that is
-// given, the rows that are asked for, and the fault.
+// The type of the schema's one column, whether it is dictionary-encoded, the slots of each column
+// of numbers that is given, the rows that are asked for, and the fault.
 static FAULTS: [(Form, bool, &[usize], usize, Option<BatchFault>); 6] = [
     (INT32, false, &[3], 3, None),
     (INT32, false, &[3], 2, Some(BatchFault::ColumnLength)),

@@ -31,8 +31,8 @@ fn spelled(rt: &(impl Abort + AllocGlobal), segments: &[&str]) -> Dictionary {
     dictionary(rt, parts)
 }
 
-// The letters of each segment of a dictionary, and what it shows. Segments without values stand between others, and at
-// both ends.
+// The letters of each segment of a dictionary, and what it shows. Segments without values stand
+// between others, and at both ends.
 static SPELLED: [(&[&str], &str); 4] = [
     (
         &["abc", "de"],
@@ -153,7 +153,8 @@ fn a_copy_stays_as_it_was(rt: HostRuntime) {
     are_equal(&rt, 1, &copy, &grown, false);
 }
 
-// The bitmap and the indices of a column, the letters of its dictionary where it is given one, and what it shows.
+// The bitmap and the indices of a column, the letters of its dictionary where it is given one, and
+// what it shows.
 static INDICES: [(&[u8], &[u8], Option<&[&str]>, &str); 7] = [
     (
         &[0xfb],

@@ -68,7 +68,8 @@ pub(super) fn leaf(rt: &(impl Abort + AllocGlobal), column: &Leaf<'_>) -> Option
     node(rt, form, &body, parts, Vec::new(rt.alloc()))
 }
 
-// A column of lists or structs of numbers, if its parts and those of its child are as they should be.
+// A column of lists or structs of numbers, if its parts and those of its child are as they should
+// be.
 pub(super) fn nested(rt: &(impl Abort + AllocGlobal), column: &Nested<'_>) -> Option<Array> {
     let (form, body, parts, numbers) = *column;
     let body = Bytes::copy_from_slice(rt.alloc(), body).expect(rt, "memory");

@@ -126,8 +126,8 @@ fn strings_and_truth_values_beside_a_null(rt: HostRuntime) {
     }
 }
 
-// Columns with a child of five numbers, and what they show. The null list hides 2 and 3, and no list has the last two;
-// the null struct hides 2.
+// Columns with a child of five numbers, and what they show. The null list hides 2 and 3, and no
+// list has the last two; the null struct hides 2.
 static NESTED: [(Nested<'static>, &str); 2] = [
     (
         (

@@ -57,7 +57,8 @@ fn indices_of_lists(rt: HostRuntime) {
     is_told(&rt, 0, &column, want);
 }
 
-// The offsets and the items of a dictionary in one segment, and whether it is equal to that of the five lists.
+// The offsets and the items of a dictionary in one segment, and whether it is equal to that of the
+// five lists.
 static DICTIONARIES: [(&[u8], &[u8], bool); 3] = [
     (&[0, 1, 1, 3, 4, 6], &[1, 2, 3, 4, 5, 6], true),
     (&[0, 1, 1, 3, 4, 6], &[1, 2, 3, 4, 5, 7], false),

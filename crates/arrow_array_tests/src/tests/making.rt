@@ -106,7 +106,8 @@ fn are_parts(
         → AreChildren (type_view field.now.data_type) field.now.dictionary children.now }
     ensures dictionary { IsTrue result → IsOfType (type_view field.now.data_type) dictionary.now }
     ensures count { IsTrue result
-        → buffer_count (type_view field.now.data_type).tag field.now.dictionary ≤ length buffers.now }
+        → buffer_count (type_view field.now.data_type).tag field.now.dictionary
+        ≤ length buffers.now }
     ensures inside { IsTrue result → AllByRecursion (IsInside body.now) buffers.now }
     ensures layout { IsTrue result → IsLaid (type_view field.now.data_type).tag field.now.dictionary
         len (map (bytes_of body.now) buffers.now) counts.now }
@@ -199,7 +200,8 @@ fn bytes_in(body: &[u8], range: ByteRange) -> &[u8]
 }
 
 fn is_text(field: &Field, len: usize, body: &[u8], buffers: &[ByteRange], counts: &[usize]) -> bool
-    requires count { buffer_count (type_view field.now.data_type).tag field.now.dictionary ≤ length buffers.now }
+    requires count { buffer_count (type_view field.now.data_type).tag field.now.dictionary
+        ≤ length buffers.now }
     requires inside { AllByRecursion (IsInside body.now) buffers.now }
     requires laid { IsLaid (type_view field.now.data_type).tag field.now.dictionary
         len (map (bytes_of body.now) buffers.now) counts.now }
@@ -225,7 +227,8 @@ fn is_indexed(
     counts: &[usize],
     dictionary: &Option<Dictionary>,
 ) -> bool
-    requires count { buffer_count (type_view field.now.data_type).tag field.now.dictionary ≤ length buffers.now }
+    requires count { buffer_count (type_view field.now.data_type).tag field.now.dictionary
+        ≤ length buffers.now }
     requires inside { AllByRecursion (IsInside body.now) buffers.now }
     requires laid { IsLaid (type_view field.now.data_type).tag field.now.dictionary
         len (map (bytes_of body.now) buffers.now) counts.now }

@@ -28,7 +28,8 @@ pub(super) fn are_nested_same(
     is_same_told(rt, &nested(rt, column), &nested(rt, other), want);
 }
 
-// Which slots of two columns are equal: a word for each slot of the first, with a sign for each slot of the other.
+// Which slots of two columns are equal: a word for each slot of the first, with a sign for each
+// slot of the other.
 pub(super) fn is_same_told(
     rt: &(impl Abort + AllocGlobal),
     column: &Option<Array>,

@@ -67,7 +67,8 @@ static SLOTS: [(&[u8], &[u8], &[u8], bool); 36] = [
     (&[0b1001], &[0, 2, 3, 3, 9], LETTERS, false),
     (&[0b010], &[0, 3, 3, 9], LETTERS, true),
     (&[0b101], &[3, 3, 5, 9], LETTERS, true),
-    // Under the null are bytes that are no text, and before the first slot and behind the last are such.
+    // Under the null are bytes that are no text, and before the first slot and behind the last are
+    // such.
     (&[0b101], &[0, 1, 3, 5], OTHERS, true),
     (&[0b111], &[0, 1, 3, 5], OTHERS, false),
     (&[0b101], &[0, 1, 3, 4], OTHERS, false),

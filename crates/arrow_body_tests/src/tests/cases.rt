@@ -6,7 +6,8 @@ use super::written::{Held, dictionary, written};
 use arrow_array::Dictionary;
 use std::process::Abort;
 
-// The types of the fields, their nodes and buffers, the values of dictionary 0, and what is to be told.
+// The types of the fields, their nodes and buffers, the values of dictionary 0, and what is to be
+// told.
 pub(super) struct Case {
     pub(super) of: &'static [Kind],
     pub(super) nodes: Pairs<'static>,

@@ -15,7 +15,8 @@ pub(super) enum Kind {
     List,
     // Structs of so many types.
     Struct(usize),
-    // Signed indices of so many bits into the dictionary of this id, whose values have the type that comes next.
+    // Signed indices of so many bits into the dictionary of this id, whose values have the type
+    // that comes next.
     Index(i64, BitWidth),
 }
 

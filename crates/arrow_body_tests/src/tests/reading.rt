@@ -73,7 +73,8 @@ pub(super) fn told(
     }
 }
 
-// A body without dictionaries: the types of its fields, its nodes, its buffers and its bytes, and what is to be told.
+// A body without dictionaries: the types of its fields, its nodes, its buffers and its bytes, and
+// what is to be told.
 #[derive(Clone, Copy)]
 pub(super) struct Case<'a> {
     pub(super) of: &'a [Kind],

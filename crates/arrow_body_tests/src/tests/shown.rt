@@ -9,7 +9,8 @@ const LEVELS: usize = 6;
 // More slots than any column of a test has whose slots are all looked at.
 const SLOTS: usize = 8;
 
-// The columns, then the columns below them, and so on: "2: 0..1 null; 1: 7" are the list of 7 and none.
+// The columns, then the columns below them, and so on: "2: 0..1 null; 1: 7" are the list of 7 and
+// none.
 pub(super) fn shown(rt: &(impl Abort + AllocGlobal), columns: &[Array]) -> String {
     let mut text = String::new(rt.alloc());
     let mut level = Vec::new(rt.alloc());
@@ -60,7 +61,8 @@ fn push_column(rt: &impl Abort, text: &mut String, column: &Array) {
     }
 }
 
-// Adds the value of a slot, also where an index refers to it; of a list the first and the end of its items.
+// Adds the value of a slot, also where an index refers to it; of a list the first and the end of
+// its items.
 fn push_slot(rt: &impl Abort, text: &mut String, column: &Array, i: usize) {
     assert!(rt; i < column.len());
     match column.slot(i) {

@@ -113,7 +113,8 @@ static MESSAGES: [(&[u8], Edits, &str); 7] = [
         dictionary: None }]); \
         t: Timestamp(Microsecond, Some(\"UTC\")); 0",
     ),
-    // One type for the id: both fields Utf8, the second one's index type absent, and its dictionary ordered.
+    // One type for the id: both fields Utf8, the second one's index type absent, and its dictionary
+    // ordered.
     (
         SHARED_ID,
         &[(217, 5), (258, 0), (284, 1)],
@@ -173,7 +174,8 @@ fn a_tree_is_judged(rt: HostRuntime) {
 // Metadata with the lengths of their bodies.
 static BODIES: [(&[u8], u64); 3] = [(FOUR_FIELDS, 0), (LETTERS, 24), (ONE_BATCH, 24)];
 
-// With one growth refused, whichever it is, the fault is Memory, and the same call succeeds after it.
+// With one growth refused, whichever it is, the fault is Memory, and the same call succeeds after
+// it.
 #[test]
 fn a_refused_growth_is_memory_alone(rt: HostRuntime) {
     for &(bytes, body_len) in &BODIES {

@@ -83,7 +83,8 @@ fn push_schema(rt: &impl Abort, text: &mut String, schema: &Schema) {
     }
 }
 
-// A batch: its rows, each node by its length and its nulls, each buffer by its place and its length.
+// A batch: its rows, each node by its length and its nulls, each buffer by its place and its
+// length.
 fn push_batch(rt: &impl Abort, text: &mut String, batch: &RecordBatch) {
     write!(text, "{} rows, nodes", batch.length).expect(rt, MEMORY);
     for node in &batch.nodes {

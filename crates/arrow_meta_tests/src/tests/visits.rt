@@ -16,8 +16,8 @@ fn push(rt: &impl Abort, bytes: &mut Vec<u8>, more: &[u8]) {
     bytes.extend_from_slice(more).expect(rt, "memory");
 }
 
-// A schema of one column: structs nested `depth` deep. Each but the lowest has a vector of `width` children that
-// are one and the same table.
+// A schema of one column: structs nested `depth` deep. Each but the lowest has a vector of `width`
+// children that are one and the same table.
 fn shared_fields(rt: &impl Abort, alloc: Global, depth: u32, width: u8) -> Vec<u8> {
     let mut bytes = edited(rt, alloc, &ONE_FIELD[..68], UNCHANGED);
     // the vtable of all fields, with type code and children; the first field stands at 88
@@ -58,7 +58,8 @@ fn each_visit_counts(rt: HostRuntime) {
     }
 }
 
-// Names and a zone of 12 bytes together, and a body of 24, with the most bytes of both and the fault.
+// Names and a zone of 12 bytes together, and a body of 24, with the most bytes of both and the
+// fault.
 static LIMITED: [(&[u8], [u64; 2], Option<MetaFault>); 3] = [
     (FOUR_FIELDS, [12, 0], None),
     (FOUR_FIELDS, [11, 0], METADATA),

@@ -1,5 +1,5 @@
-//! Frames of columns with dictionaries of other forms: beside a plain column, of two ids, of numbers, of lists,
-//! and below lists and structs.
+//! Frames of columns with dictionaries of other forms: beside a plain column, of two ids, of
+//! numbers, of lists, and below lists and structs.
 
 /// The schema of `k`, texts by signed 32-bit indices into dictionary 0, and `t`, texts.
 pub(crate) const MIXED: [u8; 256] = [
@@ -42,8 +42,8 @@ pub(crate) const MIXED_ROWS: [u8; 272] = [
     0x01, 0x00, 0x00, 0x00, 0x02, 0x00, 0x00, 0x00, 0x78, 0x79, 0x00, 0x00, 0x00, 0x00, 0x00, 0x00,
 ];
 
-/// The schema of `k` and `i`, texts by indices of 8 and 16 bits into dictionary 5, and between them `j`, into
-/// dictionary -2.
+/// The schema of `k` and `i`, texts by indices of 8 and 16 bits into dictionary 5, and between them
+/// `j`, into dictionary -2.
 pub(crate) const SHARED: [u8; 448] = [
     0xff, 0xff, 0xff, 0xff, 0xb8, 0x01, 0x00, 0x00, 0x10, 0x00, 0x00, 0x00, 0x0c, 0x00, 0x18, 0x00,
     0x04, 0x00, 0x06, 0x00, 0x08, 0x00, 0x10, 0x00, 0x0c, 0x00, 0x00, 0x00, 0x04, 0x00, 0x01, 0x00,

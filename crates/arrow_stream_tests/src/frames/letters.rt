@@ -1,4 +1,5 @@
-//! Frames of a column of letters by their numbers in a dictionary, which grows and is then replaced.
+//! Frames of a column of letters by their numbers in a dictionary, which grows and is then
+//! replaced.
 
 /// The schema of one column `k` of texts, by signed 32-bit indices into dictionary 0.
 pub(crate) const SCHEMA: [u8; 200] = [

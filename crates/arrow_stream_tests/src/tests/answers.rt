@@ -93,7 +93,8 @@ impl Answers {
         answers
     }
 
-    // Gives a reader a piece, what it leaves of it again and again. Where a growth was refused the call is made again.
+    // Gives a reader a piece, what it leaves of it again and again. Where a growth was refused the
+    // call is made again.
     pub(super) fn give(&mut self, rt: &impl Abort, reader: &mut StreamReader, piece: &[u8]) {
         let mut rest = piece;
         for _ in 0..16 {

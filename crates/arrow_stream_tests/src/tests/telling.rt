@@ -225,8 +225,8 @@ pub(super) fn are_told(rt: &impl Abort, alloc: Global, table: &[Streams]) {
     are_told_within(rt, alloc, Limits::standard(), table);
 }
 
-// That a stream of frames is answered so that is cut off anywhere: what stands before each place between two frames, and
-// behind the last one.
+// That a stream of frames is answered so that is cut off anywhere: what stands before each place
+// between two frames, and behind the last one.
 pub(super) fn are_beginnings_told(
     rt: &impl Abort,
     alloc: Global,
@@ -248,7 +248,8 @@ pub(super) fn are_beginnings_told(
     }
 }
 
-// The first fault of a stream that comes byte by byte, and the number of bytes that had come by then.
+// The first fault of a stream that comes byte by byte, and the number of bytes that had come by
+// then.
 pub(super) fn first_fault(alloc: Global, limits: Limits, bytes: &[u8]) -> Option<(usize, Fault)> {
     let mut reader = StreamReader::new(alloc, limits);
     for (k, byte) in bytes.chunks(1).enumerate() {

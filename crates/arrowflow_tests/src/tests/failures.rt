@@ -48,8 +48,8 @@ fn show_where_the_input_fails(rt: HostRuntime) {
     }
 }
 
-/// In a sink that takes so many bytes stands the beginning of the rows, behind it comes the line of the fault, and the
-/// sink was flushed and failed so often.
+/// In a sink that takes so many bytes stands the beginning of the rows, behind it comes the line of
+/// the fault, and the sink was flushed and failed so often.
 fn assert_narrowed(
     rt: &impl Abort,
     alloc: Global,

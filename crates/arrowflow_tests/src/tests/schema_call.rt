@@ -1,4 +1,5 @@
-//! What the command `schema` answers of whole, changed and cut inputs; expected texts are written out.
+//! What the command `schema` answers of whole, changed and cut inputs; expected texts are written
+//! out.
 
 use super::edits::{Edit, Part, edited, joined};
 use super::told::{Call, assert_told, told, written};

@@ -192,8 +192,8 @@ fn a_fault_ends_the_connection(rt: HostRuntime) {
     }
 }
 
-// Parts of the stream, one behind the other, what is received of them, and where the reader then stands: behind the
-// end marker, whatever follows it.
+// Parts of the stream, one behind the other, what is received of them, and where the reader then
+// stands: behind the end marker, whatever follows it.
 static JOINED: [(&[Part], &str, u64); 2] = [
     (
         &[
@@ -229,8 +229,8 @@ fn bytes_behind_the_end_marker(rt: HostRuntime) {
     }
 }
 
-// Where streams begin and end in the whole one, what one reader receives of each, one after the other, and whether it
-// then has a schema.
+// Where streams begin and end in the whole one, what one reader receives of each, one after the
+// other, and whether it then has a schema.
 static IN_TURN: [(usize, usize, &str, bool); 7] = [
     (0, 1376, ALL, true),
     (0, 424, "0:abc Clean", true),

@@ -1,5 +1,5 @@
-//! Each byte of a schema and of a batch set to each of its 255 other values: whatever a call tells of the stream, it
-//! tells the same in one piece and in pieces of one byte.
+//! Each byte of a schema and of a batch set to each of its 255 other values: whatever a call tells
+//! of the stream, it tells the same in one piece and in pieces of one byte.
 
 use super::inputs::Trickle;
 use super::streams::ONE_BATCH;

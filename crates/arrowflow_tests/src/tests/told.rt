@@ -1,4 +1,5 @@
-//! What a call tells of an input: the text that it gives, and behind it the status and the line of its fault.
+//! What a call tells of an input: the text that it gives, and behind it the status and the line of
+//! its fault.
 
 use super::inputs::Trickle;
 use arrow_sink::Counted;

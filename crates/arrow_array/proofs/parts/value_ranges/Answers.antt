@@ -1,45 +1,71 @@
-use Rattle.std.proofs.Common.{◌≡◌, ◌≤◌, ◌-◌, length, ap, sym, ◌∙◌, subst, arith, rules, None, Some, refl, vec_len, get_or}
+use Rattle.std.proofs.Common.{◌≡◌, ◌≤◌, length, map, ap, ◌∙◌, subst, None, refl}
 use Rattle.arrow_types.specs.View.{type_view, field_view}
-use Rattle.arrow_types.specs.Field.{TypeShape}
-use Rattle.arrow_array.specs.Layout.{buffer_count}
-use Rattle.arrow_array.proofs.NodeParts.{list_lies, list_same, list_tag, number_same, number_shape, only_child, some_child, struct_lies, struct_same, struct_tag}
+use Rattle.arrow_types.specs.DataType.{binary, utf8}
+use Rattle.arrow_types.specs.Field.{TypeShape, none}
+use Rattle.arrow_array.specs.Column.{counts_of}
+use Rattle.arrow_array.specs.Layout.{buffer_count, IsLaid, IsText}
+use Rattle.arrow_array.specs.Node.{bytes_of}
+use Rattle.arrow_array.specs.Parts.{value_slot}
+use Rattle.arrow_array.specs.Slots.{binary_slot, utf8_slot}
+use Rattle.arrow_array.proofs.NodeParts.{binary_tag, list_lies, list_same, list_tag, number_same, number_shape, one_child, strings_lie, strings_same, struct_lies, struct_same, struct_tag, texts_lie, utf8_tag}
 use Rattle.arrow_array.proofs.parts.value_ranges.Goals as goal
-
-some_inj : {A : Type 0} (x y : A) → Some x ≡ Some y → x ≡ y
-some_inj x y e = cc
 
 pub returns-in_ok-new-in-List-clause-lies : goal.returns-in_ok-new-in-List-clause-lies
 returns-in_ok-new-in-List-clause-lies c =
     let t = type_view c.args.data_type.now in
-    let is = ap type_view c.in-List.is ∙ list_tag c.in-List.field-0 in
-    let tag = ap (λ (x : TypeShape). x.tag) is in
-    let below = ap (λ (x : TypeShape). x.children) is in
-    let f = field_view c.in-List.field-0.value in
-    let cs = c.args.children.items in
-    let long : vec_len c.args.children ≡ length cs = search rules in
-    let some = some_child t f.head f.children cs below c.requires.children in
-    let read = c.in-Some.ensures.value c.in-Some.child (omega (arith, long, some)) in
-    let last = sym (some_inj _ _ read) in
-    let one = only_child t f.head f.children cs c.in-Some.child c.in-Some.child below c.requires.children (subst (λ n. get_or cs (n - 1) c.in-Some.child ≡ c.in-Some.child) long last) in
+    let tag = ap (λ (x : TypeShape). x.tag) (ap type_view c.in-List.is ∙ list_tag c.in-List.field-0) in
     let two : 2 ≤ length c.args.buffers.now = subst (λ x. buffer_count x None ≤ length c.args.buffers.now) tag c.requires.count in
-    let lies = list_lies t c.args.len c.args.body.now c.args.buffers.now (record { start = 0; end = 0 }) cs c.in-Some.child tag one c.requires.children (rw c.deref.ensures.value at c.opened.ensures) two c.requires.inside c.requires.layout in
+    let lies = list_lies t c.args.len c.args.body.now c.args.buffers.now (record { start = 0; end = 0 }) c.args.children.items c.only.result tag c.only.ensures c.requires.children (rw c.deref.ensures.value at c.opened.ensures) two c.requires.inside c.requires.layout in
     (refl, tag, rw c.in_ok-new-in-List.ensures.ok lies)
 
 pub returns-in_ok-new-in-List-clause-same : goal.returns-in_ok-new-in-List-clause-same
 returns-in_ok-new-in-List-clause-same c =
     let t = type_view c.args.data_type.now in
-    let is = ap type_view c.in-List.is ∙ list_tag c.in-List.field-0 in
-    let tag = ap (λ (x : TypeShape). x.tag) is in
-    let below = ap (λ (x : TypeShape). x.children) is in
-    let f = field_view c.in-List.field-0.value in
-    let cs = c.args.children.items in
-    let long : vec_len c.args.children ≡ length cs = search rules in
-    let some = some_child t f.head f.children cs below c.requires.children in
-    let read = c.in-Some.ensures.value c.in-Some.child (omega (arith, long, some)) in
-    let last = sym (some_inj _ _ read) in
-    let one = only_child t f.head f.children cs c.in-Some.child c.in-Some.child below c.requires.children (subst (λ n. get_or cs (n - 1) c.in-Some.child ≡ c.in-Some.child) long last) in
+    let tag = ap (λ (x : TypeShape). x.tag) (ap type_view c.in-List.is ∙ list_tag c.in-List.field-0) in
     let two : 2 ≤ length c.args.buffers.now = subst (λ x. buffer_count x None ≤ length c.args.buffers.now) tag c.requires.count in
-    list_same t c.args.len c.args.body.now c.args.buffers.now (record { start = 0; end = 0 }) cs c.in_ok-new-in-List.field-0 tag (rw c.in_ok-new-in-List.ensures.ok one) two
+    list_same t c.args.len c.args.body.now c.args.buffers.now (record { start = 0; end = 0 }) c.args.children.items c.in_ok-new-in-List.field-0 tag (rw c.in_ok-new-in-List.ensures.ok c.only.ensures) two
+
+pub only-requires : goal.only-requires
+only-requires c =
+    let below = ap (λ (x : TypeShape). x.children) (ap type_view c.in-List.is ∙ list_tag c.in-List.field-0) in
+    let f = field_view c.in-List.field-0.value in
+    one_child (type_view c.args.data_type.now) f.head f.children c.args.children.items below c.requires.children
+
+pub returns-in-Binary-clause-same : goal.returns-in-Binary-clause-same
+returns-in-Binary-clause-same c =
+    let t = type_view c.args.data_type.now in
+    let is : t ≡ record { tag = binary; children = none } = ap type_view c.in-Binary.is ∙ binary_tag in
+    let tag = ap (λ (x : TypeShape). x.tag) is in
+    let three : 3 ≤ length c.args.buffers.now = subst (λ x. buffer_count x None ≤ length c.args.buffers.now) tag c.requires.count in
+    let s = c.strings.ensures in
+    strings_same c.args.body.now c.args.buffers.now c.strings.result three s.validity s.offsets s.bytes t c.args.len c.args.children.items binary_slot
+    (λ x. ap (λ y. value_slot y (map (bytes_of c.args.body.now) c.args.buffers.now) x) tag) (ap (λ (x : TypeShape). x.children) is) c.requires.children
+
+pub returns-in-Utf8-clause-lies : goal.returns-in-Utf8-clause-lies
+returns-in-Utf8-clause-lies c =
+    let t = type_view c.args.data_type.now in
+    let is : t ≡ record { tag = utf8; children = none } = ap type_view c.in-Utf8.is ∙ utf8_tag in
+    let tag = ap (λ (x : TypeShape). x.tag) is in
+    let b = map (bytes_of c.args.body.now) c.args.buffers.now in
+    let three : 3 ≤ length c.args.buffers.now = subst (λ x. buffer_count x None ≤ length c.args.buffers.now) tag c.requires.count in
+    let laid = subst (λ x. IsLaid x None c.args.len b (counts_of c.args.children.items)) tag c.requires.layout in
+    let text = subst (λ x. IsText x None c.args.len b) tag c.requires.text in
+    let s = c.strings-in-Utf8.ensures in (
+      refl,
+      tag,
+      strings_lie c.args.body.now c.args.buffers.now c.strings-in-Utf8.result three s.validity s.offsets s.bytes c.args.len c.requires.inside laid,
+      texts_lie c.args.body.now c.args.buffers.now c.strings-in-Utf8.result three s.validity s.offsets s.bytes c.args.len text,
+    )
+
+pub returns-in-Utf8-clause-same : goal.returns-in-Utf8-clause-same
+returns-in-Utf8-clause-same c =
+    let t = type_view c.args.data_type.now in
+    let is : t ≡ record { tag = utf8; children = none } = ap type_view c.in-Utf8.is ∙ utf8_tag in
+    let tag = ap (λ (x : TypeShape). x.tag) is in
+    let three : 3 ≤ length c.args.buffers.now = subst (λ x. buffer_count x None ≤ length c.args.buffers.now) tag c.requires.count in
+    let s = c.strings-in-Utf8.ensures in
+    strings_same c.args.body.now c.args.buffers.now c.strings-in-Utf8.result three s.validity s.offsets s.bytes t c.args.len c.args.children.items utf8_slot
+    (λ x. ap (λ y. value_slot y (map (bytes_of c.args.body.now) c.args.buffers.now) x) tag) (ap (λ (x : TypeShape). x.children) is) c.requires.children
 
 pub returns-in-Struct-clause-lies : goal.returns-in-Struct-clause-lies
 returns-in-Struct-clause-lies c =

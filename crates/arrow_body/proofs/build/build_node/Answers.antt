@@ -25,4 +25,4 @@ from_parts-requires-clause-layout c =
     let bs = c.args.left.buffers.now in
     let long = columns_long c.args.body.now c.args.dictionaries.entries.now (below h.encoding ch) (drop 1 ns) (drop (own_buffers h) bs) in
     let ranges = rw (c.as_slice.ensures) at c.in-Some.ensures in
-    rw (field_encoding f, c.slots-len.ensures, ranges.same, c.own_buffers-own.ensures, ap counts_of c.requires.children ∙ long, ap (λ (t : TypeShape). t.tag) (field_type f)) c.requires.laid.laid
+    rw (field_encoding f, c.slots.ensures, ranges.same, c.own_buffers-own.ensures, ap counts_of c.requires.children ∙ long, ap (λ (t : TypeShape). t.tag) (field_type f)) c.requires.laid.laid

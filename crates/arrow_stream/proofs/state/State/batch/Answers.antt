@@ -23,27 +23,27 @@ hold-requires-clause-fit c =
 pub returns-in-Err : goal.returns-in-Err
 returns-in-Err c =
     let s = plain c.args.self.now in
-    let rows = batch_view c.args.rows.now in
+    let outline = batch_view c.args.outline.now in
     let body = c.args.body.now in
     let same : fields_view c.fields.result.now ≡ fields_in s.schema = c.fields.ensures.same ∙ c.deref.ensures ∙ c.shared-schema.ensures.same ∙ sym (ap fields_in c.in-Some.is) in
     record {
-      gives = batch_refused s rows body c.in-Err.stop
-          (subst (λ x. HasNoColumns body x (fields_in s.schema) rows c.in-Err.stop) c.entries-dictionaries.ensures.all
-          (subst (λ x. HasNoColumns body c.entries-dictionaries.result.now x rows c.in-Err.stop) same c.in-Err.ensures.held));
+      gives = batch_refused s outline body c.in-Err.stop
+          (subst (λ x. HasNoColumns body x (fields_in s.schema) outline c.in-Err.stop) c.entries-dictionaries.ensures.all
+          (subst (λ x. HasNoColumns body c.entries-dictionaries.result.now x outline c.in-Err.stop) same c.in-Err.ensures.held));
     }
 
 pub returns : goal.returns
 returns c =
     let s = plain c.args.self.now in
-    let rows = batch_view c.args.rows.now in
+    let outline = batch_view c.args.outline.now in
     let body = c.args.body.now in
     let cs = c.in-Ok.arrays.items in
     let held = c.shared-schema.ensures.same ∙ sym (ap fields_in c.in-Some.is) in
     let same : fields_view c.fields.result.now ≡ fields_in s.schema = c.fields.ensures.same ∙ c.deref.ensures ∙ held in
     record {
-      gives = batch_read s rows body cs c.in-Ok-new.batch
-          (subst (λ x. Holds body x (fields_in s.schema) rows (Ok cs)) c.entries-dictionaries.ensures.all
-          (subst (λ x. Holds body c.entries-dictionaries.result.now x rows (Ok cs)) same c.in-Ok.ensures.held))
+      gives = batch_read s outline body cs c.in-Ok-new.batch
+          (subst (λ x. Holds body x (fields_in s.schema) outline (Ok cs)) c.entries-dictionaries.ensures.all
+          (subst (λ x. Holds body c.entries-dictionaries.result.now x outline (Ok cs)) same c.in-Ok.ensures.held))
           (c.in-Ok-new.ensures.2
           ∙ ap (λ x. record { schema = x; columns = cs; rows = c.row_count.result }) (c.in-Ok-clone.ensures.cases ∙ held)
           ∙ ap (λ n. record { schema = fields_in s.schema; columns = cs; rows = n }) c.row_count.ensures.count);
@@ -52,27 +52,27 @@ returns c =
 pub returns-in_default-clone : goal.returns-in_default-clone
 returns-in_default-clone c =
     let s = plain c.args.self.now in
-    let rows = batch_view c.args.rows.now in
+    let outline = batch_view c.args.outline.now in
     let body = c.args.body.now in
     let cs = c.in-Ok.arrays.items in
     let held = c.shared-schema.ensures.same ∙ sym (ap fields_in c.in-Some.is) in
     let same : fields_view c.fields.result.now ≡ fields_in s.schema = c.fields.ensures.same ∙ c.deref.ensures ∙ held in
-    let holds : Holds body s.dictionaries (fields_in s.schema) rows (Ok cs) =
-    subst (λ x. Holds body x (fields_in s.schema) rows (Ok cs)) c.entries-dictionaries.ensures.all
-    (subst (λ x. Holds body c.entries-dictionaries.result.now x rows (Ok cs)) same c.in-Ok.ensures.held) in
-    record { gives = batch_applicable s rows body cs holds }
+    let holds : Holds body s.dictionaries (fields_in s.schema) outline (Ok cs) =
+    subst (λ x. Holds body x (fields_in s.schema) outline (Ok cs)) c.entries-dictionaries.ensures.all
+    (subst (λ x. Holds body c.entries-dictionaries.result.now x outline (Ok cs)) same c.in-Ok.ensures.held) in
+    record { gives = batch_applicable s outline body cs holds }
 
 pub unreachable-requires-in-Err-new : goal.unreachable-requires-in-Err-new
 unreachable-requires-in-Err-new c =
     let s = plain c.args.self.now in
-    let rows = batch_view c.args.rows.now in
+    let outline = batch_view c.args.outline.now in
     let body = c.args.body.now in
     let cs = c.in-Ok.arrays.items in
     let held = c.shared-schema.ensures.same ∙ sym (ap fields_in c.in-Some.is) in
     let same : fields_view c.fields.result.now ≡ fields_in s.schema = c.fields.ensures.same ∙ c.deref.ensures ∙ held in
-    let holds : Holds body s.dictionaries (fields_in s.schema) rows (Ok cs) =
-    subst (λ x. Holds body x (fields_in s.schema) rows (Ok cs)) c.entries-dictionaries.ensures.all
-    (subst (λ x. Holds body c.entries-dictionaries.result.now x rows (Ok cs)) same c.in-Ok.ensures.held) in
+    let holds : Holds body s.dictionaries (fields_in s.schema) outline (Ok cs) =
+    subst (λ x. Holds body x (fields_in s.schema) outline (Ok cs)) c.entries-dictionaries.ensures.all
+    (subst (λ x. Holds body c.entries-dictionaries.result.now x outline (Ok cs)) same c.in-Ok.ensures.held) in
     let schema = c.in-Ok-clone.ensures.cases ∙ held in
     held_fits c.in-Err-new.field-0 holds
     (subst (λ n. Judges (Err c.in-Err-new.field-0) (fields_in s.schema) cs n) c.row_count.ensures.count

@@ -26,7 +26,7 @@ hold-requires-clause-fit c =
 pub returns-in-Some-pop : goal.returns-in-Some-pop
 returns-in-Some-pop c =
     let s = plain c.args.self.now in
-    let rows = batch_view c.args.rows.now in
+    let outline = batch_view c.args.outline.now in
     let body = c.args.body.now in
     let id = to_z-of_z w64 c.args.id c.ranges.id in
     let o = value_type_of (dictionary_fields (fields_in s.schema)) in
@@ -34,6 +34,6 @@ returns-in-Some-pop c =
     let flat : (t : TypeShape) → o c.args.id ≡ Some t → has_encoding t.children ≡ false = λ t e. c.value_field.ensures.flat t (ap o id ∙ e) in
     let fields : fields_view c.from_ref.result.now ≡ value_fields s.schema c.args.id = ap fields_view c.from_ref.ensures.value ∙ one_value_field s.schema c.args.id (field_view c.in-Some.field.now) found in
     record {
-      values = values_read s rows body c.args.id found.type c.in-Ok.arrays.items c.pop.new.self.items c.in-Some-pop.values found.named (flat found.type found.named)
-          (subst (λ x. Holds body [] x rows (Ok c.in-Ok.arrays.items)) fields c.in-Ok.ensures.held) c.in-Some-pop.ensures.items;
+      values = values_read s outline body c.args.id found.type c.in-Ok.arrays.items c.pop.new.self.items c.in-Some-pop.values found.named (flat found.type found.named)
+          (subst (λ x. Holds body [] x outline (Ok c.in-Ok.arrays.items)) fields c.in-Ok.ensures.held) c.in-Some-pop.ensures.items;
     }
