@@ -65,7 +65,6 @@ fn build_node(
     let Some(ranges) = own_ranges(body.as_slice(), left.buffers, own) else {
         unreachable!()
     };
-    let dictionary = dictionary_of(alloc, field.dictionary, dictionaries)?;
     Array::from_parts(
         alloc,
         field,
@@ -73,7 +72,7 @@ fn build_node(
         body,
         &ranges[..own],
         children,
-        dictionary,
+        dictionary_of(alloc, field.dictionary, dictionaries)?,
     )
 }
 
