@@ -122,7 +122,7 @@ struct_same t len body bs d children tag one =
 read_as : (body : List ℕ) (bs : List ByteRange) (k : ℕ) (r : ByteRange) → k < length bs → r ≡ slice_index_or bs k r → bytes_of body r ≡ buffer (map (bytes_of body) bs) k
 read_as body bs k r h e = ap (bytes_of body) e ∙ sym (buffer_read body bs k r h)
 
--- and there are no children
+-- of no fields there are no columns, and so no dictionaries
 no_children : (cs : List Column) → AreOf none cs → listed_of cs ≡ []
 no_children [] h = refl
 no_children (c ∷ cs) h = absurd h
