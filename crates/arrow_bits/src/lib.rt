@@ -23,8 +23,6 @@ mod lanes;
 mod numbers;
 mod offsets;
 pub mod plain;
-#[cfg(test)]
-mod tests;
 
 pub use bitmap::{Bits, bit};
 pub use bitmap_builder::BitsBuilder;

@@ -13,8 +13,6 @@
 #![tactic(auto)]
 
 mod records;
-#[cfg(test)]
-mod tests;
 mod texts;
 
 pub use records::{header, rows};

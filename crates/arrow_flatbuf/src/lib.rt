@@ -33,8 +33,6 @@
 mod place;
 mod root;
 mod table;
-#[cfg(test)]
-mod tests;
 mod text;
 mod vector;
 mod vtable;

@@ -12,8 +12,6 @@
 mod counted;
 mod sending;
 mod sink;
-#[cfg(test)]
-mod tests;
 
 pub use counted::Counted;
 pub use sending::send;

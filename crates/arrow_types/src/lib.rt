@@ -22,8 +22,6 @@ mod nesting;
 mod node;
 mod schema;
 mod size;
-#[cfg(test)]
-mod tests;
 
 pub use data_type::{BitWidth, DataType, DateUnit, TimeUnit};
 pub use field::{Encoding, Field, IndexType};

@@ -1,6 +1,6 @@
 ghost use Rattle.arrow_bits.specs.Numbers.{FitsWidth, IsWidth};
 
-use crate::{Bits, BitsBuilder, Offsets, are_at_most, int_at, plain, put_int};
+use arrow_bits::{Bits, BitsBuilder, Offsets, are_at_most, int_at, plain, put_int};
 use std::process::Abort;
 
 // Bits and how many of them are 0.

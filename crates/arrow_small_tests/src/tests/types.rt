@@ -1,6 +1,6 @@
 //! What no clause says: that the definitions say what the format means, and that calls succeed.
 
-use crate::{
+use arrow_types::{
     BitWidth, DataType, DateUnit, Encoding, Field, IndexType, Limits, Schema, SchemaFault, TimeUnit,
 };
 use std::process::Abort;

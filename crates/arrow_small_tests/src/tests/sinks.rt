@@ -2,7 +2,7 @@
 
 ghost use Rattle.std.specs.Prelude.{◌≡◌, ◌≤◌, length};
 
-use crate::{Counted, Sink, SinkFault, send};
+use arrow_sink::{Counted, Sink, SinkFault, send};
 use std::alloc::Global;
 use std::io;
 use std::io::Write;

@@ -3,7 +3,7 @@
 
 ghost use Rattle.std.specs.Prelude.{◌≤◌};
 
-use super::*;
+use arrow_flatbuf::{Root, Table, Unreadable, Vector};
 use std::process::Abort;
 
 // The root table at 12 has its vtable at 4, and one field of two bytes, 0x012a, at 16.

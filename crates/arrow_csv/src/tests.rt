@@ -1,3 +1,0 @@
-//! Records against texts that are written out.
-
-mod records;
