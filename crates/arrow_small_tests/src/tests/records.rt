@@ -5,9 +5,9 @@ ghost use Rattle.arrow_types.specs.Field.{none};
 ghost use Rattle.arrow_types.specs.View.{type_view};
 ghost use Rattle.arrow_array.specs.Layout.{IsText, buffer_count};
 
-use arrow_csv::{header, rows};
 use arrow_array::layout::is_laid;
 use arrow_array::{Array, Batch, ByteRange};
+use arrow_csv::{header, rows};
 use arrow_types::{BitWidth, DataType, Field, Schema};
 use bytes::Bytes;
 use std::alloc::{AllocError, Global};
