@@ -36,7 +36,7 @@ pub large_offset_found : (len : ℕ) (bytes : List ℕ) (i : ℕ) → i < len + 
 large_offset_found len bytes i h = found_in_list 8 len bytes i h
 
 -- where all have room, each has
-pub has_room : (width len n : ℕ) → width * (len + 1) ≤ n → (j : ℕ) → j ≤ len → width * j + width ≤ n
+has_room : (width len n : ℕ) → width * (len + 1) ≤ n → (j : ℕ) → j ≤ len → width * j + width ≤ n
 has_room width len n there j h = omega (arith, there, column_fits width j width (len + 1) (omega (arith, h)) (omega arith))
 
 -- a number of `width` bytes

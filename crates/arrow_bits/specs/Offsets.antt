@@ -37,30 +37,30 @@ NeverFall width bytes from to =
 abbrev pub offset_at : List ℕ → ℕ → ℤ
 offset_at bytes j = offset_of 4 bytes j
 
--- offsets of 32 bits
+-- `len + 1` offsets of 32 bits are there, in order and within `top`
 abbrev pub AreOffsets : List ℕ → ℕ → ℕ → Type 0
 AreOffsets bytes len top = AreOffsetsOf 4 bytes len top
 
--- the `len + 1` offsets of 32 bits, by their signs
+-- these offsets, read with their sign
 abbrev pub signed_offsets_of : ℕ → List ℕ → List ℤ
 signed_offsets_of len bytes = signed_list 4 len bytes
 
--- the same without
+-- these offsets, read without a sign
 abbrev pub offsets_of : ℕ → List ℕ → List ℕ
 offsets_of len bytes = plain_list 4 len bytes
 
--- offset j of 64 bits
+-- offset j of 64 bits (the large variants)
 abbrev pub large_offset_at : List ℕ → ℕ → ℤ
 large_offset_at bytes j = offset_of 8 bytes j
 
--- offsets of 64 bits (the large variants)
+-- `len + 1` offsets of 64 bits are there, in order and within `top`
 abbrev pub AreLargeOffsets : List ℕ → ℕ → ℕ → Type 0
 AreLargeOffsets bytes len top = AreOffsetsOf 8 bytes len top
 
--- the `len + 1` offsets of 64 bits, by their signs
+-- these offsets, read with their sign
 abbrev pub signed_large_offsets_of : ℕ → List ℕ → List ℤ
 signed_large_offsets_of len bytes = signed_list 8 len bytes
 
--- the same without
+-- these offsets, read without a sign
 abbrev pub large_offsets_of : ℕ → List ℕ → List ℕ
 large_offsets_of len bytes = plain_list 8 len bytes
