@@ -1,8 +1,10 @@
--- Numbers of 32 bits compared lane by lane.
-use Rattle.std.proofs.Common.{◌≡◌, ◌↔◌, ℕ, zero, suc, ◌+◌, ◌-◌, ◌*◌, ◌%◌, ◌^◌, ◌<◌, ◌≤◌, List, [], ◌∷◌, Bool, true, false, true≢false, cond, leb, nat_eq, length, map, take, drop, get_or, refl, sym, ap, ◌∙◌, IsTrue, arith, w8, w32, Fits, eq-eqb}
+-- Numbers of 32 or of 64 bits compared lane by lane.
+use Rattle.std.proofs.Common.{◌≡◌, ◌↔◌, ℕ, zero, suc, ◌+◌, ◌-◌, ◌*◌, ◌%◌, ◌^◌, ◌<◌, ◌≤◌, List, [], ◌∷◌, Bool, true, false, true≢false, cond, leb, nat_eq, length, map, take, drop, get_or, refl, sym, ap, ◌∙◌, IsTrue, arith, w8, Fits, eq-eqb}
+use mir.Syntax.{Width}
+use mir.Val.{bits, hbits}
 use Rattle.std.specs.Simd.Lanes.{zip2, mask_l, top, chunk, number_l, digits_l}
 use Rattle.std.proofs.Math.Nat.{pow-suc}
-use Rattle.std.proofs.lemmas.Nat.{pow_pos}
+use Rattle.std.proofs.lemmas.Nat.{pow_pos, column_fits}
 use Rattle.std.proofs.lemmas.Bool.{eqb-true, leb-true, le-leb}
 use Rattle.std.proofs.lemmas.Simd.{tops_compared, mask_l-mod, get_or-zip2, length-zip2, get_or_wider, chunk-fits, below_from_Fits}
 use Rattle.arrow_bits.specs.Numbers.{number_of, number_at}
@@ -38,21 +40,21 @@ mask_full (false ∷ lanes) =
       (λ all. absurd (true≢false (sym (all zero (omega arith))))),
     )
 
--- four bytes of a list
-number_at_chunk : (bytes : List ℕ) (k : ℕ) → number_l 256 (chunk (4 * k) 4 bytes) ≡ number_at bytes (4 * k) 4
+-- some bytes of a list
+number_at_chunk : (width : ℕ) (bytes : List ℕ) (k : ℕ) → number_l 256 (chunk (width * k) width bytes) ≡ number_at bytes (width * k) width
 unfolding number_at
-number_at_chunk bytes k = number_l-number_of (take 4 (drop (4 * k) bytes))
+number_at_chunk width bytes k = number_l-number_of (take width (drop (width * k) bytes))
 
 -- so the mask of a comparison is full where it holds in each lane
-pub lanes_hold : (n : ℕ) (xs ys : List ℕ) → n ≤ 64 → length xs ≡ n → length ys ≡ n
-    → IsTrue (nat_eq (mask_l (map (top 31) (zip2 (λ a b. cond (leb a b) 4294967295 0) xs ys)) % 18446744073709551616) (2 ^ n - 1))
+pub lanes_hold : (w : Width) (n : ℕ) (xs ys : List ℕ) → n ≤ 64 → length xs ≡ n → length ys ≡ n
+    → IsTrue (nat_eq (mask_l (map (top (hbits w)) (zip2 (λ a b. cond (leb a b) (2 ^ bits w - 1) 0) xs ys)) % 18446744073709551616) (2 ^ n - 1))
     ↔ ((k : ℕ) → k < n → get_or xs k 0 ≤ get_or ys k 0)
-lanes_hold n xs ys few low high =
+lanes_hold w n xs ys few low high =
     let lanes = zip2 leb xs ys in
     let long : length lanes ≡ n = length-zip2 leb xs ys (low ∙ sym high) ∙ low in
     let whole = mask_full lanes in
-    let mask : mask_l (map (top 31) (zip2 (λ a b. cond (leb a b) 4294967295 0) xs ys)) % 18446744073709551616 ≡ mask_l lanes =
-    ap (λ bs. mask_l bs % 18446744073709551616) (tops_compared w32 leb xs ys) ∙ mask_l-mod lanes 64 (omega (arith, few, long)) in
+    let mask : mask_l (map (top (hbits w)) (zip2 (λ a b. cond (leb a b) (2 ^ bits w - 1) 0) xs ys)) % 18446744073709551616 ≡ mask_l lanes =
+    ap (λ bs. mask_l bs % 18446744073709551616) (tops_compared w leb xs ys) ∙ mask_l-mod lanes 64 (omega (arith, few, long)) in
     let lane : (k : ℕ) → k < n → get_or lanes k false ≡ leb (get_or xs k 0) (get_or ys k 0) =
     λ k h. get_or-zip2 leb xs ys k 0 0 false (omega (arith, h, low)) (omega (arith, h, high)) in (
       (λ t k h.
@@ -63,28 +65,36 @@ lanes_hold n xs ys few low high =
           eq-eqb _ _ (mask ∙ full ∙ ap (λ m. 2 ^ m - 1) long)),
     )
 
--- a lane of four bytes is the number that stands at its place
-pub lane_number : (bytes : List ℕ) (at n : ℕ) → ((i : ℕ) → Fits w8 (get_or bytes i 0)) → (k : ℕ) → k < n
-    → get_or (digits_l 4294967296 n (number_l 256 (take (4 * n) (drop at bytes)))) k 0 ≡ number_at bytes (at + 4 * k) 4
-lane_number bytes at n fits k h =
-    let part = take (4 * n) (drop at bytes) in
-    let below = below_from_Fits w8 part (chunk-fits w8 at (4 * n) bytes fits) in
-    get_or_wider 256 4 4294967296 n part k refl below h
-    ∙ number_at_chunk part k
-    ∙ number_in_part bytes at (4 * n) (4 * k) 4 (omega (arith, h))
+-- a lane of `width` bytes is the number that stands at its place
+pub lane_number : (width q : ℕ) → q ≡ 256 ^ width → (bytes : List ℕ) (at n : ℕ) → ((i : ℕ) → Fits w8 (get_or bytes i 0)) → (k : ℕ) → k < n
+    → get_or (digits_l q n (number_l 256 (take (width * n) (drop at bytes)))) k 0 ≡ number_at bytes (at + width * k) width
+lane_number width q base bytes at n fits k h =
+    let part = take (width * n) (drop at bytes) in
+    let below = below_from_Fits w8 part (chunk-fits w8 at (width * n) bytes fits) in
+    get_or_wider 256 width q n part k base below h
+    ∙ number_at_chunk width part k
+    ∙ number_in_part bytes at (width * n) (width * k) width (column_fits width k width n h (omega arith))
 
--- n lanes hold the numbers from number i on and those behind them
-pub block_falls_not : (bytes : List ℕ) (i n : ℕ)
-    → ((k : ℕ) → k < n → number_at bytes (4 * i + 4 * k) 4 ≤ number_at bytes (4 * (i + 1) + 4 * k) 4) ↔ NeverFall bytes i (i + n)
-block_falls_not bytes i n = (
+-- the place of a number further on
+further : (width i k : ℕ) → width * i + width * k ≡ width * (i + k)
+further width i k = omega arith
+
+-- n lanes hold the numbers of `width` bytes from number i on and those behind them
+pub block_falls_not : (width : ℕ) (bytes : List ℕ) (i n : ℕ)
+    → ((k : ℕ) → k < n → number_at bytes (width * i + width * k) width ≤ number_at bytes (width * (i + 1) + width * k) width)
+    ↔ NeverFall width bytes i (i + n)
+block_falls_not width bytes i n = (
   (λ lanes j from h.
       let k = j - i in
-      let low : 4 * j ≡ 4 * i + 4 * k = omega (arith, from) in
-      let high : 4 * (j + 1) ≡ 4 * (i + 1) + 4 * k = omega (arith, from) in
-      rw (low, high) (lanes k (omega (arith, from, h)))),
+      let here : i + k ≡ j = omega (arith, from) in
+      let next : i + 1 + k ≡ j + 1 = omega (arith, from) in
+      let low : width * i + width * k ≡ width * j = further width i k ∙ ap (λ m. width * m) here in
+      let high : width * (i + 1) + width * k ≡ width * (j + 1) = further width (i + 1) k ∙ ap (λ m. width * m) next in
+      rw (sym low, sym high) (lanes k (omega (arith, from, h)))),
   (λ never k h.
-      let low : 4 * i + 4 * k ≡ 4 * (i + k) = omega arith in
-      let high : 4 * (i + 1) + 4 * k ≡ 4 * (i + k + 1) = omega arith in
+      let next : i + 1 + k ≡ i + k + 1 = omega arith in
+      let low : width * i + width * k ≡ width * (i + k) = further width i k in
+      let high : width * (i + 1) + width * k ≡ width * (i + k + 1) = further width (i + 1) k ∙ ap (λ m. width * m) next in
       rw (low, high) (never (i + k) (omega arith) (omega (arith, h)))),
 )
 

@@ -15,7 +15,7 @@ pub(crate) const LANES: usize = 16;
 // then the rest.
 pub(crate) fn never_fall(bytes: &[u8], len: usize) -> bool
     requires { 4 * (len + 1) ≤ length bytes.now }
-    ensures { IsTrue result ↔ NeverFall bytes.now 0 len }
+    ensures { IsTrue result ↔ NeverFall 4 bytes.now 0 len }
 {
     let mut i = 0;
     while i + LANES <= len {
@@ -31,7 +31,7 @@ pub(crate) fn never_fall(bytes: &[u8], len: usize) -> bool
 fn rest_rises(bytes: &[u8], from: usize, len: usize) -> bool
     requires order { from ≤ len }
     requires inside { 4 * (len + 1) ≤ length bytes.now }
-    ensures { IsTrue result ↔ NeverFall bytes.now from len }
+    ensures { IsTrue result ↔ NeverFall 4 bytes.now from len }
 {
     for i in from..len {
         if u32_at(bytes, 4 * i) > u32_at(bytes, 4 * (i + 1)) {
@@ -44,7 +44,7 @@ fn rest_rises(bytes: &[u8], from: usize, len: usize) -> bool
 // Whether none of the sixteen numbers from number `i` on is above the one behind it.
 fn sixteen_rise(bytes: &[u8], i: usize) -> bool
     requires { 4 * (i + 17) ≤ length bytes.now }
-    ensures { IsTrue result ↔ NeverFall bytes.now i (i + 16) }
+    ensures { IsTrue result ↔ NeverFall 4 bytes.now i (i + 16) }
 {
     let low = sixteen_at(bytes, 4 * i);
     let high = sixteen_at(bytes, 4 * (i + 1));

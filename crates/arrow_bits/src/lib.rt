@@ -4,22 +4,26 @@
 //! Every column is read through these calls. They take a slice of bytes, which may be any part of a
 //! message body, and give what the standard says stands there: a bitmap is a list of bits (`Bits`),
 //! a buffer of fixed-width values is a list of integers (`int_at`), a buffer of offsets is a list
-//! of numbers that never fall (`Offsets`). `BitsBuilder` and `put_int`, which are for a writer, go
-//! the other way. Nothing is copied, and no call but these two takes memory.
+//! of numbers that never fall (`Offsets`, and `LargeOffsets` for those of 64 bits). `BitsBuilder`
+//! and `put_int`, which are for a writer, go the other way. Nothing is copied, and no call but these
+//! two takes memory.
 //!
 //! What a place of the bytes means is said once, in `specs/`: `bit_of` and `bits_of`
-//! (`Bitmap.antt`), `number_at`, `signed_at` and `int_of` (`Numbers.antt`), `AreOffsets` and
-//! `offsets_of` (`Offsets.antt`), `AreAtMost` (`AtMost.antt`). They take a whole list of bytes and
-//! a place in it, so that a layer above can speak of a body and the places of its buffers.
+//! (`Bitmap.antt`), `number_at`, `signed_at` and `int_of` (`Numbers.antt`), `AreOffsetsOf` a width
+//! and the lists of the offsets (`Offsets.antt`), `AreAtMost` (`AtMost.antt`). They take a whole
+//! list of bytes and a place in it, so that a layer above can speak of a body and the places of its
+//! buffers.
 //!
-//! `Offsets::check` compares sixteen neighbours at a time, `are_at_most` sixteen numbers with one,
-//! and `Bits::count_zero` counts 64 bits at a time. `plain` has the first and the last once more as
-//! loops over the definitions, with the same contracts.
+//! `Offsets::check` compares sixteen neighbours at a time, `LargeOffsets::check` eight,
+//! `are_at_most` sixteen numbers with one, and `Bits::count_zero` counts 64 bits at a time. `plain`
+//! has the checks and the count once more as loops over the definitions, with the same contracts.
 #![tactic(auto)]
 
 mod bitmap;
 mod bitmap_builder;
 mod lanes;
+mod large_lanes;
+mod large_offsets;
 mod numbers;
 mod offsets;
 pub mod plain;
@@ -27,5 +31,6 @@ pub mod plain;
 pub use bitmap::{Bits, bit};
 pub use bitmap_builder::BitsBuilder;
 pub use lanes::are_at_most;
+pub use large_offsets::LargeOffsets;
 pub use numbers::{int_at, put_int};
 pub use offsets::Offsets;

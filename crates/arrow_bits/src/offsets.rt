@@ -31,7 +31,7 @@ impl<'a> Model for Offsets<'a> {
 
     ghost view = { λ o. offsets_of o.len o.bytes.now };
 
-    ghost invariant = { λ o. HoldsOffsets o.bytes.now o.len };
+    ghost invariant = { λ o. HoldsOffsets 4 o.bytes.now o.len };
 }
 
 #[tactic(auto, using(crate::proofs::Rising::length_offsets, crate::proofs::Rising::offset_found))]

@@ -1,13 +1,14 @@
 //! The definitions as loops, one bit or one offset at a time.
 //!
-//! They have the contracts of `Bits::count_zero` and `Offsets::check`, which work on many at once.
-//! The tests compare the two forms at every length, and `Offsets::check` uses the loop for the
-//! shortest inputs.
+//! They have the contracts of `Bits::count_zero`, `Offsets::check` and `LargeOffsets::check`, which
+//! work on many at once. The tests compare the two forms at every length, and the two checks use the
+//! loops for the shortest inputs.
 ghost use Rattle.std.specs.Prelude.{◌≡◌, ◌*◌, ◌≤◌, ◌↔◌, length, not, count_by, IsTrue};
 ghost use Rattle.arrow_bits.specs.Bitmap.{bits_of};
-ghost use Rattle.arrow_bits.specs.Offsets.{AreOffsets};
+ghost use Rattle.arrow_bits.specs.Offsets.{AreLargeOffsets, AreOffsets};
 
 use crate::bitmap::bit;
+use crate::large_offsets::large_offset;
 use crate::offsets::offset;
 
 /// How many of the first `len` bits are 0.
@@ -28,8 +29,8 @@ pub fn count_zero(bytes: &[u8], len: usize) -> usize
     zeros
 }
 
-/// Whether `len + 1` offsets stand there that begin at 0 or above, never fall and end at `top` or
-/// below.
+/// Whether `len + 1` offsets of 32 bits stand there that begin at 0 or above, never fall and end at
+/// `top` or below.
 pub fn check_offsets(bytes: &[u8], len: usize, top: u64) -> bool
     ensures { IsTrue result ↔ AreOffsets bytes.now len top }
 {
@@ -42,6 +43,28 @@ pub fn check_offsets(bytes: &[u8], len: usize, top: u64) -> bool
     }
     for i in 0..len {
         let next = offset(bytes, i + 1);
+        if next < last {
+            return false;
+        }
+        last = next;
+    }
+    last as u64 <= top
+}
+
+/// Whether `len + 1` offsets of 64 bits stand there that begin at 0 or above, never fall and end at
+/// `top` or below.
+pub fn check_large_offsets(bytes: &[u8], len: usize, top: u64) -> bool
+    ensures { IsTrue result ↔ AreLargeOffsets bytes.now len top }
+{
+    if len >= bytes.len() / 8 {
+        return false;
+    }
+    let mut last = large_offset(bytes, 0);
+    if last < 0 {
+        return false;
+    }
+    for i in 0..len {
+        let next = large_offset(bytes, i + 1);
         if next < last {
             return false;
         }

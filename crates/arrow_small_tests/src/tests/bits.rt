@@ -1,6 +1,6 @@
 ghost use Rattle.arrow_bits.specs.Numbers.{FitsWidth, IsWidth};
 
-use arrow_bits::{Bits, BitsBuilder, Offsets, are_at_most, int_at, plain, put_int};
+use arrow_bits::{Bits, BitsBuilder, LargeOffsets, Offsets, are_at_most, int_at, plain, put_int};
 use std::process::Abort;
 
 // Bits and how many of them are 0.
@@ -257,6 +257,220 @@ fn offsets_of_each_length(rt: HostRuntime) {
     for len in 0..131u8 {
         assert_whole(&rt, len);
         assert_each_place(&rt, len);
+    }
+}
+
+// The offsets 2, 2 and 5 of 64 bits.
+const LARGE_RISING: &[u8] = &[
+    2, 0, 0, 0, 0, 0, 0, 0, 2, 0, 0, 0, 0, 0, 0, 0, 5, 0, 0, 0, 0, 0, 0, 0,
+];
+
+// The offsets 0 and 4294967296, which are the same in their lower 32 bits.
+const FAR_APART: &[u8] = &[0, 0, 0, 0, 0, 0, 0, 0, 0, 0, 0, 0, 1, 0, 0, 0];
+
+// Two of the greatest offset.
+const GREATEST: &[u8] = &[
+    255, 255, 255, 255, 255, 255, 255, 127, 255, 255, 255, 255, 255, 255, 255, 127,
+];
+
+// Bytes, how many slots and what top are asked for, and the offsets where there are such.
+static LARGE_OFFSETS: [(&[u8], usize, u64, Option<&[usize]>); 25] = [
+    (LARGE_RISING, 2, 5, Some(&[2, 2, 5])),
+    (LARGE_RISING, 2, 4, None),
+    (LARGE_RISING, 2, u64::MAX, Some(&[2, 2, 5])),
+    (LARGE_RISING, 1, 2, Some(&[2, 2])),
+    (LARGE_RISING, 3, 5, None),
+    (LARGE_RISING, usize::MAX, 5, None),
+    (LARGE_RISING, usize::MAX / 8, 5, None),
+    // 0, 3 and 2
+    (
+        &[
+            0, 0, 0, 0, 0, 0, 0, 0, 3, 0, 0, 0, 0, 0, 0, 0, 2, 0, 0, 0, 0, 0, 0, 0,
+        ],
+        2,
+        9,
+        None,
+    ),
+    // -1 and 0
+    (
+        &[
+            255, 255, 255, 255, 255, 255, 255, 255, 0, 0, 0, 0, 0, 0, 0, 0,
+        ],
+        1,
+        9,
+        None,
+    ),
+    // the least number of 64 bits, and the greatest number of 32 without a sign
+    (&[0, 0, 0, 0, 0, 0, 0, 128], 0, u64::MAX, None),
+    (
+        &[255, 255, 255, 255, 0, 0, 0, 0],
+        0,
+        4294967295,
+        Some(&[4294967295]),
+    ),
+    (&[], 0, 0, None),
+    (&[0, 0, 0, 0, 0, 0, 0], 0, 0, None),
+    (&[0, 0, 0, 0, 0, 0, 0, 0], 0, 0, Some(&[0])),
+    (&[0, 0, 0, 0, 0, 0, 0, 0, 9], 0, 0, Some(&[0])),
+    (&[0, 0, 0, 0, 0, 0, 0, 0, 0, 0, 0, 0, 0, 0, 0], 1, 0, None),
+    (FAR_APART, 1, 4294967296, Some(&[0, 4294967296])),
+    (FAR_APART, 1, 4294967295, None),
+    // 1 and 4294967296, which falls in the lower 32 bits; then turned round, which rises there
+    (
+        &[1, 0, 0, 0, 0, 0, 0, 0, 0, 0, 0, 0, 1, 0, 0, 0],
+        1,
+        4294967296,
+        Some(&[1, 4294967296]),
+    ),
+    (
+        &[0, 0, 0, 0, 1, 0, 0, 0, 1, 0, 0, 0, 0, 0, 0, 0],
+        1,
+        4294967296,
+        None,
+    ),
+    (
+        GREATEST,
+        1,
+        9223372036854775807,
+        Some(&[9223372036854775807, 9223372036854775807]),
+    ),
+    (GREATEST, 1, 9223372036854775806, None),
+    (
+        GREATEST,
+        1,
+        u64::MAX,
+        Some(&[9223372036854775807, 9223372036854775807]),
+    ),
+    // the greatest, and one more, which has the sign bit
+    (
+        &[
+            255, 255, 255, 255, 255, 255, 255, 127, 0, 0, 0, 0, 0, 0, 0, 128,
+        ],
+        1,
+        u64::MAX,
+        None,
+    ),
+    // -2 and -1, which rise
+    (
+        &[
+            254, 255, 255, 255, 255, 255, 255, 255, 255, 255, 255, 255, 255, 255, 255, 255,
+        ],
+        1,
+        u64::MAX,
+        None,
+    ),
+];
+
+fn large_offsets_are(offsets: &LargeOffsets<'_>, want: &[usize]) -> bool {
+    for (i, offset) in want.iter().enumerate() {
+        if i > offsets.len() || offsets.at(i) != *offset {
+            return false;
+        }
+    }
+    want.len().checked_sub(1) == Some(offsets.len()) && offsets.is_empty() == (want.len() == 1)
+}
+
+// Whether these offsets are found and both checks say so, or nothing is found where none are
+// wanted.
+fn are_large_offsets(bytes: &[u8], len: usize, top: u64, want: Option<&[usize]>) -> bool {
+    let answer = LargeOffsets::check(bytes, len, top);
+    if answer != plain::check_large_offsets(bytes, len, top) {
+        return false;
+    }
+    match (LargeOffsets::new(bytes, len, top), want) {
+        (Some(offsets), Some(want)) => answer && large_offsets_are(&offsets, want),
+        (found, _) => !answer && found.is_none() && want.is_none(),
+    }
+}
+
+#[test]
+fn large_offsets_of_a_column(rt: HostRuntime) {
+    for (row, (bytes, len, top, want)) in LARGE_OFFSETS.iter().enumerate() {
+        assert!(rt; are_large_offsets(bytes, *len, *top, *want), "number {row}");
+    }
+}
+
+// Offset `j` of those below: they pass from 32 bits into more at 2^32 = 4294967296, where `j` is
+// 30.
+fn large_step(j: u16) -> i64 {
+    4294966996 + 10 * i64::from(j)
+}
+
+// The bytes of `len + 1` offsets of 64 bits, of which one is another.
+fn large_offsets_but_one(
+    rt: &(impl Abort + AllocGlobal),
+    len: u8,
+    place: u16,
+    other: i64,
+) -> Vec<u8> {
+    let mut bytes = Vec::new(rt.alloc());
+    for j in 0..u16::from(len) + 1 {
+        let offset = if j == place { other } else { large_step(j) };
+        let added = bytes.extend_from_slice(&offset.to_le_bytes());
+        assert!(rt; added.is_ok(), "memory");
+    }
+    bytes
+}
+
+// Both forms of the check give this answer, and false where a byte is missing.
+fn assert_large_check(
+    rt: &(impl Abort + AllocGlobal),
+    len: u8,
+    (place, other): (u16, i64),
+    top: u64,
+    answer: bool,
+) {
+    let bytes = large_offsets_but_one(rt, len, place, other);
+    let slots = usize::from(len);
+    assert!(rt;
+        LargeOffsets::check(&bytes, slots, top) == answer,
+        "{len} slots"
+    );
+    assert!(rt;
+        plain::check_large_offsets(&bytes, slots, top) == answer,
+        "{len} slots"
+    );
+    let cut = bytes.get(1..);
+    assert!(rt;
+        cut.is_some_and(|cut| !LargeOffsets::check(cut, slots, u64::MAX)),
+        "{len} slots"
+    );
+}
+
+// An offset may equal the one before it, and may not be below it or below 0.
+fn assert_large_behind(rt: &(impl Abort + AllocGlobal), len: u8, place: u8) {
+    let last = large_step(u16::from(len)).unsigned_abs();
+    let low = large_step(u16::from(place));
+    let behind = u16::from(place) + 1;
+    assert_large_check(rt, len, (behind, low), last, true);
+    assert_large_check(rt, len, (behind, low.wrapping_sub(1)), last, false);
+    assert_large_check(rt, len, (behind, low.wrapping_sub(4294967296)), last, false);
+    assert_large_check(rt, len, (behind, -1), u64::MAX, false);
+}
+
+fn assert_large_each_place(rt: &(impl Abort + AllocGlobal), len: u8) {
+    for place in 0..len {
+        assert_large_behind(rt, len, place);
+    }
+}
+
+// The last offset may be as great as can be, and none may be above the top.
+fn assert_large_whole(rt: &(impl Abort + AllocGlobal), len: u8) {
+    let last = large_step(u16::from(len)).unsigned_abs();
+    let end = u16::from(len);
+    assert_large_check(rt, len, (0, 0), last, true);
+    assert_large_check(rt, len, (0, 0), u64::MAX, true);
+    assert_large_check(rt, len, (end, i64::MAX), 9223372036854775807, true);
+    assert_large_check(rt, len, (end, i64::MAX), 9223372036854775806, false);
+    assert_large_check(rt, len, (0, -1), u64::MAX, false);
+    assert_large_check(rt, len, (0, i64::MIN), u64::MAX, false);
+}
+
+#[test]
+fn large_offsets_of_each_length(rt: HostRuntime) {
+    for len in 0..131u8 {
+        assert_large_whole(&rt, len);
+        assert_large_each_place(&rt, len);
     }
 }
 

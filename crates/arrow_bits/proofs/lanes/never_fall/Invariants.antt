@@ -4,7 +4,7 @@ use Rattle.arrow_bits.proofs.lanes.never_fall.Given as goal
 
 -- none of the numbers so far is above the one behind it
 abbrev pub invariant-loop-i : goal.invariant-loop-i
-invariant-loop-i l = record { inside : l.i ≤ l.len; below : NeverFall l.bytes 0 l.i }
+invariant-loop-i l = record { inside : l.i ≤ l.len; below : NeverFall 4 l.bytes 0 l.i }
 
 -- the numbers that are left
 abbrev pub decreases-loop-i : goal.decreases-loop-i

@@ -3,4 +3,4 @@ use Rattle.arrow_bits.proofs.lanes.rest_rises.Given as goal
 
 -- none of the numbers so far is above the one behind it
 abbrev pub invariant-loop-i : goal.invariant-loop-i
-invariant-loop-i l = NeverFall l.bytes l.from l.i
+invariant-loop-i l = NeverFall 4 l.bytes l.from l.i
