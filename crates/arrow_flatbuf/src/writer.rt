@@ -58,7 +58,8 @@ impl TableWriter {
     pub fn into_bytes(self) -> Vec<u8>
         ensures { result.items ≡ self }
     {
-        self.bytes
+        let TableWriter { bytes } = self;
+        bytes
     }
 
     /// Appends an offset to what is to stand at a place (FlatBuffers internals, "Offsets"): the
@@ -117,13 +118,13 @@ impl TableWriter {
     /// Appends the count of a vector of pairs of numbers of eight bytes, which stand behind it at a
     /// multiple of 8.
     #[tactic(auto, using(crate::proofs::Writing::pairs_begun))]
-    pub fn count_pairs(&mut self, count: usize) -> Result<(), AllocError>
+    pub fn count_pairs(&mut self, pairs: usize) -> Result<(), AllocError>
         requires { length self.old < 2 ^ 32 }
-        ensures { OnOk result (self.new ≡ self.old ++ pairs_head (length self.old) count) }
+        ensures { OnOk result (self.new ≡ self.old ++ pairs_head (length self.old) pairs) }
     {
         let missing = gap(8, self.place() + 4);
         self.zeros(missing)?;
-        self.number(Width::Four, count as u64)
+        self.number(Width::Four, pairs as u64)
     }
 
     /// Appends a pair of numbers of eight bytes.

@@ -3,7 +3,7 @@
 //!
 //! A number with a sign is written as its bits. The numbers of nodes and of buffers are pairs of
 //! eight bytes each, behind their count at a multiple of 8.
-ghost use Rattle.std.specs.Prelude.{◌≡◌, ◌+◌, ◌++◌, map, OnOk, [], ◌∷◌};
+ghost use Rattle.std.specs.Prelude.{◌≡◌, ◌+◌, ◌++◌, ◌∷◌, [], map, OnOk};
 ghost use Rattle.arrow_flatbuf.specs.Nodes.{pair_bytes, pairs as pairs_node, table as table_node};
 ghost use Rattle.arrow_meta.specs.Means.{batch_view};
 ghost use Rattle.arrow_meta_write.specs.Appends.{HasRoom, Appends};

@@ -1,6 +1,6 @@
 //! A field's encoding by a dictionary, written or left out (`Schema.fbs`, table
 //! `DictionaryEncoding`).
-ghost use Rattle.std.specs.Prelude.{◌≡◌, ◌≤◌, ◌+◌, length, ◌++◌, OnOk};
+ghost use Rattle.std.specs.Prelude.{◌≡◌, ◌≤◌, ◌+◌, ◌++◌, length, OnOk};
 ghost use Rattle.arrow_flatbuf.specs.Nodes.{table as table_node};
 ghost use Rattle.arrow_meta_write.specs.Appends.{after_encoding, HasRoom, Appends, encoding_slot};
 ghost use Rattle.arrow_meta_write.specs.Appends.{laid_encoding};

@@ -2,7 +2,7 @@
 //!
 //! A vector of fields is its count, an offset to the table of each, and then for each its table,
 //! its name, its type, its encoding and its children, with all that belongs to them.
-ghost use Rattle.std.specs.Prelude.{◌≡◌, ◌+◌, length, ◌++◌, OnOk};
+ghost use Rattle.std.specs.Prelude.{◌≡◌, ◌+◌, ◌++◌, length, OnOk};
 ghost use Rattle.arrow_flatbuf.specs.Nodes.{tables, laid, laid_all, table as table_node};
 ghost use Rattle.arrow_meta_write.specs.Appends.{HasRoom, Appends, Begins, field_node};
 ghost use Rattle.arrow_meta_write.specs.Appends.{children_cells};

@@ -22,13 +22,7 @@ use crate::tables::{
 use crate::type_sizes::{int_end, type_end};
 use arrow_flatbuf::{Width, aligned};
 use arrow_meta::{Header, Message, RecordBatch};
-use arrow_types::{Encoding, Field};
-
-/// The greatest number of bytes that metadata have.
-const MAX_METADATA: usize = 1_073_741_824;
-
-/// The greatest number of bytes that a body has.
-const MAX_BODY: u64 = 1_099_511_627_776;
+use arrow_types::{Encoding, Field, Limits};
 
 /// The number of bytes that [`crate::encode`] answers for a message: a multiple of 8. Takes no
 /// memory.
@@ -41,12 +35,12 @@ pub fn encoded_size(message: &Message) -> Option<u64>
     if message.version != 4 {
         return None;
     }
-    if message.body_len > MAX_BODY {
+    if message.body_len > Limits::BODY_CEILING {
         return None;
     }
-    let size = aligned(message_end(message), Width::Eight);
-    if size <= MAX_METADATA {
-        Some(size as u64)
+    let size = aligned(message_end(message), Width::Eight) as u64;
+    if size <= Limits::METADATA_CEILING {
+        Some(size)
     } else {
         None
     }

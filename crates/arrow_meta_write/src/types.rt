@@ -3,7 +3,7 @@
 //!
 //! The table of a type that no reader opens has no fields. Units are the numbers of their enums, a
 //! width is a number of bits.
-ghost use Rattle.std.specs.Prelude.{◌≡◌, ◌≤◌, option_map, string_bytes, ◌<◌, true, Some, OnOk};
+ghost use Rattle.std.specs.Prelude.{◌≡◌, ◌≤◌, ◌<◌, option_map, string_bytes, true, Some, OnOk};
 ghost use Rattle.arrow_flatbuf.specs.Nodes.{count, table as table_node};
 ghost use Rattle.arrow_meta.specs.Codes.{type_code as code_named};
 ghost use Rattle.arrow_meta.specs.Conditions.{children_fit};

@@ -5,7 +5,7 @@
 //! the place of that is counted first (`sizes`, `tables`), and nothing that was written is changed.
 //! Each call appends a part from the first free place on, with all that belongs to it. The only
 //! error is `AllocError`, a growth that was refused.
-ghost use Rattle.std.specs.Prelude.{◌≡◌, ◌≤◌, length, ◌<◌, ◌↔◌, Some, IsSome, OnOk, IfOk};
+ghost use Rattle.std.specs.Prelude.{◌≡◌, ◌≤◌, ◌<◌, ◌↔◌, length, Some, IsSome, OnOk, IfOk};
 ghost use Rattle.arrow_flatbuf.specs.Nodes.{count, table as table_node};
 ghost use Rattle.arrow_meta.specs.Judges.{MetadataMeans};
 ghost use Rattle.arrow_meta.specs.Means.{header_view, message_view};
@@ -89,8 +89,7 @@ fn header_fields(header: &Header) -> usize
 {
     match header {
         Header::Schema(_) => 2,
-        Header::Dictionary(..) => 3,
-        Header::Batch(_) => 3,
+        Header::Dictionary(..) | Header::Batch(_) => 3,
     }
 }
 
