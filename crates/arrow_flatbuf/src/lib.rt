@@ -1,5 +1,5 @@
-//! FlatBuffers: tables, texts and vectors, read in bytes that come from strangers, and written front
-//! to back.
+//! FlatBuffers: tables, texts and vectors, read in bytes that come from strangers, and written
+//! front to back.
 //!
 //! The reading takes a whole byte slice, lends it to what it answers, and takes no memory. It never
 //! trusts a number of the bytes: what it answers lies inside them.

@@ -8,8 +8,9 @@
 ghost use Rattle.std.specs.Prelude.{◌≡◌, ◌≤◌, ◌<◌, ◌+◌, ◌*◌, ◌-◌, ◌^◌, ◌++◌, ℕ, List, [], ◌∷◌};
 ghost use Rattle.std.specs.Prelude.{length, IfOk, OnOk};
 ghost use Rattle.byteorder.specs.Endian.{little_bytes};
-ghost use Rattle.arrow_flatbuf.specs.Layout.{width, gap, zeros, vtable_size, table_end, table_bytes};
-ghost use Rattle.arrow_flatbuf.specs.Layout.{slot_end, slots_end, entries, slot_bytes, slots_bytes};
+ghost use Rattle.arrow_flatbuf.specs.Layout.{width, gap, zeros, vtable_size, slot_end, slots_end};
+ghost use Rattle.arrow_flatbuf.specs.Layout.{entries, slot_bytes, slots_bytes, table_end};
+ghost use Rattle.arrow_flatbuf.specs.Layout.{table_bytes};
 ghost use Rattle.arrow_flatbuf.specs.Stands.{SlotsFit, SlotFits};
 ghost use Rattle.arrow_flatbuf.specs.Nodes.{text_bytes, count_bytes, pairs_head, pair_bytes};
 

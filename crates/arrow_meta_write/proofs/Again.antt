@@ -1,5 +1,6 @@
 -- What a message is written as means the message again.
-use Rattle.std.proofs.Common.{◌≡◌, ℤ, pos, negsuc, Bool, true, false, not, ◌==◌, List, [], ◌∷◌, Option, Some, None, map, refl, ap}
+use Rattle.std.proofs.Common.{◌≡◌, ℤ, pos, negsuc, Bool, true, false, not, ◌==◌, List, [], ◌∷◌}
+use Rattle.std.proofs.Common.{Option, Some, None, map, refl, ap}
 use Rattle.std.specs.Int.{cast_signed, cast_unsigned, w64}
 use Rattle.std.specs.Option.{unwrap_or}
 use Rattle.std.proofs.lemmas.Int.{to_z-of_z}
@@ -16,11 +17,14 @@ use Rattle.arrow_types.specs.declared.node.FieldNode.{FieldNode}
 use Rattle.arrow_types.specs.declared.node.Buffer.{Buffer}
 use Rattle.arrow_meta.specs.Codes.{type_code, bit_width}
 use Rattle.arrow_meta_write.specs.Layouts.{flag, tag_code, node_pair, buffer_pair, header_code}
-use Rattle.arrow_meta.specs.Means.{PlainBatch, PlainHeader, schema, dictionary, batch, node_of, buffer_of, batch_of, header_by}
+use Rattle.arrow_meta.specs.Means.{PlainBatch, PlainHeader, schema, dictionary, batch, node_of}
+use Rattle.arrow_meta.specs.Means.{buffer_of, batch_of, header_by}
 use Rattle.arrow_meta.specs.Parts.{parts}
 use Rattle.arrow_meta.specs.SchemaMeaning.{encoding_in, tag_by, head_of, fields_from}
-use Rattle.arrow_meta_write.specs.Writable.{IsLong, HasLongId, AreFields, AreNodes, AreBuffers, IsBatch, IsHeader}
-use Rattle.arrow_meta_write.specs.Written.{type_tree, encoding_tree, field_parts, field_trees, batch_parts, header_tree}
+use Rattle.arrow_meta_write.specs.Writable.{IsLong, HasLongId, AreFields, AreNodes, AreBuffers}
+use Rattle.arrow_meta_write.specs.Writable.{IsBatch, IsHeader}
+use Rattle.arrow_meta_write.specs.Written.{type_tree, encoding_tree, field_parts, field_trees}
+use Rattle.arrow_meta_write.specs.Written.{batch_parts, header_tree}
 
 -- a number that 64 bits hold
 long_again : (z : ℤ) → IsLong z → cast_signed w64 (cast_unsigned w64 z) ≡ z

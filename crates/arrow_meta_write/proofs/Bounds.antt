@@ -1,6 +1,7 @@
 -- How deep and how large the tree is that a message is written as.
 use Rattle.std.proofs.Common.{◌≡◌, ℕ, ◌+◌, ◌*◌, ◌≤◌, length, Option, Some, None, refl, arith}
-use Rattle.arrow_flatbuf.specs.Nodes.{Nodes, Cells, last, offset, count_nodes, after, after_all, after_cells, cells_place}
+use Rattle.arrow_flatbuf.specs.Nodes.{Nodes, Cells, last, offset, count_nodes, after, after_all}
+use Rattle.arrow_flatbuf.specs.Nodes.{after_cells, cells_place}
 use Rattle.arrow_flatbuf.specs.Nodes as laid
 use Rattle.arrow_flatbuf.specs.Layout.{up}
 use Rattle.arrow_flatbuf.proofs.Laid.{reaches}
@@ -9,12 +10,15 @@ use Rattle.arrow_types.specs.DataType.{Tag}
 use Rattle.arrow_types.specs.Field as columns
 use Rattle.arrow_types.specs.Field.{Head, Fields}
 use Rattle.arrow_types.specs.declared.field.Encoding.{Encoding}
-use Rattle.arrow_meta_write.specs.Layouts.{type_cells, encoding_cells, with_encoding, field_cells, field_nodes, schema_cells, header_cells, message_cells}
+use Rattle.arrow_meta_write.specs.Layouts.{type_cells, encoding_cells, with_encoding, field_cells}
+use Rattle.arrow_meta_write.specs.Layouts.{field_nodes, schema_cells, header_cells, message_cells}
 use Rattle.arrow_meta.specs.Means.{PlainHeader, schema, dictionary, batch, PlainMessage}
 use Rattle.arrow_meta_write.specs.Metadata.{metadata_size}
-use Rattle.arrow_meta.specs.Within.{levels, levels_all, visits, visits_all, text_bytes, text_bytes_all, IsShallow}
+use Rattle.arrow_meta.specs.Within.{levels, levels_all, visits, visits_all, text_bytes}
+use Rattle.arrow_meta.specs.Within.{text_bytes_all, IsShallow}
 use Rattle.arrow_meta_write.specs.Writable.{IsHeader}
-use Rattle.arrow_meta_write.specs.Written.{type_tree, encoding_tree, field_trees, header_tree, message_tree}
+use Rattle.arrow_meta_write.specs.Written.{type_tree, encoding_tree, field_trees, header_tree}
+use Rattle.arrow_meta_write.specs.Written.{message_tree}
 
 -- A type and an encoding hold no fields.
 

@@ -2,7 +2,8 @@
 use Rattle.std.proofs.Common.{◌≡◌, ℕ, ◌≤◌, List, arith, ap, ◌∙◌}
 use Rattle.arrow_flatbuf.specs.declared.layout.Slot.{Slot}
 use Rattle.arrow_flatbuf.specs.Layout.{table_end}
-use Rattle.arrow_flatbuf.specs.Nodes.{Node, Cells, table, after, after_cells, cells_place, slots, OwnFit}
+use Rattle.arrow_flatbuf.specs.Nodes.{Node, Cells, table, after, after_cells, cells_place, slots}
+use Rattle.arrow_flatbuf.specs.Nodes.{OwnFit}
 use Rattle.arrow_flatbuf.specs.Stands.{SlotsFit}
 use Rattle.arrow_flatbuf.proofs.Laid.{own_slots_fit, ahead_cells}
 use Rattle.arrow_meta_write.specs.Capped.{capped}
@@ -23,3 +24,7 @@ exact_after r s q x rest e f h =
 
 pub table_fits : (p : ℕ) (ss : List Slot) (cs : Cells) → ss ≡ slots (cells_place p cs) cs → OwnFit cs → after p (table cs) ≤ 1073741824 → SlotsFit (table_end p ss) ss
 table_fits p ss cs e fits h = own_slots_fit p ss cs e fits (omega (arith, h))
+
+-- the fields of a table, where its place is known by another name
+pub slots_there : (n p : ℕ) (ss : List Slot) (cs : Cells) → n ≡ p → ss ≡ slots (cells_place n cs) cs → ss ≡ slots (cells_place p cs) cs
+slots_there n p ss cs same h = h ∙ ap (λ (m : ℕ). slots (cells_place m cs) cs) same

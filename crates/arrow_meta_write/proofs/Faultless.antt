@@ -1,5 +1,6 @@
 -- No fault holds of the tree that a message is written as.
-use Rattle.std.proofs.Common.{◌≡◌, ℕ, ◌^◌, ◌<◌, ◌≤◌, ℤ, pos, Bool, true, false, ◌&&◌, not, nat_lt, Option, Some, None, is_some, refl, sym, ap, subst, ◌∙◌, arith}
+use Rattle.std.proofs.Common.{◌≡◌, ℕ, ◌^◌, ◌<◌, ◌≤◌, ℤ, pos, Bool, true, false, ◌&&◌, not, nat_lt}
+use Rattle.std.proofs.Common.{Option, Some, None, is_some, refl, sym, ap, subst, ◌∙◌, arith}
 use Rattle.std.specs.Option.{is_none}
 use Rattle.std.proofs.lemmas.Bool.{le-ltb}
 use Rattle.arrow_types.specs.DataType as tags
@@ -15,7 +16,8 @@ use Rattle.arrow_types.specs.declared.field.Encoding.{Encoding}
 use Rattle.arrow_meta.specs.declared.kinds.TableKind.{TableKind}
 use Rattle.arrow_meta.specs.declared.kinds.TableKind.TheVariants as kinds
 use Rattle.arrow_meta.specs.Codes.{type_code, bit_width}
-use Rattle.arrow_meta.specs.Conditions.{any, any_in, lacks_table, is_unsupported, is_misfit, children_fit}
+use Rattle.arrow_meta.specs.Conditions.{any, any_in, lacks_table, is_unsupported, is_misfit}
+use Rattle.arrow_meta.specs.Conditions.{children_fit}
 use Rattle.arrow_meta.specs.Faults.{fault_of, is_bad_length}
 use Rattle.arrow_meta.specs.Kinds.{type_table}
 use Rattle.arrow_meta_write.specs.Layouts.{tag_code}
@@ -24,7 +26,8 @@ use Rattle.arrow_meta.specs.Parts.{is_table}
 use Rattle.arrow_meta.specs.SchemaMeaning.{fields_from}
 use Rattle.arrow_meta.specs.Trees.{table, Trees}
 use Rattle.arrow_meta_write.specs.Writable.{IsField, AreFields, IsHeader}
-use Rattle.arrow_meta_write.specs.Written.{type_tree, encoding_tree, field_parts, field_trees, message_parts}
+use Rattle.arrow_meta_write.specs.Written.{type_tree, encoding_tree, field_parts, field_trees}
+use Rattle.arrow_meta_write.specs.Written.{message_parts}
 use Rattle.arrow_meta_write.proofs.Again.{fields_again}
 use Rattle.arrow_types.proofs.Clashes.{none_differ}
 

@@ -1,9 +1,11 @@
 -- The tables of a vector of fields, appended one by one, and the offsets to them before.
-use Rattle.std.proofs.Common.{◌≡◌, ℕ, suc, Option, Some, None, ◌+◌, ◌≤◌, ◌<◌, List, ◌++◌, length, drop, get_or, refl, sym, ap, subst, ◌∙◌, arith}
+use Rattle.std.proofs.Common.{◌≡◌, ℕ, suc, Option, Some, None, ◌+◌, ◌≤◌, ◌<◌, List, ◌++◌, length}
+use Rattle.std.proofs.Common.{drop, get_or, refl, sym, ap, subst, ◌∙◌, arith}
 use Rattle.std.proofs.lemmas.List.{append-nil, drop_all}
 use Rattle.arrow_flatbuf.specs.Layout.{table_place}
 use Rattle.arrow_types.specs.declared.field.Encoding.{Encoding}
-use Rattle.arrow_flatbuf.specs.Nodes.{count, offset, Nodes, none, more, last, after, laid, start, tables}
+use Rattle.arrow_flatbuf.specs.Nodes.{count, offset, Nodes, none, more, last, after, laid, start}
+use Rattle.arrow_flatbuf.specs.Nodes.{tables}
 use Rattle.arrow_flatbuf.proofs.Laid.{ahead_all}
 use Rattle.arrow_flatbuf.proofs.Left.{stepped, ended}
 use Rattle.arrow_flatbuf.proofs.Rows.{TablesLeft, tables_end, table_step}

@@ -1,5 +1,6 @@
 -- What a message is laid out as can be written.
-use Rattle.std.proofs.Common.{◌≡◌, ◌+◌, ◌^◌, ◌<◌, ℤ, pos, negsuc, Bool, true, false, List, [], ◌∷◌, map, Option, Some, None, ap, arith}
+use Rattle.std.proofs.Common.{◌≡◌, ◌+◌, ◌^◌, ◌<◌, ℤ, pos, negsuc, Bool, true, false, List, [], ◌∷◌}
+use Rattle.std.proofs.Common.{map, Option, Some, None, ap, arith}
 use Rattle.std.specs.Int.{cast_signed, cast_unsigned, w16, w64}
 use Rattle.std.proofs.lemmas.Int.{to_z-of_z}
 use mir.Val.{SFits}
@@ -17,9 +18,12 @@ use Rattle.arrow_types.specs.declared.data_type.TimeUnit.{TimeUnit}
 use Rattle.arrow_types.specs.declared.field.Encoding.{Encoding}
 use Rattle.arrow_types.specs.declared.node.FieldNode.{FieldNode}
 use Rattle.arrow_types.specs.declared.node.Buffer.{Buffer}
-use Rattle.arrow_meta_write.specs.Layouts.{flag, tag_code, time_number, int_cells, type_cells, with_encoding, field_nodes, node_pair, buffer_pair, batch_cells, header_code, header_cells, message_node}
+use Rattle.arrow_meta_write.specs.Layouts.{flag, tag_code, time_number, int_cells, type_cells}
+use Rattle.arrow_meta_write.specs.Layouts.{with_encoding, field_nodes, node_pair, buffer_pair}
+use Rattle.arrow_meta_write.specs.Layouts.{batch_cells, header_code, header_cells, message_node}
 use Rattle.arrow_meta.specs.Means.{PlainBatch, PlainHeader, schema, dictionary, batch, PlainMessage}
-use Rattle.arrow_meta_write.specs.Writable.{IsLong, HasTextZone, HasLongId, AreFields, AreNodes, AreBuffers, IsBatch, IsHeader}
+use Rattle.arrow_meta_write.specs.Writable.{IsLong, HasTextZone, HasLongId, AreFields, AreNodes}
+use Rattle.arrow_meta_write.specs.Writable.{AreBuffers, IsBatch, IsHeader}
 
 pub long_fits : (z : ℤ) → IsLong z → cast_unsigned w64 z < 2 ^ 64
 long_fits (pos n) h = omega (arith, h)

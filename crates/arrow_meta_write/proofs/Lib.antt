@@ -12,3 +12,4 @@ pub mod WithEncoding
 pub mod Exact
 pub mod PairRows
 pub mod FieldRows
+pub mod FieldSteps

@@ -1,5 +1,6 @@
 -- The pairs of a vector, appended one by one.
-use Rattle.std.proofs.Common.{◌≡◌, ℕ, ◌+◌, ◌<◌, ◌≤◌, List, [], ◌∷◌, ◌++◌, length, map, drop, get_or, sym, ap, subst, ◌∙◌, append_assoc}
+use Rattle.std.proofs.Common.{◌≡◌, ℕ, ◌+◌, ◌<◌, ◌≤◌, List, [], ◌∷◌, ◌++◌, length, map, drop, get_or}
+use Rattle.std.proofs.Common.{sym, ap, subst, ◌∙◌, append_assoc}
 use Rattle.std.proofs.lemmas.List.{append-nil, drop_more, length-map, drop_all}
 use Rattle.arrow_flatbuf.specs.Layout.{gap, zeros}
 use Rattle.arrow_flatbuf.specs.Nodes.{pairs_head, pair_bytes, pairs, laid}

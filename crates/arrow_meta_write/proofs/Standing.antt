@@ -1,9 +1,12 @@
 -- What is laid out of a message stands as its tree, aligned.
-use Rattle.std.proofs.Common.{◌≡◌, ℕ, ◌+◌, ◌%◌, List, [], ◌∷◌, length, Option, Some, None, option_map, refl, sym, ap, subst, ◌∙◌}
+use Rattle.std.proofs.Common.{◌≡◌, ℕ, ◌+◌, ◌%◌, List, [], ◌∷◌, length, Option, Some, None}
+use Rattle.std.proofs.Common.{option_map, refl, sym, ap, subst, ◌∙◌}
 use Rattle.arrow_flatbuf.specs.declared.layout.Width.{Width}
 use Rattle.arrow_flatbuf.specs.declared.layout.Width.TheVariants.{One, Two, Four, Eight}
 use Rattle.arrow_flatbuf.specs.declared.layout.Slot.TheVariants.{Scalar, Target}
-use Rattle.arrow_flatbuf.specs.Nodes.{Node, Cells, last, absent, scalar, offset, count_nodes, TextStands, PairsStand, VectorStands, TableReads, NodeStands, NodesStand, CellsStand}
+use Rattle.arrow_flatbuf.specs.Nodes.{Node, Cells, last, absent, scalar, offset, count_nodes}
+use Rattle.arrow_flatbuf.specs.Nodes.{TextStands, PairsStand, VectorStands, TableReads, NodeStands}
+use Rattle.arrow_flatbuf.specs.Nodes.{NodesStand, CellsStand}
 use Rattle.arrow_flatbuf.specs.Nodes as laid
 use Rattle.arrow_flatbuf.specs.Place.{target_at, behind}
 use Rattle.arrow_flatbuf.specs.Stands.{SlotStands}
@@ -15,9 +18,11 @@ use Rattle.arrow_meta.specs.declared.kinds.FieldForm.{FieldForm}
 use Rattle.arrow_meta.specs.declared.kinds.FieldForm.TheVariants as forms
 use Rattle.arrow_meta_write.specs.Aligned.{Leads, StandsAligned, AllAligned}
 use Rattle.arrow_meta.specs.Kinds.{Spot, spot, spots_of, opened, code_at}
-use Rattle.arrow_meta.specs.Lies.{leaf_layer, table_layer, tables_layer, layer, elements, pairs_from, Stands, AllStand}
+use Rattle.arrow_meta.specs.Lies.{leaf_layer, table_layer, tables_layer, layer, elements}
+use Rattle.arrow_meta.specs.Lies.{pairs_from, Stands, AllStand}
 use Rattle.arrow_meta.specs.Trees as tree
-use Rattle.arrow_meta.specs.Trees.{number, text, pairs, Tree, leaf, table, tables, Trees, none, more}
+use Rattle.arrow_meta.specs.Trees.{number, text, pairs, Tree, leaf, table, tables, Trees, none}
+use Rattle.arrow_meta.specs.Trees.{more}
 use Rattle.arrow_meta.proofs.Layers.{layer_there}
 
 -- the table at p

@@ -1,8 +1,10 @@
 -- Each table of a message that was laid out stands as its tree, aligned.
-use Rattle.std.proofs.Common.{◌≡◌, ℕ, ◌+◌, ◌%◌, ℤ, Bool, List, Option, Some, None, refl, ap, arith, map}
+use Rattle.std.proofs.Common.{◌≡◌, ℕ, ◌+◌, ◌%◌, ℤ, Bool, List, Option, Some, None, refl, ap, arith}
+use Rattle.std.proofs.Common.{map}
 use Rattle.arrow_flatbuf.specs.declared.layout.Width.TheVariants.{One, Two, Four, Eight}
 use Rattle.arrow_flatbuf.specs.declared.layout.Slot.TheVariants.{Target}
-use Rattle.arrow_flatbuf.specs.Nodes.{Node, Cells, last, absent, scalar, offset, count_nodes, TableReads, NodeStands, NodesStand, CellsStand}
+use Rattle.arrow_flatbuf.specs.Nodes.{Node, Cells, last, absent, scalar, offset, count_nodes}
+use Rattle.arrow_flatbuf.specs.Nodes.{TableReads, NodeStands, NodesStand, CellsStand}
 use Rattle.arrow_flatbuf.specs.Nodes as laid
 use Rattle.arrow_flatbuf.specs.Place.{target_at}
 use Rattle.arrow_flatbuf.specs.Stands.{SlotStands}
@@ -17,12 +19,21 @@ use Rattle.arrow_meta.specs.declared.kinds.TableKind.TheVariants as kinds
 use Rattle.arrow_meta.specs.declared.kinds.FieldForm.TheVariants as forms
 use Rattle.arrow_meta_write.specs.Aligned.{StandsAligned, AllAligned, LiesAligned}
 use Rattle.arrow_meta.specs.Kinds.{spot, spots_of, code_at, header_table, type_table}
-use Rattle.arrow_meta_write.specs.Layouts.{tag_code, int_cells, zone_cells, type_cells, encoding_cells, with_encoding, field_cells, field_nodes, schema_cells, node_pair, buffer_pair, batch_cells, dictionary_cells, header_code, header_cells, message_cells, message_node}
+use Rattle.arrow_meta_write.specs.Layouts.{tag_code, int_cells, zone_cells, type_cells}
+use Rattle.arrow_meta_write.specs.Layouts.{encoding_cells, with_encoding, field_cells, field_nodes}
+use Rattle.arrow_meta_write.specs.Layouts.{schema_cells, node_pair, buffer_pair, batch_cells}
+use Rattle.arrow_meta_write.specs.Layouts.{dictionary_cells, header_code, header_cells}
+use Rattle.arrow_meta_write.specs.Layouts.{message_cells, message_node}
 use Rattle.arrow_meta.specs.Lies.{elements}
 use Rattle.arrow_meta.specs.Means.{PlainBatch, PlainHeader, schema, dictionary, batch, PlainMessage}
 use Rattle.arrow_meta.specs.Parts.{parts}
-use Rattle.arrow_meta_write.specs.Written.{int_parts, zone_tree, type_tree, encoding_tree, field_parts, field_trees, schema_parts, batch_parts, dictionary_parts, header_tree, message_parts, message_tree}
-use Rattle.arrow_meta_write.proofs.Standing.{at, absent_spot, closed_spot, number_field, text_field, pairs_field, table_spot, table_field, opened_field, tables_field, code_there}
+use Rattle.arrow_meta_write.specs.Written.{int_parts, zone_tree, type_tree, encoding_tree}
+use Rattle.arrow_meta_write.specs.Written.{field_parts, field_trees, schema_parts, batch_parts}
+use Rattle.arrow_meta_write.specs.Written.{dictionary_parts, header_tree, message_parts}
+use Rattle.arrow_meta_write.specs.Written.{message_tree}
+use Rattle.arrow_meta_write.proofs.Standing.{at, absent_spot, closed_spot, number_field, text_field}
+use Rattle.arrow_meta_write.proofs.Standing.{pairs_field, table_spot, table_field, opened_field}
+use Rattle.arrow_meta_write.proofs.Standing.{tables_field, code_there}
 
 -- an Int table
 int_stands : (b : List ℕ) (p : ℕ) (bits : BitWidth) (signed : Bool) → CellsStand b p 0 (int_cells bits signed) → AllAligned b (spots_of kinds.Int (at b p)) (int_parts bits signed)

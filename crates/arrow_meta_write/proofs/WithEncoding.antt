@@ -1,9 +1,11 @@
 -- A field's encoding, written or left out.
-use Rattle.std.proofs.Common.{◌≡◌, ℕ, ◌≤◌, List, [], ◌∷◌, ◌++◌, length, Option, Some, None, refl, sym, subst, ◌∙◌, arith}
+use Rattle.std.proofs.Common.{◌≡◌, ℕ, ◌≤◌, List, [], ◌∷◌, ◌++◌, length, Option, Some, None, refl}
+use Rattle.std.proofs.Common.{sym, subst, ◌∙◌, arith}
 use Rattle.std.proofs.lemmas.List.{append-nil}
 use Rattle.arrow_flatbuf.specs.declared.layout.Slot.TheVariants.{Target}
 use Rattle.arrow_flatbuf.specs.Layout.{up}
-use Rattle.arrow_flatbuf.specs.Nodes.{Node, Nodes, Cells, after, after_cells, slots, table, tables, offset, last, OwnFit}
+use Rattle.arrow_flatbuf.specs.Nodes.{Node, Nodes, Cells, after, after_cells, slots, table, tables}
+use Rattle.arrow_flatbuf.specs.Nodes.{offset, last, OwnFit}
 use Rattle.arrow_flatbuf.proofs.Laid.{reaches}
 use Rattle.arrow_flatbuf.proofs.Left.{stepped}
 use Rattle.arrow_types.specs.declared.field.Encoding.{Encoding}

@@ -1,5 +1,7 @@
 -- The bytes that a message is written as mean it, for just those readers whose limits it keeps to.
-use Rattle.std.proofs.Common.{◌≡◌, ℕ, ◌^◌, ◌≤◌, ◌↔◌, pos, Bool, true, false, ◌&&◌, nat_le, if◌then◌else◌, List, ◌++◌, length, Result, Ok, Err, Some, None, refl, sym, ap, subst, ◌∙◌, arith}
+use Rattle.std.proofs.Common.{◌≡◌, ℕ, ◌^◌, ◌≤◌, ◌↔◌, pos, Bool, true, false, ◌&&◌, nat_le}
+use Rattle.std.proofs.Common.{if◌then◌else◌, List, ◌++◌, length, Result, Ok, Err, Some, None, refl}
+use Rattle.std.proofs.Common.{sym, ap, subst, ◌∙◌, arith}
 use Rattle.std.specs.Int.{cast_signed, cast_unsigned, w16}
 use Rattle.std.specs.Ordering.{int_eq}
 use Rattle.std.proofs.lemmas.Bool.{and_parts, leb-true}
@@ -12,7 +14,9 @@ use Rattle.arrow_meta.specs.Grows.{root}
 use Rattle.arrow_meta.specs.Judges.{MetadataMeans, Decodes}
 use Rattle.arrow_meta.specs.Parts.{parts}
 use Rattle.arrow_meta.specs.declared.fault.MetaFault.{MetaFault}
-use Rattle.arrow_meta.specs.declared.fault.MetaFault.TheVariants.{Metadata, Version, Header, BodyLength, Unsupported, Schema, Compressed, Memory}
+use Rattle.arrow_meta.specs.declared.fault.MetaFault.TheVariants.{Metadata, Version, Header}
+use Rattle.arrow_meta.specs.declared.fault.MetaFault.TheVariants.{BodyLength, Unsupported, Schema}
+use Rattle.arrow_meta.specs.declared.fault.MetaFault.TheVariants.{Compressed, Memory}
 use Rattle.arrow_meta.specs.declared.message.Message.{Message}
 use Rattle.arrow_meta_write.specs.Again.{IsAgain}
 use Rattle.arrow_meta_write.specs.Layouts.{message_node}

@@ -7,7 +7,8 @@ use Rattle.arrow_meta.specs.declared.kinds.FieldForm.TheVariants as forms
 use Rattle.arrow_meta.specs.Grows.{root}
 use Rattle.arrow_meta.specs.Kinds.{Spot}
 use Rattle.arrow_meta.specs.Lies.{leaf_layer, table_layer, tables_layer, layer}
-use Rattle.arrow_meta.specs.Trees.{Leaf, absent, number, text, pairs, present, Tree, leaf, table, tables, Trees, none, more}
+use Rattle.arrow_meta.specs.Trees.{Leaf, absent, number, text, pairs, present, Tree, leaf, table}
+use Rattle.arrow_meta.specs.Trees.{tables, Trees, none, more}
 
 -- how many bytes stand in a field of this form: those of a number, or of an offset
 abbrev pub form_size : FieldForm → ℕ

@@ -1,7 +1,8 @@
 -- What is appended to the bytes that are written.
 use Rattle.std.specs.Prelude.{◌≡◌, ◌≤◌, ℕ, List, [], ◌++◌, length, Option, Some, None}
 use Rattle.arrow_flatbuf.specs.Layout.{table_place}
-use Rattle.arrow_flatbuf.specs.Nodes.{Node, Cells, after, laid, laid_cells, table, tables, offset, last}
+use Rattle.arrow_flatbuf.specs.Nodes.{Node, Cells, after, laid, laid_cells, table, tables, offset}
+use Rattle.arrow_flatbuf.specs.Nodes.{last}
 use Rattle.arrow_flatbuf.specs.declared.layout.Slot.{Slot}
 use Rattle.arrow_flatbuf.specs.declared.layout.Slot.TheVariants.{Absent, Target}
 use Rattle.arrow_types.specs.Field.{Fields, FieldShape}
@@ -20,9 +21,13 @@ Appends old x new = new ≡ old ++ laid (length old) x
 abbrev pub Begins : List ℕ → Cells → Node → List ℕ → Type 0
 Begins old rest x new = new ++ laid_cells (length new) rest ≡ old ++ laid (length old) x
 
+-- the fields of a field's table
+abbrev pub head_cells : FieldShape → Cells
+head_cells f = field_cells f.head (field_nodes f.children)
+
 -- a field, with all that belongs to it
 abbrev pub field_node : FieldShape → Node
-field_node f = table (field_cells f.head (field_nodes f.children))
+field_node f = table (head_cells f)
 
 -- the last field of a field's table: its children
 abbrev pub children_cells : Fields → Cells

@@ -2,7 +2,8 @@
 use Rattle.std.specs.Prelude.{ℕ, ℤ, Bool, true, false, List, map, Option, Some, None}
 use Rattle.std.specs.Int.{cast_unsigned, w16, w64}
 use Rattle.arrow_flatbuf.specs.declared.layout.Width.TheVariants.{One, Two, Four, Eight}
-use Rattle.arrow_flatbuf.specs.Nodes.{Node, text, pairs, tables, table, Nodes, Cells, last, absent, scalar, offset}
+use Rattle.arrow_flatbuf.specs.Nodes.{Node, text, pairs, tables, table, Nodes, Cells, last, absent}
+use Rattle.arrow_flatbuf.specs.Nodes.{scalar, offset}
 use Rattle.arrow_flatbuf.specs.Nodes as laid
 use Rattle.arrow_types.specs.DataType as tags
 use Rattle.arrow_types.specs.DataType.{Tag, bits_of, time_width_of}

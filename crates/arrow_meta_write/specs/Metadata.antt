@@ -1,5 +1,6 @@
 -- The bytes of a message's metadata as they are written, and how many they are.
-use Rattle.std.specs.Prelude.{ℕ, pos, ◌^◌, List, Bool, ◌&&◌, Option, Some, None, nat_le, if◌then◌else◌}
+use Rattle.std.specs.Prelude.{ℕ, pos, ◌^◌, List, Bool, ◌&&◌, Option, Some, None, nat_le}
+use Rattle.std.specs.Prelude.{if◌then◌else◌}
 use Rattle.std.specs.Ordering.{int_eq}
 use Rattle.arrow_flatbuf.specs.Buffer.{buffer, buffer_size}
 use Rattle.arrow_meta.specs.Means.{PlainMessage}

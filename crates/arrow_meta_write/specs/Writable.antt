@@ -1,5 +1,6 @@
 -- What every message of the program is, by the types that hold it, and which limits it keeps to.
-use Rattle.std.specs.Prelude.{◌≡◌, ◌≤◌, ◌<◌, ◌^◌, ℤ, pos, negsuc, true, List, [], ◌∷◌, Option, Some, None}
+use Rattle.std.specs.Prelude.{◌≡◌, ◌≤◌, ◌<◌, ◌^◌, ℤ, pos, negsuc, true, List, [], ◌∷◌, Option, Some}
+use Rattle.std.specs.Prelude.{None}
 use Rattle.std.specs.Str.{is_utf8}
 use Rattle.arrow_types.specs.DataType as tags
 use Rattle.arrow_types.specs.DataType.{Tag}
@@ -41,12 +42,16 @@ abbrev pub HasLongId : Option Encoding → Type 0
 HasLongId None = Unit {0}
 HasLongId (Some e) = IsLong e.id
 
+-- a type with as many children as it can have
+abbrev pub HasItsChildren : Head → Fields → Type 0
+HasItsChildren head children = children_fit (type_code (tag_code head.tag)) (width children) ≡ true
+
 -- a field: its name is a text, and its type has as many children as it can have
 pub record IsField (head : Head) (children : Fields) : Type 0 where
   pub name : is_utf8 head.name ≡ true
   pub zone : HasTextZone head.tag
   pub id : HasLongId head.encoding
-  pub fits : children_fit (type_code (tag_code head.tag)) (width children) ≡ true
+  pub fits : HasItsChildren head children
 
 -- the same of fields on all levels
 abbrev pub AreFields : Fields → Type 0

@@ -8,9 +8,11 @@ use Rattle.arrow_types.specs.Field.{Head, Fields}
 use Rattle.arrow_types.specs.declared.data_type.BitWidth.{BitWidth}
 use Rattle.arrow_types.specs.declared.field.Encoding.{Encoding}
 use Rattle.arrow_meta.specs.declared.kinds.TableKind.TheVariants as kinds
-use Rattle.arrow_meta_write.specs.Layouts.{flag, tag_code, date_number, time_number, node_pair, buffer_pair, header_code}
+use Rattle.arrow_meta_write.specs.Layouts.{flag, tag_code, date_number, time_number, node_pair}
+use Rattle.arrow_meta_write.specs.Layouts.{buffer_pair, header_code}
 use Rattle.arrow_meta.specs.Means.{PlainBatch, PlainHeader, schema, dictionary, batch, PlainMessage}
-use Rattle.arrow_meta.specs.Trees.{absent, number, text, pairs, Tree, leaf, table, tables, Trees, none, more}
+use Rattle.arrow_meta.specs.Trees.{absent, number, text, pairs, Tree, leaf, table, tables, Trees}
+use Rattle.arrow_meta.specs.Trees.{none, more}
 
 -- a field that holds a number
 abbrev pub of_number : ℕ → Tree

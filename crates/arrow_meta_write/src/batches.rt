@@ -3,8 +3,8 @@
 //!
 //! A number with a sign is written as its bits. The numbers of nodes and of buffers are pairs of
 //! eight bytes each, behind their count at a multiple of 8.
-ghost use Rattle.std.specs.Prelude.{◌≡◌, ◌+◌, ◌++◌, ◌∷◌, [], map, OnOk};
-ghost use Rattle.arrow_flatbuf.specs.Nodes.{pair_bytes, pairs as pairs_node, table as table_node};
+ghost use Rattle.std.specs.Prelude.{◌≡◌, ◌≤◌, ◌+◌, ◌++◌, ◌∷◌, [], map, OnOk};
+ghost use Rattle.arrow_flatbuf.specs.Nodes.{after, cells_place, slots, pair_bytes, pairs as pairs_node, table as table_node};
 ghost use Rattle.arrow_meta.specs.Means.{batch_view};
 ghost use Rattle.arrow_meta_write.specs.Appends.{HasRoom, Appends};
 ghost use Rattle.arrow_meta_write.specs.Layouts.{batch_cells, dictionary_cells, node_pair};
@@ -50,16 +50,27 @@ pub(crate) fn write_batch(writer: &mut TableWriter, batch: &RecordBatch) -> Resu
         (Appends writer.old (table_node (batch_cells (batch_view batch.now))) writer.new) }
     ensures typed { OnOk result (IsBatch (batch_view batch.now)) }
 {
-    let nodes = batch_table_end(writer.place());
-    let buffers = pairs_end(nodes, batch.nodes.as_slice().len());
-    writer.table(&[
-        Slot::Scalar(Width::Eight, batch.length.cast_unsigned()),
-        Slot::Target(aligned(nodes + 4, Width::Eight) - 4),
-        Slot::Target(aligned(buffers + 4, Width::Eight) - 4),
-    ])?;
+    let slots = batch_slots(writer.place(), batch);
+    writer.table(&slots)?;
     write_nodes(writer, batch.nodes.as_slice())?;
     write_buffers(writer, batch.buffers.as_slice())?;
     Ok(())
+}
+
+/// The fields of a record batch's table that is laid out from a place on.
+fn batch_slots(place: usize, batch: &RecordBatch) -> [Slot; 3]
+    requires room { after place (table_node (batch_cells (batch_view batch.now))) ≤ 1073741824 }
+    ensures slots { let cells = batch_cells (batch_view batch.now)
+        in result ≡ slots (cells_place place cells) cells }
+    ensures long { IsLong batch.now.length }
+{
+    let nodes = batch_table_end(place);
+    let buffers = pairs_end(nodes, batch.nodes.as_slice().len());
+    [
+        Slot::Scalar(Width::Eight, batch.length.cast_unsigned()),
+        Slot::Target(aligned(nodes + 4, Width::Eight) - 4),
+        Slot::Target(aligned(buffers + 4, Width::Eight) - 4),
+    ]
 }
 
 /// Appends a vector of field nodes.

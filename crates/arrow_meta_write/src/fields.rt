@@ -2,12 +2,13 @@
 //!
 //! A vector of fields is its count, an offset to the table of each, and then for each its table,
 //! its name, its type, its encoding and its children, with all that belongs to them.
-ghost use Rattle.std.specs.Prelude.{◌≡◌, ◌+◌, ◌++◌, length, OnOk};
-ghost use Rattle.arrow_flatbuf.specs.Nodes.{tables, laid, laid_all, table as table_node};
-ghost use Rattle.arrow_meta_write.specs.Appends.{HasRoom, Appends, Begins, field_node};
-ghost use Rattle.arrow_meta_write.specs.Appends.{children_cells};
+ghost use Rattle.std.specs.Prelude.{◌≡◌, ◌≤◌, ◌+◌, ◌++◌, length, OnOk};
+ghost use Rattle.arrow_flatbuf.specs.Nodes.{after, cells_place, slots, laid, laid_all};
+ghost use Rattle.arrow_flatbuf.specs.Nodes.{tables, table as table_node};
+ghost use Rattle.arrow_meta_write.specs.Appends.{HasRoom, Appends, Begins};
+ghost use Rattle.arrow_meta_write.specs.Appends.{field_node, head_cells, children_cells};
 ghost use Rattle.arrow_meta_write.specs.Layouts.{field_nodes, schema_cells};
-ghost use Rattle.arrow_meta_write.specs.Writable.{IsField, AreFields};
+ghost use Rattle.arrow_meta_write.specs.Writable.{HasItsChildren, IsField, AreFields};
 ghost use Rattle.arrow_types.specs.View.{field_view, fields_view};
 
 use crate::encodings::{encoding_slot, write_encoding};
@@ -77,20 +78,31 @@ fn write_field_head(writer: &mut TableWriter, field: &Field) -> Result<(), Alloc
     ensures typed { OnOk result
         (IsField (field_view field.now).head (field_view field.now).children) }
 {
-    let table = field_table_end(writer.place(), field.dictionary.is_some());
+    let slots = field_slots(writer.place(), field);
+    writer.table(&slots)?;
+    writer.text(&field.name)?;
+    write_type(writer, &field.data_type)?;
+    write_encoding(writer, field.dictionary)?;
+    Ok(())
+}
+
+/// The fields of a field's table that is laid out from a place on.
+fn field_slots(place: usize, field: &Field) -> [Slot; 6]
+    requires room { after place (field_node (field_view field.now)) ≤ 1073741824 }
+    ensures slots { let cells = head_cells (field_view field.now)
+        in result ≡ slots (cells_place place cells) cells }
+    ensures fits { HasItsChildren (field_view field.now).head (field_view field.now).children }
+{
+    let table = field_table_end(place, field.dictionary.is_some());
     let name = text_after(table, &field.name);
     let data_type = type_end(name, &field.data_type);
     let children = encoding_end(data_type, field.dictionary);
-    writer.table(&[
+    [
         Slot::Target(aligned(table, Width::Four)),
         Slot::Scalar(Width::One, bit(field.nullable)),
         Slot::Scalar(Width::One, type_code(&field.data_type)),
         Slot::Target(table_place(name, type_fields(&field.data_type))),
         encoding_slot(data_type, field.dictionary),
         Slot::Target(aligned(children, Width::Four)),
-    ])?;
-    writer.text(&field.name)?;
-    write_type(writer, &field.data_type)?;
-    write_encoding(writer, field.dictionary)?;
-    Ok(())
+    ]
 }

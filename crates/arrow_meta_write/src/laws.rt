@@ -44,8 +44,8 @@ pub fn written()
     ensures text { (m : PlainMessage) → text_bytes (message_tree m) ≤ metadata_size m }
 {}
 
-/// What a message was written as is read as that message, with any bytes after it: by a reader whose
-/// limits it keeps to, where no growth is refused; and no reader reads another message.
+/// What a message was written as is read as that message, with any bytes after it: by a reader
+/// whose limits it keeps to, where no growth is refused; and no reader reads another message.
 pub fn read_again()
     ensures again { (m : PlainMessage) (n : ℕ) (behind : List ℕ)
         → IsHeader m.header → size_of m ≡ Some n

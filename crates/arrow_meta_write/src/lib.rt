@@ -15,7 +15,8 @@
 //! | the tree that they lie as | `specs/Written.antt`: `message_tree` |
 //! | the bytes, and their number | `specs/Metadata.antt`: `metadata`, `size_of` |
 //! | aligned, a 0 byte after each text | `specs/Aligned.antt`: `LiesAligned` |
-//! | what a message is by its types, the limits that it keeps to | `specs/Writable.antt`: `IsHeader`, `Allows` |
+//! | what a message is by its types, its limits | `specs/Writable.antt`: `IsHeader`, `Allows` |
+//! | what a reader answers of the bytes | `specs/Again.antt`: `IsAgain` |
 //!
 //! The first two are functions of the message side by side: one is what is written, in the words of
 //! `arrow_flatbuf`, the other what a reader finds, in those of `arrow_meta`. That the one stands as

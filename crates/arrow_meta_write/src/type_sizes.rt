@@ -36,7 +36,9 @@ pub(crate) fn type_end(place: usize, data_type: &DataType) -> usize
 /// The first place after a timestamp's table and its zone.
 fn timestamp_end(place: usize, unit: TimeUnit, zone: &Option<String>) -> usize
     requires { place ≤ 1073741825 }
-    ensures end { result ≡ capped (after place (table (type_cells (timestamp unit (option_map string_bytes zone.now))))) }
+    ensures end { result
+        ≡ capped (after place
+        (table (type_cells (timestamp unit (option_map string_bytes zone.now))))) }
     ensures near { result ≤ 1073741825 }
 {
     match zone {

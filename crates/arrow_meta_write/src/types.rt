@@ -1,5 +1,5 @@
-//! Types as they are written: the code in the field's table, and the type's own table (`Schema.fbs`,
-//! union `Type`, tables `Int`, `Date`, `Time`, `Timestamp`).
+//! Types as they are written: the code in the field's table, and the type's own table
+//! (`Schema.fbs`, union `Type`, tables `Int`, `Date`, `Time`, `Timestamp`).
 //!
 //! The table of a type that no reader opens has no fields. Units are the numbers of their enums, a
 //! width is a number of bits.
@@ -20,8 +20,8 @@ use arrow_flatbuf::{Slot, TableWriter, Width, aligned};
 use arrow_types::{BitWidth, DataType, DateUnit, TimeUnit};
 use std::alloc::AllocError;
 
-/// The code of a type (`Schema.fbs`, union `Type`). A value of the type has the children that it can
-/// have.
+/// The code of a type (`Schema.fbs`, union `Type`). A value of the type has the children that it
+/// can have.
 pub(crate) fn type_code(data_type: &DataType) -> u64
     ensures code { result ≡ tag_code (type_view data_type.now).tag }
     ensures small { result < 256 }

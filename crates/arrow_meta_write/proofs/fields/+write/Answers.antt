@@ -8,7 +8,8 @@ use Rattle.arrow_meta_write.specs.Appends.{children_cells, field_node}
 use Rattle.arrow_meta_write.specs.Layouts.{field_nodes}
 use Rattle.arrow_meta_write.specs.Writable.{AreFields}
 use Rattle.arrow_meta_write.proofs.FieldParts.{field_children}
-use Rattle.arrow_meta_write.proofs.FieldRows.{field_written, room_here, fields_step, fields_last, fields_typed, none_typed}
+use Rattle.arrow_meta_write.proofs.FieldRows.{field_written, room_here, fields_step, fields_last}
+use Rattle.arrow_meta_write.proofs.FieldRows.{fields_typed, none_typed}
 use Rattle.arrow_meta_write.proofs.fields.+write.Goals as goal
 
 pub write_field_head-requires : goal.write_field_head-requires

@@ -1,221 +1,76 @@
-use Rattle.std.proofs.Common.{◌≡◌, ℕ, List, [], ◌∷◌, ◌++◌, length, is_some, Option, arith, sym, ap, subst, ◌∙◌}
+use Rattle.std.proofs.Common.{◌≡◌, ℕ, ◌≤◌, List, ◌++◌, length, Option, sym, ap, subst, ◌∙◌}
 use Rattle.std.specs.Str.{is_utf8}
 use Rattle.std.proofs.lemmas.Str.{is_utf8-from_IsUtf8}
-use Rattle.arrow_flatbuf.specs.declared.layout.Slot.{Slot}
-use Rattle.arrow_flatbuf.specs.declared.layout.Slot.TheVariants.{Scalar, Target}
-use Rattle.arrow_flatbuf.specs.declared.layout.Width.TheVariants.{One}
-use Rattle.arrow_flatbuf.specs.Layout.{up, table_place}
-use Rattle.arrow_flatbuf.specs.Nodes.{cells_place, count, slots, after, laid, table, tables, text, scalar, offset, last}
-use Rattle.arrow_flatbuf.proofs.Laid.{reaches, ahead_cells}
-use Rattle.arrow_flatbuf.proofs.Left.{begun, stepped, left_ends}
+use Rattle.arrow_flatbuf.specs.Nodes.{after, laid, table, text}
+use Rattle.arrow_flatbuf.proofs.Left.{begun}
 use Rattle.arrow_types.specs.DataType.{Tag}
-use Rattle.arrow_types.specs.Field.{width}
 use Rattle.arrow_types.specs.View.{field_view}
 use Rattle.arrow_types.specs.declared.field.Encoding.{Encoding}
-use Rattle.arrow_meta_write.specs.Appends.{after_encoding, encoding_slot, laid_encoding, field_node, children_cells}
-use Rattle.arrow_meta_write.specs.Capped.{capped}
-use Rattle.arrow_meta.specs.Codes.{type_code}
-use Rattle.arrow_meta.specs.Conditions.{children_fit}
-use Rattle.arrow_meta_write.specs.Layouts.{flag, tag_code, type_cells, with_encoding, field_cells, field_nodes}
+use Rattle.arrow_meta_write.specs.Appends.{after_encoding, laid_encoding}
+use Rattle.arrow_meta_write.specs.Appends.{field_node, head_cells, children_cells}
+use Rattle.arrow_meta_write.specs.Layouts.{type_cells}
 use Rattle.arrow_meta_write.specs.Writable.{HasTextZone, HasLongId}
-use Rattle.arrow_meta_write.proofs.WithEncoding.{children_after, last_slots, last_fit, encoding_written}
-use Rattle.arrow_meta_write.proofs.Exact.{exact, exact_table, exact_after, table_fits}
-use Rattle.arrow_meta_write.proofs.FieldParts.{field_name, field_nullable, field_tag, field_encoding, field_children}
-use Rattle.arrow_meta_write.proofs.Fitting.{flag_fits, code_fits}
+use Rattle.arrow_meta_write.proofs.Exact.{slots_there, table_fits}
+use Rattle.arrow_meta_write.proofs.FieldParts.{field_name, field_tag, field_encoding}
+use Rattle.arrow_meta_write.proofs.FieldSteps.{head_fits, named, typed}
+use Rattle.arrow_meta_write.proofs.FieldSteps.{type_room, encoding_room}
+use Rattle.arrow_meta_write.proofs.WithEncoding.{encoding_written}
 use Rattle.arrow_meta_write.proofs.fields.write_field_head.Goals as goal
 
-pub field_table_end-table-requires : goal.field_table_end-table-requires
-field_table_end-table-requires c = omega (arith, c.place.ensures, reaches (length c.args.writer.now) (field_node (field_view c.args.field.now)), c.requires.room)
+pub field_slots-slots-requires : goal.field_slots-slots-requires
+field_slots-slots-requires c =
+    let node = field_node (field_view c.args.field.now) in
+    record { room = subst (λ (n : ℕ). after n node ≤ 1073741824) (sym c.place.ensures) c.requires.room }
 
 pub table-requires-clause-fits : goal.table-requires-clause-fits
 table-requires-clause-fits c =
-    let old = c.args.writer.now in
     let p = length c.args.writer.now in
-    let f = c.args.field.now in
-    let head = (field_view f).head in
-    let children = field_nodes (field_view f).children in
-    let cs = field_cells head children in
-    let q = cells_place p cs in
-    let name = text head.name in
-    let type = table (type_cells head.tag) in
-    let rest = with_encoding head.encoding (offset (tables children) last) in
-    let y = after (after q name) type in
-    let has : is_some head.encoding ≡ c.is_some.result = ap (λ (e : Option Encoding). is_some e) (sym (field_encoding f)) ∙ sym c.is_some.ensures in
-    let at_table = exact_table c.field_table_end-table.result c.place.result p cs (c.field_table_end-table.ensures.end head children has) c.place.ensures c.requires.room in
-    let wrote_name : c.text_after-name.result ≡ capped (after c.field_table_end-table.result name) =
-    c.text_after-name.ensures.end ∙ ap (λ (s : List ℕ). capped (after c.field_table_end-table.result (text s))) (c.deref.ensures ∙ field_name f) in
-    let at_name = exact_after c.field_table_end-table.result c.text_after-name.result q name (offset type rest) wrote_name at_table c.requires.room in
-    let wrote_type : c.type_end-data_type.result ≡ capped (after c.text_after-name.result type) =
-    c.type_end-data_type.ensures.end ∙ ap (λ (t : Tag). capped (after c.text_after-name.result (table (type_cells t)))) (field_tag f) in
-    let at_type = exact_after c.text_after-name.result c.type_end-data_type.result (after q name) type rest wrote_type at_name c.requires.room in
-    let wrote_encoding : c.encoding_end-children.result ≡ capped (after_encoding y head.encoding) =
-    c.encoding_end-children.ensures.end ∙ ap (λ (e : Option Encoding). capped (after_encoding c.type_end-data_type.result e)) (field_encoding f) ∙ ap (λ (n : ℕ). capped (after_encoding n head.encoding)) at_type in
-    let at_children = exact c.encoding_end-children.result (after_encoding y head.encoding) wrote_encoding
-    (omega (arith, children_after y head.encoding children, reaches (after_encoding y head.encoding) (tables children), c.requires.room)) in
-    let at_0 : c.aligned.result ≡ up 4 q = c.aligned.ensures.value ∙ ap (up 4) at_table in
-    let at_1 = c.bit.ensures.value ∙ ap flag (field_nullable f) in
-    let at_2 = c.type_code.ensures.code ∙ ap tag_code (field_tag f) in
-    let at_3 : c.table_place.result ≡ table_place (after q name) (count (type_cells head.tag)) =
-    c.table_place.ensures.value ∙ ap (λ (n : ℕ). table_place c.text_after-name.result n) (c.type_fields.ensures.count ∙ ap (λ (t : Tag). count (type_cells t)) (field_tag f))
-    ∙ ap (λ (n : ℕ). table_place n (count (type_cells head.tag))) at_name in
-    let at_4 : c.encoding_slot.result ≡ encoding_slot y head.encoding =
-    c.encoding_slot.ensures ∙ ap (λ (n : ℕ). encoding_slot n f.dictionary) at_type ∙ ap (λ (e : Option Encoding). encoding_slot y e) (field_encoding f) in
-    let at_5 : c.aligned-2.result ≡ up 4 (after_encoding y head.encoding) = c.aligned-2.ensures.value ∙ ap (up 4) at_children in
-    let ss : List Slot = Target c.aligned.result ∷ Scalar One c.bit.result ∷ Scalar One c.type_code.result ∷ Target c.table_place.result ∷ c.encoding_slot.result ∷ Target c.aligned-2.result ∷ [] in
-    let front = λ (tail : List Slot). Target (up 4 q) ∷ Scalar One (flag head.nullable) ∷ Scalar One (tag_code head.tag) ∷ Target (table_place (after q name) (count (type_cells head.tag))) ∷ tail in
-    let literal : ss ≡ front (encoding_slot y head.encoding ∷ Target (up 4 (after_encoding y head.encoding)) ∷ []) =
-    λ i. Target (at_0 i) ∷ Scalar One (at_1 i) ∷ Scalar One (at_2 i) ∷ Target (at_3 i) ∷ at_4 i ∷ Target (at_5 i) ∷ [] in
-    let same : ss ≡ slots q cs = literal ∙ ap front (sym (last_slots y head.encoding children)) in
-    table_fits p ss cs same (omega (arith, flag_fits head.nullable), (omega (arith, code_fits head.tag), last_fit head.encoding children)) c.requires.room
+    let f = field_view c.args.field.now in
+    let ss = c.field_slots-slots.result in
+    table_fits p ss (head_cells f) (slots_there c.place.result p ss (head_cells f) c.place.ensures c.field_slots-slots.ensures.slots) (head_fits f) c.requires.room
 
 pub write_type-requires : goal.write_type-requires
 write_type-requires c =
     let old = c.args.writer.now in
-    let p = length c.args.writer.now in
-    let f = c.args.field.now in
-    let head = (field_view f).head in
-    let children = field_nodes (field_view f).children in
-    let cs = field_cells head children in
-    let q = cells_place p cs in
-    let name = text head.name in
-    let type = table (type_cells head.tag) in
-    let rest = with_encoding head.encoding (offset (tables children) last) in
-    let y = after (after q name) type in
-    let has : is_some head.encoding ≡ c.is_some.result = ap (λ (e : Option Encoding). is_some e) (sym (field_encoding f)) ∙ sym c.is_some.ensures in
-    let at_table = exact_table c.field_table_end-table.result c.place.result p cs (c.field_table_end-table.ensures.end head children has) c.place.ensures c.requires.room in
-    let wrote_name : c.text_after-name.result ≡ capped (after c.field_table_end-table.result name) =
-    c.text_after-name.ensures.end ∙ ap (λ (s : List ℕ). capped (after c.field_table_end-table.result (text s))) (c.deref.ensures ∙ field_name f) in
-    let at_name = exact_after c.field_table_end-table.result c.text_after-name.result q name (offset type rest) wrote_name at_table c.requires.room in
-    let wrote_type : c.type_end-data_type.result ≡ capped (after c.text_after-name.result type) =
-    c.type_end-data_type.ensures.end ∙ ap (λ (t : Tag). capped (after c.text_after-name.result (table (type_cells t)))) (field_tag f) in
-    let at_type = exact_after c.text_after-name.result c.type_end-data_type.result (after q name) type rest wrote_type at_name c.requires.room in
-    let wrote_encoding : c.encoding_end-children.result ≡ capped (after_encoding y head.encoding) =
-    c.encoding_end-children.ensures.end ∙ ap (λ (e : Option Encoding). capped (after_encoding c.type_end-data_type.result e)) (field_encoding f) ∙ ap (λ (n : ℕ). capped (after_encoding n head.encoding)) at_type in
-    let at_children = exact c.encoding_end-children.result (after_encoding y head.encoding) wrote_encoding
-    (omega (arith, children_after y head.encoding children, reaches (after_encoding y head.encoding) (tables children), c.requires.room)) in
-    let at_0 : c.aligned.result ≡ up 4 q = c.aligned.ensures.value ∙ ap (up 4) at_table in
-    let at_1 = c.bit.ensures.value ∙ ap flag (field_nullable f) in
-    let at_2 = c.type_code.ensures.code ∙ ap tag_code (field_tag f) in
-    let at_3 : c.table_place.result ≡ table_place (after q name) (count (type_cells head.tag)) =
-    c.table_place.ensures.value ∙ ap (λ (n : ℕ). table_place c.text_after-name.result n) (c.type_fields.ensures.count ∙ ap (λ (t : Tag). count (type_cells t)) (field_tag f))
-    ∙ ap (λ (n : ℕ). table_place n (count (type_cells head.tag))) at_name in
-    let at_4 : c.encoding_slot.result ≡ encoding_slot y head.encoding =
-    c.encoding_slot.ensures ∙ ap (λ (n : ℕ). encoding_slot n f.dictionary) at_type ∙ ap (λ (e : Option Encoding). encoding_slot y e) (field_encoding f) in
-    let at_5 : c.aligned-2.result ≡ up 4 (after_encoding y head.encoding) = c.aligned-2.ensures.value ∙ ap (up 4) at_children in
-    let ss : List Slot = Target c.aligned.result ∷ Scalar One c.bit.result ∷ Scalar One c.type_code.result ∷ Target c.table_place.result ∷ c.encoding_slot.result ∷ Target c.aligned-2.result ∷ [] in
-    let front = λ (tail : List Slot). Target (up 4 q) ∷ Scalar One (flag head.nullable) ∷ Scalar One (tag_code head.tag) ∷ Target (table_place (after q name) (count (type_cells head.tag))) ∷ tail in
-    let literal : ss ≡ front (encoding_slot y head.encoding ∷ Target (up 4 (after_encoding y head.encoding)) ∷ []) =
-    λ i. Target (at_0 i) ∷ Scalar One (at_1 i) ∷ Scalar One (at_2 i) ∷ Target (at_3 i) ∷ at_4 i ∷ Target (at_5 i) ∷ [] in
-    let same : ss ≡ slots q cs = literal ∙ ap front (sym (last_slots y head.encoding children)) in
-    let whole = field_node (field_view f) in
+    let f = field_view c.args.field.now in
+    let ss = c.field_slots-slots.result in
+    let same = slots_there c.place.result (length old) ss (head_cells f) c.place.ensures c.field_slots-slots.ensures.slots in
     let t = c.table.new.self in
-    let begins = begun old t ss cs c.in_ok-table.ensures same in
-    let wrote_text = c.in_ok-text.ensures ∙ ap (λ (s : List ℕ). t ++ laid (length t) (text s)) (c.deref-2.ensures ∙ field_name f) in
-    let named = stepped old t c.text.new.self name (scalar One (flag head.nullable) (scalar One (tag_code head.tag) (offset type rest))) whole begins wrote_text in
-    let same_type = ap (λ (x : Tag). after (length c.text.new.self) (table (type_cells x))) (field_tag f) in
-    record { room = omega (arith, same_type, left_ends old c.text.new.self (offset type rest) whole named, ahead_cells (after (length c.text.new.self) type) rest, c.requires.room) }
+    let n = c.text.new.self in
+    let wrote_name = c.in_ok-text.ensures ∙ ap (λ (s : List ℕ). t ++ laid (length t) (text s)) (c.deref.ensures ∙ field_name c.args.field.now) in
+    let begins = named old t n f (begun old t ss (head_cells f) c.in_ok-table.ensures same) wrote_name in
+    record { room = subst (λ (x : Tag). after (length n) (table (type_cells x)) ≤ 1073741824) (sym (field_tag c.args.field.now)) (type_room old n f begins c.requires.room) }
 
 pub write_encoding-requires : goal.write_encoding-requires
 write_encoding-requires c =
     let old = c.args.writer.now in
-    let p = length c.args.writer.now in
-    let f = c.args.field.now in
-    let head = (field_view f).head in
-    let children = field_nodes (field_view f).children in
-    let cs = field_cells head children in
-    let q = cells_place p cs in
-    let name = text head.name in
-    let type = table (type_cells head.tag) in
-    let rest = with_encoding head.encoding (offset (tables children) last) in
-    let y = after (after q name) type in
-    let has : is_some head.encoding ≡ c.is_some.result = ap (λ (e : Option Encoding). is_some e) (sym (field_encoding f)) ∙ sym c.is_some.ensures in
-    let at_table = exact_table c.field_table_end-table.result c.place.result p cs (c.field_table_end-table.ensures.end head children has) c.place.ensures c.requires.room in
-    let wrote_name : c.text_after-name.result ≡ capped (after c.field_table_end-table.result name) =
-    c.text_after-name.ensures.end ∙ ap (λ (s : List ℕ). capped (after c.field_table_end-table.result (text s))) (c.deref.ensures ∙ field_name f) in
-    let at_name = exact_after c.field_table_end-table.result c.text_after-name.result q name (offset type rest) wrote_name at_table c.requires.room in
-    let wrote_type : c.type_end-data_type.result ≡ capped (after c.text_after-name.result type) =
-    c.type_end-data_type.ensures.end ∙ ap (λ (t : Tag). capped (after c.text_after-name.result (table (type_cells t)))) (field_tag f) in
-    let at_type = exact_after c.text_after-name.result c.type_end-data_type.result (after q name) type rest wrote_type at_name c.requires.room in
-    let wrote_encoding : c.encoding_end-children.result ≡ capped (after_encoding y head.encoding) =
-    c.encoding_end-children.ensures.end ∙ ap (λ (e : Option Encoding). capped (after_encoding c.type_end-data_type.result e)) (field_encoding f) ∙ ap (λ (n : ℕ). capped (after_encoding n head.encoding)) at_type in
-    let at_children = exact c.encoding_end-children.result (after_encoding y head.encoding) wrote_encoding
-    (omega (arith, children_after y head.encoding children, reaches (after_encoding y head.encoding) (tables children), c.requires.room)) in
-    let at_0 : c.aligned.result ≡ up 4 q = c.aligned.ensures.value ∙ ap (up 4) at_table in
-    let at_1 = c.bit.ensures.value ∙ ap flag (field_nullable f) in
-    let at_2 = c.type_code.ensures.code ∙ ap tag_code (field_tag f) in
-    let at_3 : c.table_place.result ≡ table_place (after q name) (count (type_cells head.tag)) =
-    c.table_place.ensures.value ∙ ap (λ (n : ℕ). table_place c.text_after-name.result n) (c.type_fields.ensures.count ∙ ap (λ (t : Tag). count (type_cells t)) (field_tag f))
-    ∙ ap (λ (n : ℕ). table_place n (count (type_cells head.tag))) at_name in
-    let at_4 : c.encoding_slot.result ≡ encoding_slot y head.encoding =
-    c.encoding_slot.ensures ∙ ap (λ (n : ℕ). encoding_slot n f.dictionary) at_type ∙ ap (λ (e : Option Encoding). encoding_slot y e) (field_encoding f) in
-    let at_5 : c.aligned-2.result ≡ up 4 (after_encoding y head.encoding) = c.aligned-2.ensures.value ∙ ap (up 4) at_children in
-    let ss : List Slot = Target c.aligned.result ∷ Scalar One c.bit.result ∷ Scalar One c.type_code.result ∷ Target c.table_place.result ∷ c.encoding_slot.result ∷ Target c.aligned-2.result ∷ [] in
-    let front = λ (tail : List Slot). Target (up 4 q) ∷ Scalar One (flag head.nullable) ∷ Scalar One (tag_code head.tag) ∷ Target (table_place (after q name) (count (type_cells head.tag))) ∷ tail in
-    let literal : ss ≡ front (encoding_slot y head.encoding ∷ Target (up 4 (after_encoding y head.encoding)) ∷ []) =
-    λ i. Target (at_0 i) ∷ Scalar One (at_1 i) ∷ Scalar One (at_2 i) ∷ Target (at_3 i) ∷ at_4 i ∷ Target (at_5 i) ∷ [] in
-    let same : ss ≡ slots q cs = literal ∙ ap front (sym (last_slots y head.encoding children)) in
-    let whole = field_node (field_view f) in
+    let f = field_view c.args.field.now in
+    let ss = c.field_slots-slots.result in
+    let same = slots_there c.place.result (length old) ss (head_cells f) c.place.ensures c.field_slots-slots.ensures.slots in
     let t = c.table.new.self in
-    let begins = begun old t ss cs c.in_ok-table.ensures same in
-    let wrote_text = c.in_ok-text.ensures ∙ ap (λ (s : List ℕ). t ++ laid (length t) (text s)) (c.deref-2.ensures ∙ field_name f) in
-    let named = stepped old t c.text.new.self name (scalar One (flag head.nullable) (scalar One (tag_code head.tag) (offset type rest))) whole begins wrote_text in
     let n = c.text.new.self in
-    let wrote_table = c.in_ok-write_type.ensures.bytes ∙ ap (λ (x : Tag). n ++ laid (length n) (table (type_cells x))) (field_tag f) in
-    let typed = stepped old n c.write_type.new.writer type rest whole named wrote_table in
     let w = c.write_type.new.writer in
-    let same_encoding = ap (λ (e : Option Encoding). after_encoding (length w) e) (field_encoding f) in
-    record { room = omega (arith, same_encoding, left_ends old w rest whole typed, children_after (length w) head.encoding children, reaches (after_encoding (length w) head.encoding) (tables children), c.requires.room) }
+    let wrote_name = c.in_ok-text.ensures ∙ ap (λ (s : List ℕ). t ++ laid (length t) (text s)) (c.deref.ensures ∙ field_name c.args.field.now) in
+    let begins = named old t n f (begun old t ss (head_cells f) c.in_ok-table.ensures same) wrote_name in
+    let wrote_type = c.in_ok-write_type.ensures.bytes ∙ ap (λ (x : Tag). n ++ laid (length n) (table (type_cells x))) (field_tag c.args.field.now) in
+    let left = typed old n w f begins wrote_type in
+    record { room = subst (λ (e : Option Encoding). after_encoding (length w) e ≤ 1073741824) (sym (field_encoding c.args.field.now)) (encoding_room old w f left c.requires.room) }
 
 pub returns-clause-bytes : goal.returns-clause-bytes
 returns-clause-bytes c =
     let old = c.args.writer.now in
-    let p = length c.args.writer.now in
-    let f = c.args.field.now in
-    let head = (field_view f).head in
-    let children = field_nodes (field_view f).children in
-    let cs = field_cells head children in
-    let q = cells_place p cs in
-    let name = text head.name in
-    let type = table (type_cells head.tag) in
-    let rest = with_encoding head.encoding (offset (tables children) last) in
-    let y = after (after q name) type in
-    let has : is_some head.encoding ≡ c.is_some.result = ap (λ (e : Option Encoding). is_some e) (sym (field_encoding f)) ∙ sym c.is_some.ensures in
-    let at_table = exact_table c.field_table_end-table.result c.place.result p cs (c.field_table_end-table.ensures.end head children has) c.place.ensures c.requires.room in
-    let wrote_name : c.text_after-name.result ≡ capped (after c.field_table_end-table.result name) =
-    c.text_after-name.ensures.end ∙ ap (λ (s : List ℕ). capped (after c.field_table_end-table.result (text s))) (c.deref.ensures ∙ field_name f) in
-    let at_name = exact_after c.field_table_end-table.result c.text_after-name.result q name (offset type rest) wrote_name at_table c.requires.room in
-    let wrote_type : c.type_end-data_type.result ≡ capped (after c.text_after-name.result type) =
-    c.type_end-data_type.ensures.end ∙ ap (λ (t : Tag). capped (after c.text_after-name.result (table (type_cells t)))) (field_tag f) in
-    let at_type = exact_after c.text_after-name.result c.type_end-data_type.result (after q name) type rest wrote_type at_name c.requires.room in
-    let wrote_encoding : c.encoding_end-children.result ≡ capped (after_encoding y head.encoding) =
-    c.encoding_end-children.ensures.end ∙ ap (λ (e : Option Encoding). capped (after_encoding c.type_end-data_type.result e)) (field_encoding f) ∙ ap (λ (n : ℕ). capped (after_encoding n head.encoding)) at_type in
-    let at_children = exact c.encoding_end-children.result (after_encoding y head.encoding) wrote_encoding
-    (omega (arith, children_after y head.encoding children, reaches (after_encoding y head.encoding) (tables children), c.requires.room)) in
-    let at_0 : c.aligned.result ≡ up 4 q = c.aligned.ensures.value ∙ ap (up 4) at_table in
-    let at_1 = c.bit.ensures.value ∙ ap flag (field_nullable f) in
-    let at_2 = c.type_code.ensures.code ∙ ap tag_code (field_tag f) in
-    let at_3 : c.table_place.result ≡ table_place (after q name) (count (type_cells head.tag)) =
-    c.table_place.ensures.value ∙ ap (λ (n : ℕ). table_place c.text_after-name.result n) (c.type_fields.ensures.count ∙ ap (λ (t : Tag). count (type_cells t)) (field_tag f))
-    ∙ ap (λ (n : ℕ). table_place n (count (type_cells head.tag))) at_name in
-    let at_4 : c.encoding_slot.result ≡ encoding_slot y head.encoding =
-    c.encoding_slot.ensures ∙ ap (λ (n : ℕ). encoding_slot n f.dictionary) at_type ∙ ap (λ (e : Option Encoding). encoding_slot y e) (field_encoding f) in
-    let at_5 : c.aligned-2.result ≡ up 4 (after_encoding y head.encoding) = c.aligned-2.ensures.value ∙ ap (up 4) at_children in
-    let ss : List Slot = Target c.aligned.result ∷ Scalar One c.bit.result ∷ Scalar One c.type_code.result ∷ Target c.table_place.result ∷ c.encoding_slot.result ∷ Target c.aligned-2.result ∷ [] in
-    let front = λ (tail : List Slot). Target (up 4 q) ∷ Scalar One (flag head.nullable) ∷ Scalar One (tag_code head.tag) ∷ Target (table_place (after q name) (count (type_cells head.tag))) ∷ tail in
-    let literal : ss ≡ front (encoding_slot y head.encoding ∷ Target (up 4 (after_encoding y head.encoding)) ∷ []) =
-    λ i. Target (at_0 i) ∷ Scalar One (at_1 i) ∷ Scalar One (at_2 i) ∷ Target (at_3 i) ∷ at_4 i ∷ Target (at_5 i) ∷ [] in
-    let same : ss ≡ slots q cs = literal ∙ ap front (sym (last_slots y head.encoding children)) in
-    let whole = field_node (field_view f) in
+    let f = field_view c.args.field.now in
+    let ss = c.field_slots-slots.result in
+    let same = slots_there c.place.result (length old) ss (head_cells f) c.place.ensures c.field_slots-slots.ensures.slots in
     let t = c.table.new.self in
-    let begins = begun old t ss cs c.in_ok-table.ensures same in
-    let wrote_text = c.in_ok-text.ensures ∙ ap (λ (s : List ℕ). t ++ laid (length t) (text s)) (c.deref-2.ensures ∙ field_name f) in
-    let named = stepped old t c.text.new.self name (scalar One (flag head.nullable) (scalar One (tag_code head.tag) (offset type rest))) whole begins wrote_text in
     let n = c.text.new.self in
-    let wrote_table = c.in_ok-write_type.ensures.bytes ∙ ap (λ (x : Tag). n ++ laid (length n) (table (type_cells x))) (field_tag f) in
-    let typed = stepped old n c.write_type.new.writer type rest whole named wrote_table in
     let w = c.write_type.new.writer in
-    let wrote_encoding_tables = c.in_ok-write_encoding.ensures.bytes ∙ ap (λ (e : Option Encoding). w ++ laid_encoding (length w) e) (field_encoding f) in
-    encoding_written old w c.write_encoding.new.writer head.encoding (children_cells (field_view f).children) whole typed wrote_encoding_tables
+    let wrote_name = c.in_ok-text.ensures ∙ ap (λ (s : List ℕ). t ++ laid (length t) (text s)) (c.deref.ensures ∙ field_name c.args.field.now) in
+    let begins = named old t n f (begun old t ss (head_cells f) c.in_ok-table.ensures same) wrote_name in
+    let wrote_type = c.in_ok-write_type.ensures.bytes ∙ ap (λ (x : Tag). n ++ laid (length n) (table (type_cells x))) (field_tag c.args.field.now) in
+    let left = typed old n w f begins wrote_type in
+    let wrote_encoding = c.in_ok-write_encoding.ensures.bytes ∙ ap (λ (e : Option Encoding). w ++ laid_encoding (length w) e) (field_encoding c.args.field.now) in
+    encoding_written old w c.write_encoding.new.writer f.head.encoding (children_cells f.children) (field_node f) left wrote_encoding
 
 pub returns-clause-typed : goal.returns-clause-typed
 returns-clause-typed c =
@@ -224,5 +79,5 @@ returns-clause-typed c =
       name = ap is_utf8 (sym (field_name f) ∙ sym c.deref.ensures) ∙ is_utf8-from_IsUtf8 _ c.deref.utf8;
       zone = subst HasTextZone (field_tag f) c.in_ok-write_type.ensures.typed;
       id = subst HasLongId (field_encoding f) c.in_ok-write_encoding.ensures.typed;
-      fits = sym (λ i. children_fit (type_code (tag_code (field_tag f i))) (width (field_children f i))) ∙ c.type_code.ensures.fits;
+      fits = c.field_slots-slots.ensures.fits;
     }

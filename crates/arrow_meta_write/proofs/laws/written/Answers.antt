@@ -1,6 +1,7 @@
 use Rattle.arrow_meta_write.proofs.Bounds.{text_short}
 use Rattle.arrow_meta_write.proofs.Standing.{stands}
-use Rattle.arrow_meta_write.proofs.WrittenMeans.{written_lies, written_aligned, written_means, written_stands, written_length}
+use Rattle.arrow_meta_write.proofs.WrittenMeans.{written_lies, written_aligned, written_means}
+use Rattle.arrow_meta_write.proofs.WrittenMeans.{written_stands, written_length}
 use Rattle.arrow_meta_write.proofs.laws.written.Goals as goal
 
 pub returns-clause-lies : goal.returns-clause-lies

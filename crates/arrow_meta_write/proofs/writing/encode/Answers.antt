@@ -10,7 +10,8 @@ use Rattle.arrow_meta_write.specs.Metadata.{metadata, size_of}
 use Rattle.arrow_meta_write.specs.Writable.{Allows}
 use Rattle.arrow_meta_write.specs.Written.{message_tree}
 use Rattle.arrow_meta_write.proofs.Sizing.{some_from}
-use Rattle.arrow_meta_write.proofs.WrittenMeans.{sized, written_length, written_aligned, written_means}
+use Rattle.arrow_meta_write.proofs.WrittenMeans.{sized, written_length, written_aligned}
+use Rattle.arrow_meta_write.proofs.WrittenMeans.{written_means}
 use Rattle.arrow_meta_write.proofs.writing.encode.Goals as goal
 
 pub write_message-requires : goal.write_message-requires
