@@ -6,12 +6,13 @@
 //! Each call appends a part from the first free place on, with all that belongs to it. The only
 //! error is `AllocError`, a growth that was refused.
 ghost use Rattle.std.specs.Prelude.{◌≡◌, ◌≤◌, ◌<◌, ◌↔◌, length, Some, IsSome, OnOk, IfOk};
-ghost use Rattle.arrow_flatbuf.specs.Nodes.{count, table as table_node};
+ghost use Rattle.std.specs.Int.{cast_unsigned, w16};
+ghost use Rattle.arrow_flatbuf.specs.Nodes.{after, cells_place, slots, count, table as table_node};
 ghost use Rattle.arrow_meta.specs.Judges.{MetadataMeans};
 ghost use Rattle.arrow_meta.specs.Means.{header_view, message_view};
 ghost use Rattle.arrow_meta_write.specs.Aligned.{LiesAligned};
 ghost use Rattle.arrow_meta_write.specs.Appends.{HasRoom, Appends};
-ghost use Rattle.arrow_meta_write.specs.Layouts.{header_cells, message_node, header_code};
+ghost use Rattle.arrow_meta_write.specs.Layouts.{header_cells, message_cells, message_node, header_code};
 ghost use Rattle.arrow_meta_write.specs.Metadata.{size_of, metadata};
 ghost use Rattle.arrow_meta_write.specs.Writable.{IsHeader, Allows};
 ghost use Rattle.arrow_meta_write.specs.Written.{message_tree};
@@ -59,15 +60,26 @@ fn write_message(writer: &mut TableWriter, message: &Message) -> Result<(), Allo
         (Appends writer.old (message_node (message_view message.now)) writer.new) }
     ensures typed { OnOk result (IsHeader (header_view message.now.header)) }
 {
-    let end = message_table_end(writer.place());
-    writer.table(&[
+    let slots = message_slots(writer.place(), message);
+    writer.table(&slots)?;
+    write_header(writer, &message.header)?;
+    Ok(())
+}
+
+/// The fields of a message's table that is laid out from a place on.
+fn message_slots(place: usize, message: &Message) -> [Slot; 4]
+    requires room { after place (message_node (message_view message.now)) ≤ 1073741824 }
+    ensures slots { let cells = message_cells (message_view message.now)
+        in result ≡ slots (cells_place place cells) cells }
+    ensures short { cast_unsigned w16 message.now.version < 65536 }
+{
+    let end = message_table_end(place);
+    [
         Slot::Scalar(Width::Two, u64::from(message.version.cast_unsigned())),
         Slot::Scalar(Width::One, header_code(&message.header)),
         Slot::Target(table_place(end, header_fields(&message.header))),
         Slot::Scalar(Width::Eight, message.body_len),
-    ])?;
-    write_header(writer, &message.header)?;
-    Ok(())
+    ]
 }
 
 /// The code of a header (`Message.fbs`, union `MessageHeader`).

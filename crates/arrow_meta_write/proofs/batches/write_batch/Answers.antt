@@ -1,19 +1,13 @@
-use Rattle.std.proofs.Common.{◌≡◌, ℕ, ◌+◌, ◌-◌, ◌≤◌, List, [], ◌∷◌, ◌++◌, length, map, arith, rules, sym}
+use Rattle.std.proofs.Common.{ℕ, ◌≤◌, List, ◌++◌, length, map, arith, sym}
 use Rattle.std.proofs.Common.{ap, subst, ◌∙◌}
-use Rattle.arrow_flatbuf.specs.declared.layout.Slot.{Slot}
-use Rattle.arrow_flatbuf.specs.declared.layout.Slot.TheVariants.{Scalar, Target}
-use Rattle.arrow_flatbuf.specs.declared.layout.Width.TheVariants.{Eight}
-use Rattle.arrow_flatbuf.specs.Layout.{up, gap}
-use Rattle.arrow_flatbuf.specs.Nodes.{laid, cells_place, slots, after, table, pairs, offset, last}
+use Rattle.arrow_flatbuf.specs.Nodes.{laid, after, table, pairs, offset, last}
 use Rattle.arrow_flatbuf.proofs.Laid.{ahead_cells}
 use Rattle.arrow_flatbuf.proofs.Left.{begun, stepped, ended, left_ends}
-use Rattle.std.proofs.lemmas.List.{length-map}
 use Rattle.arrow_types.specs.declared.node.FieldNode.{FieldNode}
 use Rattle.arrow_types.specs.declared.node.Buffer.{Buffer}
 use Rattle.arrow_meta_write.specs.Layouts.{node_pair, buffer_pair, batch_cells}
 use Rattle.arrow_meta.specs.Means.{batch_view}
 use Rattle.arrow_meta_write.specs.Writable.{AreNodes, AreBuffers}
-use Rattle.arrow_meta_write.proofs.Capping.{pairs_after}
 use Rattle.arrow_meta_write.proofs.Exact.{slots_there, table_fits}
 use Rattle.arrow_meta_write.proofs.Fitting.{long_fits}
 use Rattle.arrow_meta_write.proofs.batches.write_batch.Goals as goal

@@ -1,33 +1,26 @@
-use Rattle.std.proofs.Common.{refl, ◌≡◌, ℕ, List, [], ◌∷◌, ◌++◌, length, is_some, Option, arith, sym, ap}
-use Rattle.std.proofs.Common.{subst, ◌∙◌}
-use Rattle.std.specs.Str.{is_utf8}
-use Rattle.std.proofs.lemmas.Str.{is_utf8-from_IsUtf8}
+use Rattle.std.proofs.Common.{refl, ◌≡◌, ℕ, List, [], ◌∷◌, is_some, Option, arith, sym, ap}
+use Rattle.std.proofs.Common.{◌∙◌}
 use Rattle.arrow_flatbuf.specs.declared.layout.Slot.{Slot}
 use Rattle.arrow_flatbuf.specs.declared.layout.Slot.TheVariants.{Scalar, Target}
 use Rattle.arrow_flatbuf.specs.declared.layout.Width.TheVariants.{One}
 use Rattle.arrow_flatbuf.specs.Layout.{up, table_place}
-use Rattle.arrow_flatbuf.specs.Nodes.{cells_place, count, slots, after, laid, table, tables, text}
-use Rattle.arrow_flatbuf.specs.Nodes.{scalar, offset, last}
-use Rattle.arrow_flatbuf.proofs.Laid.{reaches, ahead_cells}
-use Rattle.arrow_flatbuf.proofs.Left.{begun, stepped, left_ends}
+use Rattle.arrow_flatbuf.specs.Nodes.{cells_place, count, after, table, tables, text}
+use Rattle.arrow_flatbuf.specs.Nodes.{offset, last}
+use Rattle.arrow_flatbuf.proofs.Laid.{reaches}
 use Rattle.arrow_types.specs.DataType.{Tag}
 use Rattle.arrow_types.specs.Field.{width}
 use Rattle.arrow_types.specs.View.{field_view}
 use Rattle.arrow_types.specs.declared.field.Encoding.{Encoding}
-use Rattle.arrow_meta_write.specs.Appends.{after_encoding, encoding_slot, laid_encoding, field_node}
-use Rattle.arrow_meta_write.specs.Appends.{children_cells}
+use Rattle.arrow_meta_write.specs.Appends.{after_encoding, encoding_slot, field_node}
 use Rattle.arrow_meta_write.specs.Capped.{capped}
 use Rattle.arrow_meta.specs.Codes.{type_code}
 use Rattle.arrow_meta.specs.Conditions.{children_fit}
 use Rattle.arrow_meta_write.specs.Layouts.{flag, tag_code, type_cells, with_encoding, field_cells}
 use Rattle.arrow_meta_write.specs.Layouts.{field_nodes}
-use Rattle.arrow_meta_write.specs.Writable.{HasTextZone, HasLongId}
-use Rattle.arrow_meta_write.proofs.WithEncoding.{children_after, last_slots, last_fit}
-use Rattle.arrow_meta_write.proofs.WithEncoding.{encoding_written}
-use Rattle.arrow_meta_write.proofs.Exact.{exact, exact_table, exact_after, table_fits}
+use Rattle.arrow_meta_write.proofs.WithEncoding.{children_after, last_slots}
+use Rattle.arrow_meta_write.proofs.Exact.{exact, exact_table, exact_after}
 use Rattle.arrow_meta_write.proofs.FieldParts.{field_name, field_nullable, field_tag}
 use Rattle.arrow_meta_write.proofs.FieldParts.{field_encoding, field_children}
-use Rattle.arrow_meta_write.proofs.Fitting.{flag_fits, code_fits}
 use Rattle.arrow_meta_write.proofs.fields.field_slots.Goals as goal
 
 pub field_table_end-table-requires : goal.field_table_end-table-requires
