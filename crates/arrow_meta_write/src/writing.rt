@@ -32,7 +32,8 @@ use std::alloc::{AllocError, Global};
 /// Condition: [`encoded_size`] answers a number for it, which is that of the bytes. They mean the
 /// message to every reader whose limits it keeps to; each number stands at a multiple of its size,
 /// and a 0 byte after every name and zone. The bytes grow once, to their size; `AllocError` where
-/// that was refused.
+/// that was refused. They keep their meaning with any bytes after them: the header is one of which
+/// [`crate::laws::written`] says so.
 pub fn encode(alloc: Global, message: &Message) -> Result<Vec<u8>, AllocError>
     requires { IsSome (size_of (message_view message.now)) }
     ensures bytes { IfOk result (λ v. v.items ≡ metadata (message_view message.now)) }
@@ -43,6 +44,7 @@ pub fn encode(alloc: Global, message: &Message) -> Result<Vec<u8>, AllocError>
         → MetadataMeans limits v.items (message_view message.now)
         ↔ Allows limits (message_view message.now)) }
     ensures size { IfOk result (λ v. Some (length v.items) ≡ size_of (message_view message.now)) }
+    ensures typed { IfOk result (λ v. IsHeader (header_view message.now.header)) }
 {
     let size = encoded_size(message).unwrap_or(0);
     let mut writer = TableWriter::with_capacity(alloc, size as usize)?;

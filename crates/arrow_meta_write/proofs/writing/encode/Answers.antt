@@ -35,4 +35,5 @@ returns c =
       lies = subst (λ bs. LiesAligned (message_tree m) bs) (append-nil (metadata m) ∙ sym bytes) (written_aligned m some.0 [] header some.1);
       means = λ limits. subst (λ bs. MetadataMeans limits bs m ↔ Allows limits m) (append-nil (metadata m) ∙ sym bytes) (written_means m some.0 [] header some.1 limits);
       size = ap (λ (bs : List ℕ). Some (length bs)) bytes ∙ ap Some (written_length m some.0 some.1) ∙ sym some.1;
+      typed = header;
     }
