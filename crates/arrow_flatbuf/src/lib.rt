@@ -1,6 +1,7 @@
-//! FlatBuffers as read: tables, texts and vectors in bytes that come from strangers.
+//! FlatBuffers: tables, texts and vectors, read in bytes that come from strangers, and written
+//! front to back.
 //!
-//! The layer takes a whole byte slice, lends it to what it answers, and takes no memory. It never
+//! The reading takes a whole byte slice, lends it to what it answers, and takes no memory. It never
 //! trusts a number of the bytes: what it answers lies inside them.
 //!
 //! - [`Root::open`] gives the table that the first offset names.
@@ -30,13 +31,17 @@
 //! size that the vector was asked for with.
 #![tactic(auto)]
 
+mod layout;
 mod place;
 mod root;
 mod table;
 mod text;
 mod vector;
 mod vtable;
+mod writer;
 
+pub use layout::{Slot, Width, aligned, table_end, table_place, text_end};
 pub use root::Root;
 pub use table::{Table, Unreadable};
 pub use vector::Vector;
+pub use writer::TableWriter;

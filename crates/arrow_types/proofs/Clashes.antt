@@ -111,3 +111,23 @@ no_clash_new (x ∷ xs) d h =
     let parts = or_parts (int_eq x.id d.id) (is_among d.id (ids_of xs)) h in
     ap (λ b. (b && not (is_equal type_code x.value_type d.value_type)) || list_any (λ e. clash e d) xs) parts.0
     ∙ no_clash_new xs d parts.1
+
+-- two fields that have one type, should they have one id, do not clash
+agree : (d e : DictionaryField) → (d.id ≡ e.id → d.value_type ≡ e.value_type) → clash d e ≡ false
+agree d e h =
+    ⊎_elim
+    (λ same. no_clash_at d e (h ((Decides-int_eq d.id e.id).0 same)))
+    (λ other. ap (λ b. b && not (is_equal type_code d.value_type e.value_type)) other)
+    (cases_Bool (int_eq d.id e.id))
+
+-- a field clashes with none where it agrees with each
+agree_all : (d : DictionaryField) (es : List DictionaryField) → ((j : ℕ) (e : DictionaryField) → slice_get es j ≡ Some e → d.id ≡ e.id → d.value_type ≡ e.value_type) → list_any (clash d) es ≡ false
+agree_all d [] h = refl
+agree_all d (e ∷ es) h = ap (λ b. b || list_any (clash d) es) (agree d e (h 0 e refl)) ∙ agree_all d es (λ j x. h (suc j) x)
+
+-- fields that have one type for each id do not clash
+pub none_differ : (ds : List DictionaryField) → OneType ds → types_differ ds ≡ false
+none_differ [] h = refl
+none_differ (d ∷ ds) h =
+    ap (λ b. b || types_differ ds) (agree_all d ds (λ j e got. h 0 (suc j) d e refl got))
+    ∙ none_differ ds (λ i j. h (suc i) (suc j))

@@ -1,0 +1,224 @@
+//! Tables, texts and vectors appended to bytes, front to back.
+//!
+//! What a caller appends stands from the first free place on, behind zero bytes up to where it is
+//! aligned. An offset is written before what it names, so a caller counts the places first (the
+//! calls of `layout`), and nothing that was written is changed. The only error is `AllocError`: a
+//! growth was refused, and of the bytes only those of before are known to be there. A writer with
+//! room for all that is appended grows no more.
+ghost use Rattle.std.specs.Prelude.{◌≡◌, ◌≤◌, ◌<◌, ◌+◌, ◌*◌, ◌-◌, ◌^◌, ◌++◌, ℕ, List, [], ◌∷◌};
+ghost use Rattle.std.specs.Prelude.{length, IfOk, OnOk};
+ghost use Rattle.byteorder.specs.Endian.{little_bytes};
+ghost use Rattle.arrow_flatbuf.specs.Layout.{width, gap, zeros, vtable_size, slot_end, slots_end};
+ghost use Rattle.arrow_flatbuf.specs.Layout.{entries, slot_bytes, slots_bytes, table_end};
+ghost use Rattle.arrow_flatbuf.specs.Layout.{table_bytes};
+ghost use Rattle.arrow_flatbuf.specs.Stands.{SlotsFit, SlotFits};
+ghost use Rattle.arrow_flatbuf.specs.Nodes.{text_bytes, count_bytes, pairs_head, pair_bytes};
+
+use crate::layout::{Slot, Width, byte_count, entry_of, gap, slot_end, slots_end};
+use std::alloc::{AllocError, Global};
+use std::marker::Model;
+
+/// Bytes that grow at their end. Contracts see it as their list.
+#[derive(Drop)]
+pub struct TableWriter {
+    bytes: Vec<u8>,
+}
+
+impl Model for TableWriter {
+    ghost use Rattle.std.specs.Prelude.{List, ℕ};
+
+    ghost Value = { List ℕ };
+
+    ghost view = { λ a. a.bytes.items };
+}
+
+impl TableWriter {
+    /// A writer of no bytes, with room for so many. `AllocError` where there is no such room.
+    pub fn with_capacity(alloc: Global, capacity: usize) -> Result<Self, AllocError>
+        ensures { IfOk result (λ writer. writer ≡ []) }
+    {
+        let bytes = Vec::with_capacity(alloc, capacity)?;
+        Ok(TableWriter { bytes })
+    }
+
+    /// The first free place: how many bytes there are.
+    pub fn place(&self) -> usize
+        ensures { result ≡ length self.now }
+    {
+        self.bytes.len()
+    }
+
+    /// The bytes so far.
+    pub fn as_slice(&self) -> &[u8]
+        ensures { result.now ≡ self.now }
+    {
+        self.bytes.as_slice()
+    }
+
+    /// The bytes.
+    pub fn into_bytes(self) -> Vec<u8>
+        ensures { result.items ≡ self }
+    {
+        let TableWriter { bytes } = self;
+        bytes
+    }
+
+    /// Appends an offset to what is to stand at a place (FlatBuffers internals, "Offsets"): the
+    /// number, in four bytes, of bytes from here to there.
+    pub fn offset(&mut self, target: usize) -> Result<(), AllocError>
+        requires { length self.old ≤ target }
+        ensures { OnOk result (self.new ≡ self.old ++ little_bytes 4 (target - length self.old)) }
+    {
+        let here = self.place();
+        self.number(Width::Four, (target - here) as u64)
+    }
+
+    /// Appends a table behind its vtable (FlatBuffers internals, "Tables"). Its fields come in the
+    /// order of their numbers, each at the first free multiple of its size; the vtable has an entry
+    /// for each of them, and the size that it gives the table is where the last of them ends.
+    ///
+    /// Condition: each number fits its width, and each offset leads behind the table, to a place
+    /// that four bytes can name.
+    #[tactic(auto, using(crate::proofs::Writing::table_done, crate::proofs::Heads::slots_short))]
+    pub fn table(&mut self, slots: &[Slot]) -> Result<(), AllocError>
+        requires few { length slots.now ≤ 1000 }
+        requires fits { SlotsFit (table_end (length self.old) slots.now) slots.now }
+        ensures { OnOk result (self.new ≡ self.old ++ table_bytes (length self.old) slots.now) }
+    {
+        self.pad(2)?;
+        let vtable = self.place();
+        self.number(Width::Two, 4 + 2 * slots.len() as u64)?;
+        self.number(Width::Two, slots_end(4, slots) as u64)?;
+        self.entries(slots)?;
+        self.pad(8)?;
+        let table = self.place();
+        self.number(Width::Four, (table - vtable) as u64)?;
+        self.fields(table, slots)
+    }
+
+    /// Appends a text (FlatBuffers internals, "Strings"): the count of its bytes at a multiple of
+    /// 4, its bytes, and a 0 byte.
+    #[tactic(auto, using(crate::proofs::Writing::text_done))]
+    pub fn text(&mut self, text: &str) -> Result<(), AllocError>
+        ensures { OnOk result (self.new ≡ self.old ++ text_bytes (length self.old) text.now) }
+    {
+        self.pad(4)?;
+        self.number(Width::Four, text.len() as u64)?;
+        self.append(text.as_bytes())?;
+        self.append(&[0])
+    }
+
+    /// Appends the count of a vector of offsets, at a multiple of 4. The offsets stand behind it.
+    pub fn count(&mut self, count: usize) -> Result<(), AllocError>
+        ensures { OnOk result (self.new ≡ self.old ++ count_bytes (length self.old) count) }
+    {
+        self.pad(4)?;
+        self.number(Width::Four, count as u64)
+    }
+
+    /// Appends the count of a vector of pairs of numbers of eight bytes, which stand behind it at a
+    /// multiple of 8.
+    #[tactic(auto, using(crate::proofs::Writing::pairs_begun))]
+    pub fn count_pairs(&mut self, pairs: usize) -> Result<(), AllocError>
+        requires { length self.old < 2 ^ 32 }
+        ensures { OnOk result (self.new ≡ self.old ++ pairs_head (length self.old) pairs) }
+    {
+        let missing = gap(8, self.place() + 4);
+        self.zeros(missing)?;
+        self.number(Width::Four, pairs as u64)
+    }
+
+    /// Appends a pair of numbers of eight bytes.
+    pub fn pair(&mut self, first: u64, second: u64) -> Result<(), AllocError>
+        ensures { OnOk result (self.new ≡ self.old ++ pair_bytes ((first, second) ∷ [])) }
+    {
+        self.number(Width::Eight, first)?;
+        self.number(Width::Eight, second)?;
+        Ok(())
+    }
+
+    /// Appends zero bytes up to the next multiple of a size.
+    pub fn pad(&mut self, size: usize) -> Result<(), AllocError>
+        requires low { 1 ≤ size }
+        requires high { size ≤ 8 }
+        ensures { OnOk result (self.new ≡ self.old ++ zeros (gap size (length self.old))) }
+    {
+        let missing = gap(size, self.place());
+        self.zeros(missing)
+    }
+
+    /// Appends what the vtable holds of the fields.
+    #[tactic(auto, using(crate::proofs::Heads::slots_grow))]
+    fn entries(&mut self, slots: &[Slot]) -> Result<(), AllocError>
+        requires { slots_end 4 slots.now < 2 ^ 16 }
+        ensures { OnOk result (self.new ≡ self.old ++ entries 4 slots.now) }
+    {
+        let mut end = 4;
+        for slot in slots {
+            self.number(Width::Two, entry_of(end, *slot) as u64)?;
+            end = slot_end(end, *slot);
+        }
+        Ok(())
+    }
+
+    /// Appends the fields of a table that begins four bytes before.
+    #[tactic(auto, using(crate::proofs::Heads::slots_grow))]
+    fn fields(&mut self, table: usize, slots: &[Slot]) -> Result<(), AllocError>
+        requires place { length self.old ≡ table + 4 }
+        requires low { slots_end 4 slots.now < 2 ^ 16 }
+        requires fits { SlotsFit (table + slots_end 4 slots.now) slots.now }
+        ensures { OnOk result (self.new ≡ self.old ++ slots_bytes table 4 slots.now) }
+    {
+        let mut end = 4;
+        for slot in slots {
+            self.field(table, end, *slot)?;
+            end = slot_end(end, *slot);
+        }
+        Ok(())
+    }
+
+    /// Appends a field of the table at a place, in which `end` is the first free place.
+    fn field(&mut self, table: usize, end: usize, slot: Slot) -> Result<(), AllocError>
+        requires place { length self.old ≡ table + end }
+        requires low { end < 2 ^ 16 }
+        requires fits { SlotFits (table + slot_end end slot) slot }
+        ensures { OnOk result (self.new ≡ self.old ++ slot_bytes table end slot) }
+    {
+        match slot {
+            Slot::Absent => Ok(()),
+            Slot::Scalar(size, number) => {
+                self.zeros(gap(byte_count(size), end))?;
+                self.number(size, number)
+            }
+            Slot::Target(target) => {
+                let missing = gap(4, end);
+                self.zeros(missing)?;
+                self.number(Width::Four, (target - (table + (end + missing))) as u64)
+            }
+        }
+    }
+
+    /// Appends a number, lowest byte first.
+    #[tactic(auto, using(crate::proofs::Writing::number_part))]
+    fn number(&mut self, size: Width, number: u64) -> Result<(), AllocError>
+        ensures { OnOk result (self.new ≡ self.old ++ little_bytes (width size) number) }
+    {
+        self.append(&number.to_le_bytes()[..byte_count(size)])
+    }
+
+    /// Appends zero bytes.
+    #[tactic(auto, using(crate::proofs::Writing::zeros_part))]
+    fn zeros(&mut self, count: usize) -> Result<(), AllocError>
+        requires { count ≤ 8 }
+        ensures { OnOk result (self.new ≡ self.old ++ zeros count) }
+    {
+        self.append(&[0; 8][..count])
+    }
+
+    /// Appends bytes.
+    fn append(&mut self, bytes: &[u8]) -> Result<(), AllocError>
+        ensures { OnOk result (self.new ≡ self.old ++ bytes.now) }
+    {
+        self.bytes.extend_from_slice(bytes)
+    }
+}

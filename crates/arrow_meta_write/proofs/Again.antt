@@ -1,0 +1,114 @@
+-- What a message is written as means the message again.
+use Rattle.std.proofs.Common.{◌≡◌, ℤ, pos, negsuc, Bool, true, false, not, ◌==◌, List, [], ◌∷◌}
+use Rattle.std.proofs.Common.{Option, Some, None, map, refl, ap}
+use Rattle.std.specs.Int.{cast_signed, cast_unsigned, w64}
+use Rattle.std.specs.Option.{unwrap_or}
+use Rattle.std.proofs.lemmas.Int.{to_z-of_z}
+use Rattle.arrow_types.specs.DataType as tags
+use Rattle.arrow_types.specs.DataType.{Tag, bits_of, time_width_of}
+use Rattle.arrow_types.specs.Field as columns
+use Rattle.arrow_types.specs.Field.{Head, Fields, width}
+use Rattle.arrow_types.specs.declared.data_type.BitWidth.{BitWidth}
+use Rattle.arrow_types.specs.declared.data_type.BitWidth.TheVariants as widths
+use Rattle.arrow_types.specs.declared.data_type.DateUnit.TheVariants as dates
+use Rattle.arrow_types.specs.declared.data_type.TimeUnit.TheVariants as times
+use Rattle.arrow_types.specs.declared.field.Encoding.{Encoding}
+use Rattle.arrow_types.specs.declared.node.FieldNode.{FieldNode}
+use Rattle.arrow_types.specs.declared.node.Buffer.{Buffer}
+use Rattle.arrow_meta.specs.Codes.{type_code, bit_width}
+use Rattle.arrow_meta_write.specs.Layouts.{flag, tag_code, node_pair, buffer_pair, header_code}
+use Rattle.arrow_meta.specs.Means.{PlainBatch, PlainHeader, schema, dictionary, batch, node_of}
+use Rattle.arrow_meta.specs.Means.{buffer_of, batch_of, header_by}
+use Rattle.arrow_meta.specs.Parts.{parts}
+use Rattle.arrow_meta.specs.SchemaMeaning.{encoding_in, tag_by, head_of, fields_from}
+use Rattle.arrow_meta_write.specs.Writable.{IsLong, HasLongId, AreFields, AreNodes, AreBuffers}
+use Rattle.arrow_meta_write.specs.Writable.{IsBatch, IsHeader}
+use Rattle.arrow_meta_write.specs.Written.{type_tree, encoding_tree, field_parts, field_trees}
+use Rattle.arrow_meta_write.specs.Written.{batch_parts, header_tree}
+
+-- a number that 64 bits hold
+long_again : (z : ℤ) → IsLong z → cast_signed w64 (cast_unsigned w64 z) ≡ z
+long_again (pos n) h = to_z-of_z w64 (pos n) (record { sfits = h })
+long_again (negsuc n) h = to_z-of_z w64 (negsuc n) (record { sfits = h })
+
+-- a truth value
+flag_again : (b : Bool) → not (flag b == 0) ≡ b
+flag_again true = refl
+flag_again false = refl
+
+-- a width
+width_again : (bits : BitWidth) → unwrap_or (bit_width (bits_of bits)) widths.Eight ≡ bits
+width_again widths.Eight = refl
+width_again widths.Sixteen = refl
+width_again widths.ThirtyTwo = refl
+width_again widths.SixtyFour = refl
+
+-- a type
+tag_again : (tag : Tag) → tag_by (type_code (tag_code tag)) (parts (type_tree tag)) ≡ tag
+tag_again tags.null = refl
+tag_again tags.boolean = refl
+tag_again tags.binary = refl
+tag_again tags.utf8 = refl
+tag_again tags.list = refl
+tag_again tags.struct = refl
+tag_again (tags.int bits signed) = λ i. tags.int (width_again bits i) (flag_again signed i)
+tag_again (tags.date dates.Day) = refl
+tag_again (tags.date dates.Millisecond) = refl
+tag_again (tags.time times.Second) = refl
+tag_again (tags.time times.Millisecond) = refl
+tag_again (tags.time times.Microsecond) = refl
+tag_again (tags.time times.Nanosecond) = refl
+tag_again (tags.timestamp times.Second None) = refl
+tag_again (tags.timestamp times.Second (Some zone)) = refl
+tag_again (tags.timestamp times.Millisecond None) = refl
+tag_again (tags.timestamp times.Millisecond (Some zone)) = refl
+tag_again (tags.timestamp times.Microsecond None) = refl
+tag_again (tags.timestamp times.Microsecond (Some zone)) = refl
+tag_again (tags.timestamp times.Nanosecond None) = refl
+tag_again (tags.timestamp times.Nanosecond (Some zone)) = refl
+
+-- an encoding
+encoding_again : (e : Option Encoding) → HasLongId e → encoding_in (encoding_tree e) ≡ e
+encoding_again None h = refl
+encoding_again (Some e) h = λ i. Some (record {
+  id = long_again e.id h i;
+  index = record { bits = width_again e.index.bits i; signed = flag_again e.index.signed i };
+  ordered = flag_again e.ordered i;
+})
+
+-- a field without its children
+head_again : (head : Head) (children : Fields) → HasLongId head.encoding → head_of (field_parts head (field_trees children)) ≡ head
+head_again head children h = λ i. record {
+  name = head.name;
+  nullable = flag_again head.nullable i;
+  tag = tag_again head.tag i;
+  encoding = encoding_again head.encoding h i;
+}
+
+-- the fields of a vector
+pub fields_again : (fields : Fields) → AreFields fields → fields_from (field_trees fields) ≡ fields
+fields_again columns.none h = refl
+fields_again (columns.more head children rest) h = λ i.
+    columns.more (head_again head children h.0.id i) (fields_again children h.1 i) (fields_again rest h.2 i)
+
+nodes_again : (ns : List FieldNode) → AreNodes ns → map node_of (map node_pair ns) ≡ ns
+nodes_again [] h = refl
+nodes_again (n ∷ ns) h = λ i. record { length = long_again n.length h.0 i; null_count = long_again n.null_count h.1 i } ∷ nodes_again ns h.2 i
+
+buffers_again : (bs : List Buffer) → AreBuffers bs → map buffer_of (map buffer_pair bs) ≡ bs
+buffers_again [] h = refl
+buffers_again (b ∷ bs) h = λ i. record { offset = long_again b.offset h.0 i; length = long_again b.length h.1 i } ∷ buffers_again bs h.2 i
+
+-- a record batch
+batch_again : (b : PlainBatch) → IsBatch b → batch_of (batch_parts b) ≡ b
+batch_again b h = λ i. record {
+  length = long_again b.length h.length i;
+  nodes = nodes_again b.nodes h.nodes i;
+  buffers = buffers_again b.buffers h.buffers i;
+}
+
+-- a header
+pub header_again : (x : PlainHeader) → IsHeader x → header_by (header_code x) (parts (header_tree x)) ≡ x
+header_again (schema fields) h = ap schema (fields_again fields h.1)
+header_again (dictionary id delta b) h = λ i. dictionary (long_again id h.0 i) (flag_again delta i) (batch_again b h.1 i)
+header_again (batch b) h = ap batch (batch_again b h)

@@ -1,0 +1,195 @@
+-- No fault holds of the tree that a message is written as.
+use Rattle.std.proofs.Common.{◌≡◌, ℕ, ◌^◌, ◌<◌, ◌≤◌, ℤ, pos, Bool, true, false, ◌&&◌, not, nat_lt}
+use Rattle.std.proofs.Common.{Option, Some, None, is_some, refl, sym, ap, subst, ◌∙◌, arith}
+use Rattle.std.specs.Option.{is_none}
+use Rattle.std.proofs.lemmas.Bool.{le-ltb}
+use Rattle.arrow_types.specs.DataType as tags
+use Rattle.arrow_types.specs.DataType.{Tag, bits_of, time_width_of}
+use Rattle.arrow_types.specs.Field as columns
+use Rattle.arrow_types.specs.Field.{Head, Fields, width}
+use Rattle.arrow_types.specs.Schema.{is_nested, types_differ, dictionary_fields}
+use Rattle.arrow_types.specs.declared.data_type.BitWidth.{BitWidth}
+use Rattle.arrow_types.specs.declared.data_type.BitWidth.TheVariants as widths
+use Rattle.arrow_types.specs.declared.data_type.DateUnit.TheVariants as dates
+use Rattle.arrow_types.specs.declared.data_type.TimeUnit.TheVariants as times
+use Rattle.arrow_types.specs.declared.field.Encoding.{Encoding}
+use Rattle.arrow_meta.specs.declared.kinds.TableKind.{TableKind}
+use Rattle.arrow_meta.specs.declared.kinds.TableKind.TheVariants as kinds
+use Rattle.arrow_meta.specs.Codes.{type_code, bit_width}
+use Rattle.arrow_meta.specs.Conditions.{any, any_in, lacks_table, is_unsupported, is_misfit}
+use Rattle.arrow_meta.specs.Conditions.{children_fit}
+use Rattle.arrow_meta.specs.Faults.{fault_of, is_bad_length}
+use Rattle.arrow_meta.specs.Kinds.{type_table}
+use Rattle.arrow_meta_write.specs.Layouts.{tag_code}
+use Rattle.arrow_meta.specs.Means.{PlainHeader, schema, dictionary, batch, PlainMessage}
+use Rattle.arrow_meta.specs.Parts.{is_table}
+use Rattle.arrow_meta.specs.SchemaMeaning.{fields_from}
+use Rattle.arrow_meta.specs.Trees.{table, Trees}
+use Rattle.arrow_meta_write.specs.Writable.{IsField, AreFields, IsHeader}
+use Rattle.arrow_meta_write.specs.Written.{type_tree, encoding_tree, field_parts, field_trees}
+use Rattle.arrow_meta_write.specs.Written.{message_parts}
+use Rattle.arrow_meta_write.proofs.Again.{fields_again}
+use Rattle.arrow_types.proofs.Clashes.{none_differ}
+
+-- A Field table passes a test where it does itself, and its type, its encoding and its children do.
+field_passes : (test : TableKind → Trees → Bool) (head : Head) (children : Fields) → test kinds.Field (field_parts head (field_trees children)) ≡ false → any test (type_tree head.tag) ≡ false → any test (encoding_tree head.encoding) ≡ false
+    → any_in test (field_trees children) ≡ false → any test (table kinds.Field (field_parts head (field_trees children))) ≡ false
+field_passes test head children here type encoding below = rw (here, type, encoding, below) refl
+
+-- No table is lacking.
+
+whole_type : (tag : Tag) → any lacks_table (type_tree tag) ≡ false
+whole_type (tags.timestamp unit None) = refl
+whole_type (tags.timestamp unit (Some zone)) = refl
+whole_type tags.null = refl
+whole_type tags.boolean = refl
+whole_type (tags.int bits signed) = refl
+whole_type tags.binary = refl
+whole_type tags.utf8 = refl
+whole_type (tags.date unit) = refl
+whole_type (tags.time unit) = refl
+whole_type tags.list = refl
+whole_type tags.struct = refl
+
+whole_encoding : (e : Option Encoding) → any lacks_table (encoding_tree e) ≡ false
+whole_encoding None = refl
+whole_encoding (Some e) = refl
+
+-- the type's table is there where its code opens one
+has_type : (tag : Tag) → (is_some (type_table (tag_code tag)) && not (is_table (type_tree tag))) ≡ false
+has_type tags.null = refl
+has_type tags.boolean = refl
+has_type (tags.int bits signed) = refl
+has_type tags.binary = refl
+has_type tags.utf8 = refl
+has_type (tags.date unit) = refl
+has_type (tags.time unit) = refl
+has_type (tags.timestamp unit place) = refl
+has_type tags.list = refl
+has_type tags.struct = refl
+
+lacks_none : (fields : Fields) → any_in lacks_table (field_trees fields) ≡ false
+lacks_none columns.none = refl
+lacks_none (columns.more head children rest) =
+    let here = field_passes lacks_table head children (has_type head.tag) (whole_type head.tag) (whole_encoding head.encoding) (lacks_none children) in
+    let later = lacks_none rest in
+    rw (here, later) refl
+
+-- Nothing is unsupported.
+
+supported_type : (tag : Tag) → any is_unsupported (type_tree tag) ≡ false
+supported_type (tags.timestamp unit None) = refl
+supported_type (tags.timestamp unit (Some zone)) = refl
+supported_type tags.null = refl
+supported_type tags.boolean = refl
+supported_type (tags.int bits signed) = refl
+supported_type tags.binary = refl
+supported_type tags.utf8 = refl
+supported_type (tags.date unit) = refl
+supported_type (tags.time unit) = refl
+supported_type tags.list = refl
+supported_type tags.struct = refl
+
+supported_encoding : (e : Option Encoding) → any is_unsupported (encoding_tree e) ≡ false
+supported_encoding None = refl
+supported_encoding (Some e) = refl
+
+known_type : (tag : Tag) → is_none (type_code (tag_code tag)) ≡ false
+known_type tags.null = refl
+known_type tags.boolean = refl
+known_type (tags.int bits signed) = refl
+known_type tags.binary = refl
+known_type tags.utf8 = refl
+known_type (tags.date unit) = refl
+known_type (tags.time unit) = refl
+known_type (tags.timestamp unit place) = refl
+known_type tags.list = refl
+known_type tags.struct = refl
+
+all_supported : (fields : Fields) → any_in is_unsupported (field_trees fields) ≡ false
+all_supported columns.none = refl
+all_supported (columns.more head children rest) =
+    let here = field_passes is_unsupported head children (known_type head.tag) (supported_type head.tag) (supported_encoding head.encoding) (all_supported children) in
+    let later = all_supported rest in
+    rw (here, later) refl
+
+-- Nothing is a misfit.
+
+known_width : (bits : BitWidth) → is_none (bit_width (bits_of bits)) ≡ false
+known_width widths.Eight = refl
+known_width widths.Sixteen = refl
+known_width widths.ThirtyTwo = refl
+known_width widths.SixtyFour = refl
+
+fitting_type : (tag : Tag) → any is_misfit (type_tree tag) ≡ false
+fitting_type (tags.int widths.Eight signed) = refl
+fitting_type (tags.int widths.Sixteen signed) = refl
+fitting_type (tags.int widths.ThirtyTwo signed) = refl
+fitting_type (tags.int widths.SixtyFour signed) = refl
+fitting_type (tags.date dates.Day) = refl
+fitting_type (tags.date dates.Millisecond) = refl
+fitting_type (tags.time times.Second) = refl
+fitting_type (tags.time times.Millisecond) = refl
+fitting_type (tags.time times.Microsecond) = refl
+fitting_type (tags.time times.Nanosecond) = refl
+fitting_type (tags.timestamp times.Second None) = refl
+fitting_type (tags.timestamp times.Second (Some zone)) = refl
+fitting_type (tags.timestamp times.Millisecond None) = refl
+fitting_type (tags.timestamp times.Millisecond (Some zone)) = refl
+fitting_type (tags.timestamp times.Microsecond None) = refl
+fitting_type (tags.timestamp times.Microsecond (Some zone)) = refl
+fitting_type (tags.timestamp times.Nanosecond None) = refl
+fitting_type (tags.timestamp times.Nanosecond (Some zone)) = refl
+fitting_type tags.null = refl
+fitting_type tags.boolean = refl
+fitting_type tags.binary = refl
+fitting_type tags.utf8 = refl
+fitting_type tags.list = refl
+fitting_type tags.struct = refl
+
+fitting_encoding : (e : Option Encoding) → any is_misfit (encoding_tree e) ≡ false
+fitting_encoding None = refl
+fitting_encoding (Some e) = let known = known_width e.index.bits in rw known refl
+
+fitting_field : (head : Head) (children : Fields) → IsField head children → AreFields children → is_misfit kinds.Field (field_parts head (field_trees children)) ≡ false
+fitting_field head children h below =
+    let fits : children_fit (type_code (tag_code head.tag)) (width (fields_from (field_trees children))) ≡ true =
+    ap (λ fs. children_fit (type_code (tag_code head.tag)) (width fs)) (fields_again children below) ∙ h.fits in
+    ap not fits
+
+all_fitting : (fields : Fields) → AreFields fields → any_in is_misfit (field_trees fields) ≡ false
+all_fitting columns.none h = refl
+all_fitting (columns.more head children rest) h =
+    let here = field_passes is_misfit head children (fitting_field head children h.0 h.1) (fitting_type head.tag) (fitting_encoding head.encoding) (all_fitting children h.1) in
+    let later = all_fitting rest h.2 in
+    rw (here, later) refl
+
+-- The body's length is neither negative nor over the limit.
+good_length : (max n : ℕ) → n ≤ max → n < 2 ^ 63 → is_bad_length max n ≡ false
+good_length max n h k =
+    let positive : nat_lt 9223372036854775807 n ≡ false = le-ltb 9223372036854775807 n (omega (arith, k)) in
+    let within : nat_lt max n ≡ false = le-ltb max n h in
+    rw (positive, within) refl
+
+-- a message of V5 with this header
+abbrev message_of : PlainHeader → ℕ → PlainMessage
+message_of x n = record { version = pos 4; header = x; body_len = n }
+
+sound_header : (max n : ℕ) (x : PlainHeader) → IsHeader x → n ≤ max → n < 2 ^ 63 → fault_of max (message_parts (message_of x n)) ≡ None
+sound_header max n (schema fields) h low small =
+    let length = good_length max n low small in
+    let lacks = lacks_none fields in
+    let supported = all_supported fields in
+    let fitting = all_fitting fields h.1 in
+    let again = fields_again fields h.1 in
+    let flat : is_nested (fields_from (field_trees fields)) ≡ false = ap is_nested again ∙ h.0.bounded.flat in
+    let shared : types_differ (dictionary_fields (fields_from (field_trees fields))) ≡ false = ap (λ fs. types_differ (dictionary_fields fs)) again ∙ none_differ (dictionary_fields fields) h.0.one_type in
+    rw (length, lacks, supported, fitting, flat, shared) refl
+sound_header max n (dictionary id delta b) h low small = let length = good_length max n low small in rw length refl
+sound_header max n (batch b) h low small = let length = good_length max n low small in rw length refl
+
+-- No fault holds of a message of V5 whose body keeps to the limit.
+pub sound : (max : ℕ) (m : PlainMessage) → IsHeader m.header → m.version ≡ pos 4 → m.body_len ≤ max → m.body_len < 2 ^ 63 → fault_of max (message_parts m) ≡ None
+sound max m h v low small =
+    let P : ℤ → Type 0 = λ z. fault_of max (message_parts (record { version = z; header = m.header; body_len = m.body_len })) ≡ None in
+    subst P (sym v) (sound_header max m.body_len m.header h low small)

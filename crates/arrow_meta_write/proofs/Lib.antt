@@ -1,0 +1,15 @@
+pub mod Standing
+pub mod StandingMessages
+pub mod Again
+pub mod Faultless
+pub mod Bounds
+pub mod Fitting
+pub mod WrittenMeans
+pub mod Capping
+pub mod FieldParts
+pub mod Sizing
+pub mod WithEncoding
+pub mod Exact
+pub mod PairRows
+pub mod FieldRows
+pub mod FieldSteps

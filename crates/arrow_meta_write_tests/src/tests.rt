@@ -1,0 +1,8 @@
+//! What no clause says: that the bytes are those that another program lays out, and that calls
+//! succeed.
+
+mod again;
+mod built;
+mod refused;
+mod tables;
+mod written;
