@@ -79,7 +79,7 @@ fn ids_of_one_type(alloc: Global, fields: &[Encoded]) -> Result<Option<Vec<i64>>
         match places.get(&field.id) {
             Some(first) => {
                 let earlier = &fields[*first];
-                if earlier.value_type != field.value_type {
+                if !earlier.value_type.same(field.value_type) {
                     return Ok(None);
                 }
             }

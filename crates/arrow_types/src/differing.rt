@@ -84,7 +84,7 @@ fn is_other(field: &Field, id: i64, value_type: &DataType) -> bool
         ((field_view field.now).head) ((field_view field.now).children) }
 {
     match field.dictionary {
-        Some(encoding) => id == encoding.id && *value_type != field.data_type,
+        Some(encoding) => id == encoding.id && !value_type.same(&field.data_type),
         None => false,
     }
 }
