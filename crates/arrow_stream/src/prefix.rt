@@ -40,6 +40,7 @@ pub(crate) fn read_prefix(
     match (size, has_schema) {
         (0, true) => Ok(Prefix::EndMarker),
         (0, false) => Err(Refusal::NoSchema),
+        // a number that is not 0
         _ => Ok(Prefix::Metadata(size)),
     }
 }

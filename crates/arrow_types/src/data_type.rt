@@ -160,33 +160,39 @@ impl DataType {
             DataType::Struct(fields) => Ok(DataType::Struct(copy_fields(alloc, fields)?)),
         }
     }
+
+    /// Whether the types are the same: their units and zones, and of the fields below them the
+    /// names, `nullable`, types and encodings. Takes no memory.
+    pub fn same(&self, other: &DataType) -> bool
+        ensures gives { result ≡ is_equal type_code (type_view self.now) (type_view other.now) }
+        ensures same { IsTrue result ↔ (type_view self.now ≡ type_view other.now) }
+    {
+        same_type(self, other)
+    }
 }
 
-/// Whether the types are equal, with all that they hold.
+/// Whether the types are the same. Each type is written out, and another one is another type.
 #[cycle(same)]
 pub(crate) fn same_type(one: &DataType, other: &DataType) -> bool
     ensures { IsTrue result ↔ (type_view one.now ≡ type_view other.now) }
 {
-    match (one, other) {
-        (DataType::Null, DataType::Null) => true,
-        (DataType::Bool, DataType::Bool) => true,
-        (
-            DataType::Int { bits, signed },
-            DataType::Int {
-                bits: other_bits,
-                signed: other_signed,
-            },
-        ) => bits == other_bits && signed == other_signed,
-        (DataType::Binary, DataType::Binary) => true,
-        (DataType::Utf8, DataType::Utf8) => true,
-        (DataType::Date(unit), DataType::Date(other)) => unit == other,
-        (DataType::Time(unit), DataType::Time(other)) => unit == other,
-        (DataType::Timestamp(unit, zone), DataType::Timestamp(other, other_zone)) => {
-            unit == other && zone == other_zone
+    match one {
+        DataType::Null => matches!(other, DataType::Null),
+        DataType::Bool => matches!(other, DataType::Bool),
+        DataType::Int { bits, signed } => {
+            matches!(other, DataType::Int { bits: b, signed: s } if b == bits && s == signed)
         }
-        (DataType::List(item), DataType::List(other)) => same_field(item, other),
-        (DataType::Struct(fields), DataType::Struct(others)) => same_fields(fields, others),
-        _ => false,
+        DataType::Binary => matches!(other, DataType::Binary),
+        DataType::Utf8 => matches!(other, DataType::Utf8),
+        DataType::Date(unit) => matches!(other, DataType::Date(u) if u == unit),
+        DataType::Time(unit) => matches!(other, DataType::Time(u) if u == unit),
+        DataType::Timestamp(unit, zone) => {
+            matches!(other, DataType::Timestamp(u, z) if u == unit && z == zone)
+        }
+        DataType::List(item) => matches!(other, DataType::List(i) if same_field(item, i)),
+        DataType::Struct(fields) => {
+            matches!(other, DataType::Struct(f) if same_fields(fields, f))
+        }
     }
 }
 
@@ -201,7 +207,7 @@ impl PartialEq for DataType {
         ensures gives { result ≡ is_equal type_code (type_view self.now) (type_view other.now) }
         ensures same { IsTrue result ↔ (type_view self.now ≡ type_view other.now) }
     {
-        same_type(self, other)
+        self.same(other)
     }
 }
 

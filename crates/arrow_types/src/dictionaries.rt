@@ -3,7 +3,7 @@
 ghost use Rattle.std.specs.Prelude.{◌≡◌, ◌++◌, OnOk, IfOk};
 ghost use Rattle.arrow_types.specs.Dictionaries.{encoded_views, GivesIds};
 ghost use Rattle.arrow_types.specs.Schema.{dictionary_fields, field_dictionaries};
-ghost use Rattle.arrow_types.specs.View.{field_view, fields_view, type_view};
+ghost use Rattle.arrow_types.specs.View.{field_view, fields_view};
 
 use crate::data_type::DataType;
 use crate::field::Field;
@@ -51,20 +51,7 @@ fn add_field<'a>(field: &'a Field, found: &mut Vec<Encoded<'a>>) -> Result<(), A
             value_type: &field.data_type,
         })?;
     }
-    add_children(&field.data_type, found)
-}
-
-/// Adds the dictionary-encoded ones of the type's children.
-#[cycle(encoded)]
-fn add_children<'a>(data_type: &'a DataType, found: &mut Vec<Encoded<'a>>) -> Result<(), AllocError>
-    ensures { OnOk result (encoded_views found.new.items
-        ≡ encoded_views found.old.items ++ dictionary_fields ((type_view data_type.now).children)) }
-{
-    match data_type {
-        DataType::List(item) => add_field(item, found),
-        DataType::Struct(fields) => add_fields(fields, found),
-        _ => Ok(()),
-    }
+    add_fields(field.children(), found)
 }
 
 /// The ids of the dictionaries, each once in the order of their first fields, or None where two
@@ -79,7 +66,7 @@ fn ids_of_one_type(alloc: Global, fields: &[Encoded]) -> Result<Option<Vec<i64>>
         match places.get(&field.id) {
             Some(first) => {
                 let earlier = &fields[*first];
-                if earlier.value_type != field.value_type {
+                if !earlier.value_type.same(field.value_type) {
                     return Ok(None);
                 }
             }

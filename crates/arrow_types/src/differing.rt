@@ -41,11 +41,7 @@ fn differs(field: &Field, all: &[Field]) -> bool
     {
         return true;
     }
-    match &field.data_type {
-        DataType::List(item) => differs(item, all),
-        DataType::Struct(fields) => some_differ(fields, all),
-        _ => false,
-    }
+    some_differ(field.children(), all)
 }
 
 /// Whether one of the fields, on any level, has this dictionary and another value type.
@@ -68,14 +64,7 @@ fn clashes(field: &Field, id: i64, value_type: &DataType) -> bool
     ensures { result ≡ field_clashes (record { id = id; value_type = type_view value_type.now })
         (field_view field.now) }
 {
-    if is_other(field, id, value_type) {
-        return true;
-    }
-    match &field.data_type {
-        DataType::List(item) => clashes(item, id, value_type),
-        DataType::Struct(fields) => some_clash(fields, id, value_type),
-        _ => false,
-    }
+    is_other(field, id, value_type) || some_clash(field.children(), id, value_type)
 }
 
 /// Whether the field itself has this dictionary and another value type.
@@ -84,7 +73,7 @@ fn is_other(field: &Field, id: i64, value_type: &DataType) -> bool
         ((field_view field.now).head) ((field_view field.now).children) }
 {
     match field.dictionary {
-        Some(encoding) => id == encoding.id && *value_type != field.data_type,
+        Some(encoding) => id == encoding.id && !value_type.same(&field.data_type),
         None => false,
     }
 }

@@ -26,7 +26,14 @@ fn add_children(pending: &mut Vec<Field>, field: Field)
     match data_type {
         DataType::List(item) => add_field(pending, Box::into_inner(item)),
         DataType::Struct(fields) => add_fields(pending, fields),
-        _ => {}
+        DataType::Null
+        | DataType::Bool
+        | DataType::Int { .. }
+        | DataType::Binary
+        | DataType::Utf8
+        | DataType::Date(_)
+        | DataType::Time(_)
+        | DataType::Timestamp(..) => {}
     }
 }
 

@@ -48,6 +48,13 @@ pub struct Field {
 }
 
 impl Field {
+    /// The fields below this one: the children of its type. Takes no memory.
+    pub fn children(&self) -> &[Field]
+        ensures { fields_view result.now ≡ (field_view self.now).children }
+    {
+        self.data_type.children()
+    }
+
     /// An equal field in memory of its own, or `AllocError` where a growth was refused.
     #[cycle(copy)]
     pub fn copy(&self, alloc: Global) -> Result<Field, AllocError>

@@ -1,6 +1,6 @@
 //! Whether a dictionary stands below a dictionary.
 
-ghost use Rattle.std.specs.Prelude.{◌≡◌};
+ghost use Rattle.std.specs.Prelude.{◌≡◌, ◌||◌, is_some};
 ghost use Rattle.arrow_types.specs.Schema.{has_encoding, is_nested, field_is_nested};
 ghost use Rattle.arrow_types.specs.View.{field_view, fields_view, type_view};
 
@@ -25,14 +25,10 @@ pub(crate) fn are_nested(fields: &[Field]) -> bool
 fn has_nested(field: &Field) -> bool
     ensures { result ≡ field_is_nested (field_view field.now) }
 {
-    if field.dictionary.is_some() && has_encoding_below(&field.data_type) {
+    if field.dictionary.is_some() && have_encoding(field.children()) {
         return true;
     }
-    match &field.data_type {
-        DataType::List(item) => has_nested(item),
-        DataType::Struct(fields) => are_nested(fields),
-        _ => false,
-    }
+    are_nested(field.children())
 }
 
 impl DataType {
@@ -40,19 +36,7 @@ impl DataType {
     pub fn has_encoding_below(&self) -> bool
         ensures { result ≡ has_encoding ((type_view self.now).children) }
     {
-        has_encoding_below(self)
-    }
-}
-
-/// Whether a child of the type, on any level, is dictionary-encoded.
-#[cycle(encodings)]
-fn has_encoding_below(data_type: &DataType) -> bool
-    ensures { result ≡ has_encoding ((type_view data_type.now).children) }
-{
-    match data_type {
-        DataType::List(item) => { item.dictionary.is_some() || has_encoding_below(&item.data_type) }
-        DataType::Struct(fields) => have_encoding(fields),
-        _ => false,
+        have_encoding(self.children())
     }
 }
 
@@ -62,9 +46,18 @@ fn have_encoding(fields: &[Field]) -> bool
     ensures { result ≡ has_encoding (fields_view fields.now) }
 {
     for field in fields {
-        if field.dictionary.is_some() || has_encoding_below(&field.data_type) {
+        if has_encoding(field) {
             return true;
         }
     }
     false
+}
+
+/// The same for one field and what stands below it.
+#[cycle(encodings)]
+fn has_encoding(field: &Field) -> bool
+    ensures { result ≡ (is_some (field_view field.now).head.encoding
+        || has_encoding (field_view field.now).children) }
+{
+    field.dictionary.is_some() || have_encoding(field.children())
 }

@@ -5,7 +5,6 @@ ghost use Rattle.arrow_types.specs.Field.{levels, field_levels, count, field_cou
 ghost use Rattle.arrow_types.specs.Room.{left_of};
 ghost use Rattle.arrow_types.specs.View.{field_view, fields_view};
 
-use crate::data_type::DataType;
 use crate::field::Field;
 
 /// Whether the fields have at most `most` levels. No level below is looked at, however deep they
@@ -30,11 +29,7 @@ fn has_levels(field: &Field, most: u32) -> bool
     if most == 0 {
         return false;
     }
-    match &field.data_type {
-        DataType::List(item) => has_levels(item, most - 1),
-        DataType::Struct(fields) => have_levels(fields, most - 1),
-        _ => true,
-    }
+    have_levels(field.children(), most - 1)
 }
 
 /// What is left of `most` after the fields on all levels are counted, None where there are more.
@@ -55,9 +50,5 @@ fn after_field(field: &Field, most: u32) -> Option<u32>
     ensures { result ≡ left_of most (field_count (field_view field.now)) }
 {
     let most = most.checked_sub(1)?;
-    match &field.data_type {
-        DataType::List(item) => after_field(item, most),
-        DataType::Struct(fields) => after_fields(fields, most),
-        _ => Some(most),
-    }
+    after_fields(field.children(), most)
 }

@@ -10,3 +10,4 @@ mod Sent
 mod Told
 mod Reading
 mod Reporting
+mod Wanting

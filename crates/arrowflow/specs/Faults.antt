@@ -1,5 +1,5 @@
 -- What the program says of a fault, and its exit status. (Both are this project's own.)
-use Rattle.std.specs.Prelude.{ℕ, List, ◌++◌, codes, Result, Ok, Err}
+use Rattle.std.specs.Prelude.{ℕ, Bool, true, false, if◌then◌else◌, List, ◌++◌, codes, Result, Ok, Err}
 use Rattle.std.specs.Fmt.{decimal}
 use Rattle.arrow_stream.specs.declared.fault.Fault.{Fault}
 use Rattle.arrow_stream.specs.declared.kind.Kind.{Kind}
@@ -43,14 +43,31 @@ status_of Output = 2
 status_of (Stream fault) = 1
 status_of Memory = 2
 
--- a reader's fault as one of the program's: want of memory says nothing of the stream
-abbrev told_as : Kind → Fault → ToolFault
-told_as kinds.Memory fault = Memory
-told_as kind fault = Stream fault
+-- whether a kind is want of memory, which says nothing of the stream
+abbrev pub is_memory : Kind → Bool
+is_memory kinds.Continuation = false
+is_memory kinds.MetadataSize = false
+is_memory kinds.Metadata = false
+is_memory kinds.Version = false
+is_memory kinds.Header = false
+is_memory kinds.BodyLength = false
+is_memory kinds.Order = false
+is_memory kinds.Unsupported = false
+is_memory kinds.Schema = false
+is_memory kinds.Compressed = false
+is_memory kinds.UnknownId = false
+is_memory kinds.NoBase = false
+is_memory kinds.Rows = false
+is_memory kinds.Layout = false
+is_memory kinds.Text = false
+is_memory kinds.Index = false
+is_memory kinds.NoSchema = false
+is_memory kinds.Truncated = false
+is_memory kinds.Memory = true
 
--- the same, by its own kind
+-- a reader's fault as one of the program's
 abbrev pub told : Fault → ToolFault
-told fault = told_as fault.kind fault
+told fault = if is_memory fault.kind then Memory else Stream fault
 
 -- what a reader answers of a stream that ends, as an answer of the program's
 abbrev pub told_end : Result (Unit {0}) Fault → Result (Unit {0}) ToolFault

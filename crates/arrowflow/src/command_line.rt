@@ -146,6 +146,7 @@ fn plan_of(command: &str, file: String) -> Plan
     match command {
         "check" => Plan::Check(file),
         "show" => Plan::Show(file),
+        // `schema`, and any text that names no command
         _ => Plan::Schema(file),
     }
 }

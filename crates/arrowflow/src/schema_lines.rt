@@ -7,7 +7,7 @@ ghost use Rattle.arrowflow.specs.SchemaText.{indentation, field_line, fields_tex
 
 use crate::escapes::push_escaped;
 use crate::type_names::push_column_type;
-use arrow_types::{DataType, Field, Schema};
+use arrow_types::{Field, Schema};
 use std::alloc::{AllocError, Global};
 
 /// The text of a schema: a line a field, each with its line feed.
@@ -41,11 +41,7 @@ fn push_field(text: &mut String, field: &Field, level: u32) -> Result<(), AllocE
         ++ fields_text (level + 1) (field_view field.now).children) }
 {
     push_line(text, field, level)?;
-    match &field.data_type {
-        DataType::List(item) => push_field(text, item, level + 1),
-        DataType::Struct(fields) => push_fields(text, fields, level + 1),
-        _ => Ok(()),
-    }
+    push_fields(text, field.children(), level + 1)
 }
 
 /// Appends a field's own line.

@@ -5,8 +5,9 @@ ghost use Rattle.arrow_stream.specs.Views.{given};
 ghost use Rattle.arrowflow.specs.Pieces.{Feeds, FeedsInside, HandsOut};
 ghost use Rattle.arrowflow.specs.Session.{Receives, StandsAt, StandsInside, ending_by, table_in};
 
+use crate::tool_fault::is_memory;
 use arrow_array::{Batch, Dictionary};
-use arrow_stream::{Fault, Item, Kind, StreamReader};
+use arrow_stream::{Fault, Item, StreamReader};
 use std::alloc::{AllocError, Global};
 
 /// How a connection ended: what [`StreamReader::end`] answers behind its last byte.
@@ -104,10 +105,12 @@ fn feed(reader: &mut StreamReader, handed: &mut Vec<Batch>, piece: &[u8]) -> Res
                 rest = &rest[taken..];
             }
             Ok((_, None)) => return Ok(()),
-            Err(fault) => match fault.kind {
-                Kind::Memory => return Err(AllocError),
-                _ => return Ok(()),
-            },
+            Err(fault) => {
+                if is_memory(fault.kind) {
+                    return Err(AllocError);
+                }
+                return Ok(());
+            }
         }
     }
 }

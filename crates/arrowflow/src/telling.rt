@@ -113,13 +113,16 @@ fn tell_rows<S: Sink>(
         (text_in reader.now.at.state.schema number (given item.now)) result (S.contents output.new)
         (S.failed output.new) }
 {
-    match (item, reader.schema()) {
-        (Item::Schema, Some(schema)) => match header(alloc, schema) {
-            Ok(text) => send_text(output, &text),
-            Err(_) => Err(ToolFault::Memory),
+    match item {
+        Item::Schema => match reader.schema() {
+            Some(schema) => match header(alloc, schema) {
+                Ok(text) => send_text(output, &text),
+                Err(_) => Err(ToolFault::Memory),
+            },
+            None => Ok(()),
         },
-        (Item::Batch(batch), _) => send_rows(alloc, number, batch, output),
-        _ => Ok(()),
+        Item::Batch(batch) => send_rows(alloc, number, batch, output),
+        Item::Dictionary(_) | Item::End => Ok(()),
     }
 }
 

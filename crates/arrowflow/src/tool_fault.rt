@@ -1,7 +1,7 @@
 //! Faults of the program's commands, with the line and the exit status of each.
 
 ghost use Rattle.std.specs.Prelude.{◌≡◌, IfOk, string_bytes};
-ghost use Rattle.arrowflow.specs.Faults.{fault_line, kind_name, status_of, told};
+ghost use Rattle.arrowflow.specs.Faults.{fault_line, is_memory, kind_name, status_of, told};
 
 use arrow_stream::{Fault, Kind};
 use std::alloc::{AllocError, Global};
@@ -31,9 +31,10 @@ impl From<Fault> for ToolFault {
     ghost from_gives = { λ fault tool. tool ≡ told fault };
 
     fn from(fault: Fault) -> ToolFault {
-        match fault.kind {
-            Kind::Memory => ToolFault::Memory,
-            _ => ToolFault::Stream(fault),
+        if is_memory(fault.kind) {
+            ToolFault::Memory
+        } else {
+            ToolFault::Stream(fault)
         }
     }
 }
@@ -79,6 +80,33 @@ impl ToolFault {
             ToolFault::Stream(_) => 1,
             ToolFault::Input(_) | ToolFault::Output | ToolFault::Memory => 2,
         }
+    }
+}
+
+/// Whether the kind is want of memory, which says nothing of the stream.
+pub(crate) fn is_memory(kind: Kind) -> bool
+    ensures { result ≡ is_memory kind }
+{
+    match kind {
+        Kind::Continuation
+        | Kind::MetadataSize
+        | Kind::Metadata
+        | Kind::Version
+        | Kind::Header
+        | Kind::BodyLength
+        | Kind::Order
+        | Kind::Unsupported
+        | Kind::Schema
+        | Kind::Compressed
+        | Kind::UnknownId
+        | Kind::NoBase
+        | Kind::Rows
+        | Kind::Layout
+        | Kind::Text
+        | Kind::Index
+        | Kind::NoSchema
+        | Kind::Truncated => false,
+        Kind::Memory => true,
     }
 }
 

@@ -1,4 +1,4 @@
-use Rattle.std.proofs.Common.{◌<◌, length, sym, ◌∙◌, rules, arith}
+use Rattle.std.proofs.Common.{◌<◌, length, not, ap, sym, ◌∙◌, rules, arith}
 use Rattle.std.specs.BTreeMap.{get}
 use Rattle.std.proofs.lemmas.Int.{to_z-of_z}
 use mir.Val.{SFits}
@@ -6,7 +6,7 @@ use mir.Syntax.{w64}
 use Rattle.std.specs.Ordering.{int_cmp}
 use Rattle.arrow_types.proofs.Look.{known_below, look_same, look_other, look_new, look_done}
 use Rattle.arrow_types.proofs.dictionaries.ids_of_one_type.Goals as goal
-use Rattle.arrow_types.proofs.dictionaries.ids_of_one_type.Goals.{in-Some+else-ne, in-None+in_ok-insert-in-None+in_ok-push-in-None}
+use Rattle.arrow_types.proofs.dictionaries.ids_of_one_type.Goals.{in-Some+else-not-same, in-None+in_ok-insert-in-None+in_ok-push-in-None}
 
 -- the place that the map has for a known id lies before the field at hand
 pub bounds-fields-first : goal.bounds-fields-first
@@ -29,20 +29,20 @@ offset_bounds-fields-first c =
     search rules
 
 -- the type at that place is another one
-pub returns-then-ne : goal.returns-then-ne
-returns-then-ne c =
+pub returns-then-not-same : goal.returns-then-not-same
+returns-then-not-same c =
     look_other c.loop-i.i c.in-Some.first.now c.args.fields.now c.index-fields-i.result c.index-fields-first.result c.loop-i.ids.items
     (λ q. get int_cmp c.loop-i.places q) c.loop-i.invariant c.loop-i-test.true c.index-fields-i.is c.in-Some.ensures.value
-    c.index-fields-first.is (sym c.ne.ensures ∙ c.if-ne.true)
+    c.index-fields-first.is (ap not (sym c.same.ensures.gives ∙ c.if-not-same.true))
 
 -- one more field is looked at
 pub loop-i-preserved : goal.loop-i-preserved
 loop-i-preserved c =
     elim c.match-get.branch [
-      | in-Some+else-ne w ↦
+      | in-Some+else-not-same w ↦
           let here = look_same c.loop-i.i w.in-Some.first.now c.args.fields.now c.index-fields-i.result w.index-fields-first.result c.loop-i.ids.items
           (λ q. get int_cmp c.loop-i.places q) c.loop-i.invariant c.loop-i-test.true c.index-fields-i.is w.in-Some.ensures.value
-          w.index-fields-first.is (sym w.ne.ensures ∙ w.if-ne.false) in
+          w.index-fields-first.is (ap not (sym w.same.ensures.gives ∙ w.if-not-same.false)) in
           rw (w.ids-is, w.places-is) here
       | in-None+in_ok-insert-in-None+in_ok-push-in-None w ↦
           let fits : SFits w64 c.index-fields-i.result.id = search rules in

@@ -1,7 +1,15 @@
-use Rattle.std.proofs.Common.{◌≡◌, drop}
+use Rattle.arrow_types.specs.Field.{count}
+use Rattle.std.proofs.Common.{◌+◌, ◌*◌, ◌≡◌, drop}
 use Rattle.arrow_types.specs.Dictionaries.{some_differ}
-use Rattle.arrow_types.specs.View.{fields_view}
+use Rattle.arrow_types.specs.View.{field_view, fields_view}
 use Rattle.arrow_types.proofs.differing.+differing.Given as goal
+
+-- what stands below a field is less than the field, and that less than the fields among which it stands
+abbrev pub decreases-some_differ : goal.decreases-some_differ
+decreases-some_differ l = 2 * count (fields_view l.fields.now)
+
+abbrev pub decreases-differs : goal.decreases-differs
+decreases-differs l = 2 * count (field_view l.field.now).children + 1
 
 -- none of the fields so far clashes with one of all
 abbrev pub invariant-some_differ-loop-field : goal.invariant-some_differ-loop-field

@@ -1,8 +1,15 @@
-use Rattle.std.proofs.Common.{◌≡◌, drop}
+use Rattle.std.proofs.Common.{◌+◌, ◌*◌, ◌≡◌, drop}
 use Rattle.arrow_types.specs.Field.{count}
 use Rattle.arrow_types.specs.Room.{left_of}
-use Rattle.arrow_types.specs.View.{fields_view}
+use Rattle.arrow_types.specs.View.{field_view, fields_view}
 use Rattle.arrow_types.proofs.size.+counting.Given as goal
+
+-- what stands below a field is less than the field, and that less than the fields among which it stands
+abbrev pub decreases-after_fields : goal.decreases-after_fields
+decreases-after_fields l = 2 * count (fields_view l.fields.now)
+
+abbrev pub decreases-after_field : goal.decreases-after_field
+decreases-after_field l = 2 * count (field_view l.field.now).children + 1
 
 -- what is left after the fields to come is what is left after all
 abbrev pub invariant-after_fields-loop-field : goal.invariant-after_fields-loop-field

@@ -4,6 +4,7 @@ use Rattle.arrow_stream.specs.Front.{Entry}
 use Rattle.arrow_stream.specs.Stream.{Stands, GivesNext, TakesOn, Refuses, WantsMemory}
 use Rattle.arrowflow.specs.Pieces.{Feeds, FeedsInside}
 use Rattle.arrowflow.proofs.Feeding.{fed_next, fed_all, fed_fault, stopped_before, stopped_behind, on_err-always}
+use Rattle.arrowflow.proofs.Wanting.{memory_alone, not_memory}
 use Rattle.arrowflow.proofs.session.feed.Goals as goal
 
 pub returns-in_err-keep-in-Ok-default-Some-clause-inside : goal.returns-in_err-keep-in-Ok-default-Some-clause-inside
@@ -49,16 +50,16 @@ returns-in-Ok-default-None-clause-feeds c =
     subst (λ y. Feeds c.args.reader.now c.args.handed.now.items y new handed) i.whole
     (fed_all c.args.reader.now now new c.args.handed.now.items handed i.taken rest i.feeds n last)
 
-pub returns-in-Memory-clause-inside : goal.returns-in-Memory-clause-inside
-returns-in-Memory-clause-inside c =
+pub returns-then-is_memory-clause-inside : goal.returns-then-is_memory-clause-inside
+returns-then-is_memory-clause-inside c =
     let i = c.loop-taken.invariant in
     let new = c.read.new.self in
-    let wants = c.in-Err.ensures.memory c.in-Memory.is in
+    let wants = c.in-Err.ensures.memory (memory_alone c.in-Err.fault.kind c.if-is_memory.ensures) in
     subst (λ y. FeedsInside c.args.reader.now y new) i.whole
     (stopped_before c.args.reader.now c.loop-taken.reader new c.args.handed.now.items c.loop-taken.handed.items i.taken c.loop-taken.rest.now i.feeds wants.same)
 
-pub returns-in_default : goal.returns-in_default
-returns-in_default c =
+pub returns-in-Err-clause-feeds : goal.returns-in-Err-clause-feeds
+returns-in-Err-clause-feeds c =
     let i = c.loop-taken.invariant in
     let now = c.loop-taken.reader in
     let new = c.read.new.self in
@@ -66,9 +67,5 @@ returns-in_default c =
     let handed = c.loop-taken.handed.items in
     let last : (t : List ℕ) (es : List Entry) → Stands now t es → WantsMemory now c.in-Err.fault new ⊎ Refuses rest c.in-Err.fault new t es =
     λ t es at. c.in-Err.ensures.reads t es at in
-    record {
-      feeds = subst (λ y. Feeds c.args.reader.now c.args.handed.now.items y new handed) i.whole
-          (fed_fault c.args.reader.now now new c.args.handed.now.items handed i.taken rest i.feeds c.in-Err.fault c.in_default.not-Memory last);
-      limits = c.in-Err.ensures.limits ∙ i.limits;
-      inside = tt;
-    }
+    subst (λ y. Feeds c.args.reader.now c.args.handed.now.items y new handed) i.whole
+    (fed_fault c.args.reader.now now new c.args.handed.now.items handed i.taken rest i.feeds c.in-Err.fault (not_memory c.in-Err.fault.kind c.if-is_memory.ensures) last)

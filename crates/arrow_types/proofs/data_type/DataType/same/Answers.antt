@@ -1,6 +1,6 @@
 use Rattle.arrow_types.specs.Equality.{is_equal_by}
 use Rattle.arrow_types.specs.Stored.{type_code}
-use Rattle.arrow_types.proofs.data_type.DataTypePartialEq.eq.Goals as goal
+use Rattle.arrow_types.proofs.data_type.DataType.same.Goals as goal
 
 -- the test is true exactly where the views are equal, so it is the model's
 pub returns-clause-gives : goal.returns-clause-gives
