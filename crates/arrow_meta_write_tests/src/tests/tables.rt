@@ -58,6 +58,22 @@ fn a_buffer_is_laid_out(rt: HostRuntime) {
     assert!(rt; is_laid_out(rt.alloc()));
 }
 
+// Whether a writer shows what was appended so far.
+fn is_shown(alloc: Global) -> bool {
+    let Ok(mut writer) = TableWriter::with_capacity(alloc, 4) else {
+        return false;
+    };
+    if writer.offset(8).is_err() {
+        return false;
+    }
+    writer.as_slice() == [8, 0, 0, 0].as_slice()
+}
+
+#[test]
+fn bytes_are_shown(rt: HostRuntime) {
+    assert!(rt; is_shown(rt.alloc()));
+}
+
 #[test]
 fn places_are_counted_before(rt: HostRuntime) {
     assert_eq!(rt; table_place(4, 4), 16);
