@@ -94,13 +94,6 @@ fn add_own(alloc: Global, field: &Field, found: &mut ValueFields) -> Result<(), 
     }
 }
 
-// The fields below the field.
-fn below(field: &Field) -> &[Field]
-    ensures { fields_view result.now ≡ (field_view field.now).children }
-{
-    field.data_type.children()
-}
-
 // Adds what the fields say, on all levels, in pre-order.
 #[cycle(named)]
 fn add_fields(alloc: Global, fields: &[Field], found: &mut ValueFields) -> Result<(), AllocError>
@@ -109,7 +102,7 @@ fn add_fields(alloc: Global, fields: &[Field], found: &mut ValueFields) -> Resul
 {
     for field in fields {
         add_own(alloc, field, found)?;
-        add_fields(alloc, below(field), found)?;
+        add_fields(alloc, field.children(), found)?;
     }
     Ok(())
 }
