@@ -379,6 +379,7 @@ fn assert_field_copies(rt: &(impl Abort + AllocGlobal), field: &Field) {
     assert!(rt; copied(rt, field) == *field);
     let of = field.data_type.copy(rt.alloc()).expect(rt, "memory");
     assert!(rt; of == field.data_type);
+    assert!(rt; of.same(&field.data_type));
 }
 
 #[test]
@@ -404,9 +405,14 @@ static OTHERS: [Step; 6] = [
     ("K", Some((0, false)), Kind::Timestamp("UTC")),
 ];
 
+// Whether the type of each is the same.
+static SAME_TYPES: [bool; 6] = [true, true, false, false, false, true];
+
 fn assert_others(rt: &(impl Abort + AllocGlobal), plain: &Field) {
     for (i, other) in columns(rt, &OTHERS).iter().enumerate() {
         assert!(rt; *plain != *other, "number {i}");
+        let same = plain.data_type.same(&other.data_type);
+        assert!(rt; SAME_TYPES.get(i) == Some(&same), "the type of number {i}");
     }
 }
 
