@@ -2,7 +2,7 @@
 use Rattle.std.specs.Prelude.{◌≡◌, ◌≤◌, ◌<◌, ◌+◌, ◌*◌, ◌-◌, ◌^◌, ℕ, zero, suc, ℤ, false, List, [], ◌∷◌, ◌++◌, length, map, take, drop, ⊤, Option, None, Some, IsTrue, is_some, refl}
 use Rattle.std.specs.Coded.{Coded, code_by, coded×, coded_ℤ, coded_list, coded_option}
 use Rattle.std.specs.List.{AllByRecursion}
-use Rattle.arrow_types.specs.DataType.{Tag, list, struct}
+use Rattle.arrow_types.specs.DataType.{Tag, null, boolean, int, binary, utf8, date, time, timestamp, list, struct}
 use Rattle.arrow_types.specs.Field.{Fields, none, more, TypeShape, levels}
 use Rattle.arrow_types.specs.Schema.{has_encoding}
 use Rattle.arrow_types.specs.Stored.{type_code}
@@ -130,7 +130,16 @@ type_of_field (more head children rest) (suc k) = type_of_field rest k
 -- the fields of a struct that is not dictionary-encoded, none of any other column
 abbrev pub struct_fields_of : Tag → Option Encoding → Fields → Fields
 struct_fields_of struct None children = children
-struct_fields_of _ _ children = none
+struct_fields_of struct (Some e) children = none
+struct_fields_of null e children = none
+struct_fields_of boolean e children = none
+struct_fields_of (int bits signed) e children = none
+struct_fields_of binary e children = none
+struct_fields_of utf8 e children = none
+struct_fields_of (date unit) e children = none
+struct_fields_of (time unit) e children = none
+struct_fields_of (timestamp unit text) e children = none
+struct_fields_of list e children = none
 
 -- the fields whose values stand side by side in each slot of the column
 abbrev pub struct_fields : Column → Fields

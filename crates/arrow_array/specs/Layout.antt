@@ -2,7 +2,7 @@
 -- child by the number of its slots.
 use Rattle.std.specs.Prelude.{◌≤◌, ◌*◌, ℕ, List, [], length, get_or, ⊤, Option, None, Some}
 use Rattle.std.specs.List.{AllByRecursion}
-use Rattle.arrow_types.specs.DataType.{Tag, null, boolean, binary, utf8, list, struct}
+use Rattle.arrow_types.specs.DataType.{Tag, null, boolean, int, binary, utf8, date, time, timestamp, list, struct}
 use Rattle.arrow_types.specs.declared.field.Encoding.{Encoding}
 use Rattle.arrow_array.specs.PlainValue.{PlainValue}
 use Rattle.arrow_array.specs.Slots.{HasBits, HasOffsets, AreTexts, AreIndices, width_of, index_width}
@@ -46,7 +46,10 @@ buffer_count binary None = 3
 buffer_count utf8 None = 3
 buffer_count list None = 2
 buffer_count struct None = 1
-buffer_count tag None = 2
+buffer_count (int bits signed) None = 2
+buffer_count (date unit) None = 2
+buffer_count (time unit) None = 2
+buffer_count (timestamp unit text) None = 2
 
 -- how many slots the child of a list has
 abbrev pub child_count : List ℕ → ℕ
@@ -61,12 +64,24 @@ IsLaid binary None len b counts = HasStrings len (buffer b 0) (buffer b 1) (buff
 IsLaid utf8 None len b counts = HasStrings len (buffer b 0) (buffer b 1) (buffer b 2)
 IsLaid list None len b counts = HasLists len (buffer b 0) (buffer b 1) (child_count counts)
 IsLaid struct None len b counts = HasStructs len (buffer b 0) counts
-IsLaid tag None len b counts = HasInts len (width_of tag) (buffer b 0) (buffer b 1)
+IsLaid (int bits signed) None len b counts = HasInts len (width_of (int bits signed)) (buffer b 0) (buffer b 1)
+IsLaid (date unit) None len b counts = HasInts len (width_of (date unit)) (buffer b 0) (buffer b 1)
+IsLaid (time unit) None len b counts = HasInts len (width_of (time unit)) (buffer b 0) (buffer b 1)
+IsLaid (timestamp unit text) None len b counts = HasInts len (width_of (timestamp unit text)) (buffer b 0) (buffer b 1)
 
 -- the valid slots of a node of texts are UTF-8
 abbrev pub IsText : Tag → Option Encoding → ℕ → List (List ℕ) → Type 0
 IsText utf8 None len b = AreTexts len (buffer b 0) (buffer b 1) (buffer b 2)
-IsText _ _ len b = ⊤
+IsText utf8 (Some e) len b = ⊤
+IsText null e len b = ⊤
+IsText boolean e len b = ⊤
+IsText (int bits signed) e len b = ⊤
+IsText binary e len b = ⊤
+IsText (date unit) e len b = ⊤
+IsText (time unit) e len b = ⊤
+IsText (timestamp unit text) e len b = ⊤
+IsText list e len b = ⊤
+IsText struct e len b = ⊤
 
 -- the valid slots of a dictionary-encoded node have their values
 abbrev pub IsIndexed : Option Encoding → ℕ → List (List ℕ) → List PlainValue → Type 0

@@ -78,7 +78,11 @@ abbrev pub dictionaries_of : Option Encoding → Ranges → List (ℤ × List Pl
 dictionaries_of e (ranges.Lists v o child) = child.value.dictionaries
 dictionaries_of e (ranges.Structs v children) = listed_of children.items
 dictionaries_of e (ranges.Indices n d) = listed_by e d.value.values
-dictionaries_of e _ = []
+dictionaries_of e ranges.Nulls = []
+dictionaries_of e (ranges.Bools b) = []
+dictionaries_of e (ranges.Ints n) = []
+dictionaries_of e (ranges.Binaries s) = []
+dictionaries_of e (ranges.Texts s) = []
 
 -- the ranges hold a truth value for each slot
 pub record AreBools (len : ℕ) (body : List ℕ) (b : Bools) : Type 0 where

@@ -1,6 +1,6 @@
 -- The column of a node, by its buffers, its children and its dictionary (Columnar Format, "Physical Memory Layout").
 use Rattle.std.specs.Prelude.{◌≡◌, ℕ, List, [], ◌∷◌, map, ⊤, get_or, false, Option, None, Some}
-use Rattle.arrow_types.specs.DataType.{Tag, null, boolean, binary, utf8, list, struct}
+use Rattle.arrow_types.specs.DataType.{Tag, null, boolean, int, binary, utf8, date, time, timestamp, list, struct}
 use Rattle.arrow_types.specs.Field.{FieldShape, TypeShape}
 use Rattle.arrow_types.specs.Schema.{has_encoding}
 use Rattle.arrow_types.specs.declared.field.Encoding.{Encoding}
@@ -21,7 +21,10 @@ value_slot binary b children j = binary_slot (buffer b 0) (buffer b 1) (buffer b
 value_slot utf8 b children j = utf8_slot (buffer b 0) (buffer b 1) (buffer b 2) j
 value_slot list b children j = list_slot (buffer b 0) (buffer b 1) (get_or children 0 []) j
 value_slot struct b children j = struct_slot (buffer b 0) children j
-value_slot tag b children j = int_slot (width_of tag) (is_signed tag) (buffer b 0) (buffer b 1) j
+value_slot (int bits signed) b children j = int_slot (width_of (int bits signed)) (is_signed (int bits signed)) (buffer b 0) (buffer b 1) j
+value_slot (date unit) b children j = int_slot (width_of (date unit)) (is_signed (date unit)) (buffer b 0) (buffer b 1) j
+value_slot (time unit) b children j = int_slot (width_of (time unit)) (is_signed (time unit)) (buffer b 0) (buffer b 1) j
+value_slot (timestamp unit text) b children j = int_slot (width_of (timestamp unit text)) (is_signed (timestamp unit text)) (buffer b 0) (buffer b 1) j
 
 -- the index in a slot
 abbrev pub index_slot : Encoding → List (List ℕ) → ℕ → PlainValue

@@ -5,7 +5,7 @@ use Rattle.std.specs.List.{range_with_len}
 use Rattle.arrow_bits.specs.Bitmap.{bit_of}
 use Rattle.arrow_bits.specs.Numbers.{number_at, int_of}
 use Rattle.arrow_bits.specs.Offsets.{AreOffsets}
-use Rattle.arrow_types.specs.DataType.{Tag, int, date, time, timestamp, bits_of, date_width_of, time_width_of}
+use Rattle.arrow_types.specs.DataType.{Tag, null, boolean, int, binary, utf8, date, time, timestamp, list, struct, bits_of, date_width_of, time_width_of}
 use Rattle.arrow_types.specs.declared.field.IndexType.{IndexType}
 use Rattle.arrow_array.specs.PlainValue.{PlainValue, null_value, bool_value, int_value, binary_value, utf8_value, list_value, struct_value, values_of, value_at}
 
@@ -90,13 +90,26 @@ abbrev pub width_of : Tag → ℕ
 width_of (int bits signed) = bits_of bits / 8
 width_of (date unit) = bits_of (date_width_of unit) / 8
 width_of (time unit) = bits_of (time_width_of unit) / 8
-width_of (timestamp unit _) = 8
-width_of _ = 0
+width_of (timestamp unit text) = 8
+width_of null = 0
+width_of boolean = 0
+width_of binary = 0
+width_of utf8 = 0
+width_of list = 0
+width_of struct = 0
 
 -- whether the type's numbers have a sign: all but those of an unsigned Int
 abbrev pub is_signed : Tag → Bool
 is_signed (int bits signed) = signed
-is_signed _ = true
+is_signed null = true
+is_signed boolean = true
+is_signed binary = true
+is_signed utf8 = true
+is_signed (date unit) = true
+is_signed (time unit) = true
+is_signed (timestamp unit text) = true
+is_signed list = true
+is_signed struct = true
 
 -- how many bytes one index takes (Schema.fbs, "DictionaryEncoding")
 abbrev pub index_width : IndexType → ℕ

@@ -208,7 +208,12 @@ impl Array {
     {
         match self.seen(i) {
             Seen::Truth(truth) => Some(truth),
-            _ => None,
+            Seen::Nothing
+            | Seen::Number(_)
+            | Seen::Binary(_)
+            | Seen::Text(_)
+            | Seen::Items(..)
+            | Seen::Parts(_) => None,
         }
     }
 
@@ -222,7 +227,12 @@ impl Array {
     {
         match self.seen(i) {
             Seen::Number(number) => Some(number),
-            _ => None,
+            Seen::Nothing
+            | Seen::Truth(_)
+            | Seen::Binary(_)
+            | Seen::Text(_)
+            | Seen::Items(..)
+            | Seen::Parts(_) => None,
         }
     }
 
@@ -234,7 +244,12 @@ impl Array {
     {
         match self.seen(i) {
             Seen::Binary(bytes) => Some(bytes),
-            _ => None,
+            Seen::Nothing
+            | Seen::Truth(_)
+            | Seen::Number(_)
+            | Seen::Text(_)
+            | Seen::Items(..)
+            | Seen::Parts(_) => None,
         }
     }
 
@@ -246,7 +261,12 @@ impl Array {
     {
         match self.seen(i) {
             Seen::Text(text) => Some(text),
-            _ => None,
+            Seen::Nothing
+            | Seen::Truth(_)
+            | Seen::Number(_)
+            | Seen::Binary(_)
+            | Seen::Items(..)
+            | Seen::Parts(_) => None,
         }
     }
 
@@ -260,7 +280,12 @@ impl Array {
     {
         match self.seen(i) {
             Seen::Items(start, end, child) => Some((start, end, child)),
-            _ => None,
+            Seen::Nothing
+            | Seen::Truth(_)
+            | Seen::Number(_)
+            | Seen::Binary(_)
+            | Seen::Text(_)
+            | Seen::Parts(_) => None,
         }
     }
 
@@ -270,7 +295,13 @@ impl Array {
     {
         match &self.ranges {
             Ranges::Lists { child, .. } => Some(child),
-            _ => None,
+            Ranges::Nulls
+            | Ranges::Bools(_)
+            | Ranges::Ints(_)
+            | Ranges::Binaries(_)
+            | Ranges::Texts(_)
+            | Ranges::Structs { .. }
+            | Ranges::Indices(..) => None,
         }
     }
 
@@ -282,7 +313,13 @@ impl Array {
     {
         match &self.ranges {
             Ranges::Structs { children, .. } => children.get(k),
-            _ => None,
+            Ranges::Nulls
+            | Ranges::Bools(_)
+            | Ranges::Ints(_)
+            | Ranges::Binaries(_)
+            | Ranges::Texts(_)
+            | Ranges::Lists { .. }
+            | Ranges::Indices(..) => None,
         }
     }
 
@@ -294,7 +331,13 @@ impl Array {
     {
         match &self.ranges {
             Ranges::Indices(_, dictionary) => Some(dictionary),
-            _ => None,
+            Ranges::Nulls
+            | Ranges::Bools(_)
+            | Ranges::Ints(_)
+            | Ranges::Binaries(_)
+            | Ranges::Texts(_)
+            | Ranges::Lists { .. }
+            | Ranges::Structs { .. } => None,
         }
     }
 
@@ -310,7 +353,13 @@ impl Array {
                 let index = ints.at(self.body.as_slice(), self.len, i)?;
                 Some(dictionary.value(index as usize))
             }
-            _ => None,
+            Ranges::Nulls
+            | Ranges::Bools(_)
+            | Ranges::Ints(_)
+            | Ranges::Binaries(_)
+            | Ranges::Texts(_)
+            | Ranges::Lists { .. }
+            | Ranges::Structs { .. } => None,
         }
     }
 

@@ -27,7 +27,13 @@ impl Array {
                 same_items(items, start, end, others, from, to)
             }
             (Seen::Parts(children), Seen::Parts(others)) => same_parts(children, i, others, j),
-            _ => false,
+            (Seen::Nothing, _)
+            | (Seen::Truth(_), _)
+            | (Seen::Number(_), _)
+            | (Seen::Binary(_), _)
+            | (Seen::Text(_), _)
+            | (Seen::Items(..), _)
+            | (Seen::Parts(_), _) => false,
         }
     }
 }

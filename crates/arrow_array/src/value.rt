@@ -74,7 +74,13 @@ fn same_value(one: &Value, other: &Value) -> bool
         (Value::Text(text), Value::Text(other)) => text == other,
         (Value::List(values), Value::List(others)) => same_list(values, others),
         (Value::Struct(values), Value::Struct(others)) => same_list(values, others),
-        _ => false,
+        (Value::Null, _)
+        | (Value::Bool(_), _)
+        | (Value::Int(_), _)
+        | (Value::Bytes(_), _)
+        | (Value::Text(_), _)
+        | (Value::List(_), _)
+        | (Value::Struct(_), _) => false,
     }
 }
 

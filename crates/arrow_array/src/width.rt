@@ -16,7 +16,12 @@ pub(crate) fn width(data_type: &DataType) -> usize
         DataType::Date(unit) => unit.width().bits(),
         DataType::Time(unit) => unit.time_width().bits(),
         DataType::Timestamp(..) => 64,
-        _ => 0,
+        DataType::Null
+        | DataType::Bool
+        | DataType::Binary
+        | DataType::Utf8
+        | DataType::List(_)
+        | DataType::Struct(_) => 0,
     };
     (bits / 8) as usize
 }
@@ -27,7 +32,15 @@ pub(crate) fn signed(data_type: &DataType) -> bool
 {
     match data_type {
         DataType::Int { signed, .. } => *signed,
-        _ => true,
+        DataType::Null
+        | DataType::Bool
+        | DataType::Binary
+        | DataType::Utf8
+        | DataType::Date(_)
+        | DataType::Time(_)
+        | DataType::Timestamp(..)
+        | DataType::List(_)
+        | DataType::Struct(_) => true,
     }
 }
 

@@ -101,7 +101,18 @@ fn are_buffers_laid(
         (None, DataType::Struct(fields)) => {
             is_laid(&field.data_type, None, len, body, ranges, &[]) && are_longer(fields, left, len)
         }
-        _ => is_laid(&field.data_type, field.dictionary, len, body, ranges, &[]),
+        (Some(_), _)
+        | (
+            None,
+            DataType::Null
+            | DataType::Bool
+            | DataType::Int { .. }
+            | DataType::Binary
+            | DataType::Utf8
+            | DataType::Date(_)
+            | DataType::Time(_)
+            | DataType::Timestamp(..),
+        ) => is_laid(&field.data_type, field.dictionary, len, body, ranges, &[]),
     }
 }
 

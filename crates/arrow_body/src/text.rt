@@ -51,7 +51,19 @@ impl<'a> Condition for Texts<'a> {
                     None => false,
                 }
             }
-            _ => true,
+            (Some(_), _)
+            | (
+                None,
+                DataType::Null
+                | DataType::Bool
+                | DataType::Int { .. }
+                | DataType::Binary
+                | DataType::Date(_)
+                | DataType::Time(_)
+                | DataType::Timestamp(..)
+                | DataType::List(_)
+                | DataType::Struct(_),
+            ) => true,
         }
     }
 }
