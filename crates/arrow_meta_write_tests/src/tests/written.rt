@@ -2,12 +2,13 @@
 
 use super::again::{decoded, is_same};
 use crate::vectors::{
-    ABC, DE, EVERY_TYPE, EXTREMES, FOUR_FIELDS, LEAST_ID, LETTERS, NO_COLUMNS, ONE_BATCH, ONE_FIELD,
+    ABC, DE, EXTREMES, FIVE_TYPES, FOUR_FIELDS, LEAST_ID, LETTERS, NO_COLUMNS, ONE_BATCH,
+    ONE_FIELD, TEN_TYPES,
 };
 use arrow_meta_write::{encode, encoded_size, laws};
 use std::alloc::Global;
 
-static MESSAGES: [(&str, &[u8]); 10] = [
+static MESSAGES: [(&str, &[u8]); 11] = [
     ("one field", &ONE_FIELD),
     ("one batch", &ONE_BATCH),
     ("letters", &LETTERS),
@@ -15,7 +16,8 @@ static MESSAGES: [(&str, &[u8]); 10] = [
     ("d and e, a delta", &DE),
     ("the least id", &LEAST_ID),
     ("four fields", &FOUR_FIELDS),
-    ("every type", &EVERY_TYPE),
+    ("ten types", &TEN_TYPES),
+    ("five types", &FIVE_TYPES),
     ("the least and the greatest numbers", &EXTREMES),
     ("no columns", &NO_COLUMNS),
 ];
