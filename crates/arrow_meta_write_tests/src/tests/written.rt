@@ -2,13 +2,12 @@
 
 use super::again::{decoded, is_same};
 use crate::vectors::{
-    ABC, DE, EXTREMES, FIVE_TYPES, FOUR_FIELDS, LEAST_ID, LETTERS, NO_COLUMNS, ONE_BATCH,
-    ONE_FIELD, TEN_TYPES,
+    ABC, DE, EVERY_TYPE, EXTREMES, FOUR_FIELDS, LEAST_ID, LETTERS, NO_COLUMNS, ONE_BATCH, ONE_FIELD,
 };
 use arrow_meta_write::{encode, encoded_size, laws};
 use std::alloc::Global;
 
-static MESSAGES: [(&str, &[u8]); 11] = [
+static MESSAGES: [(&str, &[u8]); 10] = [
     ("one field", &ONE_FIELD),
     ("one batch", &ONE_BATCH),
     ("letters", &LETTERS),
@@ -16,8 +15,7 @@ static MESSAGES: [(&str, &[u8]); 11] = [
     ("d and e, a delta", &DE),
     ("the least id", &LEAST_ID),
     ("four fields", &FOUR_FIELDS),
-    ("ten types", &TEN_TYPES),
-    ("five types", &FIVE_TYPES),
+    ("every type", &EVERY_TYPE),
     ("the least and the greatest numbers", &EXTREMES),
     ("no columns", &NO_COLUMNS),
 ];
