@@ -120,6 +120,7 @@ def frame(code, header, body=b"", align=8):
 
 # Types: the code of the union Type and the type's table.
 NULL, BINARY, UTF8, BOOL, LIST, STRUCT = [(code, table()) for code in (1, 4, 5, 6, 12, 13)]
+LARGE_BINARY, LARGE_UTF8, LARGE_LIST = [(code, table()) for code in (19, 20, 21)]
 
 
 def integer(bits, signed):
@@ -144,6 +145,14 @@ def time(unit):
 def timestamp(unit, zone=None):
     fields = [scalar("h", unit)] + ([] if zone is None else [text(zone)])
     return (10, table(*fields))
+
+
+def fixed_size_binary(width):
+    return (15, table(scalar("i", width)))
+
+
+def duration(unit):
+    return (18, table(scalar("h", unit)))
 
 
 def dictionary(number, bits=32, signed=True, ordered=False):

@@ -10,9 +10,11 @@ LAST_PLACE = 2 ** 62
 MAX_LEVELS = 32
 MAX_FIELDS = 65_536
 INT, DATE, TIME, TIMESTAMP, LIST, STRUCT = 2, 8, 9, 10, 12, 13
-WITH_TABLE = (INT, DATE, TIME, TIMESTAMP)
+FIXED_SIZE, DURATION, LARGE_LIST = 15, 18, 21
+WITH_TABLE = (INT, DATE, TIME, TIMESTAMP, FIXED_SIZE, DURATION)
 NAMES = {1: "null", INT: "int", 4: "binary", 5: "utf8", 6: "bool", DATE: "date", TIME: "time",
-         TIMESTAMP: "timestamp", LIST: "list", STRUCT: "struct"}
+         TIMESTAMP: "timestamp", LIST: "list", STRUCT: "struct", FIXED_SIZE: "fixed_size_binary",
+         DURATION: "duration", 19: "large_binary", 20: "large_utf8", LARGE_LIST: "large_list"}
 UNITS = ("s", "ms", "us", "ns")
 WIDTHS = (8, 16, 32, 64)
 
@@ -109,7 +111,9 @@ def type_of(metadata, table, code):
         return None
     if code == INT:
         return signed(metadata.scalar(opened, 0, 4, 0), 4), metadata.scalar(opened, 1, 1, 0) != 0
-    if code == DATE:
+    if code == FIXED_SIZE:
+        return (signed(metadata.scalar(opened, 0, 4, 0), 4),)
+    if code in (DATE, DURATION):
         return (signed(metadata.scalar(opened, 0, 2, 1), 2),)
     if code == TIME:
         return signed(metadata.scalar(opened, 0, 2, 1), 2), signed(metadata.scalar(opened, 1, 4, 32), 4)
@@ -201,12 +205,14 @@ def fits(field):
         return False
     if code == INT and kind[0] not in WIDTHS or code == DATE and kind[0] not in (0, 1):
         return False
-    if code in (TIME, TIMESTAMP) and kind[0] not in range(4):
+    if code in (TIME, TIMESTAMP, DURATION) and kind[0] not in range(4):
+        return False
+    if code == FIXED_SIZE and kind[0] < 0:
         return False
     if code == TIME and kind[1] != (32 if kind[0] < 2 else 64):
         return False
     count = len(field["children"])
-    return count == 1 if code == LIST else code == STRUCT or count == 0
+    return count == 1 if code in (LIST, LARGE_LIST) else code == STRUCT or count == 0
 
 
 def value_type(field):
@@ -266,6 +272,10 @@ def type_name(field):
         return int_name(*kind)
     if code == DATE:
         return b"date[ms]" if kind[0] else b"date[day]"
+    if code == FIXED_SIZE:
+        return b"fixed_size_binary[%d]" % kind[0]
+    if code == DURATION:
+        return b"duration[" + UNITS[kind[0]].encode() + b"]"
     if code == TIME:
         return b"time[" + UNITS[kind[0]].encode() + b"]"
     if code == TIMESTAMP:

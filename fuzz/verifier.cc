@@ -44,6 +44,14 @@ std::string any_text() {
     return text;
 }
 
+int32_t any_width() {
+    switch (below(3)) {
+        case 0: return 0;
+        case 1: return std::numeric_limits<int32_t>::max();
+        default: return static_cast<int32_t>(below(1000));
+    }
+}
+
 // An id of its own for each dictionary, so that no two fields of one id differ in type.
 struct Ids {
     int64_t next = -3;
@@ -58,16 +66,17 @@ Offset<DictionaryEncoding> any_encoding(FlatBufferBuilder &builder, Ids &ids) {
 }
 
 Offset<Field> any_field(FlatBufferBuilder &builder, Ids &ids, int levels, bool may_encode) {
-    static const Type types[] = {Type_Null, Type_Int, Type_Binary, Type_Utf8, Type_Bool,
-                                 Type_Date, Type_Time, Type_Timestamp, Type_List, Type_Struct_};
-    Type type = types[below(levels > 1 ? 10 : 8)];
+    static const Type types[] = {Type_Null, Type_Int, Type_Binary, Type_Utf8, Type_Bool, Type_Date, Type_Time,
+                                 Type_Timestamp, Type_FixedSizeBinary, Type_Duration, Type_LargeBinary, Type_LargeUtf8,
+                                 Type_List, Type_LargeList, Type_Struct_};
+    Type type = types[below(levels > 1 ? 15 : 12)];
     Offset<DictionaryEncoding> encoding = 0;
     if (may_encode && below(4) == 0) {
         encoding = any_encoding(builder, ids);
         may_encode = false;
     }
     std::vector<Offset<Field>> children;
-    if (type == Type_List) children.push_back(any_field(builder, ids, levels - 1, may_encode));
+    if (type == Type_List || type == Type_LargeList) children.push_back(any_field(builder, ids, levels - 1, may_encode));
     if (type == Type_Struct_)
         for (uint64_t left = below(4); left > 0; left--)
             children.push_back(any_field(builder, ids, levels - 1, may_encode));
@@ -83,6 +92,8 @@ Offset<Field> any_field(FlatBufferBuilder &builder, Ids &ids, int levels, bool m
             table = CreateTimestamp(builder, unit, zone).Union();
             break;
         }
+        case Type_FixedSizeBinary: table = CreateFixedSizeBinary(builder, any_width()).Union(); break;
+        case Type_Duration: table = CreateDuration(builder, unit).Union(); break;
         default: table = CreateNull(builder).Union();
     }
     auto name = coin() ? builder.CreateString(any_text()) : builder.CreateString("c" + std::to_string(below(1000)));
@@ -144,6 +155,8 @@ void tell(std::ostream &out, const Field *field) {
         out << "unit " << type->unit();
         if (type->timezone()) out << " zone " << type->timezone()->size() << ":" << type->timezone()->str();
     }
+    if (auto type = field->type_as_FixedSizeBinary()) out << "width " << type->byteWidth();
+    if (auto type = field->type_as_Duration()) out << "unit " << type->unit();
     if (auto by = field->dictionary()) {
         out << " by " << by->id() << " ";
         tell(out, by->indexType());

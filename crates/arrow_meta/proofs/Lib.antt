@@ -7,6 +7,7 @@ pub mod Roots
 pub mod TableFields
 pub mod FieldTables
 pub mod Misfits
+pub mod Narrow
 pub mod Shallow
 pub mod Least
 pub mod OneAnswer

@@ -1,13 +1,15 @@
 -- What a message is written as means the message again.
-use Rattle.std.proofs.Common.{◌≡◌, ℤ, pos, negsuc, Bool, true, false, not, ◌==◌, List, [], ◌∷◌}
+use Rattle.std.proofs.Common.{◌≡◌, ℤ, pos, negsuc, Bool, true, false, not, ◌||◌, ◌==◌, if◌then◌else◌, List, [], ◌∷◌}
 use Rattle.std.proofs.Common.{Option, Some, None, map, refl, ap}
 use Rattle.std.specs.Int.{cast_signed, cast_unsigned, w64}
 use Rattle.std.specs.Option.{unwrap_or}
+use Rattle.std.proofs.lemmas.Bool.{or_parts}
 use Rattle.std.proofs.lemmas.Int.{to_z-of_z}
 use Rattle.arrow_types.specs.DataType as tags
 use Rattle.arrow_types.specs.DataType.{Tag, bits_of, time_width_of}
 use Rattle.arrow_types.specs.Field as columns
 use Rattle.arrow_types.specs.Field.{Head, Fields, width}
+use Rattle.arrow_types.specs.Schema.{is_wide, is_too_wide}
 use Rattle.arrow_types.specs.declared.data_type.BitWidth.{BitWidth}
 use Rattle.arrow_types.specs.declared.data_type.BitWidth.TheVariants as widths
 use Rattle.arrow_types.specs.declared.data_type.DateUnit.TheVariants as dates
@@ -44,28 +46,36 @@ width_again widths.ThirtyTwo = refl
 width_again widths.SixtyFour = refl
 
 -- a type
-tag_again : (tag : Tag) → tag_by (type_code (tag_code tag)) (parts (type_tree tag)) ≡ tag
-tag_again tags.null = refl
-tag_again tags.boolean = refl
-tag_again tags.binary = refl
-tag_again tags.utf8 = refl
-tag_again tags.list = refl
-tag_again tags.struct = refl
-tag_again (tags.int bits signed) = λ i. tags.int (width_again bits i) (flag_again signed i)
-tag_again (tags.date dates.Day) = refl
-tag_again (tags.date dates.Millisecond) = refl
-tag_again (tags.time times.Second) = refl
-tag_again (tags.time times.Millisecond) = refl
-tag_again (tags.time times.Microsecond) = refl
-tag_again (tags.time times.Nanosecond) = refl
-tag_again (tags.timestamp times.Second None) = refl
-tag_again (tags.timestamp times.Second (Some zone)) = refl
-tag_again (tags.timestamp times.Millisecond None) = refl
-tag_again (tags.timestamp times.Millisecond (Some zone)) = refl
-tag_again (tags.timestamp times.Microsecond None) = refl
-tag_again (tags.timestamp times.Microsecond (Some zone)) = refl
-tag_again (tags.timestamp times.Nanosecond None) = refl
-tag_again (tags.timestamp times.Nanosecond (Some zone)) = refl
+tag_again : (tag : Tag) → is_wide tag ≡ false → tag_by (type_code (tag_code tag)) (parts (type_tree tag)) ≡ tag
+tag_again tags.null narrow = refl
+tag_again tags.boolean narrow = refl
+tag_again tags.binary narrow = refl
+tag_again tags.utf8 narrow = refl
+tag_again tags.list narrow = refl
+tag_again tags.struct narrow = refl
+tag_again tags.large_binary narrow = refl
+tag_again tags.large_utf8 narrow = refl
+tag_again tags.large_list narrow = refl
+tag_again (tags.int bits signed) narrow = λ i. tags.int (width_again bits i) (flag_again signed i)
+tag_again (tags.date dates.Day) narrow = refl
+tag_again (tags.date dates.Millisecond) narrow = refl
+tag_again (tags.time times.Second) narrow = refl
+tag_again (tags.time times.Millisecond) narrow = refl
+tag_again (tags.time times.Microsecond) narrow = refl
+tag_again (tags.time times.Nanosecond) narrow = refl
+tag_again (tags.timestamp times.Second None) narrow = refl
+tag_again (tags.timestamp times.Second (Some zone)) narrow = refl
+tag_again (tags.timestamp times.Millisecond None) narrow = refl
+tag_again (tags.timestamp times.Millisecond (Some zone)) narrow = refl
+tag_again (tags.timestamp times.Microsecond None) narrow = refl
+tag_again (tags.timestamp times.Microsecond (Some zone)) narrow = refl
+tag_again (tags.timestamp times.Nanosecond None) narrow = refl
+tag_again (tags.timestamp times.Nanosecond (Some zone)) narrow = refl
+tag_again (tags.fixed_size_binary width) narrow = ap (λ b. tags.fixed_size_binary (unwrap_or (if b then None else Some width) 0)) narrow
+tag_again (tags.duration times.Second) narrow = refl
+tag_again (tags.duration times.Millisecond) narrow = refl
+tag_again (tags.duration times.Microsecond) narrow = refl
+tag_again (tags.duration times.Nanosecond) narrow = refl
 
 -- an encoding
 encoding_again : (e : Option Encoding) → HasLongId e → encoding_in (encoding_tree e) ≡ e
@@ -77,19 +87,21 @@ encoding_again (Some e) h = λ i. Some (record {
 })
 
 -- a field without its children
-head_again : (head : Head) (children : Fields) → HasLongId head.encoding → head_of (field_parts head (field_trees children)) ≡ head
-head_again head children h = λ i. record {
+head_again : (head : Head) (children : Fields) → HasLongId head.encoding → is_wide head.tag ≡ false → head_of (field_parts head (field_trees children)) ≡ head
+head_again head children h narrow = λ i. record {
   name = head.name;
   nullable = flag_again head.nullable i;
-  tag = tag_again head.tag i;
+  tag = tag_again head.tag narrow i;
   encoding = encoding_again head.encoding h i;
 }
 
 -- the fields of a vector
-pub fields_again : (fields : Fields) → AreFields fields → fields_from (field_trees fields) ≡ fields
-fields_again columns.none h = refl
-fields_again (columns.more head children rest) h = λ i.
-    columns.more (head_again head children h.0.id i) (fields_again children h.1 i) (fields_again rest h.2 i)
+pub fields_again : (fields : Fields) → AreFields fields → is_too_wide fields ≡ false → fields_from (field_trees fields) ≡ fields
+fields_again columns.none h narrow = refl
+fields_again (columns.more head children rest) h narrow =
+    let both = or_parts (is_wide head.tag || is_too_wide children) (is_too_wide rest) narrow in
+    let own = or_parts (is_wide head.tag) (is_too_wide children) both.0 in
+    λ i. columns.more (head_again head children h.0.id own.0 i) (fields_again children h.1 own.1 i) (fields_again rest h.2 both.1 i)
 
 nodes_again : (ns : List FieldNode) → AreNodes ns → map node_of (map node_pair ns) ≡ ns
 nodes_again [] h = refl
@@ -109,6 +121,6 @@ batch_again b h = λ i. record {
 
 -- a header
 pub header_again : (x : PlainHeader) → IsHeader x → header_by (header_code x) (parts (header_tree x)) ≡ x
-header_again (schema fields) h = ap schema (fields_again fields h.1)
+header_again (schema fields) h = ap schema (fields_again fields h.1 h.0.bounded.narrow)
 header_again (dictionary id delta b) h = λ i. dictionary (long_again id h.0 i) (flag_again delta i) (batch_again b h.1 i)
 header_again (batch b) h = ap batch (batch_again b h)

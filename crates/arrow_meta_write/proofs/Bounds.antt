@@ -34,6 +34,11 @@ type_levels (tags.date unit) = refl
 type_levels (tags.time unit) = refl
 type_levels tags.list = refl
 type_levels tags.struct = refl
+type_levels tags.large_binary = refl
+type_levels tags.large_utf8 = refl
+type_levels tags.large_list = refl
+type_levels (tags.fixed_size_binary width) = refl
+type_levels (tags.duration unit) = refl
 
 encoding_levels : (e : Option Encoding) → levels (encoding_tree e) ≡ 0
 encoding_levels None = refl
@@ -51,6 +56,11 @@ type_visits (tags.date unit) = refl
 type_visits (tags.time unit) = refl
 type_visits tags.list = refl
 type_visits tags.struct = refl
+type_visits tags.large_binary = refl
+type_visits tags.large_utf8 = refl
+type_visits tags.large_list = refl
+type_visits (tags.fixed_size_binary width) = refl
+type_visits (tags.duration unit) = refl
 
 encoding_visits : (e : Option Encoding) → visits (encoding_tree e) ≡ 0
 encoding_visits None = refl
@@ -83,9 +93,14 @@ type_long q tags.binary = omega (arith, reaches q (laid.table last))
 type_long q tags.utf8 = omega (arith, reaches q (laid.table last))
 type_long q tags.list = omega (arith, reaches q (laid.table last))
 type_long q tags.struct = omega (arith, reaches q (laid.table last))
+type_long q tags.large_binary = omega (arith, reaches q (laid.table last))
+type_long q tags.large_utf8 = omega (arith, reaches q (laid.table last))
+type_long q tags.large_list = omega (arith, reaches q (laid.table last))
 type_long q (tags.int bits signed) = omega (arith, reaches q (laid.table (type_cells (tags.int bits signed))))
 type_long q (tags.date unit) = omega (arith, reaches q (laid.table (type_cells (tags.date unit))))
 type_long q (tags.time unit) = omega (arith, reaches q (laid.table (type_cells (tags.time unit))))
+type_long q (tags.fixed_size_binary width) = omega (arith, reaches q (laid.table (type_cells (tags.fixed_size_binary width))))
+type_long q (tags.duration unit) = omega (arith, reaches q (laid.table (type_cells (tags.duration unit))))
 
 -- the children begin behind the encoding
 encoding_long : (q : ℕ) (e : Option Encoding) (children : Nodes) → (r : ℕ) × (q ≤ r) × (after_cells q (with_encoding e (offset (laid.tables children) last)) ≡ after r (laid.tables children))

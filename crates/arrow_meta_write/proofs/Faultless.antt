@@ -1,13 +1,13 @@
 -- No fault holds of the tree that a message is written as.
-use Rattle.std.proofs.Common.{◌≡◌, ℕ, ◌^◌, ◌<◌, ◌≤◌, ℤ, pos, Bool, true, false, ◌&&◌, not, nat_lt}
+use Rattle.std.proofs.Common.{◌≡◌, ℕ, ◌^◌, ◌<◌, ◌≤◌, ℤ, pos, Bool, true, false, ◌||◌, ◌&&◌, not, nat_lt}
 use Rattle.std.proofs.Common.{Option, Some, None, is_some, refl, sym, ap, subst, ◌∙◌, arith}
 use Rattle.std.specs.Option.{is_none}
-use Rattle.std.proofs.lemmas.Bool.{le-ltb}
+use Rattle.std.proofs.lemmas.Bool.{le-ltb, or_parts}
 use Rattle.arrow_types.specs.DataType as tags
 use Rattle.arrow_types.specs.DataType.{Tag, bits_of, time_width_of}
 use Rattle.arrow_types.specs.Field as columns
 use Rattle.arrow_types.specs.Field.{Head, Fields, width}
-use Rattle.arrow_types.specs.Schema.{is_nested, types_differ, dictionary_fields}
+use Rattle.arrow_types.specs.Schema.{is_nested, is_wide, is_too_wide, types_differ, dictionary_fields}
 use Rattle.arrow_types.specs.declared.data_type.BitWidth.{BitWidth}
 use Rattle.arrow_types.specs.declared.data_type.BitWidth.TheVariants as widths
 use Rattle.arrow_types.specs.declared.data_type.DateUnit.TheVariants as dates
@@ -50,6 +50,11 @@ whole_type (tags.date unit) = refl
 whole_type (tags.time unit) = refl
 whole_type tags.list = refl
 whole_type tags.struct = refl
+whole_type tags.large_binary = refl
+whole_type tags.large_utf8 = refl
+whole_type tags.large_list = refl
+whole_type (tags.fixed_size_binary width) = refl
+whole_type (tags.duration unit) = refl
 
 whole_encoding : (e : Option Encoding) → any lacks_table (encoding_tree e) ≡ false
 whole_encoding None = refl
@@ -67,6 +72,11 @@ has_type (tags.time unit) = refl
 has_type (tags.timestamp unit place) = refl
 has_type tags.list = refl
 has_type tags.struct = refl
+has_type tags.large_binary = refl
+has_type tags.large_utf8 = refl
+has_type tags.large_list = refl
+has_type (tags.fixed_size_binary width) = refl
+has_type (tags.duration unit) = refl
 
 lacks_none : (fields : Fields) → any_in lacks_table (field_trees fields) ≡ false
 lacks_none columns.none = refl
@@ -89,6 +99,11 @@ supported_type (tags.date unit) = refl
 supported_type (tags.time unit) = refl
 supported_type tags.list = refl
 supported_type tags.struct = refl
+supported_type tags.large_binary = refl
+supported_type tags.large_utf8 = refl
+supported_type tags.large_list = refl
+supported_type (tags.fixed_size_binary width) = refl
+supported_type (tags.duration unit) = refl
 
 supported_encoding : (e : Option Encoding) → any is_unsupported (encoding_tree e) ≡ false
 supported_encoding None = refl
@@ -105,6 +120,11 @@ known_type (tags.time unit) = refl
 known_type (tags.timestamp unit place) = refl
 known_type tags.list = refl
 known_type tags.struct = refl
+known_type tags.large_binary = refl
+known_type tags.large_utf8 = refl
+known_type tags.large_list = refl
+known_type (tags.fixed_size_binary width) = refl
+known_type (tags.duration unit) = refl
 
 all_supported : (fields : Fields) → any_in is_unsupported (field_trees fields) ≡ false
 all_supported columns.none = refl
@@ -121,47 +141,57 @@ known_width widths.Sixteen = refl
 known_width widths.ThirtyTwo = refl
 known_width widths.SixtyFour = refl
 
-fitting_type : (tag : Tag) → any is_misfit (type_tree tag) ≡ false
-fitting_type (tags.int widths.Eight signed) = refl
-fitting_type (tags.int widths.Sixteen signed) = refl
-fitting_type (tags.int widths.ThirtyTwo signed) = refl
-fitting_type (tags.int widths.SixtyFour signed) = refl
-fitting_type (tags.date dates.Day) = refl
-fitting_type (tags.date dates.Millisecond) = refl
-fitting_type (tags.time times.Second) = refl
-fitting_type (tags.time times.Millisecond) = refl
-fitting_type (tags.time times.Microsecond) = refl
-fitting_type (tags.time times.Nanosecond) = refl
-fitting_type (tags.timestamp times.Second None) = refl
-fitting_type (tags.timestamp times.Second (Some zone)) = refl
-fitting_type (tags.timestamp times.Millisecond None) = refl
-fitting_type (tags.timestamp times.Millisecond (Some zone)) = refl
-fitting_type (tags.timestamp times.Microsecond None) = refl
-fitting_type (tags.timestamp times.Microsecond (Some zone)) = refl
-fitting_type (tags.timestamp times.Nanosecond None) = refl
-fitting_type (tags.timestamp times.Nanosecond (Some zone)) = refl
-fitting_type tags.null = refl
-fitting_type tags.boolean = refl
-fitting_type tags.binary = refl
-fitting_type tags.utf8 = refl
-fitting_type tags.list = refl
-fitting_type tags.struct = refl
+fitting_type : (tag : Tag) → is_wide tag ≡ false → any is_misfit (type_tree tag) ≡ false
+fitting_type (tags.int widths.Eight signed) narrow = refl
+fitting_type (tags.int widths.Sixteen signed) narrow = refl
+fitting_type (tags.int widths.ThirtyTwo signed) narrow = refl
+fitting_type (tags.int widths.SixtyFour signed) narrow = refl
+fitting_type (tags.date dates.Day) narrow = refl
+fitting_type (tags.date dates.Millisecond) narrow = refl
+fitting_type (tags.time times.Second) narrow = refl
+fitting_type (tags.time times.Millisecond) narrow = refl
+fitting_type (tags.time times.Microsecond) narrow = refl
+fitting_type (tags.time times.Nanosecond) narrow = refl
+fitting_type (tags.timestamp times.Second None) narrow = refl
+fitting_type (tags.timestamp times.Second (Some zone)) narrow = refl
+fitting_type (tags.timestamp times.Millisecond None) narrow = refl
+fitting_type (tags.timestamp times.Millisecond (Some zone)) narrow = refl
+fitting_type (tags.timestamp times.Microsecond None) narrow = refl
+fitting_type (tags.timestamp times.Microsecond (Some zone)) narrow = refl
+fitting_type (tags.timestamp times.Nanosecond None) narrow = refl
+fitting_type (tags.timestamp times.Nanosecond (Some zone)) narrow = refl
+fitting_type tags.null narrow = refl
+fitting_type tags.boolean narrow = refl
+fitting_type tags.binary narrow = refl
+fitting_type tags.utf8 narrow = refl
+fitting_type tags.list narrow = refl
+fitting_type tags.struct narrow = refl
+fitting_type tags.large_binary narrow = refl
+fitting_type tags.large_utf8 narrow = refl
+fitting_type tags.large_list narrow = refl
+fitting_type (tags.fixed_size_binary width) narrow = rw narrow refl
+fitting_type (tags.duration times.Second) narrow = refl
+fitting_type (tags.duration times.Millisecond) narrow = refl
+fitting_type (tags.duration times.Microsecond) narrow = refl
+fitting_type (tags.duration times.Nanosecond) narrow = refl
 
 fitting_encoding : (e : Option Encoding) → any is_misfit (encoding_tree e) ≡ false
 fitting_encoding None = refl
 fitting_encoding (Some e) = let known = known_width e.index.bits in rw known refl
 
-fitting_field : (head : Head) (children : Fields) → IsField head children → AreFields children → is_misfit kinds.Field (field_parts head (field_trees children)) ≡ false
-fitting_field head children h below =
+fitting_field : (head : Head) (children : Fields) → IsField head children → AreFields children → is_too_wide children ≡ false → is_misfit kinds.Field (field_parts head (field_trees children)) ≡ false
+fitting_field head children h below narrow =
     let fits : children_fit (type_code (tag_code head.tag)) (width (fields_from (field_trees children))) ≡ true =
-    ap (λ fs. children_fit (type_code (tag_code head.tag)) (width fs)) (fields_again children below) ∙ h.fits in
+    ap (λ fs. children_fit (type_code (tag_code head.tag)) (width fs)) (fields_again children below narrow) ∙ h.fits in
     ap not fits
 
-all_fitting : (fields : Fields) → AreFields fields → any_in is_misfit (field_trees fields) ≡ false
-all_fitting columns.none h = refl
-all_fitting (columns.more head children rest) h =
-    let here = field_passes is_misfit head children (fitting_field head children h.0 h.1) (fitting_type head.tag) (fitting_encoding head.encoding) (all_fitting children h.1) in
-    let later = all_fitting rest h.2 in
+all_fitting : (fields : Fields) → AreFields fields → is_too_wide fields ≡ false → any_in is_misfit (field_trees fields) ≡ false
+all_fitting columns.none h narrow = refl
+all_fitting (columns.more head children rest) h narrow =
+    let both = or_parts (is_wide head.tag || is_too_wide children) (is_too_wide rest) narrow in
+    let own = or_parts (is_wide head.tag) (is_too_wide children) both.0 in
+    let here = field_passes is_misfit head children (fitting_field head children h.0 h.1 own.1) (fitting_type head.tag own.0) (fitting_encoding head.encoding) (all_fitting children h.1 own.1) in
+    let later = all_fitting rest h.2 both.1 in
     rw (here, later) refl
 
 -- The body's length is neither negative nor over the limit.
@@ -180,8 +210,8 @@ sound_header max n (schema fields) h low small =
     let length = good_length max n low small in
     let lacks = lacks_none fields in
     let supported = all_supported fields in
-    let fitting = all_fitting fields h.1 in
-    let again = fields_again fields h.1 in
+    let fitting = all_fitting fields h.1 h.0.bounded.narrow in
+    let again = fields_again fields h.1 h.0.bounded.narrow in
     let flat : is_nested (fields_from (field_trees fields)) ≡ false = ap is_nested again ∙ h.0.bounded.flat in
     let shared : types_differ (dictionary_fields (fields_from (field_trees fields))) ≡ false = ap (λ fs. types_differ (dictionary_fields fs)) again ∙ none_differ (dictionary_fields fields) h.0.one_type in
     rw (length, lacks, supported, fitting, flat, shared) refl

@@ -1,7 +1,8 @@
 -- What a message is laid out as can be written.
-use Rattle.std.proofs.Common.{◌≡◌, ◌+◌, ◌^◌, ◌<◌, ℤ, pos, negsuc, Bool, true, false, List, [], ◌∷◌}
+use Rattle.std.proofs.Common.{◌≡◌, ◌+◌, ◌^◌, ◌<◌, ℤ, pos, negsuc, Bool, true, false, ◌||◌, List, [], ◌∷◌}
 use Rattle.std.proofs.Common.{map, Option, Some, None, ap, arith}
 use Rattle.std.specs.Int.{cast_signed, cast_unsigned, w16, w64}
+use Rattle.std.proofs.lemmas.Bool.{or_parts, ltb-false}
 use Rattle.std.proofs.lemmas.Int.{to_z-of_z}
 use mir.Val.{SFits}
 use Rattle.arrow_flatbuf.specs.Nodes.{Cells, NodeFits, NodesFit, CellsFit, PairsFit}
@@ -10,6 +11,7 @@ use Rattle.arrow_types.specs.DataType as tags
 use Rattle.arrow_types.specs.DataType.{Tag, bits_of}
 use Rattle.arrow_types.specs.Field as columns
 use Rattle.arrow_types.specs.Field.{Head, Fields}
+use Rattle.arrow_types.specs.Schema.{is_wide, is_too_wide}
 use Rattle.arrow_types.specs.declared.data_type.BitWidth.{BitWidth}
 use Rattle.arrow_types.specs.declared.data_type.BitWidth.TheVariants as widths
 use Rattle.arrow_types.specs.declared.data_type.DateUnit.TheVariants as dates
@@ -64,22 +66,27 @@ time_fits times.Millisecond = omega arith
 time_fits times.Microsecond = omega arith
 time_fits times.Nanosecond = omega arith
 
-type_fits : (tag : Tag) → HasTextZone tag → NodeFits (laid.table (type_cells tag))
-type_fits tags.null h = (omega arith, tt)
-type_fits tags.boolean h = (omega arith, tt)
-type_fits tags.binary h = (omega arith, tt)
-type_fits tags.utf8 h = (omega arith, tt)
-type_fits tags.list h = (omega arith, tt)
-type_fits tags.struct h = (omega arith, tt)
-type_fits (tags.int bits signed) h = int_fits bits signed
-type_fits (tags.date dates.Day) h = (omega arith, (omega arith, tt))
-type_fits (tags.date dates.Millisecond) h = (omega arith, (omega arith, tt))
-type_fits (tags.time times.Second) h = (omega arith, (omega arith, (omega arith, tt)))
-type_fits (tags.time times.Millisecond) h = (omega arith, (omega arith, (omega arith, tt)))
-type_fits (tags.time times.Microsecond) h = (omega arith, (omega arith, (omega arith, tt)))
-type_fits (tags.time times.Nanosecond) h = (omega arith, (omega arith, (omega arith, tt)))
-type_fits (tags.timestamp unit None) h = (omega arith, (omega (arith, time_fits unit), tt))
-type_fits (tags.timestamp unit (Some zone)) h = (omega arith, (omega (arith, time_fits unit), (h, tt)))
+type_fits : (tag : Tag) → HasTextZone tag → is_wide tag ≡ false → NodeFits (laid.table (type_cells tag))
+type_fits tags.null h narrow = (omega arith, tt)
+type_fits tags.boolean h narrow = (omega arith, tt)
+type_fits tags.binary h narrow = (omega arith, tt)
+type_fits tags.utf8 h narrow = (omega arith, tt)
+type_fits tags.list h narrow = (omega arith, tt)
+type_fits tags.struct h narrow = (omega arith, tt)
+type_fits tags.large_binary h narrow = (omega arith, tt)
+type_fits tags.large_utf8 h narrow = (omega arith, tt)
+type_fits tags.large_list h narrow = (omega arith, tt)
+type_fits (tags.int bits signed) h narrow = int_fits bits signed
+type_fits (tags.date dates.Day) h narrow = (omega arith, (omega arith, tt))
+type_fits (tags.date dates.Millisecond) h narrow = (omega arith, (omega arith, tt))
+type_fits (tags.time times.Second) h narrow = (omega arith, (omega arith, (omega arith, tt)))
+type_fits (tags.time times.Millisecond) h narrow = (omega arith, (omega arith, (omega arith, tt)))
+type_fits (tags.time times.Microsecond) h narrow = (omega arith, (omega arith, (omega arith, tt)))
+type_fits (tags.time times.Nanosecond) h narrow = (omega arith, (omega arith, (omega arith, tt)))
+type_fits (tags.timestamp unit None) h narrow = (omega arith, (omega (arith, time_fits unit), tt))
+type_fits (tags.timestamp unit (Some zone)) h narrow = (omega arith, (omega (arith, time_fits unit), (h, tt)))
+type_fits (tags.fixed_size_binary width) h narrow = (omega arith, (omega (arith, ltb-false 2147483647 width narrow), tt))
+type_fits (tags.duration unit) h narrow = (omega arith, (omega (arith, time_fits unit), tt))
 
 pub code_fits : (tag : Tag) → tag_code tag < 256
 code_fits tags.null = omega arith
@@ -88,10 +95,15 @@ code_fits tags.binary = omega arith
 code_fits tags.utf8 = omega arith
 code_fits tags.list = omega arith
 code_fits tags.struct = omega arith
+code_fits tags.large_binary = omega arith
+code_fits tags.large_utf8 = omega arith
+code_fits tags.large_list = omega arith
 code_fits (tags.int bits signed) = omega arith
 code_fits (tags.date unit) = omega arith
 code_fits (tags.time unit) = omega arith
 code_fits (tags.timestamp unit place) = omega arith
+code_fits (tags.fixed_size_binary width) = omega arith
+code_fits (tags.duration unit) = omega arith
 
 encoding_fits : (e : Option Encoding) (rest : Cells) → HasLongId e → CellsFit rest → CellsFit (with_encoding e rest)
 encoding_fits None rest h later = later
@@ -102,9 +114,11 @@ with_encoding_count : (e : Option Encoding) (rest : Cells) → laid.count (with_
 with_encoding_count None rest = omega arith
 with_encoding_count (Some e) rest = omega arith
 
-fields_fit : (fields : Fields) → AreFields fields → NodesFit (field_nodes fields)
-fields_fit columns.none h = tt
-fields_fit (columns.more head children rest) h =
+fields_fit : (fields : Fields) → AreFields fields → is_too_wide fields ≡ false → NodesFit (field_nodes fields)
+fields_fit columns.none h narrow = tt
+fields_fit (columns.more head children rest) h narrow =
+    let both = or_parts (is_wide head.tag || is_too_wide children) (is_too_wide rest) narrow in
+    let own = or_parts (is_wide head.tag) (is_too_wide children) both.0 in
     let last : Cells = laid.offset (laid.tables (field_nodes children)) laid.last in (
       (
         omega (arith, with_encoding_count head.encoding last),
@@ -115,14 +129,14 @@ fields_fit (columns.more head children rest) h =
             (
               code_fits head.tag,
               (
-                type_fits head.tag h.0.zone,
-                encoding_fits head.encoding last h.0.id (fields_fit children h.1, tt),
+                type_fits head.tag h.0.zone own.0,
+                encoding_fits head.encoding last h.0.id (fields_fit children h.1 own.1, tt),
               ),
             ),
           ),
         ),
       ),
-      fields_fit rest h.2,
+      fields_fit rest h.2 both.1,
     )
 
 nodes_fit : (ns : List FieldNode) → AreNodes ns → PairsFit (map node_pair ns)
@@ -137,7 +151,7 @@ batch_fits : (b : PlainBatch) → IsBatch b → NodeFits (laid.table (batch_cell
 batch_fits b h = (omega arith, (long_fits b.length h.length, (nodes_fit b.nodes h.nodes, (buffers_fit b.buffers h.buffers, tt))))
 
 header_fits : (x : PlainHeader) → IsHeader x → NodeFits (laid.table (header_cells x))
-header_fits (schema fields) h = (omega arith, (omega arith, (fields_fit fields h.1, tt)))
+header_fits (schema fields) h = (omega arith, (omega arith, (fields_fit fields h.1 h.0.bounded.narrow, tt)))
 header_fits (dictionary id delta b) h = (omega arith, (long_fits id h.0, (batch_fits b h.1, (flag_fits delta, tt))))
 header_fits (batch b) h = batch_fits b h
 

@@ -78,10 +78,17 @@ type_stands b p r tags.binary e h k = closed_spot b (type_table (code_at (at b p
 type_stands b p r tags.utf8 e h k = closed_spot b (type_table (code_at (at b p) 2)) (field_place (at b p) 3) (ap type_table e)
 type_stands b p r tags.list e h k = closed_spot b (type_table (code_at (at b p) 2)) (field_place (at b p) 3) (ap type_table e)
 type_stands b p r tags.struct e h k = closed_spot b (type_table (code_at (at b p) 2)) (field_place (at b p) 3) (ap type_table e)
+type_stands b p r tags.large_binary e h k = closed_spot b (type_table (code_at (at b p) 2)) (field_place (at b p) 3) (ap type_table e)
+type_stands b p r tags.large_utf8 e h k = closed_spot b (type_table (code_at (at b p) 2)) (field_place (at b p) 3) (ap type_table e)
+type_stands b p r tags.large_list e h k = closed_spot b (type_table (code_at (at b p) 2)) (field_place (at b p) 3) (ap type_table e)
 type_stands b p r (tags.int bits signed) e h k =
     opened_field b p 3 r (type_table (code_at (at b p) 2)) kinds.Int (int_parts bits signed) (ap type_table e) h k.0 (int_stands b r bits signed k.1)
 type_stands b p r (tags.date unit) e h k =
     opened_field b p 3 r (type_table (code_at (at b p) 2)) kinds.Date (parts (type_tree (tags.date unit))) (ap type_table e) h k.0 (number_field Two b r 0 _ k.1.0, tt)
+type_stands b p r (tags.duration unit) e h k =
+    opened_field b p 3 r (type_table (code_at (at b p) 2)) kinds.Duration (parts (type_tree (tags.duration unit))) (ap type_table e) h k.0 (number_field Two b r 0 _ k.1.0, tt)
+type_stands b p r (tags.fixed_size_binary width) e h k =
+    opened_field b p 3 r (type_table (code_at (at b p) 2)) kinds.FixedSizeBinary (parts (type_tree (tags.fixed_size_binary width))) (ap type_table e) h k.0 (number_field Four b r 0 _ k.1.0, tt)
 type_stands b p r (tags.time unit) e h k =
     opened_field b p 3 r (type_table (code_at (at b p) 2)) kinds.Time (parts (type_tree (tags.time unit))) (ap type_table e) h k.0 (number_field Two b r 0 _ k.1.0, (number_field Four b r 1 _ k.1.1.0, tt))
 type_stands b p r (tags.timestamp unit zone) e h k =

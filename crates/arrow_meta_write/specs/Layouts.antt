@@ -37,13 +37,18 @@ tag_code (tags.time unit) = 9
 tag_code (tags.timestamp unit place) = 10
 tag_code tags.list = 12
 tag_code tags.struct = 13
+tag_code (tags.fixed_size_binary width) = 15
+tag_code (tags.duration unit) = 18
+tag_code tags.large_binary = 19
+tag_code tags.large_utf8 = 20
+tag_code tags.large_list = 21
 
 -- the number of a date's unit (Schema.fbs, enum "DateUnit")
 abbrev pub date_number : DateUnit → ℕ
 date_number dates.Day = 0
 date_number dates.Millisecond = 1
 
--- the number of the unit of a time or a timestamp (Schema.fbs, enum "TimeUnit")
+-- the number of the unit of a time, a timestamp or a duration (Schema.fbs, enum "TimeUnit")
 abbrev pub time_number : TimeUnit → ℕ
 time_number times.Second = 0
 time_number times.Millisecond = 1
@@ -59,19 +64,24 @@ abbrev pub zone_cells : Option (List ℕ) → Cells
 zone_cells None = last
 zone_cells (Some name) = offset (text name) last
 
--- a type's table: of Date the unit, of Time the unit and bitWidth, of Timestamp the unit and the time zone. The types
--- that no reader opens have a table without fields.
+-- a type's table: of Date the unit, of Time the unit and bitWidth, of Timestamp the unit and the time zone, of
+-- FixedSizeBinary the byteWidth, of Duration the unit. The types that no reader opens have a table without fields.
 abbrev pub type_cells : Tag → Cells
 type_cells (tags.int bits signed) = int_cells bits signed
 type_cells (tags.date unit) = scalar Two (date_number unit) last
 type_cells (tags.time unit) = scalar Two (time_number unit) (scalar Four (bits_of (time_width_of unit)) last)
 type_cells (tags.timestamp unit zone) = scalar Two (time_number unit) (zone_cells zone)
+type_cells (tags.fixed_size_binary width) = scalar Four width last
+type_cells (tags.duration unit) = scalar Two (time_number unit) last
 type_cells tags.null = last
 type_cells tags.boolean = last
 type_cells tags.binary = last
 type_cells tags.utf8 = last
 type_cells tags.list = last
 type_cells tags.struct = last
+type_cells tags.large_binary = last
+type_cells tags.large_utf8 = last
+type_cells tags.large_list = last
 
 -- a DictionaryEncoding table: id, indexType, isOrdered, dictionaryKind
 abbrev pub encoding_cells : Encoding → Cells

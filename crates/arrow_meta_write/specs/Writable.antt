@@ -36,6 +36,11 @@ HasTextZone tags.struct = Unit {0}
 HasTextZone (tags.int bits signed) = Unit {0}
 HasTextZone (tags.date unit) = Unit {0}
 HasTextZone (tags.time unit) = Unit {0}
+HasTextZone tags.large_binary = Unit {0}
+HasTextZone tags.large_utf8 = Unit {0}
+HasTextZone tags.large_list = Unit {0}
+HasTextZone (tags.fixed_size_binary width) = Unit {0}
+HasTextZone (tags.duration unit) = Unit {0}
 
 -- an encoding's id is a number of 64 bits
 abbrev pub HasLongId : Option Encoding → Type 0

@@ -34,12 +34,17 @@ type_tree (tags.date unit) = table kinds.Date (more (of_number (date_number unit
 type_tree (tags.time unit) =
     table kinds.Time (more (of_number (time_number unit)) (more (of_number (bits_of (time_width_of unit))) none))
 type_tree (tags.timestamp unit zone) = table kinds.Timestamp (more (of_number (time_number unit)) (more (zone_tree zone) none))
+type_tree (tags.fixed_size_binary width) = table kinds.FixedSizeBinary (more (of_number width) none)
+type_tree (tags.duration unit) = table kinds.Duration (more (of_number (time_number unit)) none)
 type_tree tags.null = leaf absent
 type_tree tags.boolean = leaf absent
 type_tree tags.binary = leaf absent
 type_tree tags.utf8 = leaf absent
 type_tree tags.list = leaf absent
 type_tree tags.struct = leaf absent
+type_tree tags.large_binary = leaf absent
+type_tree tags.large_utf8 = leaf absent
+type_tree tags.large_list = leaf absent
 
 -- a field's encoding, where it has one
 abbrev pub encoding_tree : Option Encoding → Tree

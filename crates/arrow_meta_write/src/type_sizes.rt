@@ -1,4 +1,5 @@
-//! Where types end, with their zones (`Schema.fbs`, tables `Int`, `Date`, `Time`, `Timestamp`).
+//! Where types end, with their zones (`Schema.fbs`, tables `Int`, `Date`, `Time`, `Timestamp`,
+//! `FixedSizeBinary`, `Duration`).
 //!
 //! Places are those of `sizes`: in bytes, over the greatest size all as one. The numbers in the
 //! fields do not matter to the place, so they are left 0.
@@ -6,7 +7,8 @@ ghost use Rattle.std.specs.Prelude.{◌≡◌, ◌≤◌, option_map, string_byt
 ghost use Rattle.arrow_flatbuf.specs.Nodes.{after, table};
 ghost use Rattle.arrow_meta_write.specs.Capped.{capped};
 ghost use Rattle.arrow_meta_write.specs.Layouts.{int_cells, type_cells};
-ghost use Rattle.arrow_types.specs.DataType.{date, time, timestamp};
+ghost use Rattle.arrow_types.specs.DataType.{date, duration, fixed_size_binary, time};
+ghost use Rattle.arrow_types.specs.DataType.{timestamp};
 ghost use Rattle.arrow_types.specs.View.{type_view};
 
 use crate::tables::{table_after, text_after, zone_table_end};
@@ -24,12 +26,17 @@ pub(crate) fn type_end(place: usize, data_type: &DataType) -> usize
         DataType::Date(unit) => date_end(place, *unit),
         DataType::Time(unit) => time_end(place, *unit),
         DataType::Timestamp(unit, zone) => timestamp_end(place, *unit, zone),
+        DataType::FixedSizeBinary(width) => fixed_size_end(place, *width),
+        DataType::Duration(unit) => duration_end(place, *unit),
         DataType::Null
         | DataType::Bool
         | DataType::Binary
         | DataType::Utf8
         | DataType::List(_)
-        | DataType::Struct(_) => table_after(place, &[]),
+        | DataType::Struct(_)
+        | DataType::LargeBinary
+        | DataType::LargeUtf8
+        | DataType::LargeList(_) => table_after(place, &[]),
     }
 }
 
@@ -66,6 +73,24 @@ fn time_end(place: usize, unit: TimeUnit) -> usize
         place,
         &[Slot::Scalar(Width::Two, 0), Slot::Scalar(Width::Four, 0)],
     )
+}
+
+/// The first place after the table of byte strings of a fixed size.
+fn fixed_size_end(place: usize, width: u32) -> usize
+    requires { place ≤ 1073741825 }
+    ensures end { result ≡ capped (after place (table (type_cells (fixed_size_binary width)))) }
+    ensures near { result ≤ 1073741825 }
+{
+    table_after(place, &[Slot::Scalar(Width::Four, 0)])
+}
+
+/// The first place after a duration's table.
+fn duration_end(place: usize, unit: TimeUnit) -> usize
+    requires { place ≤ 1073741825 }
+    ensures end { result ≡ capped (after place (table (type_cells (duration unit)))) }
+    ensures near { result ≤ 1073741825 }
+{
+    table_after(place, &[Slot::Scalar(Width::Two, 0)])
 }
 
 /// The first place after an Int table.

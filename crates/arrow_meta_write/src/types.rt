@@ -1,8 +1,9 @@
 //! Types as they are written: the code in the field's table, and the type's own table
-//! (`Schema.fbs`, union `Type`, tables `Int`, `Date`, `Time`, `Timestamp`).
+//! (`Schema.fbs`, union `Type`, tables `Int`, `Date`, `Time`, `Timestamp`, `FixedSizeBinary`,
+//! `Duration`).
 //!
 //! The table of a type that no reader opens has no fields. Units are the numbers of their enums, a
-//! width is a number of bits.
+//! width is a number of bits, or for `FixedSizeBinary` of bytes.
 ghost use Rattle.std.specs.Prelude.{◌≡◌, ◌≤◌, ◌<◌, option_map, string_bytes, true, Some, OnOk};
 ghost use Rattle.arrow_flatbuf.specs.Nodes.{count, table as table_node};
 ghost use Rattle.arrow_meta.specs.Codes.{type_code as code_named};
@@ -11,7 +12,8 @@ ghost use Rattle.arrow_meta_write.specs.Appends.{HasRoom, Appends};
 ghost use Rattle.arrow_meta_write.specs.Layouts.{int_cells, type_cells, flag, tag_code};
 ghost use Rattle.arrow_meta_write.specs.Layouts.{date_number, time_number};
 ghost use Rattle.arrow_meta_write.specs.Writable.{HasTextZone};
-ghost use Rattle.arrow_types.specs.DataType.{date, time, timestamp};
+ghost use Rattle.arrow_types.specs.DataType.{date, duration, fixed_size_binary, time};
+ghost use Rattle.arrow_types.specs.DataType.{timestamp};
 ghost use Rattle.arrow_types.specs.Field.{width as field_width};
 ghost use Rattle.arrow_types.specs.View.{type_view};
 
@@ -39,6 +41,11 @@ pub(crate) fn type_code(data_type: &DataType) -> u64
         DataType::Timestamp(..) => 10,
         DataType::List(_) => 12,
         DataType::Struct(_) => 13,
+        DataType::FixedSizeBinary(_) => 15,
+        DataType::Duration(_) => 18,
+        DataType::LargeBinary => 19,
+        DataType::LargeUtf8 => 20,
+        DataType::LargeList(_) => 21,
     }
 }
 
@@ -52,12 +59,17 @@ pub(crate) fn type_fields(data_type: &DataType) -> usize
         DataType::Date(_) => 1,
         DataType::Time(_) => 2,
         DataType::Timestamp(unit, zone) => timestamp_fields(*unit, zone),
+        DataType::FixedSizeBinary(_) => 1,
+        DataType::Duration(_) => 1,
         DataType::Null
         | DataType::Bool
         | DataType::Binary
         | DataType::Utf8
         | DataType::List(_)
-        | DataType::Struct(_) => 0,
+        | DataType::Struct(_)
+        | DataType::LargeBinary
+        | DataType::LargeUtf8
+        | DataType::LargeList(_) => 0,
     }
 }
 
@@ -85,12 +97,17 @@ pub(crate) fn write_type(writer: &mut TableWriter, data_type: &DataType) -> Resu
         DataType::Date(unit) => write_date(writer, *unit),
         DataType::Time(unit) => write_time(writer, *unit),
         DataType::Timestamp(unit, zone) => write_timestamp(writer, *unit, zone),
+        DataType::FixedSizeBinary(width) => write_fixed_size(writer, *width),
+        DataType::Duration(unit) => write_duration(writer, *unit),
         DataType::Null
         | DataType::Bool
         | DataType::Binary
         | DataType::Utf8
         | DataType::List(_)
-        | DataType::Struct(_) => writer.table(&[]),
+        | DataType::Struct(_)
+        | DataType::LargeBinary
+        | DataType::LargeUtf8
+        | DataType::LargeList(_) => writer.table(&[]),
     }
 }
 
@@ -149,6 +166,22 @@ fn write_date(writer: &mut TableWriter, unit: DateUnit) -> Result<(), AllocError
     writer.table(&[Slot::Scalar(Width::Two, date_number(unit))])
 }
 
+/// Appends the table of byte strings of a fixed size.
+fn write_fixed_size(writer: &mut TableWriter, width: u32) -> Result<(), AllocError>
+    ensures { OnOk result
+        (Appends writer.old (table_node (type_cells (fixed_size_binary width))) writer.new) }
+{
+    writer.table(&[Slot::Scalar(Width::Four, u64::from(width))])
+}
+
+/// Appends a duration's table.
+fn write_duration(writer: &mut TableWriter, unit: TimeUnit) -> Result<(), AllocError>
+    ensures { OnOk result
+        (Appends writer.old (table_node (type_cells (duration unit))) writer.new) }
+{
+    writer.table(&[Slot::Scalar(Width::Two, time_number(unit))])
+}
+
 /// Appends an Int table.
 pub(crate) fn write_int(
     writer: &mut TableWriter,
@@ -182,7 +215,7 @@ fn date_number(unit: DateUnit) -> u64
     }
 }
 
-/// The number of the unit of a time or a timestamp (`Schema.fbs`, enum `TimeUnit`).
+/// The number of the unit of a time, a timestamp or a duration (`Schema.fbs`, enum `TimeUnit`).
 fn time_number(unit: TimeUnit) -> u64
     ensures number { result ≡ time_number unit }
     ensures small { result < 256 }

@@ -1,8 +1,8 @@
 -- How a type is named in the text of a schema. (The types are those of Schema.fbs, union "Type"; the names are this
 -- project's own.)
 use Rattle.std.specs.Prelude.{ℕ, Bool, true, false, if◌then◌else◌, List, [], ◌++◌, Option, Some, None, codes}
-use Rattle.std.specs.Fmt.{signed_decimal}
-use Rattle.arrow_types.specs.DataType.{Tag, null, boolean, int, binary, utf8, date, time, timestamp, list, struct}
+use Rattle.std.specs.Fmt.{decimal, signed_decimal}
+use Rattle.arrow_types.specs.DataType.{Tag, null, boolean, int, binary, large_binary, fixed_size_binary, utf8, large_utf8, date, time, timestamp, duration, list, large_list, struct}
 use Rattle.arrow_types.specs.declared.data_type.BitWidth.{BitWidth}
 use Rattle.arrow_types.specs.declared.data_type.BitWidth.TheVariants.{Eight, Sixteen, ThirtyTwo, SixtyFour}
 use Rattle.arrow_types.specs.declared.data_type.DateUnit.{DateUnit}
@@ -28,7 +28,7 @@ abbrev pub date_name : DateUnit → List ℕ
 date_name dates.Day = codes "date[day]"
 date_name dates.Millisecond = codes "date[ms]"
 
--- the unit of times and timestamps
+-- the unit of times, timestamps and durations
 abbrev pub unit_name : TimeUnit → List ℕ
 unit_name times.Second = codes "s"
 unit_name times.Millisecond = codes "ms"
@@ -46,11 +46,16 @@ type_name null = codes "null"
 type_name boolean = codes "bool"
 type_name (int bits signed) = int_name bits signed
 type_name binary = codes "binary"
+type_name large_binary = codes "large_binary"
+type_name (fixed_size_binary width) = codes "fixed_size_binary[" ++ decimal width ++ codes "]"
 type_name utf8 = codes "utf8"
+type_name large_utf8 = codes "large_utf8"
 type_name (date unit) = date_name unit
 type_name (time unit) = codes "time[" ++ unit_name unit ++ codes "]"
 type_name (timestamp unit zone) = codes "timestamp[" ++ unit_name unit ++ zone_text zone ++ codes "]"
+type_name (duration unit) = codes "duration[" ++ unit_name unit ++ codes "]"
 type_name list = codes "list"
+type_name large_list = codes "large_list"
 type_name struct = codes "struct"
 
 -- the type of the indices into a dictionary

@@ -1,7 +1,7 @@
 //! The names of types.
 
 ghost use Rattle.std.specs.Prelude.{◌≡◌, ◌++◌, OnOk, string_bytes, option_map};
-ghost use Rattle.arrow_types.specs.DataType.{time, timestamp};
+ghost use Rattle.arrow_types.specs.DataType.{duration, fixed_size_binary, time, timestamp};
 ghost use Rattle.arrow_types.specs.View.{type_view};
 ghost use Rattle.arrowflow.specs.TypeNames.{int_name, date_name, unit_name, type_name};
 ghost use Rattle.arrowflow.specs.TypeNames.{index_text, id_text, column_type};
@@ -63,13 +63,36 @@ fn push_type(line: &mut String, data_type: &DataType) -> Result<(), AllocError>
         DataType::Bool => line.push_str("bool"),
         DataType::Int { bits, signed } => line.push_str(int_name(*bits, *signed)),
         DataType::Binary => line.push_str("binary"),
+        DataType::LargeBinary => line.push_str("large_binary"),
+        DataType::FixedSizeBinary(width) => push_fixed_size(line, *width),
         DataType::Utf8 => line.push_str("utf8"),
+        DataType::LargeUtf8 => line.push_str("large_utf8"),
         DataType::Date(unit) => line.push_str(date_name(*unit)),
         DataType::Time(unit) => push_time(line, *unit),
         DataType::Timestamp(unit, zone) => push_timestamp(line, *unit, zone),
+        DataType::Duration(unit) => push_duration(line, *unit),
         DataType::List(_) => line.push_str("list"),
+        DataType::LargeList(_) => line.push_str("large_list"),
         DataType::Struct(_) => line.push_str("struct"),
     }
+}
+
+fn push_fixed_size(line: &mut String, width: u32) -> Result<(), AllocError>
+    ensures { OnOk result (string_bytes line.new
+        ≡ string_bytes line.old ++ type_name (fixed_size_binary width)) }
+{
+    line.push_str("fixed_size_binary[")?;
+    write!(line, "{}", width)?;
+    line.push_str("]")
+}
+
+fn push_duration(line: &mut String, unit: TimeUnit) -> Result<(), AllocError>
+    ensures { OnOk result (string_bytes line.new
+        ≡ string_bytes line.old ++ type_name (duration unit)) }
+{
+    line.push_str("duration[")?;
+    line.push_str(unit_name(unit))?;
+    line.push_str("]")
 }
 
 fn push_time(line: &mut String, unit: TimeUnit) -> Result<(), AllocError>

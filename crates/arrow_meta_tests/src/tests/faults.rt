@@ -4,6 +4,7 @@ use super::reading::{Edits, edited, is_refused};
 use crate::vectors::{FOUR_FIELDS, LETTERS, NESTED, ONE_BATCH, ONE_FIELD, SHARED_ID};
 use arrow_meta::{BatchKind, MetaFault};
 use arrow_types::Limits;
+use std::process::Abort;
 
 const UNSUPPORTED: Option<MetaFault> = Some(MetaFault::Unsupported { body_len: 0 });
 
@@ -218,12 +219,68 @@ static FAULTS: [(&str, &[u8], Edits, Option<MetaFault>); 50] = [
     ("a dictionary without data", LETTERS, &[(46, 0)], METADATA),
 ];
 
+// The same of types with a width in bytes, of durations, and of types with offsets of 64 bits.
+static TYPE_FAULTS: [(&str, &[u8], Edits, Option<MetaFault>); 12] = [
+    ("a Duration of unit 32", ONE_FIELD, &[(97, 18)], MISFIT),
+    (
+        "a Duration of unit 4",
+        ONE_FIELD,
+        &[(97, 18), (132, 4)],
+        MISFIT,
+    ),
+    (
+        "a width of -2147483648 bytes",
+        ONE_FIELD,
+        &[(97, 15), (132, 0), (135, 0x80)],
+        MISFIT,
+    ),
+    (
+        "a width of -1 bytes",
+        ONE_FIELD,
+        &[(97, 15), (132, 0xff), (133, 0xff), (134, 0xff), (135, 0xff)],
+        MISFIT,
+    ),
+    (
+        "a LargeList without a child",
+        ONE_FIELD,
+        &[(97, 21)],
+        MISFIT,
+    ),
+    (
+        "a FixedSizeBinary without its table",
+        ONE_FIELD,
+        &[(97, 15), (78, 0)],
+        METADATA,
+    ),
+    (
+        "a Duration without its table",
+        ONE_FIELD,
+        &[(97, 18), (78, 0)],
+        METADATA,
+    ),
+    (
+        "a child under LargeBinary",
+        FOUR_FIELDS,
+        &[(225, 19)],
+        MISFIT,
+    ),
+    ("a child under LargeUtf8", FOUR_FIELDS, &[(225, 20)], MISFIT),
+    ("FixedSizeList", ONE_FIELD, &[(97, 16)], UNSUPPORTED),
+    ("Map", ONE_FIELD, &[(97, 17)], UNSUPPORTED),
+    ("RunEndEncoded", ONE_FIELD, &[(97, 22)], UNSUPPORTED),
+];
+
+fn are_refused(rt: &(impl Abort + AllocGlobal), rows: &[(&str, &[u8], Edits, Option<MetaFault>)]) {
+    for (what, bytes, edits, fault) in rows {
+        let bytes = edited(rt, rt.alloc(), bytes, edits);
+        is_refused(rt, rt.alloc(), what, &bytes, &Limits::standard(), *fault);
+    }
+}
+
 #[test]
 fn the_least_fault_is_answered(rt: HostRuntime) {
-    for (what, bytes, edits, fault) in &FAULTS {
-        let bytes = edited(&rt, rt.alloc(), bytes, edits);
-        is_refused(&rt, rt.alloc(), what, &bytes, &Limits::standard(), *fault);
-    }
+    are_refused(&rt, &FAULTS);
+    are_refused(&rt, &TYPE_FAULTS);
 }
 
 #[test]

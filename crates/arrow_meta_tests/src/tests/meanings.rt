@@ -6,7 +6,7 @@ use arrow_meta::{MetaFault, decode, judge, laws, tree};
 use arrow_types::Limits;
 
 // The schema of one field with bytes changed, by its type.
-static TYPES: [(Edits, &str); 20] = [
+static TYPES: [(Edits, &str); 33] = [
     (&[], "4 0 schema n: Int { bits: ThirtyTwo, signed: true };"),
     (
         &[(136, 7)],
@@ -54,6 +54,31 @@ static TYPES: [(Edits, &str); 20] = [
         &[(97, 10), (132, 2), (114, 6)],
         "4 0 schema n: Timestamp(Microsecond, None);",
     ),
+    (&[(97, 15)], "4 0 schema n: FixedSizeBinary(32);"),
+    (&[(97, 15), (118, 0)], "4 0 schema n: FixedSizeBinary(0);"),
+    (
+        &[(97, 15), (132, 0xff), (133, 0xff), (134, 0xff), (135, 0x7f)],
+        "4 0 schema n: FixedSizeBinary(2147483647);",
+    ),
+    (
+        &[(97, 18), (118, 0)],
+        "4 0 schema n: Duration(Millisecond);",
+    ),
+    (&[(97, 18), (132, 0)], "4 0 schema n: Duration(Second);"),
+    (
+        &[(97, 18), (132, 1)],
+        "4 0 schema n: Duration(Millisecond);",
+    ),
+    (
+        &[(97, 18), (132, 2)],
+        "4 0 schema n: Duration(Microsecond);",
+    ),
+    (&[(97, 18), (132, 3)], "4 0 schema n: Duration(Nanosecond);"),
+    (&[(97, 19)], "4 0 schema n: LargeBinary;"),
+    (&[(97, 19), (78, 0)], "4 0 schema n: LargeBinary;"),
+    (&[(97, 20)], "4 0 schema n: LargeUtf8;"),
+    (&[(97, 20), (78, 0)], "4 0 schema n: LargeUtf8;"),
+    (&[(97, 20), (103, 0xff)], "4 0 schema n: LargeUtf8;"),
 ];
 
 #[test]
@@ -102,12 +127,23 @@ fn absent_parts_have_their_defaults(rt: HostRuntime) {
 }
 
 // Fields with children and with dictionaries, and batches.
-static MESSAGES: [(&[u8], Edits, &str); 7] = [
+static MESSAGES: [(&[u8], Edits, &str); 8] = [
     (
         FOUR_FIELDS,
         &[],
         "4 0 schema k: Utf8 by Encoding { id: 0, index: IndexType { bits: ThirtyTwo, signed: true }, ordered: false }; \
         l: List(Field { name: \"item\", nullable: true, data_type: Int { bits: ThirtyTwo, signed: true }, \
+        dictionary: None }) not null; \
+        s: Struct([Field { name: \"m\", nullable: false, data_type: Int { bits: Eight, signed: false }, \
+        dictionary: None }]); \
+        t: Timestamp(Microsecond, Some(\"UTC\")); 0",
+    ),
+    // The texts large, and the list.
+    (
+        FOUR_FIELDS,
+        &[(105, 20), (225, 21)],
+        "4 0 schema k: LargeUtf8 by Encoding { id: 0, index: IndexType { bits: ThirtyTwo, signed: true }, ordered: false }; \
+        l: LargeList(Field { name: \"item\", nullable: true, data_type: Int { bits: ThirtyTwo, signed: true }, \
         dictionary: None }) not null; \
         s: Struct([Field { name: \"m\", nullable: false, data_type: Int { bits: Eight, signed: false }, \
         dictionary: None }]); \

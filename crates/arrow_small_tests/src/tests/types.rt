@@ -11,12 +11,18 @@ enum Kind {
     Null,
     Bool,
     Binary,
+    LargeBinary,
+    // Byte strings of so many bytes each.
+    FixedSizeBinary(u32),
     Utf8,
+    LargeUtf8,
     Time(TimeUnit),
+    Duration(TimeUnit),
     // Timestamps in microseconds, with the name of a zone where it is not empty.
     Timestamp(&'static str),
     // Lists of the field before.
     List,
+    LargeList,
     // Structs of so many fields before.
     Struct(usize),
 }
@@ -48,6 +54,10 @@ fn list(rt: &(impl Abort + AllocGlobal), item: Field) -> DataType {
     DataType::List(Box::new(rt.alloc(), item).expect(rt, "memory"))
 }
 
+fn large_list(rt: &(impl Abort + AllocGlobal), item: Field) -> DataType {
+    DataType::LargeList(Box::new(rt.alloc(), item).expect(rt, "memory"))
+}
+
 fn last(rt: &impl Abort, fields: &mut Vec<Field>) -> Field {
     fields.pop().expect(rt, "a field that is not there")
 }
@@ -70,10 +80,15 @@ fn data_type(rt: &(impl Abort + AllocGlobal), before: &mut Vec<Field>, kind: Kin
         Kind::Null => DataType::Null,
         Kind::Bool => DataType::Bool,
         Kind::Binary => DataType::Binary,
+        Kind::LargeBinary => DataType::LargeBinary,
+        Kind::FixedSizeBinary(width) => DataType::FixedSizeBinary(width),
         Kind::Utf8 => DataType::Utf8,
+        Kind::LargeUtf8 => DataType::LargeUtf8,
         Kind::Time(unit) => DataType::Time(unit),
+        Kind::Duration(unit) => DataType::Duration(unit),
         Kind::Timestamp(zone) => DataType::Timestamp(TimeUnit::Microsecond, zoned(rt, zone)),
         Kind::List => list(rt, last(rt, before)),
+        Kind::LargeList => large_list(rt, last(rt, before)),
         Kind::Struct(count) => DataType::Struct(last_fields(rt, before, count)),
     }
 }
@@ -261,9 +276,68 @@ fn the_least_fault_is_given(rt: HostRuntime) {
     }
 }
 
+// Columns, and the number of their fault: with a width at the limit, over it, and over it below a
+// struct and a list, behind each of the faults before it.
+static WIDTHS: [(&[Step], u8); 8] = [
+    (&[("f", None, Kind::FixedSizeBinary(0))], 0),
+    (&[("f", None, Kind::FixedSizeBinary(2_147_483_647))], 0),
+    (&[("f", None, Kind::FixedSizeBinary(2_147_483_648))], 6),
+    (
+        &[("f", Some((1, false)), Kind::FixedSizeBinary(4_294_967_295))],
+        6,
+    ),
+    (
+        &[
+            ("f", None, Kind::FixedSizeBinary(2_147_483_648)),
+            ("l", None, Kind::LargeList),
+            ("t", None, Kind::Utf8),
+            ("s", None, Kind::Struct(2)),
+        ],
+        6,
+    ),
+    (
+        &[
+            ("f", Some((7, false)), Kind::FixedSizeBinary(2_147_483_648)),
+            ("g", Some((7, false)), Kind::FixedSizeBinary(2_147_483_649)),
+        ],
+        4,
+    ),
+    (
+        &[
+            ("f", Some((7, false)), Kind::FixedSizeBinary(2_147_483_648)),
+            ("g", Some((7, false)), Kind::FixedSizeBinary(2_147_483_648)),
+        ],
+        6,
+    ),
+    (
+        &[
+            ("f", Some((1, false)), Kind::FixedSizeBinary(2_147_483_648)),
+            ("k", Some((0, false)), Kind::LargeList),
+        ],
+        3,
+    ),
+];
+
+#[test]
+fn widths_have_a_limit(rt: HostRuntime) {
+    for (row, (steps, want)) in WIDTHS.iter().enumerate() {
+        let got = fault(&rt, steps, 0, 0);
+        assert!(rt; got == *want, "number {row}");
+    }
+}
+
+#[test]
+fn many_fields_come_before_a_width(rt: HostRuntime) {
+    let steps: [Step; 1] = [("f", None, Kind::FixedSizeBinary(2_147_483_648))];
+    assert!(rt; fault(&rt, &steps, 65_535, 0) == 6);
+    assert!(rt; fault(&rt, &steps, 65_536, 0) == 2);
+    assert!(rt; fault(&rt, &steps, 0, 33) == 1);
+}
+
 #[test]
 fn a_fault_in_words(rt: HostRuntime) {
     assert!(rt; SchemaFault::Memory.number() == 5);
+    assert!(rt; SchemaFault::ByteWidth.number() == 6);
     let words = format!(in rt.alloc(); "{}", SchemaFault::NestedDictionary).expect(&rt, "memory");
     assert!(rt; words.as_str() == "a dictionary below a dictionary");
 }
@@ -308,7 +382,7 @@ fn ids_stand_in_pre_order_once(rt: HostRuntime) {
 }
 
 // A column, the names of its children, and whether there is a dictionary below it.
-static CHILDREN: [(&[Step], &[&str], bool); 4] = [
+static CHILDREN: [(&[Step], &[&str], bool); 6] = [
     (
         &[("item", None, Kind::Bool), ("l", None, Kind::List)],
         &["item"],
@@ -325,6 +399,15 @@ static CHILDREN: [(&[Step], &[&str], bool); 4] = [
         true,
     ),
     (&[("t", None, Kind::Utf8)], &[], false),
+    (&[("t", None, Kind::LargeUtf8)], &[], false),
+    (
+        &[
+            ("k", Some((0, false)), Kind::Duration(TimeUnit::Second)),
+            ("l", None, Kind::LargeList),
+        ],
+        &["k"],
+        true,
+    ),
     (
         &[
             ("", None, Kind::Bool),
@@ -363,12 +446,18 @@ fn children_of_lists_and_structs(rt: HostRuntime) {
     }
 }
 
-static COPIED: [Step; 5] = [
+static COPIED: [Step; 11] = [
     ("k", Some((0, true)), Kind::Utf8),
     ("z", None, Kind::Timestamp("UTC")),
     ("i", None, Kind::Time(TimeUnit::Second)),
     ("l", None, Kind::List),
-    ("s", None, Kind::Struct(2)),
+    ("d", None, Kind::Duration(TimeUnit::Nanosecond)),
+    ("f", None, Kind::FixedSizeBinary(16)),
+    ("b", None, Kind::LargeBinary),
+    ("t", None, Kind::LargeUtf8),
+    ("m", None, Kind::LargeList),
+    ("n", None, Kind::LargeList),
+    ("s", None, Kind::Struct(6)),
 ];
 
 fn copied(rt: &(impl Abort + AllocGlobal), field: &Field) -> Field {
@@ -428,4 +517,56 @@ fn equality_reads_everything(rt: HostRuntime) {
     let plain = column(&rt, &PLAIN);
     assert_others(&rt, &plain);
     assert_without_nulls(&rt, &plain);
+}
+
+// Types of which no two are the same.
+static APART: [Step; 14] = [
+    ("c", None, Kind::Binary),
+    ("c", None, Kind::LargeBinary),
+    ("c", None, Kind::FixedSizeBinary(0)),
+    ("c", None, Kind::FixedSizeBinary(3)),
+    ("c", None, Kind::FixedSizeBinary(4)),
+    ("c", None, Kind::Utf8),
+    ("c", None, Kind::LargeUtf8),
+    ("c", None, Kind::Time(TimeUnit::Second)),
+    ("c", None, Kind::Duration(TimeUnit::Second)),
+    ("c", None, Kind::Duration(TimeUnit::Millisecond)),
+    ("c", None, Kind::Duration(TimeUnit::Microsecond)),
+    ("c", None, Kind::Duration(TimeUnit::Nanosecond)),
+    ("c", None, Kind::Struct(0)),
+    ("c", None, Kind::Null),
+];
+
+// Whether each type is the same as itself alone.
+fn are_apart(columns: &[Field]) -> bool {
+    for (i, one) in columns.iter().enumerate() {
+        for (j, other) in columns.iter().enumerate() {
+            if one.data_type.same(&other.data_type) != (i == j) {
+                return false;
+            }
+        }
+    }
+    true
+}
+
+#[test]
+fn widths_and_units_tell_types_apart(rt: HostRuntime) {
+    assert!(rt; are_apart(&columns(&rt, &APART)));
+}
+
+// Lists of each width of offsets, of two items.
+static LISTS: [Step; 8] = [
+    ("item", None, Kind::Utf8),
+    ("c", None, Kind::List),
+    ("item", None, Kind::Utf8),
+    ("c", None, Kind::LargeList),
+    ("item", None, Kind::LargeUtf8),
+    ("c", None, Kind::List),
+    ("item", None, Kind::LargeUtf8),
+    ("c", None, Kind::LargeList),
+];
+
+#[test]
+fn items_and_offsets_tell_lists_apart(rt: HostRuntime) {
+    assert!(rt; are_apart(&columns(&rt, &LISTS)));
 }

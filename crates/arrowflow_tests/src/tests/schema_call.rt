@@ -27,7 +27,7 @@ pub(super) const ONE_COLUMN: [u8; 152] = [
 const END: [u8; 8] = [0xff, 0xff, 0xff, 0xff, 0, 0, 0, 0];
 
 // Other bytes in the message, and what is answered of it then.
-static CHANGES: [(&[Edit], &str); 21] = [
+static CHANGES: [(&[Edit], &str); 28] = [
     (&[(104, &[0x00])], "n: int32 not null\n"),
     (&[(144, &[0x00])], "n: uint32\n"),
     (&[(122, &[0x06])], "n: uint32\n"),
@@ -52,6 +52,16 @@ static CHANGES: [(&[Edit], &str); 21] = [
     ),
     (&[(105, &[0x08]), (126, &[0x00])], "n: date[ms]\n"),
     (&[(105, &[0x0a]), (126, &[0x00])], "n: timestamp[s, ]\n"),
+    (&[(105, &[0x0f])], "n: fixed_size_binary[32]\n"),
+    (
+        &[(105, &[0x0f]), (126, &[0x00])],
+        "n: fixed_size_binary[0]\n",
+    ),
+    (&[(105, &[0x12])], "1 fault at byte 0: Schema"),
+    (&[(105, &[0x12]), (126, &[0x00])], "n: duration[ms]\n"),
+    (&[(105, &[0x13])], "n: large_binary\n"),
+    (&[(105, &[0x14])], "n: large_utf8\n"),
+    (&[(105, &[0x15])], "1 fault at byte 0: Schema"),
 ];
 
 fn assert_change(rt: &impl Abort, alloc: Global, edits: &[Edit], expected: &str) {

@@ -101,21 +101,68 @@ fn integers_have_their_names(rt: HostRuntime) {
     }
 }
 
-// Units of time, and the names of times of day and of timestamps.
-static TIMES: [(TimeUnit, &str, &str); 4] = [
-    (TimeUnit::Second, "time[s]", "timestamp[s]"),
-    (TimeUnit::Millisecond, "time[ms]", "timestamp[ms]"),
-    (TimeUnit::Microsecond, "time[us]", "timestamp[us]"),
-    (TimeUnit::Nanosecond, "time[ns]", "timestamp[ns]"),
+// Units of time, and the names of times of day, of timestamps and of durations.
+static TIMES: [(TimeUnit, &str, &str, &str); 4] = [
+    (TimeUnit::Second, "time[s]", "timestamp[s]", "duration[s]"),
+    (
+        TimeUnit::Millisecond,
+        "time[ms]",
+        "timestamp[ms]",
+        "duration[ms]",
+    ),
+    (
+        TimeUnit::Microsecond,
+        "time[us]",
+        "timestamp[us]",
+        "duration[us]",
+    ),
+    (
+        TimeUnit::Nanosecond,
+        "time[ns]",
+        "timestamp[ns]",
+        "duration[ns]",
+    ),
 ];
 
 #[test]
 fn times_have_their_names(rt: HostRuntime) {
     let alloc = rt.alloc();
-    for (unit, time, timestamp) in &TIMES {
+    for (unit, time, timestamp, duration) in &TIMES {
         assert_named(&rt, alloc, DataType::Time(*unit), time);
         assert_named(&rt, alloc, DataType::Timestamp(*unit, None), timestamp);
+        assert_named(&rt, alloc, DataType::Duration(*unit), duration);
     }
+}
+
+// Widths in bytes, and the names of types of byte strings that have them.
+static BYTE_WIDTHS: [(u32, &str); 4] = [
+    (0, "fixed_size_binary[0]"),
+    (1, "fixed_size_binary[1]"),
+    (16, "fixed_size_binary[16]"),
+    (2_147_483_647, "fixed_size_binary[2147483647]"),
+];
+
+#[test]
+fn fixed_sizes_have_their_names(rt: HostRuntime) {
+    for (width, name) in &BYTE_WIDTHS {
+        assert_named(&rt, rt.alloc(), DataType::FixedSizeBinary(*width), name);
+    }
+}
+
+/// A column of lists of this item, with offsets of 64 bits.
+fn large_list(rt: &impl Abort, alloc: Global, name: &str, item: Field) -> Field {
+    let item = Box::new(alloc, item).expect(rt, "memory");
+    field(rt, alloc, name, DataType::LargeList(item))
+}
+
+#[test]
+fn large_types_have_their_names(rt: HostRuntime) {
+    let alloc = rt.alloc();
+    assert_named(&rt, alloc, DataType::LargeBinary, "large_binary");
+    assert_named(&rt, alloc, DataType::LargeUtf8, "large_utf8");
+    let item = field(&rt, alloc, "item", DataType::LargeUtf8);
+    let lists = large_list(&rt, alloc, "a", item);
+    assert_line(&rt, alloc, lists, "a: large_list\n  item: large_utf8\n");
 }
 
 #[test]
