@@ -97,7 +97,36 @@ pub found_from_lookup : (cs : List Column) (n : ℕ) (r : Option (Bor Column)) �
 found_from_lookup cs n None h g = g
 found_from_lookup cs n (Some a) h g = slice_get_read cs (length cs) n a.now refl g.0 h
 
--- what a struct says of the child of field k
+-- what a struct says of the child that stands as field k
+part_shown : (t : TypeShape) (n : ℕ) (v : List ℕ) (cs : List Column) (k : ℕ) (a : Column)
+    → t.tag ≡ struct → AreOf t.children cs → AllByRecursion (λ (d : Column). n ≤ length d.raw) cs → slice_get cs k ≡ Some a
+    → HasField (structs t n v cs) k a
+part_shown t n v cs k a tag typed longer is =
+    let fields : struct_fields (structs t n v cs) ≡ t.children = ap (λ g. struct_fields_of g None t.children) tag in
+    let raw = struct_slot v (map (λ (x : Column). x.raw) cs) in
+    let resolved = struct_slot v (map (λ (x : Column). x.resolved) cs) in
+    let long : length (slots n (λ j. raw j)) ≡ n = length_slots n (λ j. raw j) in
+    record {
+      typed = ap (λ f. type_of_field f k) fields ∙ type_found t.children cs k a typed is;
+      longer = omega (arith, long, holds_of_found (λ (x : Column). n ≤ length x.raw) cs k a longer is);
+      same = λ i h full.
+          let inside : i < n = omega (arith, h, long) in
+          let here = at_slots n (λ j. raw j) i inside in
+          let parts = struct_value (values_of (map (λ values. value_at values i) (map (λ (x : Column). x.raw) cs))) in
+          let valid = valid_from_value (is_valid_at v i) parts (ap is_null_value (sym here) ∙ full) in (
+            ap (field_value k) (here ∙ value_of_valid (is_valid_at v i) parts valid) ∙ ap (λ vs. nth_value k (values_of vs)) (row_same (λ (x : Column). x.raw) cs i) ∙ nth_row (λ (x : Column). x.raw) cs k i a is,
+            ap (field_value k) (at_slots n (λ j. resolved j) i inside ∙ value_of_valid (is_valid_at v i) (struct_value (values_of (map (λ values. value_at values i) (map (λ (x : Column). x.resolved) cs)))) valid)
+                ∙ ap (λ vs. nth_value k (values_of vs)) (row_same (λ (x : Column). x.resolved) cs i) ∙ nth_row (λ (x : Column). x.resolved) cs k i a is,
+          );
+    }
+
+-- the same of a column that is known to be one of structs
+pub part_of_column : (c : Column) (t : TypeShape) (n : ℕ) (v : List ℕ) (cs : List Column) (k : ℕ) (a : Column)
+    → c ≡ structs t n v cs → t.tag ≡ struct → AreOf t.children cs → AllByRecursion (λ (d : Column). n ≤ length d.raw) cs → slice_get cs k ≡ Some a
+    → HasField c k a
+part_of_column c t n v cs k a is tag typed longer found = subst (λ x. HasField x k a) (sym is) (part_shown t n v cs k a tag typed longer found)
+
+-- what a struct says of the child of field k, or of there being none
 field_shown : (t : TypeShape) (n : ℕ) (v : List ℕ) (cs : List Column) (k : ℕ) (r : Option (Bor Column))
     → t.tag ≡ struct → AreOf t.children cs → AllByRecursion (λ (d : Column). n ≤ length d.raw) cs
     → MatchOption r (length cs ≤ k) (λ b. slice_get cs k ≡ Some b.now)
@@ -105,24 +134,7 @@ field_shown : (t : TypeShape) (n : ℕ) (v : List ℕ) (cs : List Column) (k : �
 field_shown t n v cs k None tag typed longer is =
     let fields : struct_fields (structs t n v cs) ≡ t.children = ap (λ g. struct_fields_of g None t.children) tag in
     ap (λ f. type_of_field f k) fields ∙ type_past t.children cs k typed is
-field_shown t n v cs k (Some a) tag typed longer is =
-    let fields : struct_fields (structs t n v cs) ≡ t.children = ap (λ g. struct_fields_of g None t.children) tag in
-    let raw = struct_slot v (map (λ (x : Column). x.raw) cs) in
-    let resolved = struct_slot v (map (λ (x : Column). x.resolved) cs) in
-    let long : length (slots n (λ j. raw j)) ≡ n = length_slots n (λ j. raw j) in
-    record {
-      typed = ap (λ f. type_of_field f k) fields ∙ type_found t.children cs k a.now typed is;
-      longer = omega (arith, long, holds_of_found (λ (x : Column). n ≤ length x.raw) cs k a.now longer is);
-      same = λ i h full.
-          let inside : i < n = omega (arith, h, long) in
-          let here = at_slots n (λ j. raw j) i inside in
-          let parts = struct_value (values_of (map (λ values. value_at values i) (map (λ (x : Column). x.raw) cs))) in
-          let valid = valid_from_value (is_valid_at v i) parts (ap is_null_value (sym here) ∙ full) in (
-            ap (field_value k) (here ∙ value_of_valid (is_valid_at v i) parts valid) ∙ ap (λ vs. nth_value k (values_of vs)) (row_same (λ (x : Column). x.raw) cs i) ∙ nth_row (λ (x : Column). x.raw) cs k i a.now is,
-            ap (field_value k) (at_slots n (λ j. resolved j) i inside ∙ value_of_valid (is_valid_at v i) (struct_value (values_of (map (λ values. value_at values i) (map (λ (x : Column). x.resolved) cs)))) valid)
-                ∙ ap (λ vs. nth_value k (values_of vs)) (row_same (λ (x : Column). x.resolved) cs i) ∙ nth_row (λ (x : Column). x.resolved) cs k i a.now is,
-          );
-    }
+field_shown t n v cs k (Some a) tag typed longer is = part_shown t n v cs k a.now tag typed longer is
 
 -- the same of a column that is known to be one of structs
 pub field_of_column : (c : Column) (t : TypeShape) (n : ℕ) (v : List ℕ) (cs : List Column) (k : ℕ) (r : Option (Bor Column))

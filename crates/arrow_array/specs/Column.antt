@@ -1,5 +1,5 @@
 -- What an array and a dictionary are, without how they are kept (Columnar Format, "Terminology").
-use Rattle.std.specs.Prelude.{◌≡◌, ◌≤◌, ◌<◌, ◌+◌, ◌*◌, ◌-◌, ◌^◌, ℕ, zero, suc, ℤ, false, List, [], ◌∷◌, ◌++◌, length, map, take, drop, ⊤, Option, None, Some, IsTrue, is_some, refl}
+use Rattle.std.specs.Prelude.{◌≡◌, ◌≤◌, ◌<◌, ◌+◌, ◌*◌, ◌-◌, ◌^◌, ℕ, zero, suc, ℤ, false, List, [], ◌∷◌, ◌++◌, length, map, take, drop, ⊤, Option, None, Some, IsTrue, is_some, slice_get, refl}
 use Rattle.std.specs.Coded.{Coded, code_by, coded×, coded_ℤ, coded_list, coded_option}
 use Rattle.std.specs.List.{AllByRecursion}
 use Rattle.arrow_types.specs.DataType.{Tag, null, boolean, int, binary, utf8, date, time, timestamp, list, struct}
@@ -151,6 +151,17 @@ pub record HasField (c : Column) (k : ℕ) (child : Column) : Type 0 where
   pub longer : length c.raw ≤ length child.raw
   pub same : (i : ℕ) → i < length c.raw → is_null_value (value_at c.raw i) ≡ false
       → (field_value k (value_at c.raw i) ≡ value_at child.raw i) × (field_value k (value_at c.resolved i) ≡ value_at child.resolved i)
+
+-- slots hold structs
+abbrev pub IsStruct : Column → Type 0
+IsStruct c = (c.encoding ≡ None) × (c.data_type.tag ≡ struct)
+
+-- the children are those of the struct's fields, and their dictionaries are the column's
+pub record HasFields (c : Column) (children : List Column) : Type 0 where
+  pub is_struct : IsStruct c
+  pub typed : AreOf c.data_type.children children
+  pub listed : listed_of children ≡ c.dictionaries
+  pub each : (k : ℕ) (child : Column) → slice_get children k ≡ Some child → HasField c k child
 
 -- slots hold lists of items
 abbrev pub IsList : Column → Type 0

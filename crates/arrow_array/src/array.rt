@@ -4,7 +4,7 @@ ghost use Rattle.std.specs.Prelude.{◌≡◌, ◌<◌, length, option_map, Matc
 ghost use Rattle.arrow_types.specs.View.{type_view};
 ghost use Rattle.arrow_array.specs.Column.{HasItems, HasChild, HasField, HasEntry, HasNoIndex};
 ghost use Rattle.arrow_array.specs.Column.{HasDictionary, IsColumn, IsList, struct_fields};
-ghost use Rattle.arrow_array.specs.Column.{type_of_field};
+ghost use Rattle.arrow_array.specs.Column.{HasFields, IsStruct, type_of_field};
 ghost use Rattle.arrow_array.specs.PlainValue.{value_at, is_null_value, bool_in, int_in, binary_in};
 ghost use Rattle.arrow_array.specs.PlainValue.{utf8_in, items_in};
 ghost use Rattle.arrow_array.specs.Shown.{HoldsValue, Shows, value_shown};
@@ -313,6 +313,23 @@ impl Array {
     {
         match &self.ranges {
             Ranges::Structs { children, .. } => children.get(k),
+            Ranges::Nulls
+            | Ranges::Bools(_)
+            | Ranges::Ints(_)
+            | Ranges::Binaries(_)
+            | Ranges::Texts(_)
+            | Ranges::Lists { .. }
+            | Ranges::Indices(..) => None,
+        }
+    }
+
+    /// The arrays of the fields of a struct, side by side. None where slots do not hold structs.
+    pub fn fields(&self) -> Option<&[Array]>
+        ensures { MatchOption result (IsStruct self.now → ⊥)
+            (λ children. HasFields self.now children.now) }
+    {
+        match &self.ranges {
+            Ranges::Structs { children, .. } => Some(children),
             Ranges::Nulls
             | Ranges::Bools(_)
             | Ranges::Ints(_)

@@ -151,7 +151,7 @@ static NESTED: [(Nested<'static>, &str); 2] = [
             (3, &[(0, 1)]),
             (5, &[(0, 0), (1, 21)]),
         ),
-        "len 3: = struct 0 of 1 fields, null = null, = struct 2 of 1 fields \
+        "len 3: = struct 0 of 1 fields, null = null, = struct 2 of 1 fields | 1 fields \
          | field 0: len 5: int 1 = 1, int 2 = 2, int 3 = 3, int 4 = 4, int 5 = 5",
     ),
 ];

@@ -54,6 +54,9 @@ fn push_children(rt: &impl Abort, text: &mut String, column: &Array) {
         text.push_str(" | items: ").expect(rt, MEMORY);
         push_slots(rt, text, items);
     }
+    if let Some(fields) = column.fields() {
+        write!(text, " | {} fields", fields.len()).expect(rt, MEMORY);
+    }
     for k in 0..2 {
         if let Some(values) = column.field(k) {
             write!(text, " | field {k}: ").expect(rt, MEMORY);
