@@ -9,9 +9,10 @@ ghost use Rattle.arrow_array.specs.PlainValue.{value_at, is_null_value, bool_in,
 ghost use Rattle.arrow_array.specs.PlainValue.{utf8_in, items_in};
 ghost use Rattle.arrow_array.specs.Shown.{HoldsValue, Shows, value_shown};
 
-use crate::buffers::{Bools, Ints, Strings};
+use crate::buffers::{Bools, Fixed, Ints, Strings};
 use crate::byte_range::{ByteRange, bytes_in};
 use crate::dictionary::Dictionary;
+use crate::form::OffsetWidth;
 use crate::slot::{is_valid, range_at};
 use arrow_types::{DataType, Encoding};
 use bytes::Bytes;
@@ -26,7 +27,9 @@ pub(crate) enum Ranges {
     Ints(Ints),
     Binaries(Strings),
     Texts(Strings),
+    FixedBytes(Fixed),
     Lists {
+        width: OffsetWidth,
         validity: ByteRange,
         offsets: ByteRange,
         child: Box<Array>,
@@ -173,13 +176,18 @@ impl Array {
                 Some(text) => Seen::Text(text),
                 None => Seen::Nothing,
             },
+            Ranges::FixedBytes(fixed) => match fixed.at(body, self.len, i) {
+                Some(bytes) => Seen::Binary(bytes),
+                None => Seen::Nothing,
+            },
             Ranges::Lists {
+                width,
                 validity,
                 offsets,
                 child,
             } => {
                 let (marks, places) = (bytes_in(body, *validity), bytes_in(body, *offsets));
-                match range_at(marks, places, self.len, child.len(), i) {
+                match range_at(*width, marks, places, self.len, child.len(), i) {
                     Some((start, end)) => Seen::Items(start, end, child),
                     None => Seen::Nothing,
                 }
@@ -300,6 +308,7 @@ impl Array {
             | Ranges::Ints(_)
             | Ranges::Binaries(_)
             | Ranges::Texts(_)
+            | Ranges::FixedBytes(_)
             | Ranges::Structs { .. }
             | Ranges::Indices(..) => None,
         }
@@ -318,6 +327,7 @@ impl Array {
             | Ranges::Ints(_)
             | Ranges::Binaries(_)
             | Ranges::Texts(_)
+            | Ranges::FixedBytes(_)
             | Ranges::Lists { .. }
             | Ranges::Indices(..) => None,
         }
@@ -335,6 +345,7 @@ impl Array {
             | Ranges::Ints(_)
             | Ranges::Binaries(_)
             | Ranges::Texts(_)
+            | Ranges::FixedBytes(_)
             | Ranges::Lists { .. }
             | Ranges::Indices(..) => None,
         }
@@ -353,6 +364,7 @@ impl Array {
             | Ranges::Ints(_)
             | Ranges::Binaries(_)
             | Ranges::Texts(_)
+            | Ranges::FixedBytes(_)
             | Ranges::Lists { .. }
             | Ranges::Structs { .. } => None,
         }
@@ -375,6 +387,7 @@ impl Array {
             | Ranges::Ints(_)
             | Ranges::Binaries(_)
             | Ranges::Texts(_)
+            | Ranges::FixedBytes(_)
             | Ranges::Lists { .. }
             | Ranges::Structs { .. } => None,
         }
