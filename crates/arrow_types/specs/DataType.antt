@@ -7,17 +7,22 @@ use Rattle.arrow_types.specs.declared.data_type.DateUnit.TheVariants as dates
 use Rattle.arrow_types.specs.declared.data_type.TimeUnit.{TimeUnit}
 use Rattle.arrow_types.specs.declared.data_type.TimeUnit.TheVariants as times
 
--- A type's own part. A zone is given by the bytes of its name.
+-- A type's own part. A zone is given by the bytes of its name, a fixed size by its number of bytes.
 pub data Tag : Type 0 where
   null : Tag
   boolean : Tag
   int : BitWidth → Bool → Tag
   binary : Tag
+  large_binary : Tag
+  fixed_size_binary : ℕ → Tag
   utf8 : Tag
+  large_utf8 : Tag
   date : DateUnit → Tag
   time : TimeUnit → Tag
   timestamp : TimeUnit → Option (List ℕ) → Tag
+  duration : TimeUnit → Tag
   list : Tag
+  large_list : Tag
   struct : Tag
 
 -- a width in bits (Schema.fbs, table "Int")

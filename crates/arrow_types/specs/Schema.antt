@@ -2,11 +2,12 @@
 use Rattle.std.specs.Prelude.{◌≡◌, ◌≤◌, ℕ, ℤ, Bool, false, not, ◌||◌, ◌&&◌, List, [], ◌∷◌, ◌++◌, map, filter, slice_get, Option, Some, None, is_some, Result, Ok, Err, nat_lt, if◌then◌else◌, codes}
 use Rattle.std.specs.List.{list_any}
 use Rattle.std.specs.Ordering.{int_eq}
+use Rattle.arrow_types.specs.DataType.{Tag, null, boolean, int, binary, large_binary, fixed_size_binary, utf8, large_utf8, date, time, timestamp, duration, list, large_list, struct}
 use Rattle.arrow_types.specs.Equality.{is_equal}
 use Rattle.arrow_types.specs.Field.{Head, Fields, none, more, TypeShape, FieldShape, levels, count}
 use Rattle.arrow_types.specs.Stored.{type_code}
 use Rattle.arrow_types.specs.declared.schema.SchemaFault.{SchemaFault}
-use Rattle.arrow_types.specs.declared.schema.SchemaFault.TheVariants.{TooDeep, TooManyFields, NestedDictionary, SharedIdTypesDiffer, Memory}
+use Rattle.arrow_types.specs.declared.schema.SchemaFault.TheVariants.{TooDeep, TooManyFields, NestedDictionary, SharedIdTypesDiffer, Memory, ByteWidth}
 
 -- whether a field of these, on any level, is dictionary-encoded
 abbrev pub has_encoding : Fields → Bool
@@ -21,6 +22,33 @@ is_nested (more head children rest) = (is_some head.encoding && has_encoding chi
 -- the same of one field and what stands below it
 abbrev pub field_is_nested : FieldShape → Bool
 field_is_nested f = (is_some f.head.encoding && has_encoding f.children) || is_nested f.children
+
+-- whether a type has a fixed number of bytes that is no signed 32-bit number (Schema.fbs, table "FixedSizeBinary")
+abbrev pub is_wide : Tag → Bool
+is_wide null = false
+is_wide boolean = false
+is_wide (int _ _) = false
+is_wide binary = false
+is_wide large_binary = false
+is_wide (fixed_size_binary width) = nat_lt 2147483647 width
+is_wide utf8 = false
+is_wide large_utf8 = false
+is_wide (date _) = false
+is_wide (time _) = false
+is_wide (timestamp _ _) = false
+is_wide (duration _) = false
+is_wide list = false
+is_wide large_list = false
+is_wide struct = false
+
+-- whether a field of these, on any level, has such a type
+abbrev pub is_too_wide : Fields → Bool
+is_too_wide none = false
+is_too_wide (more head children rest) = is_wide head.tag || is_too_wide children || is_too_wide rest
+
+-- the same of one field and what stands below it
+abbrev pub field_is_too_wide : FieldShape → Bool
+field_is_too_wide f = is_wide f.head.tag || is_too_wide f.children
 
 -- what a dictionary-encoded field says of its dictionary: the id, and the type of the values
 pub record DictionaryField : Type 0 where
@@ -68,11 +96,12 @@ pub record AreIdsOfOneType (ids : List ℤ) (ds : List DictionaryField) : Type 0
   pub once : ids ≡ each_once (map (λ (d : DictionaryField). d.id) ds)
   pub one_type : types_differ ds ≡ false
 
--- at most 32 levels, at most 65,536 fields, no dictionary below a dictionary
+-- at most 32 levels, at most 65,536 fields, no dictionary below a dictionary, no width over the limit
 pub record IsBounded (s : Fields) : Type 0 where
   pub shallow : levels s ≤ 32
   pub few : count s ≤ 65536
   pub flat : is_nested s ≡ false
+  pub narrow : is_too_wide s ≡ false
 
 -- what is known of every schema
 pub record IsSchema (s : Fields) : Type 0 where
@@ -84,19 +113,23 @@ pub record IsKept (ids : List ℤ) (s : Fields) : Type 0 where
   pub schema : IsSchema s
   pub listed : ids ≡ dictionary_ids s
 
--- the first fault that applies, in the order of the faults' numbers; none where the fields make a schema
-abbrev pub fault_of : Fields → Option SchemaFault
-fault_of s =
+-- the first fault that applies, in the order of the faults' numbers, or this one where none before want of memory does
+abbrev pub fault_or : Option SchemaFault → Fields → Option SchemaFault
+fault_or other s =
     if nat_lt 32 (levels s) then Some TooDeep else
     (if nat_lt 65536 (count s) then Some TooManyFields else
     (if is_nested s then Some NestedDictionary else
-    (if types_differ (dictionary_fields s) then Some SharedIdTypesDiffer else None)))
+    (if types_differ (dictionary_fields s) then Some SharedIdTypesDiffer else other)))
+
+-- the first of the faults that apply to fields; none where the fields make a schema
+abbrev pub fault_of : Fields → Option SchemaFault
+fault_of s = fault_or (if is_too_wide s then Some ByteWidth else None) s
 
 -- An answer to fields: the schema of just these where no fault applies, else the first fault that does. Want of
--- memory is told only of fields to which no fault applies.
+-- memory is told only of fields to which no fault before it applies.
 abbrev pub Judges : Result Fields SchemaFault → Fields → Type 0
 Judges (Ok schema) s = (fault_of s ≡ None) × (schema ≡ s)
-Judges (Err Memory) s = fault_of s ≡ None
+Judges (Err Memory) s = fault_or None s ≡ None
 Judges (Err fault) s = fault_of s ≡ Some fault
 
 -- the number of a fault
@@ -106,6 +139,7 @@ number_of TooManyFields = 2
 number_of NestedDictionary = 3
 number_of SharedIdTypesDiffer = 4
 number_of Memory = 5
+number_of ByteWidth = 6
 
 -- the words of a fault
 abbrev pub words_of : SchemaFault → List ℕ
@@ -114,3 +148,4 @@ words_of TooManyFields = codes "more than 65,536 fields"
 words_of NestedDictionary = codes "a dictionary below a dictionary"
 words_of SharedIdTypesDiffer = codes "two value types for one dictionary id"
 words_of Memory = codes "out of memory"
+words_of ByteWidth = codes "byte strings of more than 2,147,483,647 bytes"

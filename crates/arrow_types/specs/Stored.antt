@@ -8,7 +8,7 @@ use Rattle.arrow_types.specs.contracts.data_type.BitWidth.{the_row as width_row}
 use Rattle.arrow_types.specs.contracts.data_type.DateUnit.{the_row as date_row}
 use Rattle.arrow_types.specs.contracts.data_type.TimeUnit.{the_row as time_row}
 use Rattle.arrow_types.specs.contracts.field.Encoding.{the_row as encoding_row}
-use Rattle.arrow_types.specs.DataType.{Tag, null, boolean, int, binary, utf8, date, time, timestamp, list, struct}
+use Rattle.arrow_types.specs.DataType.{Tag, null, boolean, int, binary, large_binary, fixed_size_binary, utf8, large_utf8, date, time, timestamp, duration, list, large_list, struct}
 use Rattle.arrow_types.specs.Field.{Head, Fields, none, more, TypeShape, FieldShape}
 
 -- the name of a time zone, or that there is none
@@ -23,10 +23,15 @@ tag_gv binary = gnum 2
 tag_gv utf8 = gnum 3
 tag_gv list = gnum 4
 tag_gv struct = gnum 5
+tag_gv large_binary = gnum 6
+tag_gv large_utf8 = gnum 7
+tag_gv large_list = gnum 8
 tag_gv (int bits signed) = gcons (gnum 0) (gcons (width_row.coded.code bits) (coded_bool.code signed))
 tag_gv (date unit) = gcons (gnum 1) (date_row.coded.code unit)
 tag_gv (time unit) = gcons (gnum 2) (time_row.coded.code unit)
 tag_gv (timestamp unit zone) = gcons (gnum 3) (gcons (time_row.coded.code unit) (zone_code.code zone))
+tag_gv (duration unit) = gcons (gnum 4) (time_row.coded.code unit)
+tag_gv (fixed_size_binary width) = gcons (gnum 5) (coded_ℕ.code width)
 
 -- own parts with one tree are equal
 pub tag_inj : (x y : Tag) → tag_gv x ≡ tag_gv y → x ≡ y
@@ -36,10 +41,15 @@ tag_inj binary binary p = refl
 tag_inj utf8 utf8 p = refl
 tag_inj list list p = refl
 tag_inj struct struct p = refl
+tag_inj large_binary large_binary p = refl
+tag_inj large_utf8 large_utf8 p = refl
+tag_inj large_list large_list p = refl
 tag_inj (int a s) (int b t) p = λ i. int (width_row.coded.inj a b (cc) i) (coded_bool.inj s t (cc) i)
 tag_inj (date u) (date v) p = ap date (date_row.coded.inj u v (cc))
 tag_inj (time u) (time v) p = ap time (time_row.coded.inj u v (cc))
 tag_inj (timestamp u x) (timestamp v y) p = λ i. timestamp (time_row.coded.inj u v (cc) i) (zone_code.inj x y (cc) i)
+tag_inj (duration u) (duration v) p = ap duration (time_row.coded.inj u v (cc))
+tag_inj (fixed_size_binary m) (fixed_size_binary n) p = ap fixed_size_binary (coded_ℕ.inj m n (cc))
 tag_inj x y p = cc
 
 -- so these trees tell types' own parts apart

@@ -60,7 +60,7 @@ impl DateUnit {
     }
 }
 
-/// What a time of day or a timestamp counts (`Schema.fbs`, enum `TimeUnit`).
+/// What a time of day, a timestamp or a duration counts (`Schema.fbs`, enum `TimeUnit`).
 #[derive(Clone, Copy, Debug, PartialEq, Eq)]
 pub enum TimeUnit {
     /// Seconds.
@@ -75,7 +75,7 @@ pub enum TimeUnit {
 
 impl TimeUnit {
     /// The width of one time of day in this unit: 32 bits for seconds and milliseconds, 64 for the
-    /// finer units. A timestamp has 64 bits in every unit.
+    /// finer units. A timestamp and a duration have 64 bits in every unit.
     pub fn time_width(self) -> BitWidth
         ensures { result ≡ time_width_of self }
     {
@@ -99,10 +99,16 @@ pub enum DataType {
     Bool,
     /// Whole numbers of this width, with a sign or without one.
     Int { bits: BitWidth, signed: bool },
-    /// Byte strings of any length.
+    /// Byte strings of any length, between offsets of 32 bits.
     Binary,
-    /// Texts in UTF-8.
+    /// The same between offsets of 64 bits.
+    LargeBinary,
+    /// Byte strings of just this many bytes each.
+    FixedSizeBinary(u32),
+    /// Texts in UTF-8, between offsets of 32 bits.
     Utf8,
+    /// The same between offsets of 64 bits.
+    LargeUtf8,
     /// Days or milliseconds since 1970-01-01.
     Date(DateUnit),
     /// A time of day since midnight. Its width follows its unit.
@@ -110,8 +116,12 @@ pub enum DataType {
     /// Signed 64-bit numbers since 1970-01-01 00:00, and the name of a time zone where there is
     /// one.
     Timestamp(TimeUnit, Option<String>),
-    /// Lists of values of the one child field.
+    /// Lengths of time, in signed 64-bit numbers.
+    Duration(TimeUnit),
+    /// Lists of values of the one child field, between offsets of 32 bits.
     List(Box<Field>),
+    /// The same between offsets of 64 bits.
+    LargeList(Box<Field>),
     /// A value of each child field.
     Struct(Vec<Field>),
 }
@@ -124,15 +134,20 @@ impl DataType {
     {
         match self {
             DataType::List(item) => std::slice::from_ref(item),
+            DataType::LargeList(item) => std::slice::from_ref(item),
             DataType::Struct(fields) => fields,
             DataType::Null
             | DataType::Bool
-            | DataType::Binary
-            | DataType::Utf8
             | DataType::Int { .. }
+            | DataType::Binary
+            | DataType::LargeBinary
+            | DataType::FixedSizeBinary(_)
+            | DataType::Utf8
+            | DataType::LargeUtf8
             | DataType::Date(_)
             | DataType::Time(_)
-            | DataType::Timestamp(..) => &[],
+            | DataType::Timestamp(..)
+            | DataType::Duration(_) => &[],
         }
     }
 
@@ -149,20 +164,27 @@ impl DataType {
                 signed: *signed,
             }),
             DataType::Binary => Ok(DataType::Binary),
+            DataType::LargeBinary => Ok(DataType::LargeBinary),
+            DataType::FixedSizeBinary(width) => Ok(DataType::FixedSizeBinary(*width)),
             DataType::Utf8 => Ok(DataType::Utf8),
+            DataType::LargeUtf8 => Ok(DataType::LargeUtf8),
             DataType::Date(unit) => Ok(DataType::Date(*unit)),
             DataType::Time(unit) => Ok(DataType::Time(*unit)),
             DataType::Timestamp(unit, None) => Ok(DataType::Timestamp(*unit, None)),
             DataType::Timestamp(unit, Some(zone)) => {
                 Ok(DataType::Timestamp(*unit, Some(zone.clone()?)))
             }
+            DataType::Duration(unit) => Ok(DataType::Duration(*unit)),
             DataType::List(item) => Ok(DataType::List(Box::new(alloc, item.copy(alloc)?)?)),
+            DataType::LargeList(item) => {
+                Ok(DataType::LargeList(Box::new(alloc, item.copy(alloc)?)?))
+            }
             DataType::Struct(fields) => Ok(DataType::Struct(copy_fields(alloc, fields)?)),
         }
     }
 
-    /// Whether the types are the same: their units and zones, and of the fields below them the
-    /// names, `nullable`, types and encodings. Takes no memory.
+    /// Whether the types are the same: their widths, units and zones, and of the fields below them
+    /// the names, `nullable`, types and encodings. Takes no memory.
     pub fn same(&self, other: &DataType) -> bool
         ensures gives { result ≡ is_equal type_code (type_view self.now) (type_view other.now) }
         ensures same { IsTrue result ↔ (type_view self.now ≡ type_view other.now) }
@@ -183,20 +205,29 @@ pub(crate) fn same_type(one: &DataType, other: &DataType) -> bool
             matches!(other, DataType::Int { bits: b, signed: s } if b == bits && s == signed)
         }
         DataType::Binary => matches!(other, DataType::Binary),
+        DataType::LargeBinary => matches!(other, DataType::LargeBinary),
+        DataType::FixedSizeBinary(width) => {
+            matches!(other, DataType::FixedSizeBinary(w) if w == width)
+        }
         DataType::Utf8 => matches!(other, DataType::Utf8),
+        DataType::LargeUtf8 => matches!(other, DataType::LargeUtf8),
         DataType::Date(unit) => matches!(other, DataType::Date(u) if u == unit),
         DataType::Time(unit) => matches!(other, DataType::Time(u) if u == unit),
         DataType::Timestamp(unit, zone) => {
             matches!(other, DataType::Timestamp(u, z) if u == unit && z == zone)
         }
+        DataType::Duration(unit) => matches!(other, DataType::Duration(u) if u == unit),
         DataType::List(item) => matches!(other, DataType::List(i) if same_field(item, i)),
+        DataType::LargeList(item) => {
+            matches!(other, DataType::LargeList(i) if same_field(item, i))
+        }
         DataType::Struct(fields) => {
             matches!(other, DataType::Struct(f) if same_fields(fields, f))
         }
     }
 }
 
-/// Types are equal where everything that they hold is: units, zones, names, `nullable` and
+/// Types are equal where everything that they hold is: widths, units, zones, names, `nullable` and
 /// encodings of the fields below them included. No memory is taken.
 impl PartialEq for DataType {
     ghost eq = { on type_view (is_equal type_code) };

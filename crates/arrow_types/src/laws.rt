@@ -14,4 +14,5 @@ pub fn fixed_numbers()
     ensures last_place { Limits.LAST_PLACE ≡ 2 ^ 62 }
     ensures levels { Schema.MAX_LEVELS ≡ 32 }
     ensures fields { Schema.MAX_FIELDS ≡ 65536 }
+    ensures width { Schema.MAX_WIDTH ≡ 2 ^ 31 - 1 }
 {}

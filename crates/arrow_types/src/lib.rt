@@ -22,6 +22,7 @@ mod nesting;
 mod node;
 mod schema;
 mod size;
+mod widths;
 
 pub use data_type::{BitWidth, DataType, DateUnit, TimeUnit};
 pub use field::{Encoding, Field, IndexType};

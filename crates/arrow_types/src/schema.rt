@@ -9,6 +9,7 @@ use crate::dismantle::dismantle;
 use crate::field::{Field, copy_fields, same_fields};
 use crate::nesting::are_nested;
 use crate::size::{after_fields, have_levels};
+use crate::widths::are_too_wide;
 use std::alloc::{AllocError, Global};
 use std::error::Error;
 use std::fmt;
@@ -25,8 +26,10 @@ pub enum SchemaFault {
     NestedDictionary,
     /// Two fields give one dictionary id and have unequal value types.
     SharedIdTypesDiffer,
-    /// A growth was refused. None of the other faults applies.
+    /// A growth was refused. None of the faults before it applies.
     Memory,
+    /// Byte strings of a fixed size are to have more than 2,147,483,647 bytes each.
+    ByteWidth,
 }
 
 impl SchemaFault {
@@ -42,6 +45,7 @@ impl SchemaFault {
             SchemaFault::NestedDictionary => 3,
             SchemaFault::SharedIdTypesDiffer => 4,
             SchemaFault::Memory => 5,
+            SchemaFault::ByteWidth => 6,
         }
     }
 }
@@ -61,6 +65,7 @@ impl fmt::Display for SchemaFault {
                 "two value types for one dictionary id",
             ),
             SchemaFault::Memory => f.write_str("out of memory"),
+            SchemaFault::ByteWidth => f.write_str("byte strings of more than 2,147,483,647 bytes"),
         }
     }
 }
@@ -70,8 +75,8 @@ impl Error for SchemaFault {}
 /// The columns of a stream's batches (`Schema.fbs`, table `Schema`).
 ///
 /// Its fields keep to the limits of 32 levels and 65,536 fields; none of its dictionaries stands
-/// below another, and those of one id have one value type. Nobody who holds a schema has to test
-/// that again.
+/// below another, those of one id have one value type, and no width in bytes is over the greatest
+/// signed 32-bit number. Nobody who holds a schema has to test that again.
 #[derive(Debug, Drop)]
 pub struct Schema {
     fields: Vec<Field>,
@@ -103,6 +108,9 @@ impl Schema {
     /// The greatest number of fields on all levels together.
     pub const MAX_FIELDS: u32 = 65_536;
 
+    /// The greatest width of byte strings of a fixed size.
+    pub const MAX_WIDTH: u32 = 2_147_483_647;
+
     /// The schema of these columns, or the fault with the least number of those that apply.
     ///
     /// Fields deeper than 32 levels are not looked at below that, and the time grows as n log n
@@ -123,10 +131,11 @@ impl Schema {
             return Err(SchemaFault::NestedDictionary);
         }
         match ids_of(alloc, &fields) {
-            Ok(Some(dictionary_ids)) => Ok(Schema {
+            Ok(Some(dictionary_ids)) if !are_too_wide(&fields) => Ok(Schema {
                 fields,
                 dictionary_ids,
             }),
+            Ok(Some(_)) => Err(SchemaFault::ByteWidth),
             Ok(None) => Err(SchemaFault::SharedIdTypesDiffer),
             Err(_) if types_differ(&fields) => Err(SchemaFault::SharedIdTypesDiffer),
             Err(_) => Err(SchemaFault::Memory),

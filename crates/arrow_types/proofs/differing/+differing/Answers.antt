@@ -1,4 +1,4 @@
-use Rattle.std.proofs.Common.{◌+◌, ◌*◌, arith}
+use Rattle.std.proofs.Common.{arith}
 use Rattle.arrow_types.proofs.Fields.{fewer_below}
 use Rattle.arrow_types.proofs.differing.+differing.Goals as goal
 
