@@ -1,7 +1,7 @@
 -- The layouts of nodes, and which of them each type has (Columnar Format, "Physical Memory Layout" and "Buffer Listing for
 -- Each Layout"; Schema.fbs, union "Type"). All that is said of buffers and slots goes by this one table.
 use Rattle.std.specs.Prelude.{◌≡◌, ◌/◌, ℕ, true, Option, Some, None, ⊤}
-use Rattle.arrow_types.specs.DataType.{Tag, null, boolean, int, binary, utf8, date, time, timestamp, list, struct, bits_of, date_width_of, time_width_of}
+use Rattle.arrow_types.specs.DataType.{Tag, null, boolean, int, binary, large_binary, fixed_size_binary, utf8, large_utf8, date, time, timestamp, duration, list, large_list, struct, bits_of, date_width_of, time_width_of}
 use Rattle.arrow_types.specs.Field.{Fields, none, more}
 use Rattle.arrow_types.specs.declared.data_type.BitWidth.{BitWidth}
 use Rattle.arrow_types.specs.declared.data_type.BitWidth.TheVariants.{SixtyFour}
@@ -19,9 +19,14 @@ form_of (int bits signed) = forms.Numbers bits signed
 form_of (date unit) = forms.Numbers (date_width_of unit) true
 form_of (time unit) = forms.Numbers (time_width_of unit) true
 form_of (timestamp unit text) = forms.Numbers SixtyFour true
+form_of (duration unit) = forms.Numbers SixtyFour true
 form_of binary = forms.Bytes Small
+form_of large_binary = forms.Bytes Large
+form_of (fixed_size_binary width) = forms.FixedBytes width
 form_of utf8 = forms.Texts Small
+form_of large_utf8 = forms.Texts Large
 form_of list = forms.Lists Small
+form_of large_list = forms.Lists Large
 form_of struct = forms.Structs
 
 -- the form of a node: a dictionary-encoded one has that of its indices (Columnar Format, "Dictionary-encoded Layout")

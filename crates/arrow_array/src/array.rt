@@ -97,7 +97,7 @@ pub enum SlotValue<'a> {
     Null,
     /// A truth value.
     Bool(bool),
-    /// A number; of a date, a time or a timestamp the number of its units.
+    /// A number; of a date, a time, a timestamp or a duration the number of its units.
     Int(i128),
     /// A byte string.
     Bytes(&'a [u8]),
@@ -225,9 +225,9 @@ impl Array {
         }
     }
 
-    /// The number in slot `i` of a column of type Int, Date, Time or Timestamp, or the index in
-    /// slot `i` of a dictionary-encoded column of any type. None where the slot is null or holds
-    /// something else.
+    /// The number in slot `i` of a column of type Int, Date, Time, Timestamp or Duration, or the
+    /// index in slot `i` of a dictionary-encoded column of any type. None where the slot is null or
+    /// holds something else.
     #[inline(always)]
     pub fn int_at(&self, i: usize) -> Option<i128>
         requires { i < length self.now.raw }
@@ -244,7 +244,7 @@ impl Array {
         }
     }
 
-    /// The byte string in slot `i`. None where the slot is null or holds something else.
+    /// The byte string in slot `i`, also one of a fixed size. None where the slot is null or holds something else.
     #[inline(always)]
     pub fn bytes_at(&self, i: usize) -> Option<&[u8]>
         requires { i < length self.now.raw }

@@ -54,10 +54,14 @@ pub fn form_of(data_type: &DataType) -> Form
         },
         DataType::Date(unit) => signed(unit.width()),
         DataType::Time(unit) => signed(unit.time_width()),
-        DataType::Timestamp(..) => signed(BitWidth::SixtyFour),
+        DataType::Timestamp(..) | DataType::Duration(_) => signed(BitWidth::SixtyFour),
         DataType::Binary => Form::Bytes(OffsetWidth::Small),
+        DataType::LargeBinary => Form::Bytes(OffsetWidth::Large),
+        DataType::FixedSizeBinary(width) => Form::FixedBytes(*width),
         DataType::Utf8 => Form::Texts(OffsetWidth::Small),
+        DataType::LargeUtf8 => Form::Texts(OffsetWidth::Large),
         DataType::List(_) => Form::Lists(OffsetWidth::Small),
+        DataType::LargeList(_) => Form::Lists(OffsetWidth::Large),
         DataType::Struct(_) => Form::Structs,
     }
 }
