@@ -213,11 +213,16 @@ fn word_of(data_type: &DataType) -> &'static str {
         DataType::Bool => "Bool",
         DataType::Int { .. } => "Int",
         DataType::Binary => "Binary",
+        DataType::LargeBinary => "LargeBinary",
+        DataType::FixedSizeBinary(_) => "FixedSizeBinary",
         DataType::Utf8 => "Utf8",
+        DataType::LargeUtf8 => "LargeUtf8",
         DataType::Date(_) => "Date",
         DataType::Time(_) => "Time",
         DataType::Timestamp(..) => "Timestamp",
+        DataType::Duration(_) => "Duration",
         DataType::List(_) => "List",
+        DataType::LargeList(_) => "LargeList",
         DataType::Struct(_) => "Struct",
     }
 }
