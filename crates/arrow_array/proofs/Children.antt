@@ -4,11 +4,13 @@ use Rattle.std.specs.List.{AllByRecursion, HoldsAt}
 use Rattle.std.specs.Prelude.{IfSome}
 use Rattle.std.proofs.lemmas.List.Elements.{All-from_recursion}
 use Rattle.std.proofs.lemmas.Option.{get_or_from_slice_get, slice_get_read, slice_get_within}
-use Rattle.arrow_types.specs.DataType.{list, struct}
 use Rattle.arrow_types.specs.Field.{Fields, none, more, TypeShape}
 use Rattle.arrow_array.specs.PlainValue.{PlainValue, value_at, null_value, is_null_value, list_value, struct_value, values_of, field_value, nth_value}
 use Rattle.arrow_array.specs.Column.{Column, AreOf, HasChild, HasField, listed_of, type_of_field, struct_fields, struct_fields_of}
+use Rattle.arrow_array.specs.Form.{IsLists, form_of}
 use Rattle.arrow_array.specs.Slots.{slots, list_slot, struct_slot, is_valid_at, place_of, range_of}
+use Rattle.arrow_array.specs.declared.form.Form.TheVariants as forms
+use Rattle.arrow_array.specs.declared.form.OffsetWidth.{OffsetWidth}
 use Rattle.arrow_array.proofs.Shown.{length_slots, at_slots, row_same}
 
 -- a slot that is not null is valid
@@ -22,12 +24,12 @@ value_of_valid true x h = refl
 value_of_valid false x h = absurd (true≢false (sym h))
 
 -- the column of a node of lists, and that of a node of structs
-abbrev lists : TypeShape → ℕ → List ℕ → List ℕ → Column → Column
-lists t n v o child = record {
+abbrev lists : TypeShape → OffsetWidth → ℕ → List ℕ → List ℕ → Column → Column
+lists t w n v o child = record {
   data_type = t;
   encoding = None;
-  raw = slots n (list_slot v o child.raw);
-  resolved = slots n (list_slot v o child.resolved);
+  raw = slots n (list_slot w v o child.raw);
+  resolved = slots n (list_slot w v o child.resolved);
   dictionaries = child.dictionaries;
 }
 
@@ -41,23 +43,23 @@ structs t n v cs = record {
 }
 
 -- what a column of lists says of its child
-pub child_shown : (c : Column) (t : TypeShape) (n : ℕ) (v o : List ℕ) (child : Column) → c ≡ lists t n v o child → t.tag ≡ list → AreOf t.children (child ∷ []) → HasChild c child
-child_shown c t n v o child is tag typed =
-    let raw = list_slot v o child.raw in
-    let resolved = list_slot v o child.resolved in
-    let shown : HasChild (lists t n v o child) child = record {
-      is_list = (refl, tag);
+pub child_shown : (c : Column) (t : TypeShape) (w : OffsetWidth) (n : ℕ) (v o : List ℕ) (child : Column) → c ≡ lists t w n v o child → form_of t.tag ≡ forms.Lists w → AreOf t.children (child ∷ []) → HasChild c child
+child_shown c t w n v o child is form typed =
+    let raw = list_slot w v o child.raw in
+    let resolved = list_slot w v o child.resolved in
+    let shown : HasChild (lists t w n v o child) child = record {
+      is_list = subst IsLists (sym form) tt;
       typed = typed;
       listed = refl;
       same = λ i h full.
           let inside : i < n = omega (arith, length_slots n (λ j. raw j)) in
           let here = at_slots n (λ j. raw j) i inside in
-          let valid = valid_from_value (is_valid_at v i) (list_value (values_of (range_of o child.raw i))) (ap is_null_value (sym here) ∙ full) in
+          let valid = valid_from_value (is_valid_at v i) (list_value (values_of (range_of w o child.raw i))) (ap is_null_value (sym here) ∙ full) in
           record {
-            start = place_of o i;
-            stop = place_of o (i + 1);
-            same = here ∙ value_of_valid (is_valid_at v i) (list_value (values_of (range_of o child.raw i))) valid;
-            same_resolved = at_slots n (λ j. resolved j) i inside ∙ value_of_valid (is_valid_at v i) (list_value (values_of (range_of o child.resolved i))) valid;
+            start = place_of w o i;
+            stop = place_of w o (i + 1);
+            same = here ∙ value_of_valid (is_valid_at v i) (list_value (values_of (range_of w o child.raw i))) valid;
+            same_resolved = at_slots n (λ j. resolved j) i inside ∙ value_of_valid (is_valid_at v i) (list_value (values_of (range_of w o child.resolved i))) valid;
           };
     } in
     subst (λ x. HasChild x child) (sym is) shown
@@ -97,36 +99,48 @@ pub found_from_lookup : (cs : List Column) (n : ℕ) (r : Option (Bor Column)) �
 found_from_lookup cs n None h g = g
 found_from_lookup cs n (Some a) h g = slice_get_read cs (length cs) n a.now refl g.0 h
 
--- what a struct says of the child of field k
-field_shown : (t : TypeShape) (n : ℕ) (v : List ℕ) (cs : List Column) (k : ℕ) (r : Option (Bor Column))
-    → t.tag ≡ struct → AreOf t.children cs → AllByRecursion (λ (d : Column). n ≤ length d.raw) cs
-    → MatchOption r (length cs ≤ k) (λ b. slice_get cs k ≡ Some b.now)
-    → MatchOption r (type_of_field (struct_fields (structs t n v cs)) k ≡ None) (λ a. HasField (structs t n v cs) k a.now)
-field_shown t n v cs k None tag typed longer is =
-    let fields : struct_fields (structs t n v cs) ≡ t.children = ap (λ g. struct_fields_of g None t.children) tag in
-    ap (λ f. type_of_field f k) fields ∙ type_past t.children cs k typed is
-field_shown t n v cs k (Some a) tag typed longer is =
-    let fields : struct_fields (structs t n v cs) ≡ t.children = ap (λ g. struct_fields_of g None t.children) tag in
+-- what a struct says of the child that stands as field k
+part_shown : (t : TypeShape) (n : ℕ) (v : List ℕ) (cs : List Column) (k : ℕ) (a : Column)
+    → form_of t.tag ≡ forms.Structs → AreOf t.children cs → AllByRecursion (λ (d : Column). n ≤ length d.raw) cs → slice_get cs k ≡ Some a
+    → HasField (structs t n v cs) k a
+part_shown t n v cs k a tag typed longer is =
+    let fields : struct_fields (structs t n v cs) ≡ t.children = ap (λ g. struct_fields_of g t.children) tag in
     let raw = struct_slot v (map (λ (x : Column). x.raw) cs) in
     let resolved = struct_slot v (map (λ (x : Column). x.resolved) cs) in
     let long : length (slots n (λ j. raw j)) ≡ n = length_slots n (λ j. raw j) in
     record {
-      typed = ap (λ f. type_of_field f k) fields ∙ type_found t.children cs k a.now typed is;
-      longer = omega (arith, long, holds_of_found (λ (x : Column). n ≤ length x.raw) cs k a.now longer is);
+      typed = ap (λ f. type_of_field f k) fields ∙ type_found t.children cs k a typed is;
+      longer = omega (arith, long, holds_of_found (λ (x : Column). n ≤ length x.raw) cs k a longer is);
       same = λ i h full.
           let inside : i < n = omega (arith, h, long) in
           let here = at_slots n (λ j. raw j) i inside in
           let parts = struct_value (values_of (map (λ values. value_at values i) (map (λ (x : Column). x.raw) cs))) in
           let valid = valid_from_value (is_valid_at v i) parts (ap is_null_value (sym here) ∙ full) in (
-            ap (field_value k) (here ∙ value_of_valid (is_valid_at v i) parts valid) ∙ ap (λ vs. nth_value k (values_of vs)) (row_same (λ (x : Column). x.raw) cs i) ∙ nth_row (λ (x : Column). x.raw) cs k i a.now is,
+            ap (field_value k) (here ∙ value_of_valid (is_valid_at v i) parts valid) ∙ ap (λ vs. nth_value k (values_of vs)) (row_same (λ (x : Column). x.raw) cs i) ∙ nth_row (λ (x : Column). x.raw) cs k i a is,
             ap (field_value k) (at_slots n (λ j. resolved j) i inside ∙ value_of_valid (is_valid_at v i) (struct_value (values_of (map (λ values. value_at values i) (map (λ (x : Column). x.resolved) cs)))) valid)
-                ∙ ap (λ vs. nth_value k (values_of vs)) (row_same (λ (x : Column). x.resolved) cs i) ∙ nth_row (λ (x : Column). x.resolved) cs k i a.now is,
+                ∙ ap (λ vs. nth_value k (values_of vs)) (row_same (λ (x : Column). x.resolved) cs i) ∙ nth_row (λ (x : Column). x.resolved) cs k i a is,
           );
     }
 
 -- the same of a column that is known to be one of structs
+pub part_of_column : (c : Column) (t : TypeShape) (n : ℕ) (v : List ℕ) (cs : List Column) (k : ℕ) (a : Column)
+    → c ≡ structs t n v cs → form_of t.tag ≡ forms.Structs → AreOf t.children cs → AllByRecursion (λ (d : Column). n ≤ length d.raw) cs → slice_get cs k ≡ Some a
+    → HasField c k a
+part_of_column c t n v cs k a is tag typed longer found = subst (λ x. HasField x k a) (sym is) (part_shown t n v cs k a tag typed longer found)
+
+-- what a struct says of the child of field k, or of there being none
+field_shown : (t : TypeShape) (n : ℕ) (v : List ℕ) (cs : List Column) (k : ℕ) (r : Option (Bor Column))
+    → form_of t.tag ≡ forms.Structs → AreOf t.children cs → AllByRecursion (λ (d : Column). n ≤ length d.raw) cs
+    → MatchOption r (length cs ≤ k) (λ b. slice_get cs k ≡ Some b.now)
+    → MatchOption r (type_of_field (struct_fields (structs t n v cs)) k ≡ None) (λ a. HasField (structs t n v cs) k a.now)
+field_shown t n v cs k None tag typed longer is =
+    let fields : struct_fields (structs t n v cs) ≡ t.children = ap (λ g. struct_fields_of g t.children) tag in
+    ap (λ f. type_of_field f k) fields ∙ type_past t.children cs k typed is
+field_shown t n v cs k (Some a) tag typed longer is = part_shown t n v cs k a.now tag typed longer is
+
+-- the same of a column that is known to be one of structs
 pub field_of_column : (c : Column) (t : TypeShape) (n : ℕ) (v : List ℕ) (cs : List Column) (k : ℕ) (r : Option (Bor Column))
-    → c ≡ structs t n v cs → t.tag ≡ struct → AreOf t.children cs → AllByRecursion (λ (d : Column). n ≤ length d.raw) cs
+    → c ≡ structs t n v cs → form_of t.tag ≡ forms.Structs → AreOf t.children cs → AllByRecursion (λ (d : Column). n ≤ length d.raw) cs
     → MatchOption r (length cs ≤ k) (λ b. slice_get cs k ≡ Some b.now)
     → MatchOption r (type_of_field (struct_fields c) k ≡ None) (λ a. HasField c k a.now)
 field_of_column c t n v cs k r is tag typed longer found =

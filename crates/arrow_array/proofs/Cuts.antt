@@ -5,9 +5,12 @@ use Rattle.std.specs.List.Sorted.{IsNonDecreasing}
 use Rattle.std.proofs.Math.Seq.{take-add}
 use Rattle.std.proofs.lemmas.List.{drop-drop, drop-take, take-take, length-take, length-drop, places}
 use Rattle.std.proofs.lemmas.Str.{IsCharBoundary-from_take, IsCharBoundary-start, IsUtf8-append, IsUtf8-between, IsUtf8-take}
-use Rattle.arrow_bits.specs.Offsets.{offsets_of}
-use Rattle.arrow_bits.proofs.Rising.{length_offsets, offset_found}
+use Rattle.arrow_bits.specs.Offsets.{plain_list}
+use Rattle.arrow_bits.proofs.Rising.{length_offsets, length_large_offsets, offset_found, large_offset_found}
+use Rattle.arrow_array.specs.Form.{offset_bytes}
 use Rattle.arrow_array.specs.Slots.{place_of, range_of}
+use Rattle.arrow_array.specs.declared.form.OffsetWidth.{OffsetWidth}
+use Rattle.arrow_array.specs.declared.form.OffsetWidth.TheVariants.{Small, Large}
 
 -- a part of a text that is a text itself, and not empty, begins between characters
 pub part_begins : (bs : List ℕ) (i j : ℕ) → i < j → j ≤ length bs → IsUtf8 (slice_range bs i j) → IsCharBoundary bs i
@@ -37,22 +40,25 @@ part_of_range xs first last i j below order above =
     ap (λ n. take n (drop (i - first) (take (last - first) (drop first xs)))) width ∙ ap (take (j - i)) cut ∙ take-take (j - i) (last - i) (drop i xs) (omega (arith, order, above))
 
 -- offsets in their order
-pub places_order : (offsets : List ℕ) (len i k : ℕ) → IsNonDecreasing (offsets_of len offsets) → i ≤ k → k ≤ len → place_of offsets i ≤ place_of offsets k
-places_order offsets len i k rises order inside =
+pub places_order : (width : OffsetWidth) (offsets : List ℕ) (len i k : ℕ) → IsNonDecreasing (plain_list (offset_bytes width) len offsets) → i ≤ k → k ≤ len → place_of width offsets i ≤ place_of width offsets k
+places_order Small offsets len i k rises order inside =
     let room = length_offsets len offsets in
     omega (arith, offset_found len offsets i (omega (arith, order, inside)), offset_found len offsets k (omega (arith, inside)), rises i k 0 order (omega (arith, room, inside)))
+places_order Large offsets len i k rises order inside =
+    let room = length_large_offsets len offsets in
+    omega (arith, large_offset_found len offsets i (omega (arith, order, inside)), large_offset_found len offsets k (omega (arith, inside)), rises i k 0 order (omega (arith, room, inside)))
 
 -- how many offsets there are, where they stand, and in which order
-pub ruleset offsets = (length_offsets, offset_found, places_order)
+pub ruleset offsets = (length_offsets, length_large_offsets, offset_found, large_offset_found, places_order)
 
 -- the bytes of a slot, in those of all
-pub slot_in : (offsets bytes text : List ℕ) (len j start stop : ℕ) → text ≡ slice_range bytes (place_of offsets 0) (place_of offsets len)
-    → place_of offsets 0 ≤ place_of offsets j → place_of offsets j ≤ place_of offsets (j + 1) → place_of offsets (j + 1) ≤ place_of offsets len
-    → start ≡ place_of offsets j - place_of offsets 0 → stop ≡ place_of offsets (j + 1) - place_of offsets 0 → slice_range text start stop ≡ range_of offsets bytes j
-slot_in offsets bytes text len j start stop whole before order after low high =
-    let first = place_of offsets 0 in
-    let last = place_of offsets len in
-    (λ i. slice_range (whole i) (low i) (high i)) ∙ part_of_range bytes first last (place_of offsets j) (place_of offsets (j + 1)) before order after
+pub slot_in : (width : OffsetWidth) (offsets bytes text : List ℕ) (len j start stop : ℕ) → text ≡ slice_range bytes (place_of width offsets 0) (place_of width offsets len)
+    → place_of width offsets 0 ≤ place_of width offsets j → place_of width offsets j ≤ place_of width offsets (j + 1) → place_of width offsets (j + 1) ≤ place_of width offsets len
+    → start ≡ place_of width offsets j - place_of width offsets 0 → stop ≡ place_of width offsets (j + 1) - place_of width offsets 0 → slice_range text start stop ≡ range_of width offsets bytes j
+slot_in width offsets bytes text len j start stop whole before order after low high =
+    let first = place_of width offsets 0 in
+    let last = place_of width offsets len in
+    (λ i. slice_range (whole i) (low i) (high i)) ∙ part_of_range bytes first last (place_of width offsets j) (place_of width offsets (j + 1)) before order after
 
 -- whether a part is a text
 pub part_decides : (bs : List ℕ) (i j : ℕ) (r : Bool) → IsUtf8 bs → i < j → j ≤ length bs → (IsTrue r ↔ (IsCharBoundary bs i × IsCharBoundary bs j)) → IsTrue r ↔ IsUtf8 (slice_range bs i j)

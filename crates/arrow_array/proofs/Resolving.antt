@@ -153,11 +153,13 @@ ranges_known len t e body (ranges.Binaries s) few h =
     subst (λ x. IsColumn (column_by t x len body (ranges.Binaries s))) (sym h.0) (values_known t len _ _ [] few (λ _ j. refl) (λ d agree j l. plain_resolves None t.children d (is_valid_at (bytes_of body s.validity) j) _ refl))
 ranges_known len t e body (ranges.Texts s) few h =
     subst (λ x. IsColumn (column_by t x len body (ranges.Texts s))) (sym h.0) (values_known t len _ _ [] few (λ _ j. refl) (λ d agree j l. plain_resolves None t.children d (is_valid_at (bytes_of body s.validity) j) _ refl))
-ranges_known len t e body (ranges.Lists v o child) few h =
+ranges_known len t e body (ranges.FixedBytes f) few h =
+    subst (λ x. IsColumn (column_by t x len body (ranges.FixedBytes f))) (sym h.0) (values_known t len _ _ [] few (λ _ j. refl) (λ d agree j l. plain_resolves None t.children d (is_valid_at (bytes_of body f.validity) j) _ refl))
+ranges_known len t e body (ranges.Lists w v o child) few h =
     let places = bytes_of body o in
-    subst (λ x. IsColumn (column_by t x len body (ranges.Lists v o child))) (sym h.0) (values_known t len _ _ child.value.dictionaries few
-    (λ flat j. ap (λ vs. list_slot (bytes_of body v) places vs j) (child_plain t.children child.value h.2.typed h.2.known flat)) (λ d agree j l.
-    shown_resolves None t.children d (is_valid_at (bytes_of body v) j) _ _ (λ valid. ap (option_map list_value) (list_resolves t.children child.value d (place_of places j) (place_of places (j + 1)) h.2.typed h.2.known agree))))
+    subst (λ x. IsColumn (column_by t x len body (ranges.Lists w v o child))) (sym h.0) (values_known t len _ _ child.value.dictionaries few
+    (λ flat j. ap (λ vs. list_slot w (bytes_of body v) places vs j) (child_plain t.children child.value h.2.typed h.2.known flat)) (λ d agree j l.
+    shown_resolves None t.children d (is_valid_at (bytes_of body v) j) _ _ (λ valid. ap (option_map list_value) (list_resolves t.children child.value d (place_of w places j) (place_of w places (j + 1)) h.2.typed h.2.known agree))))
 ranges_known len t e body (ranges.Structs v children) few h =
     subst (λ x. IsColumn (column_by t x len body (ranges.Structs v children))) (sym h.0) (values_known t len _ _ (listed_of children.items) few
     (λ flat j. ap (λ vs. struct_slot (bytes_of body v) vs j) (children_plain t.children children.items h.2.typed h.2.known flat)) (λ d agree j l.

@@ -1,8 +1,8 @@
 -- The slots of ranges.
-use Rattle.std.proofs.Common.{◌≡◌, ℕ, ◌+◌, ◌*◌, ◌<◌, ◌≤◌, true, List, [], ◌∷◌, length, map, refl, sym, inl, inr, ap, ◌∙◌, subst, arith, if◌then◌else◌}
+use Rattle.std.proofs.Common.{◌≡◌, ℕ, ◌+◌, ◌*◌, ◌<◌, ◌≤◌, true, List, [], ◌∷◌, length, map, refl, ap, ◌∙◌, arith, if◌then◌else◌}
 use Rattle.std.proofs.lemmas.List.FromFn.{get_or-map-range_with_len, length-map-range_with_len}
+use Rattle.std.proofs.lemmas.Nat.{column_fits}
 use Rattle.std.specs.List.{AllByRecursion}
-use Rattle.arrow_bits.specs.Numbers.{IsWidth}
 use Rattle.arrow_types.specs.Field.{TypeShape}
 use Rattle.arrow_array.specs.PlainValue.{PlainValue, value_at, null_value, struct_value, values_of}
 use Rattle.arrow_array.specs.Column.{Column, HasParts, counts_of}
@@ -19,11 +19,8 @@ pub at_slots : (n : ℕ) (f : ℕ → PlainValue) (i : ℕ) → i < n → value_
 at_slots n f i h = get_or-map-range_with_len f 0 n i i null_value h (omega arith)
 
 -- the bytes of a slot of fixed width
-pub slot_inside : (width i n m : ℕ) → IsWidth width → i < n → width * n ≤ m → width * i + width ≤ m
-slot_inside width i n m (inl e) h long = subst (λ w. w * i + w ≤ m) (sym e) (omega (arith, subst (λ w. w * n ≤ m) e long))
-slot_inside width i n m (inr (inl e)) h long = subst (λ w. w * i + w ≤ m) (sym e) (omega (arith, subst (λ w. w * n ≤ m) e long))
-slot_inside width i n m (inr (inr (inl e))) h long = subst (λ w. w * i + w ≤ m) (sym e) (omega (arith, subst (λ w. w * n ≤ m) e long))
-slot_inside width i n m (inr (inr (inr e))) h long = subst (λ w. w * i + w ≤ m) (sym e) (omega (arith, subst (λ w. w * n ≤ m) e long))
+pub slot_inside : (width i n m : ℕ) → i < n → width * n ≤ m → width * i + width ≤ m
+slot_inside width i n m h long = omega (arith, column_fits width i width n h (omega arith), long)
 
 -- how many slots there are, what stands in each, and where its bytes are
 pub ruleset shown = (length_slots, at_slots, slot_inside)

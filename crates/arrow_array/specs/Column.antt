@@ -1,16 +1,18 @@
 -- What an array and a dictionary are, without how they are kept (Columnar Format, "Terminology").
-use Rattle.std.specs.Prelude.{◌≡◌, ◌≤◌, ◌<◌, ◌+◌, ◌*◌, ◌-◌, ◌^◌, ℕ, zero, suc, ℤ, false, List, [], ◌∷◌, ◌++◌, length, map, take, drop, ⊤, Option, None, Some, IsTrue, is_some, refl}
+use Rattle.std.specs.Prelude.{◌≡◌, ◌≤◌, ◌<◌, ◌+◌, ◌*◌, ◌-◌, ◌^◌, ℕ, zero, suc, ℤ, false, List, [], ◌∷◌, ◌++◌, length, map, take, drop, ⊤, Option, None, Some, IsTrue, is_some, slice_get, refl}
 use Rattle.std.specs.Coded.{Coded, code_by, coded×, coded_ℤ, coded_list, coded_option}
 use Rattle.std.specs.List.{AllByRecursion}
-use Rattle.arrow_types.specs.DataType.{Tag, null, boolean, int, binary, utf8, date, time, timestamp, list, struct}
 use Rattle.arrow_types.specs.Field.{Fields, none, more, TypeShape, levels}
 use Rattle.arrow_types.specs.Schema.{has_encoding}
 use Rattle.arrow_types.specs.Stored.{type_code}
 use Rattle.arrow_types.specs.contracts.field.Encoding.{the_row as encoding_row}
 use Rattle.arrow_types.specs.declared.field.Encoding.{Encoding}
+use Rattle.arrow_array.specs.Form.{IsLists, node_form}
 use Rattle.arrow_array.specs.PlainValue.{PlainValue, value_at, null_value, list_value, struct_value, values_of, is_null_value, field_value}
 use Rattle.arrow_array.specs.Resolve.{resolve}
 use Rattle.arrow_array.specs.Stored.{value_code}
+use Rattle.arrow_array.specs.declared.form.Form.{Form}
+use Rattle.arrow_array.specs.declared.form.Form.TheVariants as forms
 
 -- What an array is to contracts: its type, its encoding, and the value of each slot, raw (where it is
 -- dictionary-encoded, the index) and resolved. Beside these, for each dictionary-encoded field of it in pre-order, the
@@ -127,23 +129,20 @@ type_of_field none k = None
 type_of_field (more head children rest) zero = Some (record { tag = head.tag; children = children }, head.encoding)
 type_of_field (more head children rest) (suc k) = type_of_field rest k
 
--- the fields of a struct that is not dictionary-encoded, none of any other column
-abbrev pub struct_fields_of : Tag → Option Encoding → Fields → Fields
-struct_fields_of struct None children = children
-struct_fields_of struct (Some e) children = none
-struct_fields_of null e children = none
-struct_fields_of boolean e children = none
-struct_fields_of (int bits signed) e children = none
-struct_fields_of binary e children = none
-struct_fields_of utf8 e children = none
-struct_fields_of (date unit) e children = none
-struct_fields_of (time unit) e children = none
-struct_fields_of (timestamp unit text) e children = none
-struct_fields_of list e children = none
+-- the fields of a struct, none of a column of another form
+abbrev pub struct_fields_of : Form → Fields → Fields
+struct_fields_of forms.Nulls children = none
+struct_fields_of forms.Bits children = none
+struct_fields_of (forms.Numbers bits signed) children = none
+struct_fields_of (forms.Bytes width) children = none
+struct_fields_of (forms.Texts width) children = none
+struct_fields_of (forms.FixedBytes width) children = none
+struct_fields_of (forms.Lists width) children = none
+struct_fields_of forms.Structs children = children
 
--- the fields whose values stand side by side in each slot of the column
+-- the fields whose values stand side by side in each slot of the column: none of a dictionary-encoded one
 abbrev pub struct_fields : Column → Fields
-struct_fields c = struct_fields_of c.data_type.tag c.encoding c.data_type.children
+struct_fields c = struct_fields_of (node_form c.data_type.tag c.encoding) c.data_type.children
 
 -- the child has the type of field k, and its value in each slot that is not null
 pub record HasField (c : Column) (k : ℕ) (child : Column) : Type 0 where
@@ -152,9 +151,20 @@ pub record HasField (c : Column) (k : ℕ) (child : Column) : Type 0 where
   pub same : (i : ℕ) → i < length c.raw → is_null_value (value_at c.raw i) ≡ false
       → (field_value k (value_at c.raw i) ≡ value_at child.raw i) × (field_value k (value_at c.resolved i) ≡ value_at child.resolved i)
 
+-- slots hold structs
+abbrev pub IsStruct : Column → Type 0
+IsStruct c = node_form c.data_type.tag c.encoding ≡ forms.Structs
+
+-- the children are those of the struct's fields, and their dictionaries are the column's
+pub record HasFields (c : Column) (children : List Column) : Type 0 where
+  pub is_struct : IsStruct c
+  pub typed : AreOf c.data_type.children children
+  pub listed : listed_of children ≡ c.dictionaries
+  pub each : (k : ℕ) (child : Column) → slice_get children k ≡ Some child → HasField c k child
+
 -- slots hold lists of items
 abbrev pub IsList : Column → Type 0
-IsList c = (c.encoding ≡ None) × (c.data_type.tag ≡ list)
+IsList c = IsLists (node_form c.data_type.tag c.encoding)
 
 -- some range of the child's values are the items of slot i
 pub record HasSomeItems (c : Column) (i : ℕ) (child : Column) : Type 0 where

@@ -1,4 +1,5 @@
 pub mod PlainValue
+pub mod Form
 pub mod Stored
 pub mod Resolve
 pub mod Column

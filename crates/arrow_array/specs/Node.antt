@@ -1,20 +1,24 @@
 -- What the ranges of a node stand for, and what is known of them in every array.
-use Rattle.std.specs.Prelude.{◌≡◌, ◌≤◌, ℕ, ℤ, Bool, List, [], ◌∷◌, map, length, slice_range, Option, None, Some}
+use Rattle.std.specs.Prelude.{◌≡◌, ◌≤◌, ℕ, ℤ, List, [], ◌∷◌, map, length, slice_range, Option, None, Some}
 use Rattle.std.specs.List.{AllByRecursion}
 use Rattle.arrow_bits.specs.Numbers.{IsWidth}
-use Rattle.arrow_types.specs.DataType.{null, boolean, binary, utf8, list, struct}
 use Rattle.arrow_types.specs.Field.{TypeShape}
 use Rattle.arrow_types.specs.View.{type_view}
 use Rattle.arrow_types.specs.declared.field.Encoding.{Encoding}
+use Rattle.arrow_array.specs.Form.{form_of, node_form, number_width}
 use Rattle.arrow_array.specs.PlainValue.{PlainValue, null_value}
 use Rattle.arrow_array.specs.Column.{Column, ValueList, AreOf, IsColumn, IsValueList, listed_of, counts_of}
-use Rattle.arrow_array.specs.Slots.{slots, bool_slot, int_slot, binary_slot, utf8_slot, list_slot, struct_slot, entry_slot, AreTexts, AreIndices, width_of, is_signed, index_width}
-use Rattle.arrow_array.specs.Layout.{HasBools, HasInts, HasStrings, HasLists, HasStructs}
+use Rattle.arrow_array.specs.Slots.{slots, bool_slot, int_slot, fixed_slot, binary_slot, utf8_slot, list_slot, struct_slot, entry_slot, AreTexts, AreIndices}
+use Rattle.arrow_array.specs.Layout.{HasBools, HasFixed, HasStrings, HasLists, HasStructs}
 use Rattle.arrow_array.specs.declared.byte_range.ByteRange.{ByteRange}
 use Rattle.arrow_array.specs.declared.buffers.Bools.{Bools}
+use Rattle.arrow_array.specs.declared.buffers.Fixed.{Fixed}
 use Rattle.arrow_array.specs.declared.buffers.Ints.{Ints}
 use Rattle.arrow_array.specs.declared.buffers.Strings.{Strings}
 use Rattle.arrow_array.specs.declared.array.Ranges.{Ranges}
+use Rattle.arrow_array.specs.declared.form.Form.{Form}
+use Rattle.arrow_array.specs.declared.form.Form.TheVariants as forms
+use Rattle.arrow_array.specs.declared.form.OffsetWidth.{OffsetWidth}
 use Rattle.arrow_array.specs.declared.array.Ranges.TheVariants as ranges
 use Rattle.arrow_array.specs.declared.array.Array.TheInside.{Inside}
 
@@ -36,11 +40,15 @@ int_at body n j = int_slot n.width n.signed (bytes_of body n.validity) (bytes_of
 
 -- the byte string of a slot
 abbrev pub binary_at : List ℕ → Strings → ℕ → PlainValue
-binary_at body s j = binary_slot (bytes_of body s.validity) (bytes_of body s.offsets) (bytes_of body s.bytes) j
+binary_at body s j = binary_slot s.width (bytes_of body s.validity) (bytes_of body s.offsets) (bytes_of body s.bytes) j
 
 -- the text of a slot
 abbrev pub utf8_at : List ℕ → Strings → ℕ → PlainValue
-utf8_at body s j = utf8_slot (bytes_of body s.validity) (bytes_of body s.offsets) (bytes_of body s.bytes) j
+utf8_at body s j = utf8_slot s.width (bytes_of body s.validity) (bytes_of body s.offsets) (bytes_of body s.bytes) j
+
+-- the bytes of a slot of fixed width
+abbrev pub fixed_at : List ℕ → Fixed → ℕ → PlainValue
+fixed_at body f j = fixed_slot f.width (bytes_of body f.validity) (bytes_of body f.values) j
 
 -- the value that the index of a slot refers to
 abbrev pub entry_in : List ℕ → Ints → List PlainValue → ℕ → PlainValue
@@ -53,7 +61,8 @@ raw_slot body (ranges.Bools b) j = bool_at body b j
 raw_slot body (ranges.Ints n) j = int_at body n j
 raw_slot body (ranges.Binaries s) j = binary_at body s j
 raw_slot body (ranges.Texts s) j = utf8_at body s j
-raw_slot body (ranges.Lists v o child) j = list_slot (bytes_of body v) (bytes_of body o) child.value.raw j
+raw_slot body (ranges.FixedBytes f) j = fixed_at body f j
+raw_slot body (ranges.Lists w v o child) j = list_slot w (bytes_of body v) (bytes_of body o) child.value.raw j
 raw_slot body (ranges.Structs v children) j = struct_slot (bytes_of body v) (map (λ (c : Column). c.raw) children.items) j
 raw_slot body (ranges.Indices n d) j = int_at body n j
 
@@ -64,7 +73,8 @@ resolved_slot body (ranges.Bools b) j = bool_at body b j
 resolved_slot body (ranges.Ints n) j = int_at body n j
 resolved_slot body (ranges.Binaries s) j = binary_at body s j
 resolved_slot body (ranges.Texts s) j = utf8_at body s j
-resolved_slot body (ranges.Lists v o child) j = list_slot (bytes_of body v) (bytes_of body o) child.value.resolved j
+resolved_slot body (ranges.FixedBytes f) j = fixed_at body f j
+resolved_slot body (ranges.Lists w v o child) j = list_slot w (bytes_of body v) (bytes_of body o) child.value.resolved j
 resolved_slot body (ranges.Structs v children) j = struct_slot (bytes_of body v) (map (λ (c : Column). c.resolved) children.items) j
 resolved_slot body (ranges.Indices n d) j = entry_in body n d.value.values j
 
@@ -75,7 +85,7 @@ listed_by (Some e) values = (e.id, values) ∷ []
 
 -- the dictionaries that a node refers to, itself and below it
 abbrev pub dictionaries_of : Option Encoding → Ranges → List (ℤ × List PlainValue)
-dictionaries_of e (ranges.Lists v o child) = child.value.dictionaries
+dictionaries_of e (ranges.Lists w v o child) = child.value.dictionaries
 dictionaries_of e (ranges.Structs v children) = listed_of children.items
 dictionaries_of e (ranges.Indices n d) = listed_by e d.value.values
 dictionaries_of e ranges.Nulls = []
@@ -83,6 +93,7 @@ dictionaries_of e (ranges.Bools b) = []
 dictionaries_of e (ranges.Ints n) = []
 dictionaries_of e (ranges.Binaries s) = []
 dictionaries_of e (ranges.Texts s) = []
+dictionaries_of e (ranges.FixedBytes f) = []
 
 -- the ranges hold a truth value for each slot
 pub record AreBools (len : ℕ) (body : List ℕ) (b : Bools) : Type 0 where
@@ -95,20 +106,26 @@ pub record AreInts (len : ℕ) (body : List ℕ) (n : Ints) : Type 0 where
   pub whole : IsWidth n.width
   pub validity : IsInside body n.validity
   pub values : IsInside body n.values
-  pub laid : HasInts len n.width (bytes_of body n.validity) (bytes_of body n.values)
+  pub laid : HasFixed len n.width (bytes_of body n.validity) (bytes_of body n.values)
 
 -- the ranges hold a part of the bytes for each slot
 pub record AreStrings (len : ℕ) (body : List ℕ) (s : Strings) : Type 0 where
   pub validity : IsInside body s.validity
   pub offsets : IsInside body s.offsets
   pub bytes : IsInside body s.bytes
-  pub laid : HasStrings len (bytes_of body s.validity) (bytes_of body s.offsets) (bytes_of body s.bytes)
+  pub laid : HasStrings s.width len (bytes_of body s.validity) (bytes_of body s.offsets) (bytes_of body s.bytes)
+
+-- the ranges hold so many bytes for each slot
+pub record AreFixed (len : ℕ) (body : List ℕ) (f : Fixed) : Type 0 where
+  pub validity : IsInside body f.validity
+  pub values : IsInside body f.values
+  pub laid : HasFixed len f.width (bytes_of body f.validity) (bytes_of body f.values)
 
 -- the ranges hold a part of the child's slots for each slot, and the child is of the type's one field
-pub record AreLists (len : ℕ) (t : TypeShape) (body : List ℕ) (v o : ByteRange) (child : Column) : Type 0 where
+pub record AreLists (width : OffsetWidth) (len : ℕ) (t : TypeShape) (body : List ℕ) (v o : ByteRange) (child : Column) : Type 0 where
   pub validity : IsInside body v
   pub offsets : IsInside body o
-  pub laid : HasLists len (bytes_of body v) (bytes_of body o) (length child.raw)
+  pub laid : HasLists width len (bytes_of body v) (bytes_of body o) (length child.raw)
   pub typed : AreOf t.children (child ∷ [])
   pub known : IsColumn child
 
@@ -119,13 +136,20 @@ pub record AreStructs (len : ℕ) (t : TypeShape) (body : List ℕ) (v : ByteRan
   pub typed : AreOf t.children children
   pub known : AllByRecursion IsColumn children
 
--- the numbers are of the width and the sign
-abbrev pub IsFormat : ℕ → Bool → Ints → Type 0
-IsFormat width signed n = (n.width ≡ width) × (n.signed ≡ signed)
+-- the numbers are of the width and the sign of the form
+abbrev pub IsFormat : Form → Ints → Type 0
+IsFormat forms.Nulls n = ⊥
+IsFormat forms.Bits n = ⊥
+IsFormat (forms.Numbers bits signed) n = (n.width ≡ number_width bits) × (n.signed ≡ signed)
+IsFormat (forms.Bytes width) n = ⊥
+IsFormat (forms.Texts width) n = ⊥
+IsFormat (forms.FixedBytes width) n = ⊥
+IsFormat (forms.Lists width) n = ⊥
+IsFormat forms.Structs n = ⊥
 
 -- the ranges hold an index for each slot, which has its value where it is valid, in a dictionary of the type
 pub record AreEntries (len : ℕ) (t : TypeShape) (e : Encoding) (body : List ℕ) (n : Ints) (d : ValueList) : Type 0 where
-  pub format : IsFormat (index_width e.index) e.index.signed n
+  pub format : IsFormat (node_form t.tag (Some e)) n
   pub ints : AreInts len body n
   pub indices : AreIndices len n.width n.signed (bytes_of body n.validity) (bytes_of body n.values) (length d.values)
   pub typed : d.data_type ≡ t
@@ -138,13 +162,14 @@ AreEntriesBy (Some e) len t body n d = AreEntries len t e body n d
 
 -- the ranges are those of a node of this type and encoding
 abbrev pub AreRanges : ℕ → TypeShape → Option Encoding → List ℕ → Ranges → Type 0
-AreRanges len t e body ranges.Nulls = (e ≡ None) × (t.tag ≡ null)
-AreRanges len t e body (ranges.Bools b) = (e ≡ None) × (t.tag ≡ boolean) × AreBools len body b
-AreRanges len t e body (ranges.Ints n) = (e ≡ None) × IsFormat (width_of t.tag) (is_signed t.tag) n × AreInts len body n
-AreRanges len t e body (ranges.Binaries s) = (e ≡ None) × (t.tag ≡ binary) × AreStrings len body s
-AreRanges len t e body (ranges.Texts s) = (e ≡ None) × (t.tag ≡ utf8) × AreStrings len body s × AreTexts len (bytes_of body s.validity) (bytes_of body s.offsets) (bytes_of body s.bytes)
-AreRanges len t e body (ranges.Lists v o child) = (e ≡ None) × (t.tag ≡ list) × AreLists len t body v o child.value
-AreRanges len t e body (ranges.Structs v children) = (e ≡ None) × (t.tag ≡ struct) × AreStructs len t body v children.items
+AreRanges len t e body ranges.Nulls = (e ≡ None) × (form_of t.tag ≡ forms.Nulls)
+AreRanges len t e body (ranges.Bools b) = (e ≡ None) × (form_of t.tag ≡ forms.Bits) × AreBools len body b
+AreRanges len t e body (ranges.Ints n) = (e ≡ None) × IsFormat (form_of t.tag) n × AreInts len body n
+AreRanges len t e body (ranges.Binaries s) = (e ≡ None) × (form_of t.tag ≡ forms.Bytes s.width) × AreStrings len body s
+AreRanges len t e body (ranges.Texts s) = (e ≡ None) × (form_of t.tag ≡ forms.Texts s.width) × AreStrings len body s × AreTexts s.width len (bytes_of body s.validity) (bytes_of body s.offsets) (bytes_of body s.bytes)
+AreRanges len t e body (ranges.FixedBytes f) = (e ≡ None) × (form_of t.tag ≡ forms.FixedBytes f.width) × AreFixed len body f
+AreRanges len t e body (ranges.Lists w v o child) = (e ≡ None) × (form_of t.tag ≡ forms.Lists w) × AreLists w len t body v o child.value
+AreRanges len t e body (ranges.Structs v children) = (e ≡ None) × (form_of t.tag ≡ forms.Structs) × AreStructs len t body v children.items
 AreRanges len t e body (ranges.Indices n d) = AreEntriesBy e len t body n d.value
 
 -- the column of a node with these ranges

@@ -1,30 +1,30 @@
 -- The column of a node, by its buffers, its children and its dictionary (Columnar Format, "Physical Memory Layout").
 use Rattle.std.specs.Prelude.{◌≡◌, ℕ, List, [], ◌∷◌, map, ⊤, get_or, false, Option, None, Some}
-use Rattle.arrow_types.specs.DataType.{Tag, null, boolean, int, binary, utf8, date, time, timestamp, list, struct}
 use Rattle.arrow_types.specs.Field.{FieldShape, TypeShape}
 use Rattle.arrow_types.specs.Schema.{has_encoding}
 use Rattle.arrow_types.specs.declared.field.Encoding.{Encoding}
 use Rattle.arrow_array.specs.PlainValue.{PlainValue, null_value}
 use Rattle.arrow_array.specs.Column.{Column, ValueList, AreOf, listed_of}
+use Rattle.arrow_array.specs.Form.{form_of, number_width}
 use Rattle.arrow_array.specs.Layout.{buffer}
-use Rattle.arrow_array.specs.Slots.{slots, bool_slot, int_slot, binary_slot, utf8_slot, list_slot, struct_slot, entry_slot, width_of, is_signed, index_width}
+use Rattle.arrow_array.specs.Slots.{slots, bool_slot, int_slot, fixed_slot, binary_slot, utf8_slot, list_slot, struct_slot, entry_slot, index_width}
+use Rattle.arrow_array.specs.declared.form.Form.{Form}
+use Rattle.arrow_array.specs.declared.form.Form.TheVariants as forms
 
 -- the type of a field's values
 abbrev pub type_of : FieldShape → TypeShape
 type_of f = record { tag = f.head.tag; children = f.children }
 
--- the value of a slot of a node without an encoding, by the values of its children
-abbrev pub value_slot : Tag → List (List ℕ) → List (List PlainValue) → ℕ → PlainValue
-value_slot null b children j = null_value
-value_slot boolean b children j = bool_slot (buffer b 0) (buffer b 1) j
-value_slot binary b children j = binary_slot (buffer b 0) (buffer b 1) (buffer b 2) j
-value_slot utf8 b children j = utf8_slot (buffer b 0) (buffer b 1) (buffer b 2) j
-value_slot list b children j = list_slot (buffer b 0) (buffer b 1) (get_or children 0 []) j
-value_slot struct b children j = struct_slot (buffer b 0) children j
-value_slot (int bits signed) b children j = int_slot (width_of (int bits signed)) (is_signed (int bits signed)) (buffer b 0) (buffer b 1) j
-value_slot (date unit) b children j = int_slot (width_of (date unit)) (is_signed (date unit)) (buffer b 0) (buffer b 1) j
-value_slot (time unit) b children j = int_slot (width_of (time unit)) (is_signed (time unit)) (buffer b 0) (buffer b 1) j
-value_slot (timestamp unit text) b children j = int_slot (width_of (timestamp unit text)) (is_signed (timestamp unit text)) (buffer b 0) (buffer b 1) j
+-- the value of a slot of a node of the form, by the values of its children
+abbrev pub value_slot : Form → List (List ℕ) → List (List PlainValue) → ℕ → PlainValue
+value_slot forms.Nulls b children j = null_value
+value_slot forms.Bits b children j = bool_slot (buffer b 0) (buffer b 1) j
+value_slot (forms.Numbers bits signed) b children j = int_slot (number_width bits) signed (buffer b 0) (buffer b 1) j
+value_slot (forms.Bytes width) b children j = binary_slot width (buffer b 0) (buffer b 1) (buffer b 2) j
+value_slot (forms.Texts width) b children j = utf8_slot width (buffer b 0) (buffer b 1) (buffer b 2) j
+value_slot (forms.FixedBytes width) b children j = fixed_slot width (buffer b 0) (buffer b 1) j
+value_slot (forms.Lists width) b children j = list_slot width (buffer b 0) (buffer b 1) (get_or children 0 []) j
+value_slot forms.Structs b children j = struct_slot (buffer b 0) children j
 
 -- the index in a slot
 abbrev pub index_slot : Encoding → List (List ℕ) → ℕ → PlainValue
@@ -40,8 +40,8 @@ abbrev pub node_column : TypeShape → Option Encoding → ℕ → List (List �
 node_column t None len b children values = record {
   data_type = t;
   encoding = None;
-  raw = slots len (value_slot t.tag b (map (λ (c : Column). c.raw) children));
-  resolved = slots len (value_slot t.tag b (map (λ (c : Column). c.resolved) children));
+  raw = slots len (value_slot (form_of t.tag) b (map (λ (c : Column). c.raw) children));
+  resolved = slots len (value_slot (form_of t.tag) b (map (λ (c : Column). c.resolved) children));
   dictionaries = listed_of children;
 }
 node_column t (Some e) len b children values = record {

@@ -2,7 +2,7 @@
 use Rattle.std.specs.Prelude.{ℕ, zero, suc, ℤ, Bool, true, false, List, [], ◌∷◌, Option, Some, None, slice_index_or}
 
 mutual
-  -- A value of any type. Dates, times and timestamps are their numbers, a text is its bytes.
+  -- A value of any type. Dates, times, timestamps and durations are their numbers, a text is its bytes.
   pub data PlainValue : Type 0 where
     null_value : PlainValue
     bool_value : Bool → PlainValue

@@ -1,13 +1,14 @@
 -- What the buffers of a node hold at each slot, by index (Columnar Format, "Physical Memory Layout"). A buffer is given by
 -- its bytes.
-use Rattle.std.specs.Prelude.{◌≡◌, ◌≤◌, ◌<◌, ◌+◌, ◌*◌, ◌/◌, ◌||◌, ℕ, ℤ, pos, negsuc, Bool, true, nat_eq, List, length, map, slice_range, if◌then◌else◌, IsUtf8}
+use Rattle.std.specs.Prelude.{◌≡◌, ◌≤◌, ◌<◌, ◌+◌, ◌*◌, ◌||◌, ℕ, ℤ, pos, negsuc, Bool, true, nat_eq, List, length, map, slice_range, if◌then◌else◌, IsUtf8}
 use Rattle.std.specs.List.{range_with_len}
 use Rattle.arrow_bits.specs.Bitmap.{bit_of}
 use Rattle.arrow_bits.specs.Numbers.{number_at, int_of}
-use Rattle.arrow_bits.specs.Offsets.{AreOffsets}
-use Rattle.arrow_types.specs.DataType.{Tag, null, boolean, int, binary, utf8, date, time, timestamp, list, struct, bits_of, date_width_of, time_width_of}
+use Rattle.arrow_bits.specs.Offsets.{AreOffsetsOf}
 use Rattle.arrow_types.specs.declared.field.IndexType.{IndexType}
+use Rattle.arrow_array.specs.Form.{number_width, offset_bytes}
 use Rattle.arrow_array.specs.PlainValue.{PlainValue, null_value, bool_value, int_value, binary_value, utf8_value, list_value, struct_value, values_of, value_at}
+use Rattle.arrow_array.specs.declared.form.OffsetWidth.{OffsetWidth}
 
 -- slot j is valid: its bit is set, or there is no bitmap (Columnar Format, "Validity bitmaps")
 abbrev pub is_valid_at : List ℕ → ℕ → Bool
@@ -25,25 +26,30 @@ bool_slot validity values j = or_null validity j (bool_value (bit_of values j))
 abbrev pub int_slot : ℕ → Bool → List ℕ → List ℕ → ℕ → PlainValue
 int_slot width signed validity values j = or_null validity j (int_value (int_of values (width * j) width signed))
 
+-- the bytes of slot j, where each slot has `width` bytes (Columnar Format, "Fixed-size Primitive Layout"; Schema.fbs,
+-- "FixedSizeBinary")
+abbrev pub fixed_slot : ℕ → List ℕ → List ℕ → ℕ → PlainValue
+fixed_slot width validity values j = or_null validity j (binary_value (slice_range values (width * j) (width * j + width)))
+
 -- offset j, which is never negative where offsets are as they should (Columnar Format, "Variable-size Binary Layout")
-abbrev pub place_of : List ℕ → ℕ → ℕ
-place_of offsets j = number_at offsets (4 * j) 4
+abbrev pub place_of : OffsetWidth → List ℕ → ℕ → ℕ
+place_of width offsets j = number_at offsets (offset_bytes width * j) (offset_bytes width)
 
 -- what stands from offset j up to the next one
-abbrev pub range_of : {A : Type 0} → List ℕ → List A → ℕ → List A
-range_of offsets xs j = slice_range xs (place_of offsets j) (place_of offsets (j + 1))
+abbrev pub range_of : {A : Type 0} → OffsetWidth → List ℕ → List A → ℕ → List A
+range_of width offsets xs j = slice_range xs (place_of width offsets j) (place_of width offsets (j + 1))
 
 -- the byte string of slot j (Columnar Format, "Variable-size Binary Layout")
-abbrev pub binary_slot : List ℕ → List ℕ → List ℕ → ℕ → PlainValue
-binary_slot validity offsets bytes j = or_null validity j (binary_value (range_of offsets bytes j))
+abbrev pub binary_slot : OffsetWidth → List ℕ → List ℕ → List ℕ → ℕ → PlainValue
+binary_slot width validity offsets bytes j = or_null validity j (binary_value (range_of width offsets bytes j))
 
 -- the text of slot j, laid as a byte string is
-abbrev pub utf8_slot : List ℕ → List ℕ → List ℕ → ℕ → PlainValue
-utf8_slot validity offsets bytes j = or_null validity j (utf8_value (range_of offsets bytes j))
+abbrev pub utf8_slot : OffsetWidth → List ℕ → List ℕ → List ℕ → ℕ → PlainValue
+utf8_slot width validity offsets bytes j = or_null validity j (utf8_value (range_of width offsets bytes j))
 
 -- the items out of the values of the child (Columnar Format, "Variable-size List Layout")
-abbrev pub list_slot : List ℕ → List ℕ → List PlainValue → ℕ → PlainValue
-list_slot validity offsets child j = or_null validity j (list_value (values_of (range_of offsets child j)))
+abbrev pub list_slot : OffsetWidth → List ℕ → List ℕ → List PlainValue → ℕ → PlainValue
+list_slot width validity offsets child j = or_null validity j (list_value (values_of (range_of width offsets child j)))
 
 -- slot j of the values of each child (Columnar Format, "Struct Layout")
 abbrev pub struct_slot : List ℕ → List (List PlainValue) → ℕ → PlainValue
@@ -67,12 +73,12 @@ abbrev pub HasBits : ℕ → List ℕ → Type 0
 HasBits len bits = 0 < length bits → len ≤ 8 * length bits
 
 -- `len` ranges that end at `top` or before; for no slots the offsets may be left out
-abbrev pub HasOffsets : ℕ → ℕ → List ℕ → Type 0
-HasOffsets len top offsets = 0 < len + length offsets → AreOffsets offsets len top
+abbrev pub HasOffsets : OffsetWidth → ℕ → ℕ → List ℕ → Type 0
+HasOffsets width len top offsets = 0 < len + length offsets → AreOffsetsOf (offset_bytes width) offsets len top
 
 -- each valid slot is a text in UTF-8
-abbrev pub AreTexts : ℕ → List ℕ → List ℕ → List ℕ → Type 0
-AreTexts len validity offsets bytes = (j : ℕ) → j < len → is_valid_at validity j ≡ true → IsUtf8 (range_of offsets bytes j)
+abbrev pub AreTexts : OffsetWidth → ℕ → List ℕ → List ℕ → List ℕ → Type 0
+AreTexts width len validity offsets bytes = (j : ℕ) → j < len → is_valid_at validity j ≡ true → IsUtf8 (range_of width offsets bytes j)
 
 -- the index refers to one of `count` values
 abbrev pub IsIndex : ℕ → ℤ → Type 0
@@ -84,33 +90,6 @@ abbrev pub AreIndices : ℕ → ℕ → Bool → List ℕ → List ℕ → ℕ �
 AreIndices len width signed validity indices count =
     (j : ℕ) → j < len → is_valid_at validity j ≡ true → IsIndex count (int_of indices (width * j) width signed)
 
--- how many bytes one number of the type takes, 0 of a type that has no numbers (Schema.fbs, "Int", "Date", "Time",
--- "Timestamp")
-abbrev pub width_of : Tag → ℕ
-width_of (int bits signed) = bits_of bits / 8
-width_of (date unit) = bits_of (date_width_of unit) / 8
-width_of (time unit) = bits_of (time_width_of unit) / 8
-width_of (timestamp unit text) = 8
-width_of null = 0
-width_of boolean = 0
-width_of binary = 0
-width_of utf8 = 0
-width_of list = 0
-width_of struct = 0
-
--- whether the type's numbers have a sign: all but those of an unsigned Int
-abbrev pub is_signed : Tag → Bool
-is_signed (int bits signed) = signed
-is_signed null = true
-is_signed boolean = true
-is_signed binary = true
-is_signed utf8 = true
-is_signed (date unit) = true
-is_signed (time unit) = true
-is_signed (timestamp unit text) = true
-is_signed list = true
-is_signed struct = true
-
 -- how many bytes one index takes (Schema.fbs, "DictionaryEncoding")
 abbrev pub index_width : IndexType → ℕ
-index_width index = bits_of index.bits / 8
+index_width index = number_width index.bits

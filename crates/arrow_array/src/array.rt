@@ -4,14 +4,15 @@ ghost use Rattle.std.specs.Prelude.{◌≡◌, ◌<◌, length, option_map, Matc
 ghost use Rattle.arrow_types.specs.View.{type_view};
 ghost use Rattle.arrow_array.specs.Column.{HasItems, HasChild, HasField, HasEntry, HasNoIndex};
 ghost use Rattle.arrow_array.specs.Column.{HasDictionary, IsColumn, IsList, struct_fields};
-ghost use Rattle.arrow_array.specs.Column.{type_of_field};
+ghost use Rattle.arrow_array.specs.Column.{HasFields, IsStruct, type_of_field};
 ghost use Rattle.arrow_array.specs.PlainValue.{value_at, is_null_value, bool_in, int_in, binary_in};
 ghost use Rattle.arrow_array.specs.PlainValue.{utf8_in, items_in};
 ghost use Rattle.arrow_array.specs.Shown.{HoldsValue, Shows, value_shown};
 
-use crate::buffers::{Bools, Ints, Strings};
+use crate::buffers::{Bools, Fixed, Ints, Strings};
 use crate::byte_range::{ByteRange, bytes_in};
 use crate::dictionary::Dictionary;
+use crate::form::OffsetWidth;
 use crate::slot::{is_valid, range_at};
 use arrow_types::{DataType, Encoding};
 use bytes::Bytes;
@@ -26,7 +27,9 @@ pub(crate) enum Ranges {
     Ints(Ints),
     Binaries(Strings),
     Texts(Strings),
+    FixedBytes(Fixed),
     Lists {
+        width: OffsetWidth,
         validity: ByteRange,
         offsets: ByteRange,
         child: Box<Array>,
@@ -94,7 +97,7 @@ pub enum SlotValue<'a> {
     Null,
     /// A truth value.
     Bool(bool),
-    /// A number; of a date, a time or a timestamp the number of its units.
+    /// A number; of a date, a time, a timestamp or a duration the number of its units.
     Int(i128),
     /// A byte string.
     Bytes(&'a [u8]),
@@ -173,13 +176,18 @@ impl Array {
                 Some(text) => Seen::Text(text),
                 None => Seen::Nothing,
             },
+            Ranges::FixedBytes(fixed) => match fixed.at(body, self.len, i) {
+                Some(bytes) => Seen::Binary(bytes),
+                None => Seen::Nothing,
+            },
             Ranges::Lists {
+                width,
                 validity,
                 offsets,
                 child,
             } => {
                 let (marks, places) = (bytes_in(body, *validity), bytes_in(body, *offsets));
-                match range_at(marks, places, self.len, child.len(), i) {
+                match range_at(*width, marks, places, self.len, child.len(), i) {
                     Some((start, end)) => Seen::Items(start, end, child),
                     None => Seen::Nothing,
                 }
@@ -217,9 +225,9 @@ impl Array {
         }
     }
 
-    /// The number in slot `i` of a column of type Int, Date, Time or Timestamp, or the index in
-    /// slot `i` of a dictionary-encoded column of any type. None where the slot is null or holds
-    /// something else.
+    /// The number in slot `i` of a column of type Int, Date, Time, Timestamp or Duration, or the
+    /// index in slot `i` of a dictionary-encoded column of any type. None where the slot is null or
+    /// holds something else.
     #[inline(always)]
     pub fn int_at(&self, i: usize) -> Option<i128>
         requires { i < length self.now.raw }
@@ -236,7 +244,7 @@ impl Array {
         }
     }
 
-    /// The byte string in slot `i`. None where the slot is null or holds something else.
+    /// The byte string in slot `i`, also one of a fixed size. None where the slot is null or holds something else.
     #[inline(always)]
     pub fn bytes_at(&self, i: usize) -> Option<&[u8]>
         requires { i < length self.now.raw }
@@ -300,6 +308,7 @@ impl Array {
             | Ranges::Ints(_)
             | Ranges::Binaries(_)
             | Ranges::Texts(_)
+            | Ranges::FixedBytes(_)
             | Ranges::Structs { .. }
             | Ranges::Indices(..) => None,
         }
@@ -318,6 +327,25 @@ impl Array {
             | Ranges::Ints(_)
             | Ranges::Binaries(_)
             | Ranges::Texts(_)
+            | Ranges::FixedBytes(_)
+            | Ranges::Lists { .. }
+            | Ranges::Indices(..) => None,
+        }
+    }
+
+    /// The arrays of the fields of a struct, side by side. None where slots do not hold structs.
+    pub fn fields(&self) -> Option<&[Array]>
+        ensures { MatchOption result (IsStruct self.now → ⊥)
+            (λ children. HasFields self.now children.now) }
+    {
+        match &self.ranges {
+            Ranges::Structs { children, .. } => Some(children),
+            Ranges::Nulls
+            | Ranges::Bools(_)
+            | Ranges::Ints(_)
+            | Ranges::Binaries(_)
+            | Ranges::Texts(_)
+            | Ranges::FixedBytes(_)
             | Ranges::Lists { .. }
             | Ranges::Indices(..) => None,
         }
@@ -336,6 +364,7 @@ impl Array {
             | Ranges::Ints(_)
             | Ranges::Binaries(_)
             | Ranges::Texts(_)
+            | Ranges::FixedBytes(_)
             | Ranges::Lists { .. }
             | Ranges::Structs { .. } => None,
         }
@@ -358,6 +387,7 @@ impl Array {
             | Ranges::Ints(_)
             | Ranges::Binaries(_)
             | Ranges::Texts(_)
+            | Ranges::FixedBytes(_)
             | Ranges::Lists { .. }
             | Ranges::Structs { .. } => None,
         }

@@ -166,7 +166,7 @@ pub(crate) fn is_of(field: &Field, column: &Array) -> bool
     ensures { IsTrue result ↔ (column.now.data_type ≡ type_view field.now.data_type)
         × (column.now.encoding ≡ field.now.dictionary) }
 {
-    if field.data_type == *column.data_type() {
+    if field.data_type.same(column.data_type()) {
         match (&field.dictionary, column.encoding()) {
             (Some(encoding), Some(other)) => *encoding == *other,
             (None, None) => true,

@@ -2,12 +2,13 @@
 
 ghost use Rattle.std.specs.Prelude.{◌≡◌, ◌<◌, MatchOption};
 ghost use Rattle.arrow_array.specs.Node.{AreBools, AreInts, AreStrings, bool_at, int_at, binary_at};
-ghost use Rattle.arrow_array.specs.Node.{utf8_at, bytes_of};
+ghost use Rattle.arrow_array.specs.Node.{AreFixed, fixed_at, utf8_at, bytes_of};
 ghost use Rattle.arrow_array.specs.PlainValue.{null_value, bool_value, int_value, binary_value};
 ghost use Rattle.arrow_array.specs.PlainValue.{utf8_value};
 ghost use Rattle.arrow_array.specs.Slots.{AreTexts};
 
 use crate::byte_range::{ByteRange, bytes_in};
+use crate::form::OffsetWidth;
 use crate::slot;
 
 // Truth values: bit j is that of slot j.
@@ -61,9 +62,37 @@ impl Ints {
     }
 }
 
-// Byte strings or texts: slot j is `bytes` from offset j up to offset j + 1.
+// Byte strings of `width` bytes each.
+#[derive(Clone, Copy)]
+pub(crate) struct Fixed {
+    pub(crate) width: usize,
+    pub(crate) validity: ByteRange,
+    pub(crate) values: ByteRange,
+}
+
+#[tactic(auto, using(crate::proofs::Shown::shown))]
+impl Fixed {
+    // The byte string of slot `i` of `len`, where it is valid.
+    pub(crate) fn at(self, body: &[u8], len: usize, i: usize) -> Option<&[u8]>
+        requires slot { i < len }
+        requires lies { AreFixed len body.now self }
+        ensures { MatchOption result (fixed_at body.now self i ≡ null_value)
+            (λ b. fixed_at body.now self i ≡ binary_value b.now) }
+    {
+        slot::fixed_at(
+            bytes_in(body, self.validity),
+            bytes_in(body, self.values),
+            self.width,
+            i,
+        )
+    }
+}
+
+// Byte strings or texts behind offsets of a width: slot j is `bytes` from offset j up to offset
+// j + 1.
 #[derive(Clone, Copy)]
 pub(crate) struct Strings {
+    pub(crate) width: OffsetWidth,
     pub(crate) validity: ByteRange,
     pub(crate) offsets: ByteRange,
     pub(crate) bytes: ByteRange,
@@ -78,6 +107,7 @@ impl Strings {
             (λ b. binary_at body.now self i ≡ binary_value b.now) }
     {
         slot::binary_at(
+            self.width,
             bytes_in(body, self.validity),
             bytes_in(body, self.offsets),
             bytes_in(body, self.bytes),
@@ -90,12 +120,13 @@ impl Strings {
     pub(crate) fn text_at(self, body: &[u8], len: usize, i: usize) -> Option<&str>
         requires slot { i < len }
         requires lies { AreStrings len body.now self }
-        requires texts { AreTexts len (bytes_of body.now self.validity)
+        requires texts { AreTexts self.width len (bytes_of body.now self.validity)
             (bytes_of body.now self.offsets) (bytes_of body.now self.bytes) }
         ensures { MatchOption result (utf8_at body.now self i ≡ null_value)
             (λ t. utf8_at body.now self i ≡ utf8_value t.now) }
     {
         slot::text_at(
+            self.width,
             bytes_in(body, self.validity),
             bytes_in(body, self.offsets),
             bytes_in(body, self.bytes),

@@ -8,18 +8,20 @@
 ghost use Rattle.std.specs.Prelude.{◌≡◌, ◌↔◌, ◌≤◌, ◌<◌, ◌*◌, ℕ, pos, [], length, map};
 ghost use Rattle.std.specs.Prelude.{if◌then◌else◌, IsTrue};
 ghost use Rattle.arrow_bits.specs.Numbers.{IsWidth, twos_complement};
+ghost use Rattle.arrow_bits.specs.Offsets.{AreOffsetsOf};
 ghost use Rattle.std.specs.List.{AllByRecursion};
 ghost use Rattle.arrow_types.specs.View.{type_view};
-ghost use Rattle.arrow_array.specs.Layout.{HasBools, HasInts, HasLists, HasStrings, IsLaid, buffer};
+ghost use Rattle.arrow_array.specs.Layout.{HasBools, HasFixed, HasLists, HasStrings, IsLaid, buffer};
+ghost use Rattle.arrow_array.specs.Form.{offset_bytes};
 ghost use Rattle.arrow_array.specs.Layout.{buffer_count};
 ghost use Rattle.arrow_array.specs.Node.{bytes_of, IsInside};
 ghost use Rattle.arrow_array.specs.Slots.{HasBits, HasOffsets, AreIndices, AreTexts, IsIndex};
 
 use crate::byte_range::{ByteRange, bytes_in};
+use crate::form::{Form, OffsetWidth, node_form, number_width};
 use crate::slot::number_at;
 use crate::texts::are_slots_utf8;
-use crate::width::{index_width, width};
-use arrow_bits::{Offsets, are_at_most};
+use arrow_bits::{LargeOffsets, Offsets, are_at_most};
 use arrow_types::{DataType, Encoding};
 
 /// Whether there is no bitmap, or it has a bit for each of `len` slots.
@@ -36,54 +38,77 @@ pub fn has_bools(len: usize, validity: &[u8], values: &[u8]) -> bool
     has_bits(len, validity) && len.div_ceil(8) <= values.len()
 }
 
-/// Whether there is a number of `width` bytes for each of `len` slots.
-///
-/// A width is one that numbers and indices have: 1, 2, 4 or 8. It is a condition so that no product
-/// is taken, which could wrap: the length of the values is divided, by a constant for each width.
-pub fn has_ints(len: usize, width: usize, validity: &[u8], values: &[u8]) -> bool
-    requires { IsWidth width }
-    ensures { IsTrue result ↔ HasInts len width validity.now values.now }
+/// Whether there are `width` bytes for each of `len` slots.
+pub fn has_fixed(len: usize, width: usize, validity: &[u8], values: &[u8]) -> bool
+    ensures { IsTrue result ↔ HasFixed len width validity.now values.now }
 {
     has_bits(len, validity)
-        && match width {
-            1 => len <= values.len(),
-            2 => len <= values.len() / 2,
-            4 => len <= values.len() / 4,
-            _ => len <= values.len() / 8,
+        && match width.checked_mul(len) {
+            Some(bytes) => bytes <= values.len(),
+            None => false,
         }
 }
 
-/// Whether there is a range of the bytes for each of `len` slots.
-pub fn has_strings(len: usize, validity: &[u8], offsets: &[u8], bytes: &[u8]) -> bool
-    ensures { IsTrue result ↔ HasStrings len validity.now offsets.now bytes.now }
+/// Whether there is a range of the bytes, behind offsets of this width, for each of `len` slots.
+pub fn has_strings(
+    width: OffsetWidth,
+    len: usize,
+    validity: &[u8],
+    offsets: &[u8],
+    bytes: &[u8],
+) -> bool
+    ensures { IsTrue result ↔ HasStrings width len validity.now offsets.now bytes.now }
 {
-    has_bits(len, validity) && has_offsets(len, offsets, bytes.len())
+    has_bits(len, validity) && has_offsets(width, len, offsets, bytes.len())
 }
 
-/// Whether there is a range of a child's `count` slots for each of `len` slots.
-pub fn has_lists(len: usize, validity: &[u8], offsets: &[u8], count: usize) -> bool
-    ensures { IsTrue result ↔ HasLists len validity.now offsets.now count }
+/// Whether there is a range of a child's `count` slots, behind offsets of this width, for each of
+/// `len` slots.
+pub fn has_lists(
+    width: OffsetWidth,
+    len: usize,
+    validity: &[u8],
+    offsets: &[u8],
+    count: usize,
+) -> bool
+    ensures { IsTrue result ↔ HasLists width len validity.now offsets.now count }
 {
-    has_bits(len, validity) && has_offsets(len, offsets, count)
+    has_bits(len, validity) && has_offsets(width, len, offsets, count)
 }
 
-/// Whether there are offsets of `len` ranges, which end at `top` or before.
-pub fn has_offsets(len: usize, offsets: &[u8], top: usize) -> bool
-    ensures { IsTrue result ↔ HasOffsets len top offsets.now }
+/// Whether there are offsets of this width of `len` ranges, which end at `top` or before.
+pub fn has_offsets(width: OffsetWidth, len: usize, offsets: &[u8], top: usize) -> bool
+    ensures { IsTrue result ↔ HasOffsets width len top offsets.now }
 {
-    (len == 0 && offsets.is_empty()) || Offsets::check(offsets, len, top as u64)
+    (len == 0 && offsets.is_empty()) || are_offsets(width, len, offsets, top)
+}
+
+// The same where the offsets are not left out.
+fn are_offsets(width: OffsetWidth, len: usize, offsets: &[u8], top: usize) -> bool
+    ensures { IsTrue result ↔ AreOffsetsOf (offset_bytes width) offsets.now len top }
+{
+    match width {
+        OffsetWidth::Small => Offsets::check(offsets, len, top as u64),
+        OffsetWidth::Large => LargeOffsets::check(offsets, len, top as u64),
+    }
 }
 
 /// Whether each valid slot of `len` is UTF-8, where the buffers hold as many slots (`has_strings`).
-pub fn are_texts(len: usize, validity: &[u8], offsets: &[u8], bytes: &[u8]) -> bool
-    requires { HasStrings len validity.now offsets.now bytes.now }
-    ensures { IsTrue result ↔ AreTexts len validity.now offsets.now bytes.now }
+pub fn are_texts(
+    width: OffsetWidth,
+    len: usize,
+    validity: &[u8],
+    offsets: &[u8],
+    bytes: &[u8],
+) -> bool
+    requires { HasStrings width len validity.now offsets.now bytes.now }
+    ensures { IsTrue result ↔ AreTexts width len validity.now offsets.now bytes.now }
 {
-    are_slots_utf8(len, validity, offsets, bytes)
+    are_slots_utf8(width, len, validity, offsets, bytes)
 }
 
 /// Whether each valid slot of `len` has an index to one of `count` values, where the buffers hold
-/// as many slots (`has_ints`).
+/// as many slots (`has_fixed`).
 pub fn are_indices(
     len: usize,
     width: usize,
@@ -93,7 +118,7 @@ pub fn are_indices(
     count: usize,
 ) -> bool
     requires width { IsWidth width }
-    requires laid { HasInts len width validity.now indices.now }
+    requires laid { HasFixed len width validity.now indices.now }
     ensures { IsTrue result ↔ AreIndices len width signed validity.now indices.now count }
 {
     if width == 4 && validity.is_empty() {
@@ -113,7 +138,7 @@ fn are_indices_one_by_one(
     count: usize,
 ) -> bool
     requires width { IsWidth width }
-    requires laid { HasInts len width validity.now indices.now }
+    requires laid { HasFixed len width validity.now indices.now }
     ensures { IsTrue result ↔ AreIndices len width signed validity.now indices.now count }
 {
     for j in 0..len {
@@ -159,19 +184,11 @@ fn last_index(signed: bool, count: usize) -> u32
 pub fn buffer_count(data_type: &DataType, encoding: Option<Encoding>) -> usize
     ensures { result ≡ buffer_count (type_view data_type.now).tag encoding }
 {
-    if encoding.is_some() {
-        return 2;
-    }
-    match data_type {
-        DataType::Null => 0,
-        DataType::Struct(_) => 1,
-        DataType::Binary | DataType::Utf8 => 3,
-        DataType::Bool
-        | DataType::List(_)
-        | DataType::Int { .. }
-        | DataType::Date(_)
-        | DataType::Time(_)
-        | DataType::Timestamp(..) => 2,
+    match node_form(data_type, encoding) {
+        Form::Nulls => 0,
+        Form::Structs => 1,
+        Form::Bits | Form::Numbers { .. } | Form::FixedBytes(_) | Form::Lists(_) => 2,
+        Form::Bytes(_) | Form::Texts(_) => 3,
     }
 }
 
@@ -190,48 +207,37 @@ pub fn is_laid(
     ensures { IsTrue result ↔ IsLaid (type_view data_type.now).tag encoding
         len (map (bytes_of body.now) buffers.now) counts.now }
 {
-    if let Some(encoding) = encoding {
-        return are_ints(len, index_width(encoding.index), body, buffers);
-    }
-    match data_type {
-        DataType::Null => true,
-        DataType::Bool => has_bools(len, buffer(body, buffers, 0), buffer(body, buffers, 1)),
-        DataType::Binary | DataType::Utf8 => has_strings(
+    match node_form(data_type, encoding) {
+        Form::Nulls => true,
+        Form::Bits => has_bools(len, buffer(body, buffers, 0), buffer(body, buffers, 1)),
+        Form::Numbers { bits, .. } => has_fixed(
+            len,
+            number_width(bits),
+            buffer(body, buffers, 0),
+            buffer(body, buffers, 1),
+        ),
+        Form::FixedBytes(width) => has_fixed(
+            len,
+            width as usize,
+            buffer(body, buffers, 0),
+            buffer(body, buffers, 1),
+        ),
+        Form::Bytes(width) | Form::Texts(width) => has_strings(
+            width,
             len,
             buffer(body, buffers, 0),
             buffer(body, buffers, 1),
             buffer(body, buffers, 2),
         ),
-        DataType::List(_) => has_lists(
+        Form::Lists(width) => has_lists(
+            width,
             len,
             buffer(body, buffers, 0),
             buffer(body, buffers, 1),
             counts.first().copied().unwrap_or(0),
         ),
-        DataType::Struct(_) => {
-            has_bits(len, buffer(body, buffers, 0)) && are_longer(len, counts)
-        }
-        DataType::Int { .. } | DataType::Date(_) | DataType::Time(_) | DataType::Timestamp(..) => {
-            are_ints(len, width(data_type), body, buffers)
-        }
+        Form::Structs => has_bits(len, buffer(body, buffers, 0)) && are_longer(len, counts),
     }
-}
-
-// Whether the first two of these buffers hold a number of `width` bytes for each of `len` slots.
-fn are_ints(len: usize, width: usize, body: &[u8], buffers: &[ByteRange]) -> bool
-    requires width { IsWidth width }
-    requires count { 2 ≤ length buffers.now }
-    requires inside { AllByRecursion (IsInside body.now) buffers.now }
-    ensures { IsTrue result ↔ HasInts len width
-        (buffer (map (bytes_of body.now) buffers.now) 0)
-        (buffer (map (bytes_of body.now) buffers.now) 1) }
-{
-    has_ints(
-        len,
-        width,
-        buffer(body, buffers, 0),
-        buffer(body, buffers, 1),
-    )
 }
 
 // Whether no count is below `len`.

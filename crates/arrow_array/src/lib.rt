@@ -16,13 +16,13 @@ mod batch;
 mod buffers;
 mod byte_range;
 mod dictionary;
+pub mod form;
 pub mod layout;
 mod parts;
 mod same;
 mod slot;
 mod texts;
 mod value;
-mod width;
 
 pub use array::{Array, SlotValue};
 pub use batch::{Batch, BatchFault};

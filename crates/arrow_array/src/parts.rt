@@ -8,15 +8,15 @@ ghost use Rattle.arrow_types.specs.View.{type_view};
 ghost use Rattle.arrow_array.specs.Column.{AreOf, IsColumn, IsValueList, counts_of};
 ghost use Rattle.arrow_array.specs.Layout.{buffer_count, IsLaid, IsText, IsIndexed};
 ghost use Rattle.arrow_array.specs.Node.{bytes_of, column_by, AreRanges, IsFormat, IsInside};
-ghost use Rattle.arrow_array.specs.Slots.{index_width, is_signed, width_of};
+ghost use Rattle.arrow_array.specs.declared.form.Form.TheVariants as forms;
 ghost use Rattle.arrow_array.specs.Parts.{node_column, values_in, AreChildren, IsOfType};
 
 use crate::array::{Array, Ranges};
-use crate::buffers::{Bools, Ints, Strings};
+use crate::buffers::{Bools, Fixed, Ints, Strings};
 use crate::byte_range::ByteRange;
 use crate::dictionary::Dictionary;
-use crate::width::{index_width, signed, width};
-use arrow_types::{DataType, Encoding, Field};
+use crate::form::{Form, OffsetWidth, form_of, number_width};
+use arrow_types::{BitWidth, DataType, Encoding, Field};
 use bytes::Bytes;
 use std::alloc::{AllocError, Global};
 
@@ -59,7 +59,9 @@ impl Array {
         match field.dictionary {
             Some(encoding) => {
                 let dictionary = Box::new(alloc, or_empty(alloc, data_type, dictionary)?)?;
-                let ranges = Ranges::Indices(indices(encoding, buffers), dictionary);
+                let index = encoding.index;
+                let indices = numbers(index.bits, index.signed, buffers);
+                let ranges = Ranges::Indices(indices, dictionary);
                 of_ranges(alloc, data_type, Some(encoding), len, body, ranges)
             }
             None => {
@@ -114,32 +116,30 @@ fn or_empty(
     Ok(dictionary)
 }
 
-// The buffers of indices.
-fn indices(encoding: Encoding, buffers: &[ByteRange]) -> Ints
+// The buffers of numbers of this width and sign.
+fn numbers(bits: BitWidth, signed: bool, buffers: &[ByteRange]) -> Ints
     requires { 2 ≤ length buffers.now }
-    ensures format { IsFormat (index_width encoding.index) encoding.index.signed result }
+    ensures format { IsFormat (forms.Numbers bits signed) result }
     ensures validity { result.validity ≡ slice_index_or buffers.now 0 result.validity }
     ensures values { result.values ≡ slice_index_or buffers.now 1 result.values }
 {
     Ints {
-        width: index_width(encoding.index),
-        signed: encoding.index.signed,
+        width: number_width(bits),
+        signed,
         validity: buffers[0],
         values: buffers[1],
     }
 }
 
-// The buffers of numbers of the type.
-fn numbers(data_type: &DataType, buffers: &[ByteRange]) -> Ints
+// The buffers of byte strings of this width.
+fn fixed(width: u32, buffers: &[ByteRange]) -> Fixed
     requires { 2 ≤ length buffers.now }
-    ensures format { IsFormat (width_of (type_view data_type.now).tag)
-        (is_signed (type_view data_type.now).tag) result }
+    ensures width { result.width ≡ width }
     ensures validity { result.validity ≡ slice_index_or buffers.now 0 result.validity }
     ensures values { result.values ≡ slice_index_or buffers.now 1 result.values }
 {
-    Ints {
-        width: width(data_type),
-        signed: signed(data_type),
+    Fixed {
+        width: width as usize,
         validity: buffers[0],
         values: buffers[1],
     }
@@ -157,14 +157,16 @@ fn bools(buffers: &[ByteRange]) -> Bools
     }
 }
 
-// The buffers of texts, and of bytes.
-fn strings(buffers: &[ByteRange]) -> Strings
+// The buffers of texts, and of bytes, behind offsets of this width.
+fn strings(width: OffsetWidth, buffers: &[ByteRange]) -> Strings
     requires { 3 ≤ length buffers.now }
+    ensures width { result.width ≡ width }
     ensures validity { result.validity ≡ slice_index_or buffers.now 0 result.validity }
     ensures offsets { result.offsets ≡ slice_index_or buffers.now 1 result.offsets }
     ensures bytes { result.bytes ≡ slice_index_or buffers.now 2 result.bytes }
 {
     Strings {
+        width,
         validity: buffers[0],
         offsets: buffers[1],
         bytes: buffers[2],
@@ -205,22 +207,23 @@ fn value_ranges(
         len (map (bytes_of body.now) buffers.now) children.items []) }
 {
     opened(&children);
-    match data_type {
-        DataType::Null => Ok(Ranges::Nulls),
-        DataType::Bool => Ok(Ranges::Bools(bools(buffers))),
-        DataType::Binary => Ok(Ranges::Binaries(strings(buffers))),
-        DataType::Utf8 => Ok(Ranges::Texts(strings(buffers))),
-        DataType::List(_) => Ok(Ranges::Lists {
+    match form_of(data_type) {
+        Form::Nulls => Ok(Ranges::Nulls),
+        Form::Bits => Ok(Ranges::Bools(bools(buffers))),
+        Form::Numbers { bits, signed } => Ok(Ranges::Ints(numbers(bits, signed, buffers))),
+        Form::Bytes(width) => Ok(Ranges::Binaries(strings(width, buffers))),
+        Form::Texts(width) => Ok(Ranges::Texts(strings(width, buffers))),
+        Form::FixedBytes(width) => Ok(Ranges::FixedBytes(fixed(width, buffers))),
+        Form::Lists(width) => Ok(Ranges::Lists {
+            width,
             validity: buffers[0],
             offsets: buffers[1],
             child: Box::new(alloc, only(children))?,
         }),
-        DataType::Struct(_) => Ok(Ranges::Structs {
+        Form::Structs => Ok(Ranges::Structs {
             validity: buffers[0],
             children,
         }),
-        DataType::Int { .. } | DataType::Date(_) | DataType::Time(_) | DataType::Timestamp(..) =>
-            Ok(Ranges::Ints(numbers(data_type, buffers))),
     }
 }
 

@@ -1,12 +1,16 @@
 //! One slot of the buffers of a node.
 
 ghost use Rattle.std.specs.Prelude.{◌≡◌, ◌+◌, ◌*◌, ◌<◌, ◌≤◌, length, MatchOption, true, false};
+ghost use Rattle.std.specs.List.Sorted.{IsNonDecreasing};
 ghost use Rattle.arrow_bits.specs.Numbers.{IsWidth};
-ghost use Rattle.arrow_array.specs.PlainValue.{null_value, bool_value, int_value};
+ghost use Rattle.arrow_bits.specs.Offsets.{plain_list};
+ghost use Rattle.arrow_array.specs.Form.{offset_bytes};
+ghost use Rattle.arrow_array.specs.PlainValue.{null_value, bool_value, int_value, binary_value};
 ghost use Rattle.arrow_array.specs.Slots.{is_valid_at, place_of, range_of, HasBits, HasOffsets};
-ghost use Rattle.arrow_array.specs.Slots.{AreTexts, bool_slot, int_slot};
+ghost use Rattle.arrow_array.specs.Slots.{AreTexts, bool_slot, fixed_slot, int_slot};
 
-use arrow_bits::{Offsets, bit, int_at};
+use crate::form::OffsetWidth;
+use arrow_bits::{LargeOffsets, Offsets, bit, int_at};
 
 // Whether slot `i` is valid.
 pub(crate) fn is_valid(validity: &[u8], i: usize) -> bool
@@ -51,9 +55,63 @@ pub(crate) fn number_at(
     }
 }
 
-// Where the range of slot `i` of `len` begins and ends, where it is valid.
+// The bytes of slot `i`, where it is valid.
+pub(crate) fn fixed_at<'a>(
+    validity: &[u8],
+    values: &'a [u8],
+    width: usize,
+    i: usize,
+) -> Option<&'a [u8]>
+    requires bits { HasBits (i + 1) validity.now }
+    requires long { width * i + width ≤ length values.now }
+    ensures { MatchOption result (fixed_slot width validity.now values.now i ≡ null_value)
+        (λ b. fixed_slot width validity.now values.now i ≡ binary_value b.now) }
+{
+    if is_valid(validity, i) {
+        let start = width * i;
+        Some(&values[start..start + width])
+    } else {
+        None
+    }
+}
+
+// Offset `i` and offset `k` of those of `len` slots.
+#[inline(always)]
 #[tactic(auto, using(crate::proofs::Cuts::offsets))]
+pub(crate) fn places_at(
+    width: OffsetWidth,
+    offsets: &[u8],
+    len: usize,
+    top: usize,
+    i: usize,
+    k: usize,
+) -> (usize, usize)
+    requires some { 0 < len }
+    requires order { i ≤ k }
+    requires slots { k ≤ len }
+    requires offsets { HasOffsets width len top offsets.now }
+    ensures start { result.0 ≡ place_of width offsets.now i }
+    ensures stop { result.1 ≡ place_of width offsets.now k }
+    ensures ordered { result.0 ≤ result.1 }
+    ensures within { result.1 ≤ top }
+    ensures rising { IsNonDecreasing (plain_list (offset_bytes width) len offsets.now) }
+{
+    match width {
+        OffsetWidth::Small => {
+            let places = Offsets::new_unchecked(offsets, len, top as u64);
+            (places.at(i), places.at(k))
+        }
+        OffsetWidth::Large => {
+            let places = LargeOffsets::new_unchecked(offsets, len, top as u64);
+            (places.at(i), places.at(k))
+        }
+    }
+}
+
+// Where the range of slot `i` of `len` begins and ends, where it is valid.
+#[inline(always)]
 pub(crate) fn range_at(
+    width: OffsetWidth,
     validity: &[u8],
     offsets: &[u8],
     len: usize,
@@ -62,14 +120,13 @@ pub(crate) fn range_at(
 ) -> Option<(usize, usize)>
     requires slot { i < len }
     requires bits { HasBits len validity.now }
-    requires offsets { HasOffsets len top offsets.now }
+    requires offsets { HasOffsets width len top offsets.now }
     ensures { MatchOption result (is_valid_at validity.now i ≡ false)
-        (λ r. (is_valid_at validity.now i ≡ true) × (r.0 ≡ place_of offsets.now i)
-        × (r.1 ≡ place_of offsets.now (i + 1)) × (r.0 ≤ r.1) × (r.1 ≤ top)) }
+        (λ r. (is_valid_at validity.now i ≡ true) × (r.0 ≡ place_of width offsets.now i)
+        × (r.1 ≡ place_of width offsets.now (i + 1)) × (r.0 ≤ r.1) × (r.1 ≤ top)) }
 {
     if is_valid(validity, i) {
-        let places = Offsets::new_unchecked(offsets, len, top as u64);
-        Some((places.at(i), places.at(i + 1)))
+        Some(places_at(width, offsets, len, top, i, i + 1))
     } else {
         None
     }
@@ -77,6 +134,7 @@ pub(crate) fn range_at(
 
 // The byte string of slot `i` of `len`, where it is valid.
 pub(crate) fn binary_at<'a>(
+    width: OffsetWidth,
     validity: &[u8],
     offsets: &[u8],
     values: &'a [u8],
@@ -85,16 +143,18 @@ pub(crate) fn binary_at<'a>(
 ) -> Option<&'a [u8]>
     requires slot { i < len }
     requires bits { HasBits len validity.now }
-    requires offsets { HasOffsets len (length values.now) offsets.now }
+    requires offsets { HasOffsets width len (length values.now) offsets.now }
     ensures { MatchOption result (is_valid_at validity.now i ≡ false)
-        (λ b. (is_valid_at validity.now i ≡ true) × (b.now ≡ range_of offsets.now values.now i)) }
+        (λ b. (is_valid_at validity.now i ≡ true)
+        × (b.now ≡ range_of width offsets.now values.now i)) }
 {
-    let (start, end) = range_at(validity, offsets, len, values.len(), i)?;
+    let (start, end) = range_at(width, validity, offsets, len, values.len(), i)?;
     Some(&values[start..end])
 }
 
 // The text of slot `i` of `len`, where it is valid.
 pub(crate) fn text_at<'a>(
+    width: OffsetWidth,
     validity: &[u8],
     offsets: &[u8],
     values: &'a [u8],
@@ -103,11 +163,12 @@ pub(crate) fn text_at<'a>(
 ) -> Option<&'a str>
     requires slot { i < len }
     requires bits { HasBits len validity.now }
-    requires offsets { HasOffsets len (length values.now) offsets.now }
-    requires texts { AreTexts len validity.now offsets.now values.now }
+    requires offsets { HasOffsets width len (length values.now) offsets.now }
+    requires texts { AreTexts width len validity.now offsets.now values.now }
     ensures { MatchOption result (is_valid_at validity.now i ≡ false)
-        (λ t. (is_valid_at validity.now i ≡ true) × (t.now ≡ range_of offsets.now values.now i)) }
+        (λ t. (is_valid_at validity.now i ≡ true)
+        × (t.now ≡ range_of width offsets.now values.now i)) }
 {
-    let bytes = binary_at(validity, offsets, values, len, i)?;
+    let bytes = binary_at(width, validity, offsets, values, len, i)?;
     Some(unsafe { std::str::from_utf8_unchecked(bytes) })
 }

@@ -9,46 +9,59 @@ ghost use Rattle.std.specs.Prelude.{IsTrue, IsUtf8, IsCharBoundary};
 ghost use Rattle.arrow_array.specs.Layout.{HasStrings};
 ghost use Rattle.arrow_array.specs.Slots.{place_of, range_of, is_valid_at, AreTexts, HasOffsets};
 
-use crate::slot::{binary_at, is_valid};
-use arrow_bits::Offsets;
+use crate::form::OffsetWidth;
+use crate::slot::{binary_at, is_valid, places_at};
 
 // Whether each valid slot of `len` is UTF-8.
-pub(crate) fn are_slots_utf8(len: usize, validity: &[u8], offsets: &[u8], bytes: &[u8]) -> bool
-    requires { HasStrings len validity.now offsets.now bytes.now }
-    ensures { IsTrue result ↔ AreTexts len validity.now offsets.now bytes.now }
+pub(crate) fn are_slots_utf8(
+    width: OffsetWidth,
+    len: usize,
+    validity: &[u8],
+    offsets: &[u8],
+    bytes: &[u8],
+) -> bool
+    requires { HasStrings width len validity.now offsets.now bytes.now }
+    ensures { IsTrue result ↔ AreTexts width len validity.now offsets.now bytes.now }
 {
     if len == 0 {
         return true;
     }
-    match simdutf8::basic::from_utf8(all_slots(len, offsets, bytes)) {
-        Ok(text) => are_parts(len, validity, offsets, bytes, text),
-        Err(_) => are_utf8_one_by_one(len, validity, offsets, bytes),
+    match simdutf8::basic::from_utf8(all_slots(width, len, offsets, bytes)) {
+        Ok(text) => are_parts(width, len, validity, offsets, bytes, text),
+        Err(_) => are_utf8_one_by_one(width, len, validity, offsets, bytes),
     }
 }
 
 // The bytes of all slots, whether these are valid or not.
 #[tactic(auto, using(crate::proofs::Cuts::offsets))]
-fn all_slots<'a>(len: usize, offsets: &[u8], bytes: &'a [u8]) -> &'a [u8]
+fn all_slots<'a>(width: OffsetWidth, len: usize, offsets: &[u8], bytes: &'a [u8]) -> &'a [u8]
     requires slots { 0 < len }
-    requires rising { HasOffsets len (length bytes.now) offsets.now }
+    requires rising { HasOffsets width len (length bytes.now) offsets.now }
     ensures same { result.now
-        ≡ slice_range bytes.now (place_of offsets.now 0) (place_of offsets.now len) }
-    ensures inside { place_of offsets.now len ≤ length bytes.now }
+        ≡ slice_range bytes.now (place_of width offsets.now 0) (place_of width offsets.now len) }
+    ensures inside { place_of width offsets.now len ≤ length bytes.now }
 {
-    let places = Offsets::new_unchecked(offsets, len, bytes.len() as u64);
-    &bytes[places.at(0)..places.at(len)]
+    let (start, end) = places_at(width, offsets, len, bytes.len(), 0, len);
+    &bytes[start..end]
 }
 
 // Whether each valid slot of `len` is UTF-8, where the bytes of all slots are the text.
-fn are_parts(len: usize, validity: &[u8], offsets: &[u8], bytes: &[u8], text: &str) -> bool
-    requires laid { HasStrings len validity.now offsets.now bytes.now }
-    requires inside { place_of offsets.now len ≤ length bytes.now }
+fn are_parts(
+    width: OffsetWidth,
+    len: usize,
+    validity: &[u8],
+    offsets: &[u8],
+    bytes: &[u8],
+    text: &str,
+) -> bool
+    requires laid { HasStrings width len validity.now offsets.now bytes.now }
+    requires inside { place_of width offsets.now len ≤ length bytes.now }
     requires whole { text.now
-        ≡ slice_range bytes.now (place_of offsets.now 0) (place_of offsets.now len) }
-    ensures { IsTrue result ↔ AreTexts len validity.now offsets.now bytes.now }
+        ≡ slice_range bytes.now (place_of width offsets.now 0) (place_of width offsets.now len) }
+    ensures { IsTrue result ↔ AreTexts width len validity.now offsets.now bytes.now }
 {
     for j in 0..len {
-        if !is_part(len, validity, offsets, bytes, text, j) {
+        if !is_part(width, len, validity, offsets, bytes, text, j) {
             return false;
         }
     }
@@ -56,36 +69,44 @@ fn are_parts(len: usize, validity: &[u8], offsets: &[u8], bytes: &[u8], text: &s
 }
 
 // Whether slot `j` is null or UTF-8, where the bytes of all slots are the text.
-fn is_part(len: usize, validity: &[u8], offsets: &[u8], bytes: &[u8], text: &str, j: usize) -> bool
+fn is_part(
+    width: OffsetWidth,
+    len: usize,
+    validity: &[u8],
+    offsets: &[u8],
+    bytes: &[u8],
+    text: &str,
+    j: usize,
+) -> bool
     requires slot { j < len }
-    requires laid { HasStrings len validity.now offsets.now bytes.now }
-    requires inside { place_of offsets.now len ≤ length bytes.now }
+    requires laid { HasStrings width len validity.now offsets.now bytes.now }
+    requires inside { place_of width offsets.now len ≤ length bytes.now }
     requires whole { text.now
-        ≡ slice_range bytes.now (place_of offsets.now 0) (place_of offsets.now len) }
+        ≡ slice_range bytes.now (place_of width offsets.now 0) (place_of width offsets.now len) }
     ensures { IsTrue result
-        ↔ (is_valid_at validity.now j ≡ true → IsUtf8 (range_of offsets.now bytes.now j)) }
+        ↔ (is_valid_at validity.now j ≡ true → IsUtf8 (range_of width offsets.now bytes.now j)) }
 {
     if !is_valid(validity, j) {
         return true;
     }
-    let (start, end) = places_of(len, offsets, bytes.len(), j);
+    let (start, end) = places_of(width, len, offsets, bytes.len(), j);
     is_text(text, start, end)
 }
 
 // Where slot `j` begins and ends in the bytes of all slots.
 #[tactic(auto, using(crate::proofs::Cuts::offsets))]
-fn places_of(len: usize, offsets: &[u8], top: usize, j: usize) -> (usize, usize)
+fn places_of(width: OffsetWidth, len: usize, offsets: &[u8], top: usize, j: usize) -> (usize, usize)
     requires slot { j < len }
-    requires rising { HasOffsets len top offsets.now }
-    ensures before { place_of offsets.now 0 ≤ place_of offsets.now j }
-    ensures order { place_of offsets.now j ≤ place_of offsets.now (j + 1) }
-    ensures after { place_of offsets.now (j + 1) ≤ place_of offsets.now len }
-    ensures start { result.0 ≡ place_of offsets.now j - place_of offsets.now 0 }
-    ensures stop { result.1 ≡ place_of offsets.now (j + 1) - place_of offsets.now 0 }
+    requires rising { HasOffsets width len top offsets.now }
+    ensures before { place_of width offsets.now 0 ≤ place_of width offsets.now j }
+    ensures order { place_of width offsets.now j ≤ place_of width offsets.now (j + 1) }
+    ensures after { place_of width offsets.now (j + 1) ≤ place_of width offsets.now len }
+    ensures start { result.0 ≡ place_of width offsets.now j - place_of width offsets.now 0 }
+    ensures stop { result.1 ≡ place_of width offsets.now (j + 1) - place_of width offsets.now 0 }
 {
-    let places = Offsets::new_unchecked(offsets, len, top as u64);
-    let first = places.at(0);
-    (places.at(j) - first, places.at(j + 1) - first)
+    let (first, start) = places_at(width, offsets, len, top, 0, j);
+    let (_, end) = places_at(width, offsets, len, top, j, j + 1);
+    (start - first, end - first)
 }
 
 // Whether the bytes from `start` up to `end` are UTF-8.
@@ -108,12 +129,18 @@ fn is_cut(text: &str, start: usize, end: usize) -> bool
 }
 
 // Whether each valid slot of `len` is UTF-8, one after another.
-fn are_utf8_one_by_one(len: usize, validity: &[u8], offsets: &[u8], bytes: &[u8]) -> bool
-    requires { HasStrings len validity.now offsets.now bytes.now }
-    ensures { IsTrue result ↔ AreTexts len validity.now offsets.now bytes.now }
+fn are_utf8_one_by_one(
+    width: OffsetWidth,
+    len: usize,
+    validity: &[u8],
+    offsets: &[u8],
+    bytes: &[u8],
+) -> bool
+    requires { HasStrings width len validity.now offsets.now bytes.now }
+    ensures { IsTrue result ↔ AreTexts width len validity.now offsets.now bytes.now }
 {
     for j in 0..len {
-        let Some(text) = binary_at(validity, offsets, bytes, len, j) else {
+        let Some(text) = binary_at(width, validity, offsets, bytes, len, j) else {
             continue;
         };
         if std::str::from_utf8(text).is_err() {

@@ -19,7 +19,7 @@ pub enum Value {
     Null,
     /// A truth value.
     Bool(bool),
-    /// A number of type Int, Date, Time or Timestamp, or an index.
+    /// A number of type Int, Date, Time, Timestamp or Duration, or an index.
     Int(i128),
     /// A byte string.
     Bytes(Vec<u8>),

@@ -11,3 +11,4 @@ mod same;
 mod told;
 mod utf8;
 mod values;
+mod wide;

@@ -8,6 +8,7 @@ use Rattle.arrow_types.specs.declared.field.Field.{Field, the_lemmas}
 use Rattle.arrow_types.specs.declared.node.FieldNode.{FieldNode}
 use Rattle.arrow_types.specs.declared.node.Buffer.{Buffer}
 use Rattle.arrow_array.specs.Column.{Column, ValueList, AreOf, counts_of}
+use Rattle.arrow_array.specs.Form.{form_of}
 use Rattle.arrow_array.specs.Parts.{node_column, value_slot, index_slot, values_in, AreChildren}
 use Rattle.arrow_array.specs.PlainValue.{PlainValue}
 use Rattle.arrow_array.proofs.Shown.{length_slots}
@@ -32,7 +33,7 @@ node_encoding t None len b cs values = refl
 node_encoding t (Some e) len b cs values = refl
 
 node_length : (t : TypeShape) (e : Option Encoding) (len : ℕ) (b : List (List ℕ)) (cs : List Column) (values : List PlainValue) → length (node_column t e len b cs values).raw ≡ len
-node_length t None len b cs values = length_slots len (λ j. value_slot t.tag b (map (λ (c : Column). c.raw) cs) j)
+node_length t None len b cs values = length_slots len (λ j. value_slot (form_of t.tag) b (map (λ (c : Column). c.raw) cs) j)
 node_length t (Some e) len b cs values = length_slots len (λ j. index_slot e b j)
 
 -- the columns have the types of the fields

@@ -3,18 +3,20 @@ use Rattle.std.proofs.Common.{◌≡◌, ◌+◌, ◌-◌, ◌*◌, ℕ, zero, s
 use Rattle.std.specs.List.{AllByRecursion}
 use Rattle.std.specs.Prelude.{slice_range, option_map}
 use Rattle.arrow_bits.specs.Numbers.{int_of}
-use Rattle.arrow_types.specs.DataType.{Tag, null, boolean, binary, utf8, int, date, time, timestamp, list, struct}
 use Rattle.arrow_types.specs.Field.{Fields, none, more, TypeShape}
 use Rattle.arrow_types.specs.declared.field.Encoding.{Encoding}
 use Rattle.arrow_types.specs.declared.node.FieldNode.{FieldNode}
 use Rattle.arrow_types.specs.declared.node.Buffer.{Buffer}
 use Rattle.arrow_array.specs.Column.{Column, ValueList, AreOf}
+use Rattle.arrow_array.specs.Form.{form_of}
 use Rattle.arrow_array.specs.Layout.{buffer, IsIndexed}
 use Rattle.arrow_array.specs.Listed.{listed}
 use Rattle.arrow_array.specs.Parts.{node_column, value_slot, index_slot, entry_of_slot, values_in}
 use Rattle.arrow_array.specs.PlainValue.{PlainValue, value_at, list_value, struct_value, values_of}
 use Rattle.arrow_array.specs.Resolve.{resolve, resolve_items, resolve_parts, before}
 use Rattle.arrow_array.specs.Slots.{is_valid_at, place_of, index_width}
+use Rattle.arrow_array.specs.declared.form.Form.{Form}
+use Rattle.arrow_array.specs.declared.form.Form.TheVariants as forms
 use Rattle.arrow_array.proofs.Resolving.{slots_resolve, null_resolves, shown_resolves, plain_resolves, items_resolve, range_resolves, at_resolves, index_resolves}
 use Rattle.arrow_body.proofs.Columns.{columns_typed}
 use Rattle.arrow_body.specs.Sound.{IsNodeIndexed, ResolvesBy, columns_of, dictionary_for, if_flattened, own_bytes, slots_at, values_by}
@@ -53,27 +55,25 @@ each_part ds (more head children rest) (c ∷ cs) j typed all =
     λ i. before (here i) (others i)
 
 -- the value of a slot of a node without an encoding
-value_resolves : (ds : List (ℤ × ValueList)) (tag : Tag) (fields : Fields) (b : List (List ℕ)) (cs : List Column) (j : ℕ) → AreOf fields cs → AllByRecursion (ResolvesBy ds) cs
-    → resolve None fields (values_by ds) (value_slot tag b (map (λ (c : Column). c.raw) cs) j) ≡ Some (value_slot tag b (map (λ (c : Column). c.resolved) cs) j)
-value_resolves ds null fields b cs j typed all = refl
-value_resolves ds boolean fields b cs j typed all = plain_resolves None fields (values_by ds) (is_valid_at (buffer b 0) j) _ refl
-value_resolves ds (int bits signed) fields b cs j typed all = plain_resolves None fields (values_by ds) (is_valid_at (buffer b 0) j) _ refl
-value_resolves ds (date unit) fields b cs j typed all = plain_resolves None fields (values_by ds) (is_valid_at (buffer b 0) j) _ refl
-value_resolves ds (time unit) fields b cs j typed all = plain_resolves None fields (values_by ds) (is_valid_at (buffer b 0) j) _ refl
-value_resolves ds (timestamp unit tz) fields b cs j typed all = plain_resolves None fields (values_by ds) (is_valid_at (buffer b 0) j) _ refl
-value_resolves ds binary fields b cs j typed all = plain_resolves None fields (values_by ds) (is_valid_at (buffer b 0) j) _ refl
-value_resolves ds utf8 fields b cs j typed all = plain_resolves None fields (values_by ds) (is_valid_at (buffer b 0) j) _ refl
-value_resolves ds list fields b cs j typed all =
-    shown_resolves None fields (values_by ds) (is_valid_at (buffer b 0) j) _ _ (λ valid. ap (option_map list_value) (first_items ds fields cs (place_of (buffer b 1) j) (place_of (buffer b 1) (j + 1)) typed all))
-value_resolves ds struct fields b cs j typed all =
+value_resolves : (ds : List (ℤ × ValueList)) (form : Form) (fields : Fields) (b : List (List ℕ)) (cs : List Column) (j : ℕ) → AreOf fields cs → AllByRecursion (ResolvesBy ds) cs
+    → resolve None fields (values_by ds) (value_slot form b (map (λ (c : Column). c.raw) cs) j) ≡ Some (value_slot form b (map (λ (c : Column). c.resolved) cs) j)
+value_resolves ds forms.Nulls fields b cs j typed all = refl
+value_resolves ds forms.Bits fields b cs j typed all = plain_resolves None fields (values_by ds) (is_valid_at (buffer b 0) j) _ refl
+value_resolves ds (forms.Numbers bits signed) fields b cs j typed all = plain_resolves None fields (values_by ds) (is_valid_at (buffer b 0) j) _ refl
+value_resolves ds (forms.Bytes width) fields b cs j typed all = plain_resolves None fields (values_by ds) (is_valid_at (buffer b 0) j) _ refl
+value_resolves ds (forms.Texts width) fields b cs j typed all = plain_resolves None fields (values_by ds) (is_valid_at (buffer b 0) j) _ refl
+value_resolves ds (forms.FixedBytes width) fields b cs j typed all = plain_resolves None fields (values_by ds) (is_valid_at (buffer b 0) j) _ refl
+value_resolves ds (forms.Lists width) fields b cs j typed all =
+    shown_resolves None fields (values_by ds) (is_valid_at (buffer b 0) j) _ _ (λ valid. ap (option_map list_value) (first_items ds fields cs (place_of width (buffer b 1) j) (place_of width (buffer b 1) (j + 1)) typed all))
+value_resolves ds forms.Structs fields b cs j typed all =
     shown_resolves None fields (values_by ds) (is_valid_at (buffer b 0) j) _ _ (λ valid. ap (option_map struct_value) (each_part ds fields cs j typed all))
 
 -- the column of a node
 node_resolves : (ds : List (ℤ × ValueList)) (t : TypeShape) (e : Option Encoding) (len : ℕ) (b : List (List ℕ)) (cs : List Column) → AreOf t.children cs → IfFlattened e (AllByRecursion (ResolvesBy ds) cs)
     → IsIndexed e len b (values_in (dictionary_for ds e)) → ResolvesBy ds (node_column t e len b (if_flattened e cs) (values_in (dictionary_for ds e)))
 node_resolves ds t None len b cs typed all indexed =
-    slots_resolve len (resolve None t.children (values_by ds)) (λ j. value_slot t.tag b (map (λ (c : Column). c.raw) cs) j) (λ j. value_slot t.tag b (map (λ (c : Column). c.resolved) cs) j)
-    (λ j l. value_resolves ds t.tag t.children b cs j typed all)
+    slots_resolve len (resolve None t.children (values_by ds)) (λ j. value_slot (form_of t.tag) b (map (λ (c : Column). c.raw) cs) j) (λ j. value_slot (form_of t.tag) b (map (λ (c : Column). c.resolved) cs) j)
+    (λ j l. value_resolves ds (form_of t.tag) t.children b cs j typed all)
 node_resolves ds t (Some e) len b cs typed all indexed =
     let values = values_in (listed ds e.id) in
     slots_resolve len (resolve (Some e) t.children (values_by ds)) (λ j. index_slot e b j) (λ j. entry_of_slot e b values j)

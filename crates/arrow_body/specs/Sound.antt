@@ -2,13 +2,16 @@
 use Rattle.std.specs.Prelude.{◌≡◌, ◌+◌, ◌⊎◌, ℕ, ℤ, pos, negsuc, ◌≤ℤ◌, not, nat_eq, if◌then◌else◌, List, [], ◌∷◌, length, map, take, drop, get_or, ⊤, Option, None, Some, count_by, IsTrue, is_some, false, codes}
 use Rattle.std.specs.List.{AllByRecursion}
 use Rattle.arrow_bits.specs.Bitmap.{bits_of}
-use Rattle.arrow_types.specs.DataType.{Tag, null}
+use Rattle.arrow_types.specs.DataType.{Tag}
 use Rattle.arrow_types.specs.Field.{Head, Fields, none, more}
 use Rattle.arrow_types.specs.Schema.{has_encoding}
 use Rattle.arrow_types.specs.declared.field.Encoding.{Encoding}
 use Rattle.arrow_types.specs.declared.node.FieldNode.{FieldNode}
 use Rattle.arrow_types.specs.declared.node.Buffer.{Buffer}
 use Rattle.arrow_array.specs.Column.{Column, ValueList}
+use Rattle.arrow_array.specs.Form.{node_form}
+use Rattle.arrow_array.specs.declared.form.Form.{Form}
+use Rattle.arrow_array.specs.declared.form.Form.TheVariants as forms
 use Rattle.arrow_array.specs.Layout.{IsLaid, IsText, IsIndexed, buffer}
 use Rattle.arrow_array.specs.Listed.{listed}
 use Rattle.arrow_array.specs.PlainValue.{PlainValue}
@@ -44,10 +47,20 @@ nulls_of len validity = if nat_eq (length validity) 0 then 0 else count_by not (
 abbrev pub IsCount : FieldNode → List ℕ → Type 0
 IsCount node validity = (node.null_count ≡ negsuc 0) ⊎ (node.null_count ≡ pos (nulls_of (count_of node.length) validity))
 
--- of a node of type Null any number is taken
+-- the same of a node of the form: where there are no buffers any number is taken
+abbrev pub IsCountOf : Form → FieldNode → List ℕ → Type 0
+IsCountOf forms.Nulls node validity = ⊤
+IsCountOf forms.Bits node validity = IsCount node validity
+IsCountOf (forms.Numbers bits signed) node validity = IsCount node validity
+IsCountOf (forms.Bytes width) node validity = IsCount node validity
+IsCountOf (forms.Texts width) node validity = IsCount node validity
+IsCountOf (forms.FixedBytes width) node validity = IsCount node validity
+IsCountOf (forms.Lists width) node validity = IsCount node validity
+IsCountOf forms.Structs node validity = IsCount node validity
+
+-- the number of nulls of a node of this type and encoding is as it should be
 abbrev pub IsCounted : Tag → Option Encoding → FieldNode → List ℕ → Type 0
-IsCounted null None node validity = ⊤
-IsCounted tag e node validity = IsCount node validity
+IsCounted tag e node validity = IsCountOf (node_form tag e) node validity
 
 -- the field's own node and buffers lie in the body as its type asks for
 pub record IsNodeLaid (body : List ℕ) (head : Head) (children : Fields) (nodes : List FieldNode) (buffers : List Buffer) : Type 0 where

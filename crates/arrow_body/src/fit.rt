@@ -47,7 +47,7 @@ fn is_node_fit(field: &Field, dictionaries: Listed<'_>) -> bool
         return false;
     }
     match dictionaries.find(encoding.id) {
-        Some(dictionary) => *dictionary.data_type() == field.data_type,
+        Some(dictionary) => dictionary.data_type().same(&field.data_type),
         None => true,
     }
 }

@@ -16,9 +16,10 @@ use crate::held::{bytes_at, own_ranges};
 use crate::pass::Condition;
 use crate::taken::{Left, after, below, inside, own_buffers};
 use arrow_array::ByteRange;
+use arrow_array::form::{Form, node_form};
 use arrow_array::layout::is_laid;
 use arrow_bits::Bits;
-use arrow_types::{DataType, Field, FieldNode};
+use arrow_types::{Field, FieldNode};
 
 // How many slots the first node has, 0 where a number stands there that is none.
 pub(crate) fn slots(nodes: &[FieldNode]) -> usize
@@ -87,32 +88,27 @@ fn are_buffers_laid(
         (lengths_of (below (field_view field.now).head.encoding (field_view field.now).children)
         left.entry.nodes.now) }
 {
-    match (field.dictionary, &field.data_type) {
-        (None, DataType::List(_)) => {
-            is_laid(
-                &field.data_type,
-                None,
-                len,
-                body,
-                ranges,
-                &[slots(left.nodes)],
-            )
+    match node_form(&field.data_type, field.dictionary) {
+        Form::Lists(_) => is_laid(
+            &field.data_type,
+            field.dictionary,
+            len,
+            body,
+            ranges,
+            &[slots(left.nodes)],
+        ),
+        Form::Structs => {
+            is_laid(&field.data_type, field.dictionary, len, body, ranges, &[])
+                && are_longer(below(field), left, len)
         }
-        (None, DataType::Struct(fields)) => {
-            is_laid(&field.data_type, None, len, body, ranges, &[]) && are_longer(fields, left, len)
+        Form::Nulls
+        | Form::Bits
+        | Form::Numbers { .. }
+        | Form::Bytes(_)
+        | Form::Texts(_)
+        | Form::FixedBytes(_) => {
+            is_laid(&field.data_type, field.dictionary, len, body, ranges, &[])
         }
-        (Some(_), _)
-        | (
-            None,
-            DataType::Null
-            | DataType::Bool
-            | DataType::Int { .. }
-            | DataType::Binary
-            | DataType::Utf8
-            | DataType::Date(_)
-            | DataType::Time(_)
-            | DataType::Timestamp(..),
-        ) => is_laid(&field.data_type, field.dictionary, len, body, ranges, &[]),
     }
 }
 
@@ -158,8 +154,14 @@ fn is_counted(field: &Field, node: FieldNode, len: usize, body: &[u8], ranges: &
         ↔ IsCounted (field_view field.now).head.tag (field_view field.now).head.encoding
         node (buffer (map (bytes_of body.now) ranges.now) 0) }
 {
-    if ranges.is_empty() {
-        return true;
+    match node_form(&field.data_type, field.dictionary) {
+        Form::Nulls => true,
+        Form::Bits
+        | Form::Numbers { .. }
+        | Form::Bytes(_)
+        | Form::Texts(_)
+        | Form::FixedBytes(_)
+        | Form::Lists(_)
+        | Form::Structs => is_count(node, len, bytes_at(body, ranges, 0)),
     }
-    is_count(node, len, bytes_at(body, ranges, 0))
 }

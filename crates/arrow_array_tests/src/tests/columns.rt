@@ -146,7 +146,8 @@ static NESTED: [(Nested<'static>, &str); 2] = [
     ),
     (
         STRUCTS,
-        "len 2: = struct 0 of 1 fields, null = null | field 0: len 2: int 5 = 5, null = null",
+        "len 2: = struct 0 of 1 fields, null = null | 1 fields \
+         | field 0: len 2: int 5 = 5, null = null",
     ),
 ];
 

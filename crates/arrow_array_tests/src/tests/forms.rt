@@ -2,7 +2,7 @@
 
 use super::making::{column, field, indices, int32, one, range};
 use arrow_array::{Array, ByteRange, Dictionary};
-use arrow_types::{BitWidth, DataType, DateUnit, TimeUnit};
+use arrow_types::{BitWidth, DataType, DateUnit, Field, TimeUnit};
 use bytes::Bytes;
 use std::process::Abort;
 
@@ -22,12 +22,18 @@ pub(super) enum Form {
     Bool,
     Int(BitWidth, bool),
     Binary,
+    LargeBinary,
+    Fixed(u32),
     Utf8,
+    LargeUtf8,
     Date(DateUnit),
     Time(TimeUnit),
     Timestamp(TimeUnit),
+    Duration(TimeUnit),
     // Lists of numbers of 32 bits.
     List,
+    // The same behind offsets of 64 bits.
+    LargeList,
     // Structs of one number of 32 bits.
     Struct,
 }
@@ -41,16 +47,23 @@ pub(super) fn data_type(rt: &(impl Abort + AllocGlobal), form: Form) -> DataType
         Form::Bool => DataType::Bool,
         Form::Int(bits, signed) => DataType::Int { bits, signed },
         Form::Binary => DataType::Binary,
+        Form::LargeBinary => DataType::LargeBinary,
+        Form::Fixed(width) => DataType::FixedSizeBinary(width),
         Form::Utf8 => DataType::Utf8,
+        Form::LargeUtf8 => DataType::LargeUtf8,
         Form::Date(unit) => DataType::Date(unit),
         Form::Time(unit) => DataType::Time(unit),
         Form::Timestamp(unit) => DataType::Timestamp(unit, None),
-        Form::List => {
-            let item = field(rt, "item", int32());
-            DataType::List(Box::new(rt.alloc(), item).expect(rt, "memory"))
-        }
+        Form::Duration(unit) => DataType::Duration(unit),
+        Form::List => DataType::List(item(rt)),
+        Form::LargeList => DataType::LargeList(item(rt)),
         Form::Struct => DataType::Struct(one(rt, field(rt, "item", int32()))),
     }
+}
+
+// The field of the items of a list.
+fn item(rt: &(impl Abort + AllocGlobal)) -> Box<Field> {
+    Box::new(rt.alloc(), field(rt, "item", int32())).expect(rt, "memory")
 }
 
 fn ranges(rt: &(impl Abort + AllocGlobal), places: &[(usize, usize)]) -> Vec<ByteRange> {

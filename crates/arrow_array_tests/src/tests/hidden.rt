@@ -16,7 +16,7 @@ const COUNTED: &[u8] = &[
 const THREE_NUMBERS: Parts<'static> = (3, &[(0, 1), (1, 25)]);
 
 // Types of numbers, and what the first and the last of three slots hold.
-static NUMBERS: [(Form, i64, i64); 18] = [
+static NUMBERS: [(Form, i64, i64); 22] = [
     (Form::Int(BitWidth::Eight, false), 1, 3),
     (Form::Int(BitWidth::Eight, true), 1, 3),
     (Form::Int(BitWidth::Sixteen, false), 0x0201, 0x0605),
@@ -72,6 +72,26 @@ static NUMBERS: [(Form, i64, i64); 18] = [
     ),
     (
         Form::Timestamp(TimeUnit::Nanosecond),
+        0x0807060504030201,
+        0x1817161514131211,
+    ),
+    (
+        Form::Duration(TimeUnit::Second),
+        0x0807060504030201,
+        0x1817161514131211,
+    ),
+    (
+        Form::Duration(TimeUnit::Millisecond),
+        0x0807060504030201,
+        0x1817161514131211,
+    ),
+    (
+        Form::Duration(TimeUnit::Microsecond),
+        0x0807060504030201,
+        0x1817161514131211,
+    ),
+    (
+        Form::Duration(TimeUnit::Nanosecond),
         0x0807060504030201,
         0x1817161514131211,
     ),
@@ -151,7 +171,7 @@ static NESTED: [(Nested<'static>, &str); 2] = [
             (3, &[(0, 1)]),
             (5, &[(0, 0), (1, 21)]),
         ),
-        "len 3: = struct 0 of 1 fields, null = null, = struct 2 of 1 fields \
+        "len 3: = struct 0 of 1 fields, null = null, = struct 2 of 1 fields | 1 fields \
          | field 0: len 5: int 1 = 1, int 2 = 2, int 3 = 3, int 4 = 4, int 5 = 5",
     ),
 ];

@@ -11,6 +11,7 @@ ghost use Rattle.arrow_array.specs.Node.{bytes_of, IsInside};
 ghost use Rattle.arrow_array.specs.Parts.{values_in, AreChildren, IsOfType};
 ghost use Rattle.arrow_array.specs.Slots.{index_width};
 
+use arrow_array::form::{Form, node_form};
 use arrow_array::layout::{are_indices, are_texts, buffer_count, is_laid};
 use arrow_array::{Array, ByteRange, Dictionary};
 use arrow_types::{BitWidth, DataType, Encoding, Field, IndexType};
@@ -163,7 +164,7 @@ fn is_of(field: &Field, column: &Array) -> bool
     ensures { IsTrue result → (column.now.data_type ≡ type_view field.now.data_type)
         × (column.now.encoding ≡ field.now.dictionary) }
 {
-    field.data_type == *column.data_type()
+    field.data_type.same(column.data_type())
         && match (&field.dictionary, column.encoding()) {
             (Some(encoding), Some(other)) => *encoding == *other,
             (None, None) => true,
@@ -175,7 +176,7 @@ fn is_of_type(field: &Field, dictionary: &Option<Dictionary>) -> bool
     ensures { IsTrue result → IsOfType (type_view field.now.data_type) dictionary.now }
 {
     match dictionary {
-        Some(dictionary) => *dictionary.data_type() == field.data_type,
+        Some(dictionary) => dictionary.data_type().same(&field.data_type),
         None => true,
     }
 }
@@ -208,14 +209,21 @@ fn is_text(field: &Field, len: usize, body: &[u8], buffers: &[ByteRange], counts
     ensures { IsTrue result → IsText (type_view field.now.data_type).tag field.now.dictionary
         len (map (bytes_of body.now) buffers.now) }
 {
-    match (field.dictionary.is_some(), &field.data_type) {
-        (false, DataType::Utf8) => are_texts(
+    match node_form(&field.data_type, field.dictionary) {
+        Form::Texts(width) => are_texts(
+            width,
             len,
             bytes_in(body, buffers[0]),
             bytes_in(body, buffers[1]),
             bytes_in(body, buffers[2]),
         ),
-        _ => true,
+        Form::Nulls
+        | Form::Bits
+        | Form::Numbers { .. }
+        | Form::Bytes(_)
+        | Form::FixedBytes(_)
+        | Form::Lists(_)
+        | Form::Structs => true,
     }
 }
 
@@ -284,7 +292,7 @@ fn may_grow(dictionary: &Dictionary, values: &Array) -> bool
     ensures few { IsTrue result → length dictionary.now.values + length values.now.raw ≤ 2 ^ 62 }
 {
     is_plain(values)
-        && *values.data_type() == *dictionary.data_type()
+        && values.data_type().same(dictionary.data_type())
         && dictionary.len() + values.len() <= 4611686018427387904
 }
 

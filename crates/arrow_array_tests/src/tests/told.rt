@@ -54,6 +54,9 @@ fn push_children(rt: &impl Abort, text: &mut String, column: &Array) {
         text.push_str(" | items: ").expect(rt, MEMORY);
         push_slots(rt, text, items);
     }
+    if let Some(fields) = column.fields() {
+        write!(text, " | {} fields", fields.len()).expect(rt, MEMORY);
+    }
     for k in 0..2 {
         if let Some(values) = column.field(k) {
             write!(text, " | field {k}: ").expect(rt, MEMORY);
@@ -210,11 +213,16 @@ fn word_of(data_type: &DataType) -> &'static str {
         DataType::Bool => "Bool",
         DataType::Int { .. } => "Int",
         DataType::Binary => "Binary",
+        DataType::LargeBinary => "LargeBinary",
+        DataType::FixedSizeBinary(_) => "FixedSizeBinary",
         DataType::Utf8 => "Utf8",
+        DataType::LargeUtf8 => "LargeUtf8",
         DataType::Date(_) => "Date",
         DataType::Time(_) => "Time",
         DataType::Timestamp(..) => "Timestamp",
+        DataType::Duration(_) => "Duration",
         DataType::List(_) => "List",
+        DataType::LargeList(_) => "LargeList",
         DataType::Struct(_) => "Struct",
     }
 }

@@ -1,27 +1,35 @@
 // Whether slots are texts: bytes that all are one, and bytes that are not.
 
+use arrow_array::form::OffsetWidth;
 use arrow_array::layout::{are_texts, has_strings};
 use std::process::Abort;
 
 // Whether the slots between these offsets are texts, where they are slots at all.
 fn are_utf8(
     rt: &(impl Abort + AllocGlobal),
+    width: OffsetWidth,
     validity: &[u8],
     places: &[u8],
     bytes: &[u8],
 ) -> Option<bool> {
     let mut offsets = Vec::new(rt.alloc());
     for place in places {
-        offsets
-            .extend_from_slice(&u32::from(*place).to_le_bytes())
-            .expect(rt, "memory");
+        put_offset(rt, &mut offsets, width, *place);
     }
     let len = places.len().saturating_sub(1);
-    if has_strings(len, validity, &offsets, bytes) {
-        Some(are_texts(len, validity, &offsets, bytes))
+    if has_strings(width, len, validity, &offsets, bytes) {
+        Some(are_texts(width, len, validity, &offsets, bytes))
     } else {
         None
     }
+}
+
+fn put_offset(rt: &impl Abort, offsets: &mut Vec<u8>, width: OffsetWidth, place: u8) {
+    let added = match width {
+        OffsetWidth::Small => offsets.extend_from_slice(&u32::from(place).to_le_bytes()),
+        OffsetWidth::Large => offsets.extend_from_slice(&u64::from(place).to_le_bytes()),
+    };
+    added.expect(rt, "memory");
 }
 
 // U+00E9, U+20AC and U+1F600: two, three and four bytes.
@@ -79,7 +87,9 @@ static SLOTS: [(&[u8], &[u8], &[u8], bool); 36] = [
 #[test]
 fn texts_and_other_bytes(rt: HostRuntime) {
     for (row, (validity, places, bytes, want)) in SLOTS.iter().enumerate() {
-        let are_texts = are_utf8(&rt, validity, places, bytes);
-        assert_eq!(rt; are_texts, Some(*want), "row {row}");
+        for width in [OffsetWidth::Small, OffsetWidth::Large] {
+            let are_texts = are_utf8(&rt, width, validity, places, bytes);
+            assert_eq!(rt; are_texts, Some(*want), "row {row}");
+        }
     }
 }

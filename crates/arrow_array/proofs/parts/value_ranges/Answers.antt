@@ -1,89 +1,67 @@
-use Rattle.std.proofs.Common.{◌≡◌, ◌≤◌, length, map, ap, ◌∙◌, subst, None, refl}
-use Rattle.arrow_types.specs.View.{type_view, field_view}
-use Rattle.arrow_types.specs.DataType.{binary, utf8}
-use Rattle.arrow_types.specs.Field.{TypeShape, none}
-use Rattle.arrow_array.specs.Column.{counts_of}
-use Rattle.arrow_array.specs.Layout.{buffer_count, IsLaid, IsText}
-use Rattle.arrow_array.specs.Node.{bytes_of}
+use Rattle.std.proofs.Common.{◌≡◌, ◌≤◌, length, map, ap, sym, ◌∙◌, subst, refl}
+use Rattle.arrow_types.specs.Field.{none}
+use Rattle.arrow_types.specs.View.{type_view}
+use Rattle.arrow_array.specs.Form.{HasFieldsOf, buffers_of, form_of}
+use Rattle.arrow_array.specs.Node.{binary_at, bytes_of, utf8_at}
 use Rattle.arrow_array.specs.Parts.{value_slot}
 use Rattle.arrow_array.specs.Slots.{binary_slot, utf8_slot}
-use Rattle.arrow_array.proofs.NodeParts.{binary_tag, list_lies, list_same, list_tag, number_same, number_shape, one_child, strings_lie, strings_same, struct_lies, struct_same, struct_tag, texts_lie, utf8_tag}
+use Rattle.arrow_array.specs.declared.form.Form.TheVariants as forms
+use Rattle.arrow_array.proofs.NodeParts.{leaf_same, list_lies, list_same, one_child, strings_same, struct_lies, struct_same}
 use Rattle.arrow_array.proofs.parts.value_ranges.Goals as goal
-
-pub returns-in_ok-new-in-List-clause-lies : goal.returns-in_ok-new-in-List-clause-lies
-returns-in_ok-new-in-List-clause-lies c =
-    let t = type_view c.args.data_type.now in
-    let tag = ap (λ (x : TypeShape). x.tag) (ap type_view c.in-List.is ∙ list_tag c.in-List.field-0) in
-    let two : 2 ≤ length c.args.buffers.now = subst (λ x. buffer_count x None ≤ length c.args.buffers.now) tag c.requires.count in
-    let lies = list_lies t c.args.len c.args.body.now c.args.buffers.now (record { start = 0; end = 0 }) c.args.children.items c.only.result tag c.only.ensures c.requires.children (rw c.deref.ensures.value at c.opened.ensures) two c.requires.inside c.requires.layout in
-    (refl, tag, rw c.in_ok-new-in-List.ensures.ok lies)
-
-pub returns-in_ok-new-in-List-clause-same : goal.returns-in_ok-new-in-List-clause-same
-returns-in_ok-new-in-List-clause-same c =
-    let t = type_view c.args.data_type.now in
-    let tag = ap (λ (x : TypeShape). x.tag) (ap type_view c.in-List.is ∙ list_tag c.in-List.field-0) in
-    let two : 2 ≤ length c.args.buffers.now = subst (λ x. buffer_count x None ≤ length c.args.buffers.now) tag c.requires.count in
-    list_same t c.args.len c.args.body.now c.args.buffers.now (record { start = 0; end = 0 }) c.args.children.items c.in_ok-new-in-List.field-0 tag (rw c.in_ok-new-in-List.ensures.ok c.only.ensures) two
 
 pub only-requires : goal.only-requires
 only-requires c =
-    let below = ap (λ (x : TypeShape). x.children) (ap type_view c.in-List.is ∙ list_tag c.in-List.field-0) in
-    let f = field_view c.in-List.field-0.value in
-    one_child (type_view c.args.data_type.now) f.head f.children c.args.children.items below c.requires.children
+    one_child (type_view c.args.data_type.now).children c.args.children.items (subst (λ f. HasFieldsOf f (type_view c.args.data_type.now).children) c.in-Lists.is c.form_of.ensures.below) c.requires.children
 
-pub returns-in-Binary-clause-same : goal.returns-in-Binary-clause-same
-returns-in-Binary-clause-same c =
+pub returns-in_ok-new-in-Lists-clause-lies : goal.returns-in_ok-new-in-Lists-clause-lies
+returns-in_ok-new-in-Lists-clause-lies c =
     let t = type_view c.args.data_type.now in
-    let is : t ≡ record { tag = binary; children = none } = ap type_view c.in-Binary.is ∙ binary_tag in
-    let tag = ap (λ (x : TypeShape). x.tag) is in
-    let three : 3 ≤ length c.args.buffers.now = subst (λ x. buffer_count x None ≤ length c.args.buffers.now) tag c.requires.count in
+    let w = c.in-Lists.width in
+    let form : form_of t.tag ≡ forms.Lists w = sym c.form_of.ensures.same ∙ c.in-Lists.is in
+    let two : 2 ≤ length c.args.buffers.now = subst (λ x. buffers_of x ≤ length c.args.buffers.now) form c.requires.count in
+    let lies = list_lies w t c.args.len c.args.body.now c.args.buffers.now (record { start = 0; end = 0 }) c.args.children.items c.only.result form c.only.ensures c.requires.children (rw c.deref.ensures.value at c.opened.ensures) two c.requires.inside c.requires.layout in
+    (refl, form, rw c.in_ok-new-in-Lists.ensures.ok lies)
+
+pub returns-in_ok-new-in-Lists-clause-same : goal.returns-in_ok-new-in-Lists-clause-same
+returns-in_ok-new-in-Lists-clause-same c =
+    let t = type_view c.args.data_type.now in
+    let w = c.in-Lists.width in
+    let form : form_of t.tag ≡ forms.Lists w = sym c.form_of.ensures.same ∙ c.in-Lists.is in
+    let two : 2 ≤ length c.args.buffers.now = subst (λ x. buffers_of x ≤ length c.args.buffers.now) form c.requires.count in
+    list_same w t c.args.len c.args.body.now c.args.buffers.now (record { start = 0; end = 0 }) c.args.children.items c.in_ok-new-in-Lists.field-0 form (rw c.in_ok-new-in-Lists.ensures.ok c.only.ensures) two
+
+pub returns-in-Structs-clause-lies : goal.returns-in-Structs-clause-lies
+returns-in-Structs-clause-lies c =
+    let t = type_view c.args.data_type.now in
+    let form : form_of t.tag ≡ forms.Structs = sym c.form_of.ensures.same ∙ c.in-Structs.is in
+    let one : 1 ≤ length c.args.buffers.now = subst (λ x. buffers_of x ≤ length c.args.buffers.now) form c.requires.count in
+    (refl, form, struct_lies t c.args.len c.args.body.now c.args.buffers.now (record { start = 0; end = 0 }) c.args.children.items form c.requires.children (rw c.deref.ensures.value at c.opened.ensures) one c.requires.inside c.requires.layout)
+
+pub returns-in-Structs-clause-same : goal.returns-in-Structs-clause-same
+returns-in-Structs-clause-same c =
+    let t = type_view c.args.data_type.now in
+    let form : form_of t.tag ≡ forms.Structs = sym c.form_of.ensures.same ∙ c.in-Structs.is in
+    let one : 1 ≤ length c.args.buffers.now = subst (λ x. buffers_of x ≤ length c.args.buffers.now) form c.requires.count in
+    struct_same t c.args.len c.args.body.now c.args.buffers.now (record { start = 0; end = 0 }) c.args.children form one
+
+pub returns-in-Bytes-clause-same : goal.returns-in-Bytes-clause-same
+returns-in-Bytes-clause-same c =
+    let t = type_view c.args.data_type.now in
+    let w = c.in-Bytes.width in
+    let form : form_of t.tag ≡ forms.Bytes w = sym c.form_of.ensures.same ∙ c.in-Bytes.is in
+    let three : 3 ≤ length c.args.buffers.now = subst (λ x. buffers_of x ≤ length c.args.buffers.now) form c.requires.count in
+    let leaf : t.children ≡ none = subst (λ f. HasFieldsOf f t.children) c.in-Bytes.is c.form_of.ensures.below in
     let s = c.strings.ensures in
-    strings_same c.args.body.now c.args.buffers.now c.strings.result three s.validity s.offsets s.bytes t c.args.len c.args.children.items binary_slot
-    (λ x. ap (λ y. value_slot y (map (bytes_of c.args.body.now) c.args.buffers.now) x) tag) (ap (λ (x : TypeShape). x.children) is) c.requires.children
+    leaf_same t (forms.Bytes w) c.args.len (map (bytes_of c.args.body.now) c.args.buffers.now) c.args.children.items (binary_at c.args.body.now c.strings.result) form leaf c.requires.children
+    (λ children. strings_same c.args.body.now c.args.buffers.now c.strings.result three s.validity s.offsets s.bytes (binary_slot c.strings.result.width) ∙ ap (λ x. value_slot (forms.Bytes x) (map (bytes_of c.args.body.now) c.args.buffers.now) children) s.width)
 
-pub returns-in-Utf8-clause-lies : goal.returns-in-Utf8-clause-lies
-returns-in-Utf8-clause-lies c =
+pub returns-in-Texts-clause-same : goal.returns-in-Texts-clause-same
+returns-in-Texts-clause-same c =
     let t = type_view c.args.data_type.now in
-    let is : t ≡ record { tag = utf8; children = none } = ap type_view c.in-Utf8.is ∙ utf8_tag in
-    let tag = ap (λ (x : TypeShape). x.tag) is in
-    let b = map (bytes_of c.args.body.now) c.args.buffers.now in
-    let three : 3 ≤ length c.args.buffers.now = subst (λ x. buffer_count x None ≤ length c.args.buffers.now) tag c.requires.count in
-    let laid = subst (λ x. IsLaid x None c.args.len b (counts_of c.args.children.items)) tag c.requires.layout in
-    let text = subst (λ x. IsText x None c.args.len b) tag c.requires.text in
-    let s = c.strings-in-Utf8.ensures in (
-      refl,
-      tag,
-      strings_lie c.args.body.now c.args.buffers.now c.strings-in-Utf8.result three s.validity s.offsets s.bytes c.args.len c.requires.inside laid,
-      texts_lie c.args.body.now c.args.buffers.now c.strings-in-Utf8.result three s.validity s.offsets s.bytes c.args.len text,
-    )
-
-pub returns-in-Utf8-clause-same : goal.returns-in-Utf8-clause-same
-returns-in-Utf8-clause-same c =
-    let t = type_view c.args.data_type.now in
-    let is : t ≡ record { tag = utf8; children = none } = ap type_view c.in-Utf8.is ∙ utf8_tag in
-    let tag = ap (λ (x : TypeShape). x.tag) is in
-    let three : 3 ≤ length c.args.buffers.now = subst (λ x. buffer_count x None ≤ length c.args.buffers.now) tag c.requires.count in
-    let s = c.strings-in-Utf8.ensures in
-    strings_same c.args.body.now c.args.buffers.now c.strings-in-Utf8.result three s.validity s.offsets s.bytes t c.args.len c.args.children.items utf8_slot
-    (λ x. ap (λ y. value_slot y (map (bytes_of c.args.body.now) c.args.buffers.now) x) tag) (ap (λ (x : TypeShape). x.children) is) c.requires.children
-
-pub returns-in-Struct-clause-lies : goal.returns-in-Struct-clause-lies
-returns-in-Struct-clause-lies c =
-    let t = type_view c.args.data_type.now in
-    let tag = ap (λ (x : TypeShape). x.tag) (ap type_view c.in-Struct.is ∙ struct_tag c.in-Struct.field-0) in
-    let one : 1 ≤ length c.args.buffers.now = subst (λ x. buffer_count x None ≤ length c.args.buffers.now) tag c.requires.count in
-    (refl, tag, struct_lies t c.args.len c.args.body.now c.args.buffers.now (record { start = 0; end = 0 }) c.args.children.items tag c.requires.children (rw c.deref.ensures.value at c.opened.ensures) one c.requires.inside c.requires.layout)
-
-pub returns-in-Struct-clause-same : goal.returns-in-Struct-clause-same
-returns-in-Struct-clause-same c =
-    let t = type_view c.args.data_type.now in
-    let tag = ap (λ (x : TypeShape). x.tag) (ap type_view c.in-Struct.is ∙ struct_tag c.in-Struct.field-0) in
-    let one : 1 ≤ length c.args.buffers.now = subst (λ x. buffer_count x None ≤ length c.args.buffers.now) tag c.requires.count in
-    struct_same t c.args.len c.args.body.now c.args.buffers.now (record { start = 0; end = 0 }) c.args.children tag one
-
-pub returns-in-Int-clause-same : goal.returns-in-Int-clause-same
-returns-in-Int-clause-same c =
-    let t = type_view c.args.data_type.now in
-    let shape = number_shape c.args.data_type.now c.in-Int.is in
-    let n = c.numbers.ensures in
-    number_same t c.args.len c.args.body.now c.args.buffers.now c.args.children.items c.numbers.result shape.0 shape.1 c.requires.children c.requires.count n.format.0 n.format.1 n.validity n.values
+    let w = c.in-Texts.width in
+    let form : form_of t.tag ≡ forms.Texts w = sym c.form_of.ensures.same ∙ c.in-Texts.is in
+    let three : 3 ≤ length c.args.buffers.now = subst (λ x. buffers_of x ≤ length c.args.buffers.now) form c.requires.count in
+    let leaf : t.children ≡ none = subst (λ f. HasFieldsOf f t.children) c.in-Texts.is c.form_of.ensures.below in
+    let s = c.strings-in-Texts.ensures in
+    leaf_same t (forms.Texts w) c.args.len (map (bytes_of c.args.body.now) c.args.buffers.now) c.args.children.items (utf8_at c.args.body.now c.strings-in-Texts.result) form leaf c.requires.children
+    (λ children. strings_same c.args.body.now c.args.buffers.now c.strings-in-Texts.result three s.validity s.offsets s.bytes (utf8_slot c.strings-in-Texts.result.width) ∙ ap (λ x. value_slot (forms.Texts x) (map (bytes_of c.args.body.now) c.args.buffers.now) children) s.width)

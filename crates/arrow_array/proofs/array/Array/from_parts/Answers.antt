@@ -24,8 +24,8 @@ returns-in_ok-dictionary-in-Some c =
     let two : 2 ≤ length c.args.buffers.now = subst (λ e. buffer_count t.tag e ≤ length c.args.buffers.now) c.in-Some.is c.requires.count in
     let d = c.in_ok-dictionary-in-Some.dictionary in
     let values = ap (λ (x : ValueList). x.values) (c.in_ok-dictionary-in-Some.ensures.ok ∙ c.in_ok-or_empty-in-Some.ensures.same) in
-    let indexed = index_same t c.in-Some.encoding c.args.len c.args.body.now c.args.buffers.now c.args.children.items c.indices.result d (values_in c.args.dictionary)
-    c.indices.ensures.format c.indices.ensures.validity c.indices.ensures.values values two in
+    let indexed = index_same t c.in-Some.encoding c.args.len c.args.body.now c.args.buffers.now c.args.children.items c.numbers-indices.result d (values_in c.args.dictionary)
+    c.numbers-indices.ensures.format c.numbers-indices.ensures.validity c.numbers-indices.ensures.values values two in
     let same = indexed ∙ ap (λ e. node_column t e c.args.len b c.args.children.items (values_in c.args.dictionary)) (sym c.in-Some.is) in
-    IfOk-weaker c.of_ranges.result (λ a. a ≡ column_by t (Some c.in-Some.encoding) c.args.len c.args.body.now (Indices c.indices.result d))
+    IfOk-weaker c.of_ranges.result (λ a. a ≡ column_by t (Some c.in-Some.encoding) c.args.len c.args.body.now (Indices c.numbers-indices.result d))
     (λ a. a ≡ node_column t c.args.field.now.dictionary c.args.len b c.args.children.items (values_in c.args.dictionary)) (λ a e. e ∙ same) c.of_ranges.ensures

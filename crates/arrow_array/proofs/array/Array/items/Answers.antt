@@ -10,8 +10,9 @@ pub returns-in-Lists : goal.returns-in-Lists
 returns-in-Lists c =
     let a = c.self.inside in
     let t = type_view a.data_type in
+    let w = c.in-Lists.width in
     let v = c.in-Lists.validity in
     let o = c.in-Lists.offsets in
     let ok = subst (AreRanges a.len t a.encoding a.body) c.in-Lists.is c.self.invariant.1 in
-    let is = sym c.self.view_is ∙ ap (λ r. column_by t a.encoding a.len a.body r) c.in-Lists.is ∙ ap (λ e. column_by t e a.len a.body (Lists v o c.in-Lists.child)) ok.0 in
-    subst (HasChild c.args.self.now) (sym c.deref.ensures) (child_shown c.args.self.now t a.len (bytes_of a.body v) (bytes_of a.body o) c.in-Lists.child.value is ok.1 ok.2.typed)
+    let is = sym c.self.view_is ∙ ap (λ r. column_by t a.encoding a.len a.body r) c.in-Lists.is ∙ ap (λ e. column_by t e a.len a.body (Lists w v o c.in-Lists.child)) ok.0 in
+    subst (HasChild c.args.self.now) (sym c.deref.ensures) (child_shown c.args.self.now t w a.len (bytes_of a.body v) (bytes_of a.body o) c.in-Lists.child.value is ok.1 ok.2.typed)
