@@ -3,3 +3,5 @@ pub mod Places
 pub mod Appending
 pub mod Naming
 pub mod Kept
+pub mod Merging
+pub mod Choosing

@@ -85,6 +85,10 @@ placed_gap (d ∷ ds) id (suc i) v gap =
     } in
     placed_behind id v d ds (gap.below 0 d (omega arith)) ∙ ap (λ es. d ∷ es) (placed_gap ds id i v rest)
 
+-- the entry at the place of an id is what is listed for it
+pub found_at : (ds : List (ℤ × ValueList)) (id : ℤ) (i : ℕ) (e : ℤ × ValueList) → IsRising ds → IsAt ds id i → listed ds id ≡ Some (get_or ds i e).1
+found_at ds id i e rising at = ap (λ x. listed ds x) (sym (at.has e)) ∙ entry_listed ds i e rising at.inside
+
 module _ (ds : List (ℤ × ValueList)) (id : ℤ) (i : ℕ) (e : ℤ × ValueList) (rising : IsRising ds) (at : IsAt ds id i) (is : e ≡ get_or ds i e) where
   -- the entry that was read has the id
   pub id_found : e.0 ≡ id
@@ -92,7 +96,7 @@ module _ (ds : List (ℤ × ValueList)) (id : ℤ) (i : ℕ) (e : ℤ × ValueLi
 
   -- what was read is what is listed
   pub found : listed ds id ≡ Some e.1
-  found = ap (λ x. listed ds x) (sym (at.has e)) ∙ entry_listed ds i e rising at.inside ∙ ap (λ (x : ℤ × ValueList). Some x.1) (sym is)
+  found = found_at ds id i e rising at ∙ ap (λ (x : ℤ × ValueList). Some x.1) (sym is)
 
   -- what is written there is what is placed
   pub placed_found : (v : ValueList) → placed id v ds ≡ set ds i (id, v)

@@ -4,3 +4,5 @@ pub mod Places
 pub mod ValueTypes
 pub mod ValueFields
 pub mod Laws
+pub mod Choice
+pub mod Tracking

@@ -1,4 +1,5 @@
-//! The dictionaries that a reader of a stream holds, and the types that their values have.
+//! The dictionaries that a reader of a stream holds, the types that their values have, and the
+//! dictionaries that a writer sent.
 //!
 //! A dictionary batch brings values for an id (Columnar Format, "Dictionary Messages"): they stand
 //! for themselves, and then take the place of what the id had, or they are a delta and go behind
@@ -6,16 +7,27 @@
 //! of an id, or all of them by rising id, as a record batch is loaded over. [`ValueFields`] takes a
 //! schema, and gives for an id the field that a dictionary batch of that id has.
 //!
+//! A writer keeps a [`Tracker`]: asked what has to be sent of a dictionary, it answers with an
+//! [`Update`]; the dictionaries of a batch are staged, and are the sent ones once the batch is sent
+//! whole, or are discarded.
+//!
 //! To contracts a store is a list of ids and dictionaries: `listed` (of `arrow_array`,
 //! `specs/Listed.antt`) is what an id has, `placed` and `IsRising` (`specs/Dictionaries.antt`) are
 //! how the list changes and what is known of it, and [`laws`] says that these make it a finite map.
+//! A tracker is two such lists, what was sent and what will have been (`specs/Tracking.antt`);
+//! `choice` (`specs/Choice.antt`) is what is sent of a list of values after another.
 //! `Appends` (`specs/Appends.antt`) says when values are appended and which fault comes when,
 //! `value_type_of` (`specs/ValueTypes.antt`) which type a schema's fields name for an id.
 #![tactic(auto)]
 
+mod entries;
 pub mod laws;
 mod store;
+mod tracker;
+mod update;
 mod value_fields;
 
 pub use store::{Store, StoreFault};
+pub use tracker::Tracker;
+pub use update::{Update, Updates};
 pub use value_fields::ValueFields;

@@ -1,13 +1,13 @@
 //! Dictionaries by their ids.
 
-ghost use Rattle.std.specs.Prelude.{◌≡◌, IsTrue, MatchResult, None, OnErr, OnOk, Some, [], is_ok};
+ghost use Rattle.std.specs.Prelude.{◌≡◌, IsTrue, None, OnErr, OnOk, Some, [], is_ok};
 ghost use Rattle.std.specs.Prelude.{is_some, option_map};
 ghost use Rattle.arrow_array.specs.Column.{ValueList};
 ghost use Rattle.arrow_array.specs.Listed.{listed};
 ghost use Rattle.arrow_dict.specs.Appends.{Appends, number_of};
 ghost use Rattle.arrow_dict.specs.Dictionaries.{IsRising, placed};
-ghost use Rattle.arrow_dict.specs.Places.{IsAt, IsGap};
 
+use crate::entries::{find, place, place_of};
 use arrow_array::{Array, Dictionary};
 use std::alloc::{AllocError, Global};
 use std::error::Error;
@@ -92,10 +92,7 @@ impl Store {
     pub fn get(&self, id: i64) -> Option<&Dictionary>
         ensures { option_map (λ d. d.now) result ≡ listed self.now id }
     {
-        match self.place_of(id) {
-            Ok(at) => Some(&self.entries[at].1),
-            Err(_) => None,
-        }
+        find(&self.entries, id)
     }
 
     /// The ids and their dictionaries, by rising id.
@@ -113,13 +110,7 @@ impl Store {
         ensures err { OnErr result (self.new ≡ self.old) }
         ensures there { IsTrue (is_some (listed self.old id)) → IsTrue (is_ok result) }
     {
-        match self.place_of(id) {
-            Ok(at) => {
-                self.entries[at] = (id, dictionary);
-                Ok(())
-            }
-            Err(at) => Ok(self.entries.insert(at, (id, dictionary))?),
-        }
+        place(&mut self.entries, id, dictionary)
     }
 
     /// Puts the values of the array behind those of the id's dictionary, of which none is copied
@@ -131,7 +122,7 @@ impl Store {
         requires plain { (d : ValueList) → listed self.old id ≡ Some d → values.encoding ≡ None }
         ensures { Appends self.old id values result self.new }
     {
-        let Ok(at) = self.place_of(id) else {
+        let Ok(at) = place_of(&self.entries, id) else {
             return Err(StoreFault::NoBase);
         };
         let dictionary = &mut self.entries[at].1;
@@ -149,12 +140,5 @@ impl Store {
         ensures { self.new ≡ [] }
     {
         self.entries.clear();
-    }
-
-    // Where the id stands, or where it would stand.
-    fn place_of(&self, id: i64) -> Result<usize, usize>
-        ensures { MatchResult result (IsAt self.now id) (IsGap self.now id) }
-    {
-        self.entries.binary_search_by_key(&id, |entry| entry.0)
     }
 }

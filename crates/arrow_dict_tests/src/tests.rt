@@ -3,4 +3,5 @@
 mod making;
 mod steps;
 mod stores;
+mod trackers;
 mod value_types;

@@ -1,7 +1,8 @@
-//! A file for each library; `records` is of `arrow_csv`.
+//! A file for each library; `records` is of `arrow_csv`, `refusals` of `arrow_written`.
 
 mod bits;
 mod flatbuf;
 mod records;
+mod refusals;
 mod sinks;
 mod types;

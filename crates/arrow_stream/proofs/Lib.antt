@@ -7,3 +7,4 @@ pub mod Holdings
 pub mod Works
 pub mod Beginnings
 pub mod Streams
+pub mod Whole

@@ -11,3 +11,4 @@ pub mod Work
 pub mod Stream
 pub mod Stored
 pub mod Inside
+pub mod Tables

@@ -14,7 +14,8 @@ use Rattle.arrow_stream.specs.Stream.{Shows, Stands, TakesOn, GivesNext, Refuses
 use Rattle.arrow_stream.specs.Views.{given}
 use Rattle.arrow_stream.proofs.Streams.{ended_stands}
 use Rattle.arrowflow.specs.Pieces.{Feeds, FeedsInside, HandsOut}
-use Rattle.arrowflow.specs.Session.{StandsInside, table_in, tables_of}
+use Rattle.arrow_stream.specs.Tables.{table_in, tables_of}
+use Rattle.arrowflow.specs.Session.{StandsInside}
 
 -- the batches of two parts are those of both
 pub tables-append : (es fs : List Entry) → tables_of (es ++ fs) ≡ tables_of es ++ tables_of fs

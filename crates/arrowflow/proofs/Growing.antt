@@ -8,7 +8,7 @@ use Rattle.arrow_csv.specs.Records.{batch_rows, batches_text, header_record, str
 use Rattle.arrow_stream.specs.declared.reader.Verdict.TheVariants.{Open}
 use Rattle.arrow_stream.specs.Front.{Entry, Standing, FrontOf}
 use Rattle.arrow_stream.specs.State.{Given, schema_given, dictionary_given, batch_given, ended}
-use Rattle.arrowflow.specs.Session.{table_in, tables_of}
+use Rattle.arrow_stream.specs.Tables.{table_in, tables_of}
 use Rattle.arrowflow.specs.Shown.{TextGrows, text_in}
 use Rattle.arrowflow.proofs.Feeding.{tables-append}
 use Rattle.arrowflow.proofs.Schemas.{front_begins, front_behind, front_keeps}

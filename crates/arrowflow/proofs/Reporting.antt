@@ -11,7 +11,7 @@ use Rattle.arrow_stream.specs.Stream.{Shows, Stands, ended_by, ended_so}
 use Rattle.arrow_stream.specs.declared.reader.Verdict.TheVariants.{Open}
 use Rattle.arrowflow.specs.Reads.{BlamesNoInput}
 use Rattle.arrowflow.specs.Reports.{IsOpenAt, IsTextOf, IsEnding, EndTold, Sends, IsTold, IsCutOff, PieceTold, IsWritten, IsBegun, EndsWell, Reports}
-use Rattle.arrowflow.specs.Session.{tables_of}
+use Rattle.arrow_stream.specs.Tables.{tables_of}
 use Rattle.arrowflow.specs.declared.report.Report.{Report}
 use Rattle.arrowflow.specs.declared.report.Report.TheVariants.{Messages, Rows}
 use Rattle.arrowflow.specs.declared.tool_fault.ToolFault.{ToolFault}

@@ -24,7 +24,7 @@ use Rattle.arrow_stream.proofs.Fronts.{more_bytes}
 use Rattle.arrow_stream.proofs.Streams.{ended_stands}
 use Rattle.arrowflow.specs.Faults.{told}
 use Rattle.arrowflow.specs.Reports.{IsTextOf, IsAdded, SendsSome, IsTold, IsCutOff, PieceTold}
-use Rattle.arrowflow.specs.Session.{table_in, tables_of}
+use Rattle.arrow_stream.specs.Tables.{table_in, tables_of}
 use Rattle.arrowflow.specs.Shown.{text_in}
 use Rattle.arrowflow.specs.declared.report.Report.{Report}
 use Rattle.arrowflow.specs.declared.report.Report.TheVariants.{Messages, Rows}

@@ -3,7 +3,7 @@ use Rattle.std.specs.Prelude.{◌≡◌, ℕ, List, ◌++◌}
 use Rattle.arrow_array.specs.Batch.{Table}
 use Rattle.arrow_stream.specs.Front.{Entry}
 use Rattle.arrow_stream.specs.Stream.{Shows, Stands}
-use Rattle.arrowflow.specs.Session.{tables_of}
+use Rattle.arrow_stream.specs.Tables.{tables_of}
 
 -- behind the bytes t the reader was given more bytes, and handed out their batches
 pub record Fed (t : List ℕ) (es : List Entry) (handed : List Table) (given : List ℕ) (new : Shows) (handed' : List Table) : Type 0 where

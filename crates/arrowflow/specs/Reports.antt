@@ -15,7 +15,7 @@ use Rattle.arrow_stream.specs.Kind.{kind_of}
 use Rattle.arrow_stream.specs.State.{Given}
 use Rattle.arrow_stream.specs.Stream.{Shows, Stands, ended_so}
 use Rattle.arrowflow.specs.Reads.{IsReadWhile}
-use Rattle.arrowflow.specs.Session.{tables_of}
+use Rattle.arrow_stream.specs.Tables.{tables_of}
 use Rattle.arrowflow.specs.Shown.{text_in}
 use Rattle.arrowflow.specs.declared.report.Report.{Report}
 use Rattle.arrowflow.specs.declared.report.Report.TheVariants.{Messages, Rows}

@@ -1,26 +1,14 @@
 -- What is received of a stream's bytes, whatever pieces they come in (Columnar Format, "IPC Streaming Format").
-use Rattle.std.specs.Prelude.{◌≡◌, ℕ, ℤ, List, [], ◌∷◌, ◌++◌, Result, Ok, Err}
+use Rattle.std.specs.Prelude.{◌≡◌, ℕ, ℤ, List, ◌++◌, Result, Ok, Err}
 use Rattle.arrow_types.specs.Limits.{LimitNumbers}
 use Rattle.arrow_array.specs.Batch.{Table}
 use Rattle.arrow_array.specs.Column.{ValueList}
 use Rattle.arrow_stream.specs.declared.fault.Fault.{Fault as StreamFault}
 use Rattle.arrow_stream.specs.Front.{Entry, Standing, FrontOf}
-use Rattle.arrow_stream.specs.State.{Given, schema_given, dictionary_given, batch_given, ended}
 use Rattle.arrow_stream.specs.Stream.{Shows, Stands, ended_so}
+use Rattle.arrow_stream.specs.Tables.{tables_of}
 use Rattle.arrowflow.specs.declared.session.Ending.{Ending}
 use Rattle.arrowflow.specs.declared.session.Ending.TheVariants.{Clean, Fault}
-
--- the batch that a whole message gives, if it gives one
-abbrev pub table_in : Given → List Table
-table_in schema_given = []
-table_in (dictionary_given id) = []
-table_in (batch_given b) = b ∷ []
-table_in ended = []
-
--- the batches that these messages gave, in their order
-abbrev pub tables_of : List Entry → List Table
-tables_of [] = []
-tables_of (e ∷ es) = table_in e.given ++ tables_of es
 
 -- the ending that a reader's answer tells
 abbrev pub ending_by : Result (Unit {0}) StreamFault → Ending

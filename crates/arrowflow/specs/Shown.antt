@@ -6,7 +6,7 @@ use Rattle.arrow_csv.specs.Records.{batch_rows, header_record, stream_text}
 use Rattle.arrow_stream.specs.declared.reader.Verdict.TheVariants.{Open}
 use Rattle.arrow_stream.specs.Front.{Entry, Standing, FrontOf}
 use Rattle.arrow_stream.specs.State.{Given, schema_given, dictionary_given, batch_given, ended}
-use Rattle.arrowflow.specs.Session.{tables_of}
+use Rattle.arrow_stream.specs.Tables.{tables_of}
 
 -- what a schema adds to the text
 abbrev pub header_in : Option Fields → List ℕ

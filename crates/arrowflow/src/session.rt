@@ -3,7 +3,8 @@
 ghost use Rattle.std.specs.Prelude.{◌≡◌, ◌++◌, IfOk, OnErr, OnOk};
 ghost use Rattle.arrow_stream.specs.Views.{given};
 ghost use Rattle.arrowflow.specs.Pieces.{Feeds, FeedsInside, HandsOut};
-ghost use Rattle.arrowflow.specs.Session.{Receives, StandsAt, StandsInside, ending_by, table_in};
+ghost use Rattle.arrow_stream.specs.Tables.{table_in};
+ghost use Rattle.arrowflow.specs.Session.{Receives, StandsAt, StandsInside, ending_by};
 
 use crate::tool_fault::is_memory;
 use arrow_array::{Batch, Dictionary};

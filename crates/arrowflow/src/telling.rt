@@ -4,7 +4,7 @@ ghost use Rattle.std.specs.Prelude.{◌≡◌, ◌<◌, ◌+◌, ◌-◌, ◌^�
 ghost use Rattle.arrow_stream.specs.declared.reader.Verdict.TheVariants.{Open};
 ghost use Rattle.arrow_stream.specs.Views.{given};
 ghost use Rattle.arrowflow.specs.Reports.{EndTold, IsAdded, Sends, SendsSome, TellsPiece};
-ghost use Rattle.arrowflow.specs.Session.{table_in};
+ghost use Rattle.arrow_stream.specs.Tables.{table_in};
 ghost use Rattle.arrowflow.specs.Shown.{text_in};
 
 use crate::lines::{end_line, message_line};

@@ -58,7 +58,7 @@ fn take(rt: &(impl Abort + AllocGlobal), store: &mut Store, step: Step, text: &m
 }
 
 // Begins an answer.
-fn begin(rt: &impl Abort, text: &mut String) {
+pub(super) fn begin(rt: &impl Abort, text: &mut String) {
     if !text.is_empty() {
         text.push_str("; ").expect(rt, "memory");
     }
@@ -88,7 +88,7 @@ fn push_type(rt: &impl Abort, text: &mut String, dictionary: Option<&Dictionary>
     }
 }
 
-fn push_values(rt: &impl Abort, text: &mut String, dictionary: Option<&Dictionary>) {
+pub(super) fn push_values(rt: &impl Abort, text: &mut String, dictionary: Option<&Dictionary>) {
     begin(rt, text);
     match dictionary {
         Some(dictionary) => push_numbers(rt, text, dictionary),
@@ -96,7 +96,7 @@ fn push_values(rt: &impl Abort, text: &mut String, dictionary: Option<&Dictionar
     }
 }
 
-fn push_all(rt: &impl Abort, text: &mut String, entries: &[(i64, Dictionary)]) {
+pub(super) fn push_all(rt: &impl Abort, text: &mut String, entries: &[(i64, Dictionary)]) {
     begin(rt, text);
     text.push_str("all").expect(rt, "memory");
     for (id, dictionary) in entries {

@@ -1,4 +1,4 @@
-use Rattle.std.proofs.Common.{◌+◌, ◌*◌, ap, arith}
+use Rattle.std.proofs.Common.{ap, arith}
 use Rattle.arrow_types.specs.Field.{levels}
 use Rattle.arrow_types.proofs.Fields.{fewer_below, fields_from}
 use Rattle.arrowflow.proofs.schema_lines.+lines.Goals as goal

@@ -1,0 +1,37 @@
+-- The dictionaries that a writer sent, and those that it is about to send (Columnar Format, "Dictionary Messages").
+use Rattle.std.specs.Prelude.{◌≡◌, ◌≤◌, ◌+◌, ℤ, List, [], ◌∷◌, length, take, refl}
+use Rattle.std.specs.Coded.{Coded, code_by, coded×}
+use Rattle.std.specs.Vec.{vec_len, vec_capacity}
+use Rattle.arrow_array.specs.Column.{ValueList}
+use Rattle.arrow_array.specs.PlainValue.{PlainValue}
+use Rattle.arrow_dict.specs.Dictionaries.{IsRising, placed, entries_code}
+use Rattle.arrow_dict.specs.declared.tracker.Tracker.TheInside.{Inside}
+
+-- What a tracker is to contracts: the dictionaries that were sent, and those that will have been once the staged ones are.
+pub record Tracked : Type 0 where
+  pub sent : List (ℤ × ValueList)
+  pub next : List (ℤ × ValueList)
+
+-- how the logic stores trackers
+abbrev pub tracked_code : Coded Tracked
+tracked_code = code_by (List (ℤ × ValueList) × List (ℤ × ValueList)) (coded× entries_code entries_code)
+    (λ t. (t.sent, t.next)) (λ p. record { sent = p.0; next = p.1 }) (λ _. refl)
+
+-- the dictionaries with the staged ones in their places
+abbrev pub merged : List (ℤ × ValueList) → List (ℤ × ValueList) → List (ℤ × ValueList)
+merged [] ds = ds
+merged (e ∷ es) ds = placed e.0 e.1 (merged es ds)
+
+-- what a tracker is to contracts, by its two lists
+abbrev pub tracked_by : Inside → Tracked
+tracked_by v = record { sent = v.sent.items; next = merged v.staged.items v.sent.items }
+
+-- the ids of both lists rise, and the sent one has room for the staged ones
+pub record IsTracker (v : Inside) : Type 0 where
+  pub sent : IsRising v.sent.items
+  pub staged : IsRising v.staged.items
+  pub room : vec_len v.sent + vec_len v.staged ≤ vec_capacity v.sent
+
+-- the first list begins the second
+abbrev pub Begins : List PlainValue → List PlainValue → Type 0
+Begins old new = take (length old) new ≡ old

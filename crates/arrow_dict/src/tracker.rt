@@ -1,0 +1,144 @@
+//! The dictionaries that a writer sent.
+
+ghost use Rattle.std.specs.Prelude.{◌≡◌, ◌↔◌, IsTrue, OnErr, OnOk, Some, [], option_map};
+ghost use Rattle.arrow_array.specs.Column.{ValueList};
+ghost use Rattle.arrow_array.specs.Listed.{listed};
+ghost use Rattle.arrow_dict.specs.Choice.{choice};
+ghost use Rattle.arrow_dict.specs.Dictionaries.{IsRising, placed};
+ghost use Rattle.arrow_dict.specs.Tracking.{Begins};
+
+use crate::entries::{find, place};
+use crate::update::{Update, Updates};
+use arrow_array::Dictionary;
+use std::alloc::{AllocError, Global};
+use std::marker::Model;
+
+/// The dictionaries that were sent on a connection, and those that are staged, which are about to
+/// be: at most one of each for an id, by rising id. They share their values with the dictionaries
+/// that they were copied from.
+#[derive(Drop)]
+pub struct Tracker {
+    sent: Vec<(i64, Dictionary)>,
+    staged: Vec<(i64, Dictionary)>,
+}
+
+impl Model for Tracker {
+    ghost use Rattle.arrow_dict.specs.Tracking.{IsTracker, Tracked, tracked_by, tracked_code};
+
+    ghost Value = { Tracked };
+
+    ghost coded = { tracked_code };
+
+    ghost view = { tracked_by };
+
+    ghost invariant = { IsTracker };
+}
+
+impl Tracker {
+    /// The tracker of a connection on which no dictionary was sent. Takes no memory.
+    pub fn new(alloc: Global) -> Tracker
+        ensures { result ≡ record { sent = []; next = [] } }
+    {
+        Tracker {
+            sent: Vec::new(alloc),
+            staged: Vec::new(alloc),
+        }
+    }
+
+    /// The dictionary that was sent last for the id, None where none was. It is found by binary
+    /// search.
+    pub fn sent(&self, id: i64) -> Option<&Dictionary>
+        ensures { option_map (λ d. d.now) result ≡ listed self.now.sent id }
+    {
+        find(&self.sent, id)
+    }
+
+    /// The ids and the dictionaries that were sent last for them, by rising id.
+    pub fn entries(&self) -> &[(i64, Dictionary)]
+        ensures all { result.now ≡ self.now.sent }
+        ensures rising { IsRising self.now.sent }
+    {
+        &self.sent
+    }
+
+    /// What is to be sent so that the id has this dictionary. Staged ones do not count. Values are
+    /// compared one by one, none is copied, and no memory is taken.
+    pub fn plan(&self, id: i64, dictionary: &Dictionary, updates: Updates) -> Update
+        ensures { result ≡ choice updates
+            (option_map (λ (d : ValueList). d.values) (listed self.now.sent id))
+            dictionary.now.values }
+    {
+        match self.sent(id) {
+            Some(old) => compared(old, dictionary, updates),
+            None => Update::New,
+        }
+    }
+
+    /// Stages a copy of the dictionary for the id, in place of one that was staged before. Room is
+    /// made for it among the sent ones too. Where a growth is refused nothing changes.
+    pub fn stage(
+        &mut self,
+        alloc: Global,
+        id: i64,
+        dictionary: &Dictionary,
+    ) -> Result<(), AllocError>
+        ensures sent { self.new.sent ≡ self.old.sent }
+        ensures ok { OnOk result (self.new.next ≡ placed id dictionary.now self.old.next) }
+        ensures err { OnErr result (self.new.next ≡ self.old.next) }
+    {
+        let copy = dictionary.copy(alloc)?;
+        self.sent.reserve(self.staged.len() + 1)?;
+        place(&mut self.staged, id, copy)
+    }
+
+    /// Makes the staged dictionaries the sent ones. Takes no memory, since `stage` made the room.
+    pub fn commit(&mut self)
+        ensures sent { self.new.sent ≡ self.old.next }
+        ensures next { self.new.next ≡ self.old.next }
+    {
+        while let Some((id, dictionary)) = self.staged.pop() {
+            place(&mut self.sent, id, dictionary).unwrap();
+        }
+    }
+
+    /// Drops the staged dictionaries. Takes no memory.
+    pub fn discard(&mut self)
+        ensures sent { self.new.sent ≡ self.old.sent }
+        ensures next { self.new.next ≡ self.old.sent }
+    {
+        self.staged.clear();
+    }
+}
+
+// What is sent where another dictionary was sent.
+fn compared(old: &Dictionary, new: &Dictionary, updates: Updates) -> Update
+    ensures { result ≡ choice updates (Some old.now.values) new.now.values }
+{
+    if !begins(old, new) {
+        return Update::Replace;
+    }
+    if old.len() == new.len() {
+        return Update::None;
+    }
+    match updates {
+        Updates::Delta => Update::Delta(old.len()),
+        Updates::Resend => Update::Replace,
+    }
+}
+
+// Whether the values of one dictionary are the first ones of another.
+fn begins(old: &Dictionary, new: &Dictionary) -> bool
+    ensures { IsTrue result ↔ Begins old.now.values new.now.values }
+{
+    if new.len() < old.len() {
+        return false;
+    }
+    for i in 0..old.len() {
+        let (values, place) = old.value(i);
+        let (others, other_place) = new.value(i);
+        if !values.same_slot(place, others, other_place) {
+            return false;
+        }
+    }
+    true
+}

@@ -1,0 +1,9 @@
+pub mod Chains
+pub mod Columns
+pub mod Lists
+pub mod Parts
+pub mod Texts
+pub mod Lyings
+pub mod Deliveries
+pub mod Starts
+mod Examples

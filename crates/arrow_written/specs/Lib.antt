@@ -1,0 +1,9 @@
+pub mod Sizes
+pub mod Rows
+pub mod Built
+pub mod Plan
+pub mod Frames
+pub mod Admission
+pub mod Text
+pub mod Laws
+pub mod Refusals
