@@ -10,4 +10,5 @@ mod indices;
 mod nested;
 mod reading;
 mod shown;
+mod wide;
 mod written;

@@ -7,6 +7,7 @@ use Rattle.arrow_types.specs.declared.field.Encoding.{Encoding}
 use Rattle.arrow_types.specs.declared.node.FieldNode.{FieldNode}
 use Rattle.arrow_types.specs.declared.node.Buffer.{Buffer}
 use Rattle.arrow_array.specs.Column.{Column, ValueList, AreOf, Agree, IsColumn, listed_of}
+use Rattle.arrow_array.specs.Form.{form_of}
 use Rattle.arrow_array.specs.Parts.{node_column, value_slot, values_in}
 use Rattle.arrow_array.specs.PlainValue.{PlainValue, PlainValues, null_value, bool_value, int_value, binary_value, utf8_value, list_value, struct_value, no_values, more_values}
 use Rattle.arrow_array.specs.Resolve.{resolve, resolve_items, resolve_parts, entry_of, before}
@@ -23,7 +24,7 @@ raw_of c = c.raw
 
 node_raw : (t : TypeShape) (e : Option Encoding) (len : ℕ) (b : List (List ℕ)) (xs ys : List Column) (us vs : List PlainValue) → raws_of (if_flattened e xs) ≡ raws_of (if_flattened e ys)
     → raw_of (node_column t e len b (if_flattened e xs) us) ≡ raw_of (node_column t e len b (if_flattened e ys) vs)
-node_raw t None len b xs ys us vs h = ap (λ rs. slots len (value_slot t.tag b rs)) h
+node_raw t None len b xs ys us vs h = ap (λ rs. slots len (value_slot (form_of t.tag) b rs)) h
 node_raw t (Some e) len b xs ys us vs h = refl
 
 below_raw : (e : Option Encoding) (xs ys : List Column) → raws_of xs ≡ raws_of ys → raws_of (if_flattened e xs) ≡ raws_of (if_flattened e ys)

@@ -16,17 +16,25 @@ pub(super) struct Case {
     pub(super) want: &'static str,
 }
 
-// No dictionary, that of the texts "a", "b" and "c", or that of the lists of structs below.
+// No dictionary, that of the texts "a", "b" and "c", behind offsets of 32 or of 64 bits, or that of
+// the lists of structs below.
 #[derive(Clone, Copy, Debug)]
 pub(super) enum Values {
     Nothing,
     Letters,
+    LargeLetters,
     Lists,
 }
 
 const LETTERS: [Held<'static>; 3] = [
     Held::Bytes(&[]),
     Held::Numbers(&[0, 1, 2, 3]),
+    Held::Bytes(&[0x61, 0x62, 0x63]),
+];
+
+const LARGE_LETTERS: [Held<'static>; 3] = [
+    Held::Bytes(&[]),
+    Held::Wide(&[0, 1, 2, 3]),
     Held::Bytes(&[0x61, 0x62, 0x63]),
 ];
 
@@ -59,6 +67,7 @@ fn dictionaries(rt: &(impl Abort + AllocGlobal), values: Values) -> Vec<(i64, Di
     let columns = match values {
         Values::Nothing => return Vec::new(rt.alloc()),
         Values::Letters => written(rt, &[Kind::Text], &[(3, 0)], &LETTERS, &[]),
+        Values::LargeLetters => written(rt, &[Kind::LargeText], &[(3, 0)], &LARGE_LETTERS, &[]),
         Values::Lists => written(rt, &LISTS, &LIST_NODES, &LIST_BUFFERS, &[]),
     };
     let mut listed = Vec::new(rt.alloc());

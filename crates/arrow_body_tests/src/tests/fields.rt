@@ -1,6 +1,6 @@
 // Fields, written as one type for each node that they take.
 
-use arrow_types::{BitWidth, DataType, Encoding, Field, IndexType};
+use arrow_types::{BitWidth, DataType, Encoding, Field, IndexType, TimeUnit};
 use std::process::Abort;
 
 // The type of a field; those of the fields below it come next.
@@ -10,9 +10,17 @@ pub(super) enum Kind {
     Truth,
     // Signed numbers of 32 bits.
     Number,
+    // Lengths of time in seconds.
+    Duration,
     Text,
+    // Texts behind offsets of 64 bits.
+    LargeText,
+    // Byte strings of so many bytes each.
+    Fixed(u32),
     // Lists of one type.
     List,
+    // Lists of one type behind offsets of 64 bits.
+    LargeList,
     // Structs of so many types.
     Struct(usize),
     // Signed indices of so many bits into the dictionary of this id, whose values have the type
@@ -46,8 +54,12 @@ fn field_of(rt: &(impl Abort + AllocGlobal), kind: Kind, behind: &mut Vec<Field>
                 signed: true,
             },
         ),
+        Kind::Duration => field(rt, DataType::Duration(TimeUnit::Second)),
         Kind::Text => field(rt, DataType::Utf8),
-        Kind::List => list(rt, last(rt, behind)),
+        Kind::LargeText => field(rt, DataType::LargeUtf8),
+        Kind::Fixed(width) => field(rt, DataType::FixedSizeBinary(width)),
+        Kind::List => field(rt, DataType::List(item(rt, behind))),
+        Kind::LargeList => field(rt, DataType::LargeList(item(rt, behind))),
         Kind::Struct(count) => structure(rt, count, behind),
         Kind::Index(id, bits) => encoded(id, bits, last(rt, behind)),
     }
@@ -66,9 +78,8 @@ fn last(rt: &impl Abort, fields: &mut Vec<Field>) -> Field {
     fields.pop().expect(rt, "a type comes next")
 }
 
-fn list(rt: &(impl Abort + AllocGlobal), item: Field) -> Field {
-    let item = Box::new(rt.alloc(), item).expect(rt, "memory");
-    field(rt, DataType::List(item))
+fn item(rt: &(impl Abort + AllocGlobal), behind: &mut Vec<Field>) -> Box<Field> {
+    Box::new(rt.alloc(), last(rt, behind)).expect(rt, "memory")
 }
 
 fn structure(rt: &(impl Abort + AllocGlobal), count: usize, behind: &mut Vec<Field>) -> Field {

@@ -6,11 +6,12 @@ use arrow_array::{Array, Dictionary};
 use arrow_body::BodyFault;
 use std::process::Abort;
 
-// A buffer of these bytes, or of these numbers, of four bytes each.
+// A buffer of these bytes, or of these numbers, of four or of eight bytes each.
 #[derive(Clone, Copy)]
 pub(super) enum Held<'a> {
     Bytes(&'a [u8]),
     Numbers(&'a [u8]),
+    Wide(&'a [u8]),
 }
 
 impl Held<'_> {
@@ -20,6 +21,12 @@ impl Held<'_> {
             Held::Numbers(numbers) => {
                 for number in numbers {
                     body.extend_from_slice(&[*number, 0, 0, 0])
+                        .expect(rt, "memory");
+                }
+            }
+            Held::Wide(numbers) => {
+                for number in numbers {
+                    body.extend_from_slice(&[*number, 0, 0, 0, 0, 0, 0, 0])
                         .expect(rt, "memory");
                 }
             }
