@@ -51,7 +51,12 @@ fn is_simple(data_type: &DataType) -> bool
         | DataType::Time(_)
         | DataType::Timestamp(..)
         | DataType::List(_)
-        | DataType::Struct(_) => false,
+        | DataType::Struct(_)
+        | DataType::FixedSizeBinary(_)
+        | DataType::Duration(_)
+        | DataType::LargeBinary
+        | DataType::LargeUtf8
+        | DataType::LargeList(_) => false,
     }
 }
 
