@@ -7,14 +7,15 @@ use Rattle.std.specs.List.{AllByRecursion}
 use Rattle.std.specs.Prelude.{slice_index_or}
 use Rattle.std.specs.declared.alloc.Global.{Global}
 use Rattle.std.specs.declared.vec.Vec.{Vec}
+use Rattle.arrow_bits.specs.Offsets.{plain_list}
 use Rattle.arrow_types.specs.Field.{Fields, none, more, TypeShape}
 use Rattle.arrow_types.specs.declared.data_type.BitWidth.{BitWidth}
 use Rattle.arrow_types.specs.declared.field.Encoding.{Encoding}
-use Rattle.arrow_array.specs.Column.{Column, AreOf, IsColumn, counts_of, listed_of, plain_column}
-use Rattle.arrow_array.specs.Form.{IsOneField, form_of, node_form}
+use Rattle.arrow_array.specs.Column.{Column, AreOf, IsColumn, counts_of, listed_of, plain_column, slots_of}
+use Rattle.arrow_array.specs.Form.{IsOneField, form_of, node_form, offset_bytes}
 use Rattle.arrow_array.specs.Layout.{buffer, HasStrings, HoldsSlots}
 use Rattle.arrow_array.specs.Node.{column_by, AreLists, AreStrings, AreStructs, bytes_of, IsInside, IsFormat}
-use Rattle.arrow_array.specs.Parts.{node_column, value_slot}
+use Rattle.arrow_array.specs.Parts.{node_column, node_offsets, value_slot}
 use Rattle.arrow_array.specs.PlainValue.{PlainValue}
 use Rattle.arrow_array.specs.Slots.{AreTexts, slots, entry_slot, int_slot, list_slot, struct_slot}
 use Rattle.arrow_array.specs.declared.buffers.Ints.{Ints}
@@ -65,6 +66,8 @@ values_by t form len b cs = record {
   raw = slots len (value_slot form b (map (λ (c : Column). c.raw) cs));
   resolved = slots len (value_slot form b (map (λ (c : Column). c.resolved) cs));
   dictionaries = listed_of cs;
+  offsets = node_offsets form len b;
+  below = map slots_of cs;
 }
 
 -- its ranges and its child stand for what its buffers and its child do
@@ -80,6 +83,8 @@ list_same w t len body bs d cs child form one two =
       raw = slots len (list_slot w (sym v i) (sym o i) child.value.raw);
       resolved = slots len (list_slot w (sym v i) (sym o i) child.value.resolved);
       dictionaries = whole i;
+      offsets = plain_list (offset_bytes w) len (sym o i);
+      below = slots_of child.value ∷ [];
     } in
     literal ∙ ap (values_by t (forms.Lists w) len (map (bytes_of body) bs)) (sym one) ∙ ap (λ x. values_by t x len (map (bytes_of body) bs) cs) (sym form)
 
@@ -106,6 +111,8 @@ struct_same t len body bs d children form one =
       raw = slots len (struct_slot (sym v i) (map (λ (c : Column). c.raw) children.items));
       resolved = slots len (struct_slot (sym v i) (map (λ (c : Column). c.resolved) children.items));
       dictionaries = listed_of children.items;
+      offsets = [];
+      below = map slots_of children.items;
     } in
     literal ∙ ap (λ x. values_by t x len (map (bytes_of body) bs) children.items) (sym form)
 
@@ -122,19 +129,27 @@ no_children : (fields : Fields) (cs : List Column) → fields ≡ none → AreOf
 no_children fields [] leaf h = refl
 no_children fields (c ∷ cs) leaf h = absurd (subst (λ f. AreOf f (c ∷ cs)) leaf h)
 
+-- nor slots of them
+no_slots : (fields : Fields) (cs : List Column) → fields ≡ none → AreOf fields cs → map slots_of cs ≡ []
+no_slots fields [] leaf h = refl
+no_slots fields (c ∷ cs) leaf h = absurd (subst (λ f. AreOf f (c ∷ cs)) leaf h)
+
 -- Where no fields stand below a type and its form shows these slots, its node has the column of these slots.
 pub leaf_same : (t : TypeShape) (form : Form) (len : ℕ) (b : List (List ℕ)) (cs : List Column) (slot : ℕ → PlainValue) → form_of t.tag ≡ form → t.children ≡ none → AreOf t.children cs
-    → ((children : List (List PlainValue)) → slot ≡ value_slot form b children) → plain_column t (slots len (λ j. slot j)) ≡ node_column t None len b cs []
-leaf_same t form len b cs slot is leaf typed shows =
+    → node_offsets form len b ≡ [] → ((children : List (List PlainValue)) → slot ≡ value_slot form b children) → plain_column t (slots len (λ j. slot j)) ≡ node_column t None len b cs []
+leaf_same t form len b cs slot is leaf typed flat shows =
     let raw = shows (map (λ (c : Column). c.raw) cs) in
     let resolved = shows (map (λ (c : Column). c.resolved) cs) in
     let listed : listed_of cs ≡ [] = no_children t.children cs leaf typed in
+    let below : map slots_of cs ≡ [] = no_slots t.children cs leaf typed in
     let literal : plain_column t (slots len (λ j. slot j)) ≡ values_by t form len b cs = λ i. record {
       data_type = t;
       encoding = None;
       raw = slots len (raw i);
       resolved = slots len (resolved i);
       dictionaries = sym listed i;
+      offsets = sym flat i;
+      below = sym below i;
     } in
     literal ∙ ap (λ x. values_by t x len b cs) (sym is)
 
@@ -177,12 +192,12 @@ pub number_same : (t : TypeShape) (len : ℕ) (body : List ℕ) (bs : List ByteR
     → IsFormat (forms.Numbers bits signed) n → n.validity ≡ slice_index_or bs 0 n.validity → n.values ≡ slice_index_or bs 1 n.values
     → column_by t None len body (ranges.Ints n) ≡ node_column t None len (map (bytes_of body) bs) cs []
 number_same t len body bs cs n bits signed form leaf typed two format v w =
-    leaf_same t (forms.Numbers bits signed) len (map (bytes_of body) bs) cs (int_slot n.width n.signed (bytes_of body n.validity) (bytes_of body n.values)) form leaf typed
+    leaf_same t (forms.Numbers bits signed) len (map (bytes_of body) bs) cs (int_slot n.width n.signed (bytes_of body n.validity) (bytes_of body n.values)) form leaf typed refl
     (λ children. pair_same body bs n.validity n.values two v w (int_slot n.width n.signed) ∙ (λ i. int_slot (format.0 i) (format.1 i) (buffer (map (bytes_of body) bs) 0) (buffer (map (bytes_of body) bs) 1)))
 
 -- a node of indices
 pub index_same : (t : TypeShape) (e : Encoding) (len : ℕ) (body : List ℕ) (bs : List ByteRange) (cs : List Column) (n : Ints) (d : Box Dictionary) (values : List PlainValue)
-    → IsFormat (node_form t.tag (Some e)) n → n.validity ≡ slice_index_or bs 0 n.validity → n.values ≡ slice_index_or bs 1 n.values → d.value.values ≡ values → 2 ≤ length bs
+    → IsFormat (node_form t.tag (Some e)) n → n.validity ≡ slice_index_or bs 0 n.validity → n.values ≡ slice_index_or bs 1 n.values → d.value ≡ record { data_type = t; values = values } → 2 ≤ length bs
     → column_by t (Some e) len body (ranges.Indices n d) ≡ node_column t (Some e) len (map (bytes_of body) bs) cs values
 index_same t e len body bs cs n d values format v w is two =
     let b = map (bytes_of body) bs in
@@ -192,6 +207,8 @@ index_same t e len body bs cs n d values format v w is two =
       data_type = t;
       encoding = Some e;
       raw = slots len (int_slot (format.0 i) (format.1 i) (first i) (second i));
-      resolved = slots len (entry_slot (format.0 i) (format.1 i) (first i) (second i) (is i));
+      resolved = slots len (entry_slot (format.0 i) (format.1 i) (first i) (second i) (is i).values);
       dictionaries = (e.id, is i) ∷ [];
+      offsets = [];
+      below = [];
     }

@@ -8,17 +8,23 @@ use Rattle.std.specs.Prelude.{slice_range, option_map}
 use Rattle.std.proofs.lemmas.Bool.{or_parts}
 use Rattle.arrow_bits.specs.Numbers.{int_of}
 use Rattle.arrow_types.specs.Field.{Fields, none, more, TypeShape}
-use Rattle.arrow_types.specs.Schema.{has_encoding}
+use Rattle.arrow_types.specs.Schema.{dictionary_fields, has_encoding}
 use Rattle.arrow_types.specs.View.{type_view}
 use Rattle.arrow_types.specs.declared.field.Encoding.{Encoding}
 use Rattle.arrow_array.specs.PlainValue.{PlainValue, PlainValues, value_at, null_value, list_value, struct_value, more_values, values_of}
+use Rattle.arrow_array.specs.Fits.{AllFit, plain_type}
+use Rattle.arrow_array.specs.Form.{form_of}
 use Rattle.arrow_array.specs.Resolve.{resolve, resolve_items, resolve_parts, entry_of, before}
-use Rattle.arrow_array.specs.Column.{Column, AreOf, Agree, IsColumn, listed_of}
+use Rattle.arrow_array.specs.Column.{Column, ValueList, AreOf, Agree, IsColumn, IsValueList, field_of_listed, listed_of}
 use Rattle.arrow_array.specs.Slots.{slots, list_slot, struct_slot, is_valid_at, place_of, entry_at, IsIndex}
-use Rattle.arrow_array.specs.Node.{column_by, column_of, raw_slot, resolved_slot, AreRanges, IsArray, bytes_of}
+use Rattle.arrow_array.specs.Node.{AreBytes, HasOwnFields, column_by, column_of, raw_slot, resolved_slot, AreRanges, IsArray, bytes_of}
 use Rattle.arrow_array.specs.declared.array.Array.TheInside.{Inside}
 use Rattle.arrow_array.specs.declared.array.Ranges.{Ranges}
 use Rattle.arrow_array.specs.declared.array.Ranges.TheVariants as ranges
+use Rattle.arrow_array.proofs.Fitting.{ranges_fit}
+use Rattle.arrow_array.proofs.ResolvedFitting.{no_encoding, ranges_resolved_fit}
+use Rattle.arrow_array.specs.declared.form.Form.TheVariants as forms
+use Rattle.arrow_array.proofs.Listings.{all_listed_known, child_listed, fields_listed, leaf_listed, number_listed}
 use Rattle.arrow_array.proofs.Shown.{length_slots}
 
 -- slot by slot
@@ -77,11 +83,11 @@ at_resolves f (x ∷ xs) (y ∷ ys) (suc j) z p = let rest : map f xs ≡ map So
 at_resolves f [] (y ∷ ys) j z p = cc
 at_resolves f (x ∷ xs) [] j z p = cc
 
-agree_left : (xs ys : List (ℤ × List PlainValue)) (d : ℤ → List PlainValue) → Agree (xs ++ ys) d → Agree xs d
+agree_left : (xs ys : List (ℤ × ValueList)) (d : ℤ → List PlainValue) → Agree (xs ++ ys) d → Agree xs d
 agree_left [] ys d h = tt
 agree_left (x ∷ xs) ys d h = (h.0, agree_left xs ys d h.1)
 
-agree_right : (xs ys : List (ℤ × List PlainValue)) (d : ℤ → List PlainValue) → Agree (xs ++ ys) d → Agree ys d
+agree_right : (xs ys : List (ℤ × ValueList)) (d : ℤ → List PlainValue) → Agree (xs ++ ys) d → Agree ys d
 agree_right [] ys d h = h
 agree_right (x ∷ xs) ys d h = agree_right xs ys d h.1
 
@@ -104,10 +110,6 @@ pub index_resolves : (values : List PlainValue) (z : ℤ) → IsIndex (length va
 index_resolves values (pos n) h = slice_get-get_or values n null_value h
 index_resolves values (negsuc n) h = absurd h
 
-no_encoding : (e : Option Encoding) → is_some e ≡ false → e ≡ None
-no_encoding None h = refl
-no_encoding (Some e) h = absurd (false≢true (sym h))
-
 -- without an encoding on any level the columns of fields hold the values that their raw values are
 children_plain : (fields : Fields) (cs : List Column) → AreOf fields cs → AllByRecursion IsColumn cs → has_encoding fields ≡ false
     → map (λ (c : Column). c.resolved) cs ≡ map (λ (c : Column). c.raw) cs
@@ -124,11 +126,16 @@ child_plain : (fields : Fields) (c : Column) → AreOf fields (c ∷ []) → IsC
 child_plain fields c typed known flat = ap (λ vs. get_or vs 0 []) (children_plain fields (c ∷ []) typed (known, tt) flat)
 
 -- a column of values
-values_known : (t : TypeShape) (n : ℕ) (raw resolved : ℕ → PlainValue) (listed : List (ℤ × List PlainValue)) → n ≤ 2147483647
+values_known : (t : TypeShape) (n : ℕ) (raw resolved : ℕ → PlainValue) (listed : List (ℤ × ValueList)) (offsets : List ℕ) (below : List (List PlainValue × List PlainValue)) → n ≤ 2147483647
+    → AllFit t None (slots n (λ j. raw j)) → AllFit (plain_type t) None (slots n (λ j. resolved j)) → map field_of_listed listed ≡ dictionary_fields t.children → AllByRecursion (λ (d : ℤ × ValueList). IsValueList d.1) listed
     → (has_encoding t.children ≡ false → (j : ℕ) → resolved j ≡ raw j)
     → ((d : ℤ → List PlainValue) → Agree listed d → (j : ℕ) → j < n → resolve None t.children d (raw j) ≡ Some (resolved j))
-    → IsColumn (record { data_type = t; encoding = None; raw = slots n (λ j. raw j); resolved = slots n (λ j. resolved j); dictionaries = listed })
-values_known t n raw resolved listed few plain h = record {
+    → IsColumn (record { data_type = t; encoding = None; raw = slots n (λ j. raw j); resolved = slots n (λ j. resolved j); dictionaries = listed; offsets = offsets; below = below })
+values_known t n raw resolved listed offsets below few fits resolved_fits lists listed_known plain h = record {
+  lists = lists;
+  listed_known = listed_known;
+  fits = fits;
+  resolved_fits = resolved_fits;
   few = omega (arith, length_slots n (λ j. raw j));
   long = length_slots n (λ j. resolved j) ∙ sym (length_slots n (λ j. raw j));
   flat = λ some. absurd (false≢true some);
@@ -141,31 +148,39 @@ pub plain_resolves : (e : Option Encoding) (fields : Fields) (d : ℤ → List P
     → resolve e fields d (if valid then x else null_value) ≡ Some (if valid then x else null_value)
 plain_resolves e fields d valid x h = shown_resolves e fields d valid x x (λ _. h)
 
+-- the values of a node without an encoding fit its type
+none_fit : (len : ℕ) (t : TypeShape) (e : Option Encoding) (body : List ℕ) (r : Ranges) → AreBytes body → AreRanges len t e body r → e ≡ None → AllFit t None (slots len (raw_slot body r))
+none_fit len t e body r small h plain = subst (λ x. AllFit t x (slots len (raw_slot body r))) plain (ranges_fit len t e body r small h)
+
 -- what the ranges make known of the column
-pub ranges_known : (len : ℕ) (t : TypeShape) (e : Option Encoding) (body : List ℕ) (r : Ranges) → len ≤ 2147483647 → AreRanges len t e body r → IsColumn (column_by t e len body r)
-ranges_known len t e body ranges.Nulls few h =
-    subst (λ x. IsColumn (column_by t x len body ranges.Nulls)) (sym h.0) (values_known t len (λ j. null_value) (λ j. null_value) [] few (λ _ j. refl) (λ d agree j l. refl))
-ranges_known len t e body (ranges.Bools b) few h =
-    subst (λ x. IsColumn (column_by t x len body (ranges.Bools b))) (sym h.0) (values_known t len _ _ [] few (λ _ j. refl) (λ d agree j l. plain_resolves None t.children d (is_valid_at (bytes_of body b.validity) j) _ refl))
-ranges_known len t e body (ranges.Ints n) few h =
-    subst (λ x. IsColumn (column_by t x len body (ranges.Ints n))) (sym h.0) (values_known t len _ _ [] few (λ _ j. refl) (λ d agree j l. plain_resolves None t.children d (is_valid_at (bytes_of body n.validity) j) _ refl))
-ranges_known len t e body (ranges.Binaries s) few h =
-    subst (λ x. IsColumn (column_by t x len body (ranges.Binaries s))) (sym h.0) (values_known t len _ _ [] few (λ _ j. refl) (λ d agree j l. plain_resolves None t.children d (is_valid_at (bytes_of body s.validity) j) _ refl))
-ranges_known len t e body (ranges.Texts s) few h =
-    subst (λ x. IsColumn (column_by t x len body (ranges.Texts s))) (sym h.0) (values_known t len _ _ [] few (λ _ j. refl) (λ d agree j l. plain_resolves None t.children d (is_valid_at (bytes_of body s.validity) j) _ refl))
-ranges_known len t e body (ranges.FixedBytes f) few h =
-    subst (λ x. IsColumn (column_by t x len body (ranges.FixedBytes f))) (sym h.0) (values_known t len _ _ [] few (λ _ j. refl) (λ d agree j l. plain_resolves None t.children d (is_valid_at (bytes_of body f.validity) j) _ refl))
-ranges_known len t e body (ranges.Lists w v o child) few h =
+pub ranges_known : (len : ℕ) (t : TypeShape) (e : Option Encoding) (body : List ℕ) (r : Ranges) → len ≤ 2147483647 → AreBytes body → HasOwnFields t → AreRanges len t e body r → IsColumn (column_by t e len body r)
+ranges_known len t e body ranges.Nulls few small has h =
+    subst (λ x. IsColumn (column_by t x len body ranges.Nulls)) (sym h.0) (values_known t len (λ j. null_value) (λ j. null_value) [] [] [] few (none_fit len t e body ranges.Nulls small h h.0) (ranges_resolved_fit len t e body ranges.Nulls small h) (leaf_listed (form_of t.tag) forms.Nulls t.children has h.1 (λ x. x)) tt (λ _ j. refl) (λ d agree j l. refl))
+ranges_known len t e body (ranges.Bools b) few small has h =
+    subst (λ x. IsColumn (column_by t x len body (ranges.Bools b))) (sym h.0) (values_known t len _ _ [] [] [] few (none_fit len t e body (ranges.Bools b) small h h.0) (ranges_resolved_fit len t e body (ranges.Bools b) small h) (leaf_listed (form_of t.tag) forms.Bits t.children has h.1 (λ x. x)) tt (λ _ j. refl) (λ d agree j l. plain_resolves None t.children d (is_valid_at (bytes_of body b.validity) j) _ refl))
+ranges_known len t e body (ranges.Ints n) few small has h =
+    subst (λ x. IsColumn (column_by t x len body (ranges.Ints n))) (sym h.0) (values_known t len _ _ [] [] [] few (none_fit len t e body (ranges.Ints n) small h h.0) (ranges_resolved_fit len t e body (ranges.Ints n) small h) (number_listed (form_of t.tag) n t.children h.1 has) tt (λ _ j. refl) (λ d agree j l. plain_resolves None t.children d (is_valid_at (bytes_of body n.validity) j) _ refl))
+ranges_known len t e body (ranges.Binaries s) few small has h =
+    subst (λ x. IsColumn (column_by t x len body (ranges.Binaries s))) (sym h.0) (values_known t len _ _ [] [] [] few (none_fit len t e body (ranges.Binaries s) small h h.0) (ranges_resolved_fit len t e body (ranges.Binaries s) small h) (leaf_listed (form_of t.tag) (forms.Bytes s.width) t.children has h.1 (λ x. x)) tt (λ _ j. refl) (λ d agree j l. plain_resolves None t.children d (is_valid_at (bytes_of body s.validity) j) _ refl))
+ranges_known len t e body (ranges.Texts s) few small has h =
+    subst (λ x. IsColumn (column_by t x len body (ranges.Texts s))) (sym h.0) (values_known t len _ _ [] [] [] few (none_fit len t e body (ranges.Texts s) small h h.0) (ranges_resolved_fit len t e body (ranges.Texts s) small h) (leaf_listed (form_of t.tag) (forms.Texts s.width) t.children has h.1 (λ x. x)) tt (λ _ j. refl) (λ d agree j l. plain_resolves None t.children d (is_valid_at (bytes_of body s.validity) j) _ refl))
+ranges_known len t e body (ranges.FixedBytes f) few small has h =
+    subst (λ x. IsColumn (column_by t x len body (ranges.FixedBytes f))) (sym h.0) (values_known t len _ _ [] [] [] few (none_fit len t e body (ranges.FixedBytes f) small h h.0) (ranges_resolved_fit len t e body (ranges.FixedBytes f) small h) (leaf_listed (form_of t.tag) (forms.FixedBytes f.width) t.children has h.1 (λ x. x)) tt (λ _ j. refl) (λ d agree j l. plain_resolves None t.children d (is_valid_at (bytes_of body f.validity) j) _ refl))
+ranges_known len t e body (ranges.Lists w v o child) few small has h =
     let places = bytes_of body o in
-    subst (λ x. IsColumn (column_by t x len body (ranges.Lists w v o child))) (sym h.0) (values_known t len _ _ child.value.dictionaries few
+    subst (λ x. IsColumn (column_by t x len body (ranges.Lists w v o child))) (sym h.0) (values_known t len _ _ child.value.dictionaries _ _ few (none_fit len t e body (ranges.Lists w v o child) small h h.0) (ranges_resolved_fit len t e body (ranges.Lists w v o child) small h) (child_listed t.children child.value h.2.typed h.2.known) h.2.known.listed_known
     (λ flat j. ap (λ vs. list_slot w (bytes_of body v) places vs j) (child_plain t.children child.value h.2.typed h.2.known flat)) (λ d agree j l.
     shown_resolves None t.children d (is_valid_at (bytes_of body v) j) _ _ (λ valid. ap (option_map list_value) (list_resolves t.children child.value d (place_of w places j) (place_of w places (j + 1)) h.2.typed h.2.known agree))))
-ranges_known len t e body (ranges.Structs v children) few h =
-    subst (λ x. IsColumn (column_by t x len body (ranges.Structs v children))) (sym h.0) (values_known t len _ _ (listed_of children.items) few
+ranges_known len t e body (ranges.Structs v children) few small has h =
+    subst (λ x. IsColumn (column_by t x len body (ranges.Structs v children))) (sym h.0) (values_known t len _ _ (listed_of children.items) _ _ few (none_fit len t e body (ranges.Structs v children) small h h.0) (ranges_resolved_fit len t e body (ranges.Structs v children) small h) (fields_listed t.children children.items h.2.typed h.2.known) (all_listed_known children.items h.2.known)
     (λ flat j. ap (λ vs. struct_slot (bytes_of body v) vs j) (children_plain t.children children.items h.2.typed h.2.known flat)) (λ d agree j l.
     shown_resolves None t.children d (is_valid_at (bytes_of body v) j) _ _ (λ valid. ap (option_map struct_value) (struct_resolves t.children children.items d j h.2.typed h.2.known agree))))
-ranges_known len t None body (ranges.Indices n d) few h = absurd h
-ranges_known len t (Some e) body (ranges.Indices n d) few h = let index = λ (j : ℕ). int_of (bytes_of body n.values) (n.width * j) n.width n.signed in record {
+ranges_known len t None body (ranges.Indices n d) few small has h = absurd h
+ranges_known len t (Some e) body (ranges.Indices n d) few small has h = let index = λ (j : ℕ). int_of (bytes_of body n.values) (n.width * j) n.width n.signed in record {
+  fits = ranges_fit len t (Some e) body (ranges.Indices n d) small h;
+  resolved_fits = ranges_resolved_fit len t (Some e) body (ranges.Indices n d) small h;
+  lists = λ i. record { id = e.id; value_type = h.typed i } ∷ [];
+  listed_known = (h.known, tt);
   few = omega (arith, length_slots len (λ j. raw_slot body (ranges.Indices n d) j));
   long = length_slots len (λ j. resolved_slot body (ranges.Indices n d) j) ∙ sym (length_slots len (λ j. raw_slot body (ranges.Indices n d) j));
   flat = λ some. subst (λ (x : TypeShape). has_encoding x.children ≡ false) h.typed h.known.flat;
@@ -176,4 +191,4 @@ ranges_known len t (Some e) body (ranges.Indices n d) few h = let index = λ (j 
 
 -- what is known of every array
 pub array_known : (a : Inside) (c : Column) → column_of a ≡ c → IsArray a → IsColumn c
-array_known a c view ok = subst IsColumn view (ranges_known a.len (type_view a.data_type) a.encoding a.body a.ranges ok.0 ok.1)
+array_known a c view ok = subst IsColumn view (ranges_known a.len (type_view a.data_type) a.encoding a.body a.ranges ok.0 ok.2 ok.3 ok.1)

@@ -1,11 +1,12 @@
 -- The segments of a dictionary, and the search among their starts.
-use Rattle.std.proofs.Common.{◌≡◌, ℕ, zero, suc, ◌+◌, ◌-◌, ◌<◌, ◌≤◌, List, [], ◌∷◌, ◌++◌, length, get_or, refl, sym, ap, ◌∙◌, arith, append_assoc, subst, length-append, map}
+use Rattle.std.proofs.Common.{◌≡◌, ℕ, zero, suc, ◌+◌, ◌-◌, ◌<◌, ◌≤◌, List, [], ◌∷◌, ◌++◌, length, get_or, refl, sym, ap, ◌∙◌, arith, append_assoc, subst, length-append, map, None}
 use Rattle.std.proofs.lemmas.List.{append-nil, get_or_append_left, get_or-append-add, get_or-map, length-map, map_push}
 use Rattle.std.proofs.lemmas.List.Elements.{All-from_recursion}
 use Rattle.std.specs.List.{AllByRecursion}
 use Rattle.arrow_types.specs.Field.{TypeShape}
-use Rattle.arrow_array.specs.PlainValue.{value_at, null_value}
-use Rattle.arrow_array.specs.Column.{Column, ValueList, HasValue}
+use Rattle.arrow_array.specs.Fits.{AllFit, FitsType}
+use Rattle.arrow_array.specs.PlainValue.{PlainValue, value_at, null_value}
+use Rattle.arrow_array.specs.Column.{Column, ValueList, HasValue, IsColumn}
 use Rattle.arrow_array.specs.Segments.{columns_of, joined, IsSegment, starts_from, starts_of, Between}
 use Rattle.arrow_array.specs.declared.dictionary.Segment.{Segment}
 
@@ -34,8 +35,17 @@ columns_push parts s = map_push (λ (x : Segment). x.array.value) parts s
 pub starts_of_push : (parts : List Segment) (s : Segment) → starts_of (parts ++ s ∷ []) ≡ starts_of parts ++ s.start ∷ []
 starts_of_push parts s = map_push (λ (x : Segment). x.start) parts s
 
+-- with the values of one column more of the type they all fit it
+all_both : (P : PlainValue → Type 0) (xs ys : List PlainValue) → AllByRecursion P xs → AllByRecursion P ys → AllByRecursion P (xs ++ ys)
+all_both P [] ys h k = k
+all_both P (x ∷ xs) ys h k = (h.0, all_both P xs ys h.1 k)
+
+pub fits_push : (t : TypeShape) (xs : List PlainValue) (c : Column) → AllFit t None xs → IsColumn c → c.data_type ≡ t → c.encoding ≡ None → AllFit t None (xs ++ c.raw)
+fits_push t xs c h known typed plain =
+    all_both (FitsType t None) xs c.raw h (subst (λ e. AllFit t e c.raw) plain (subst (λ x. AllFit x c.encoding c.raw) typed known.fits))
+
 -- what one segment more changes
-pub ruleset segments = (joined_push, segments_push, length-append, starts_push, columns_push, starts_of_push)
+pub ruleset segments = (fits_push, joined_push, segments_push, length-append, starts_push, columns_push, starts_of_push)
 
 -- where there is a value, there is a first segment, which begins at the first place
 pub first_start : (k : ℕ) (cs : List Column) (i : ℕ) → i < length (joined cs) → (0 < length (starts_from k cs)) × (get_or (starts_from k cs) 0 0 ≡ k)
@@ -66,6 +76,19 @@ found_segment k (c ∷ cs) (suc s) i d h b a t =
     let more = found_segment (k + length c.raw) cs s i d (omega arith) b (λ u. let e : suc s + 1 ≡ suc (s + 1) = omega arith in subst (λ n. i < get_or (starts_from k (c ∷ cs)) n 0) e (a (omega arith))) (omega arith) in
     let place : i - k ≡ length c.raw + (i - (k + length c.raw)) = omega arith in
     (more.0, more.1 ∙ sym (ap (value_at (c.raw ++ joined cs)) place ∙ get_or-append-add c.raw (joined cs) (i - (k + length c.raw)) null_value))
+
+-- the values of a segment, one after another
+pub found_run : (k : ℕ) (cs : List Column) (s j : ℕ) (d : Column) → s < length cs → j < length (get_or cs s d).raw
+    → (get_or (starts_from k cs) s 0 - k + j < length (joined cs)) × (value_at (joined cs) (get_or (starts_from k cs) s 0 - k + j) ≡ value_at (get_or cs s d).raw j)
+found_run k [] s j d h r = absurd (omega arith)
+found_run k (c ∷ cs) zero j d h r =
+    let place : k - k + j ≡ j = omega arith in
+    (omega (arith, length-append c.raw (joined cs)), ap (value_at (c.raw ++ joined cs)) place ∙ get_or_append_left c.raw (joined cs) null_value j r)
+found_run k (c ∷ cs) (suc s) j d h r =
+    let low : k + length c.raw ≤ get_or (starts_from (k + length c.raw) cs) s 0 = start_from (k + length c.raw) cs s (omega arith) in
+    let more = found_run (k + length c.raw) cs s j d (omega arith) r in
+    let place : get_or (starts_from (k + length c.raw) cs) s 0 - k + j ≡ length c.raw + (get_or (starts_from (k + length c.raw) cs) s 0 - (k + length c.raw) + j) = omega arith in
+    (omega (arith, length-append c.raw (joined cs), more.0), ap (value_at (c.raw ++ joined cs)) place ∙ get_or-append-add c.raw (joined cs) (get_or (starts_from (k + length c.raw) cs) s 0 - (k + length c.raw) + j) null_value ∙ more.1)
 
 -- the column of a segment that was read
 at_columns : (parts : List Segment) (n : ℕ) (s : Segment) → get_or (columns_of parts) n s.array.value ≡ (get_or parts n s).array.value
@@ -101,12 +124,21 @@ segment_value d parts low high i s from all values within between last is =
     let found = found_segment 0 cs low i s.array.value inside (subst (λ x. get_or x low 0 ≤ i) from between.below) next reached in
     let whole : i - 0 ≡ i = omega arith in
     let place : i - s.start ≡ i - get_or (starts_from 0 cs) low 0 = ap (λ x. i - x) here in
+    let below : get_or (starts_from 0 cs) low 0 ≤ i = subst (λ x. get_or x low 0 ≤ i) from between.below in
+    let behind : (k : ℕ) → i - s.start + k < length s.array.value.raw → (i + k < length d.values) × (value_at d.values (i + k) ≡ value_at s.array.value.raw (i - s.start + k)) =
+    λ k h.
+    let run = found_run 0 cs low (i - s.start + k) s.array.value inside (subst (λ (c : Column). i - s.start + k < length c.raw) (sym same) h) in
+    let to : get_or (starts_from 0 cs) low 0 - 0 + (i - s.start + k) ≡ i + k = omega (arith, here, below) in (
+      omega (arith, run.0, to, ap length values),
+      ap (λ vs. value_at vs (i + k)) values ∙ ap (value_at (joined cs)) (sym to) ∙ run.1 ∙ ap (λ (c : Column). value_at c.raw (i - s.start + k)) same,
+    ) in
     let of_type = All-from_recursion (IsSegment d.data_type) cs all low s.array.value inside in
     record {
       inside = rw (place, ← same) found.0;
       typed = rw (← same) of_type.0;
       plain = rw (← same) of_type.1;
       same = rw (values, place, ← same) (sym (found.1 ∙ ap (value_at (joined cs)) whole));
+      follow = behind;
     }
 
 -- the search begins with all segments

@@ -1,7 +1,7 @@
 -- The slots of ranges.
 use Rattle.std.proofs.Common.{◌≡◌, ℕ, ◌+◌, ◌*◌, ◌<◌, ◌≤◌, true, List, [], ◌∷◌, length, map, refl, ap, ◌∙◌, arith, if◌then◌else◌}
 use Rattle.std.proofs.lemmas.List.FromFn.{get_or-map-range_with_len, length-map-range_with_len}
-use Rattle.std.proofs.lemmas.Nat.{column_fits}
+use Rattle.std.proofs.lemmas.Nat.{column_fits, mul-le}
 use Rattle.std.specs.List.{AllByRecursion}
 use Rattle.arrow_types.specs.Field.{TypeShape}
 use Rattle.arrow_array.specs.PlainValue.{PlainValue, value_at, null_value, struct_value, values_of}
@@ -21,6 +21,10 @@ at_slots n f i h = get_or-map-range_with_len f 0 n i i null_value h (omega arith
 -- the bytes of a slot of fixed width
 pub slot_inside : (width i n m : ℕ) → i < n → width * n ≤ m → width * i + width ≤ m
 slot_inside width i n m h long = omega (arith, column_fits width i width n h (omega arith), long)
+
+-- the bytes of slots of fixed width one after another
+pub parts_inside : (width i k n m : ℕ) → i ≤ k → k ≤ n → width * n ≤ m → (width * i ≤ width * k) × (width * k ≤ m)
+parts_inside width i k n m order inside long = (mul-le width i width k (omega arith) order, omega (arith, mul-le width k width n (omega arith) inside, long))
 
 -- how many slots there are, what stands in each, and where its bytes are
 pub ruleset shown = (length_slots, at_slots, slot_inside)

@@ -2,6 +2,7 @@ pub mod PlainValue
 pub mod Form
 pub mod Stored
 pub mod Resolve
+pub mod Fits
 pub mod Column
 pub mod Listed
 pub mod Slots
@@ -14,3 +15,4 @@ pub mod Shown
 pub mod Same
 pub mod Value
 pub mod Batch
+pub mod FullSlots

@@ -1,13 +1,14 @@
 -- What the ranges of a node stand for, and what is known of them in every array.
-use Rattle.std.specs.Prelude.{◌≡◌, ◌≤◌, ℕ, ℤ, List, [], ◌∷◌, map, length, slice_range, Option, None, Some}
+use Rattle.std.specs.Prelude.{◌≡◌, ◌≤◌, ◌<◌, ℕ, ℤ, List, [], ◌∷◌, map, length, get_or, slice_range, Option, None, Some}
 use Rattle.std.specs.List.{AllByRecursion}
 use Rattle.arrow_bits.specs.Numbers.{IsWidth}
+use Rattle.arrow_bits.specs.Offsets.{plain_list}
 use Rattle.arrow_types.specs.Field.{TypeShape}
 use Rattle.arrow_types.specs.View.{type_view}
 use Rattle.arrow_types.specs.declared.field.Encoding.{Encoding}
-use Rattle.arrow_array.specs.Form.{form_of, node_form, number_width}
+use Rattle.arrow_array.specs.Form.{HasFieldsOf, form_of, node_form, number_width, offset_bytes}
 use Rattle.arrow_array.specs.PlainValue.{PlainValue, null_value}
-use Rattle.arrow_array.specs.Column.{Column, ValueList, AreOf, IsColumn, IsValueList, listed_of, counts_of}
+use Rattle.arrow_array.specs.Column.{Column, ValueList, AreOf, IsColumn, IsValueList, listed_of, counts_of, slots_of}
 use Rattle.arrow_array.specs.Slots.{slots, bool_slot, int_slot, fixed_slot, binary_slot, utf8_slot, list_slot, struct_slot, entry_slot, AreTexts, AreIndices}
 use Rattle.arrow_array.specs.Layout.{HasBools, HasFixed, HasStrings, HasLists, HasStructs}
 use Rattle.arrow_array.specs.declared.byte_range.ByteRange.{ByteRange}
@@ -54,6 +55,18 @@ fixed_at body f j = fixed_slot f.width (bytes_of body f.validity) (bytes_of body
 abbrev pub entry_in : List ℕ → Ints → List PlainValue → ℕ → PlainValue
 entry_in body n values j = entry_slot n.width n.signed (bytes_of body n.validity) (bytes_of body n.values) values j
 
+-- where the validity of the slots lies, None where every slot is null
+abbrev pub validity_in : Ranges → Option ByteRange
+validity_in ranges.Nulls = None
+validity_in (ranges.Bools b) = Some b.validity
+validity_in (ranges.Ints n) = Some n.validity
+validity_in (ranges.Binaries s) = Some s.validity
+validity_in (ranges.Texts s) = Some s.validity
+validity_in (ranges.FixedBytes f) = Some f.validity
+validity_in (ranges.Lists w v o child) = Some v
+validity_in (ranges.Structs v children) = Some v
+validity_in (ranges.Indices n d) = Some n.validity
+
 -- the raw value of a slot
 abbrev pub raw_slot : List ℕ → Ranges → ℕ → PlainValue
 raw_slot body ranges.Nulls j = null_value
@@ -79,21 +92,45 @@ resolved_slot body (ranges.Structs v children) j = struct_slot (bytes_of body v)
 resolved_slot body (ranges.Indices n d) j = entry_in body n d.value.values j
 
 -- the dictionary of a column with this encoding
-abbrev pub listed_by : Option Encoding → List PlainValue → List (ℤ × List PlainValue)
-listed_by None values = []
-listed_by (Some e) values = (e.id, values) ∷ []
+abbrev pub listed_by : Option Encoding → ValueList → List (ℤ × ValueList)
+listed_by None d = []
+listed_by (Some e) d = (e.id, d) ∷ []
 
 -- the dictionaries that a node refers to, itself and below it
-abbrev pub dictionaries_of : Option Encoding → Ranges → List (ℤ × List PlainValue)
+abbrev pub dictionaries_of : Option Encoding → Ranges → List (ℤ × ValueList)
 dictionaries_of e (ranges.Lists w v o child) = child.value.dictionaries
 dictionaries_of e (ranges.Structs v children) = listed_of children.items
-dictionaries_of e (ranges.Indices n d) = listed_by e d.value.values
+dictionaries_of e (ranges.Indices n d) = listed_by e d.value
 dictionaries_of e ranges.Nulls = []
 dictionaries_of e (ranges.Bools b) = []
 dictionaries_of e (ranges.Ints n) = []
 dictionaries_of e (ranges.Binaries s) = []
 dictionaries_of e (ranges.Texts s) = []
 dictionaries_of e (ranges.FixedBytes f) = []
+
+-- the offsets of lists
+abbrev pub offsets_in : ℕ → List ℕ → Ranges → List ℕ
+offsets_in len body (ranges.Lists w v o child) = plain_list (offset_bytes w) len (bytes_of body o)
+offsets_in len body ranges.Nulls = []
+offsets_in len body (ranges.Bools b) = []
+offsets_in len body (ranges.Ints n) = []
+offsets_in len body (ranges.Binaries s) = []
+offsets_in len body (ranges.Texts s) = []
+offsets_in len body (ranges.FixedBytes f) = []
+offsets_in len body (ranges.Structs v children) = []
+offsets_in len body (ranges.Indices n d) = []
+
+-- the slots of the children
+abbrev pub below_of : Ranges → List (List PlainValue × List PlainValue)
+below_of (ranges.Lists w v o child) = slots_of child.value ∷ []
+below_of (ranges.Structs v children) = map slots_of children.items
+below_of ranges.Nulls = []
+below_of (ranges.Bools b) = []
+below_of (ranges.Ints n) = []
+below_of (ranges.Binaries s) = []
+below_of (ranges.Texts s) = []
+below_of (ranges.FixedBytes f) = []
+below_of (ranges.Indices n d) = []
 
 -- the ranges hold a truth value for each slot
 pub record AreBools (len : ℕ) (body : List ℕ) (b : Bools) : Type 0 where
@@ -180,12 +217,23 @@ column_by t e len body r = record {
   raw = slots len (raw_slot body r);
   resolved = slots len (resolved_slot body r);
   dictionaries = dictionaries_of e r;
+  offsets = offsets_in len body r;
+  below = below_of r;
 }
 
 -- what an array stands for
 abbrev pub column_of : Inside → Column
 column_of a = column_by (type_view a.data_type) a.encoding a.len a.body a.ranges
 
--- what is known of every array: its slots can be counted by a signed 32-bit number, and its ranges are of its type
+-- each of the numbers is a byte
+abbrev pub AreBytes : List ℕ → Type 0
+AreBytes body = (i : ℕ) → get_or body i 0 < 256
+
+-- below a type stand the fields that its form asks for
+abbrev pub HasOwnFields : TypeShape → Type 0
+HasOwnFields t = HasFieldsOf (form_of t.tag) t.children
+
+-- what is known of every array: its slots can be counted by a signed 32-bit number, and its ranges, of a body of bytes, are
+-- of its type
 abbrev pub IsArray : Inside → Type 0
-IsArray a = (a.len ≤ 2147483647) × AreRanges a.len (type_view a.data_type) a.encoding a.body a.ranges
+IsArray a = (a.len ≤ 2147483647) × AreRanges a.len (type_view a.data_type) a.encoding a.body a.ranges × AreBytes a.body × HasOwnFields (type_view a.data_type)

@@ -1,11 +1,12 @@
 -- The column of a node, by its buffers, its children and its dictionary (Columnar Format, "Physical Memory Layout").
 use Rattle.std.specs.Prelude.{◌≡◌, ℕ, List, [], ◌∷◌, map, ⊤, get_or, false, Option, None, Some}
+use Rattle.arrow_bits.specs.Offsets.{plain_list}
 use Rattle.arrow_types.specs.Field.{FieldShape, TypeShape}
 use Rattle.arrow_types.specs.Schema.{has_encoding}
 use Rattle.arrow_types.specs.declared.field.Encoding.{Encoding}
 use Rattle.arrow_array.specs.PlainValue.{PlainValue, null_value}
-use Rattle.arrow_array.specs.Column.{Column, ValueList, AreOf, listed_of}
-use Rattle.arrow_array.specs.Form.{form_of, number_width}
+use Rattle.arrow_array.specs.Column.{Column, ValueList, AreOf, listed_of, slots_of}
+use Rattle.arrow_array.specs.Form.{form_of, number_width, offset_bytes}
 use Rattle.arrow_array.specs.Layout.{buffer}
 use Rattle.arrow_array.specs.Slots.{slots, bool_slot, int_slot, fixed_slot, binary_slot, utf8_slot, list_slot, struct_slot, entry_slot, index_width}
 use Rattle.arrow_array.specs.declared.form.Form.{Form}
@@ -26,6 +27,17 @@ value_slot (forms.FixedBytes width) b children j = fixed_slot width (buffer b 0)
 value_slot (forms.Lists width) b children j = list_slot width (buffer b 0) (buffer b 1) (get_or children 0 []) j
 value_slot forms.Structs b children j = struct_slot (buffer b 0) children j
 
+-- the offsets of a node of lists
+abbrev pub node_offsets : Form → ℕ → List (List ℕ) → List ℕ
+node_offsets forms.Nulls len b = []
+node_offsets forms.Bits len b = []
+node_offsets (forms.Numbers bits signed) len b = []
+node_offsets (forms.Bytes width) len b = []
+node_offsets (forms.Texts width) len b = []
+node_offsets (forms.FixedBytes width) len b = []
+node_offsets (forms.Lists width) len b = plain_list (offset_bytes width) len (buffer b 1)
+node_offsets forms.Structs len b = []
+
 -- the index in a slot
 abbrev pub index_slot : Encoding → List (List ℕ) → ℕ → PlainValue
 index_slot e b j = int_slot (index_width e.index) e.index.signed (buffer b 0) (buffer b 1) j
@@ -43,13 +55,17 @@ node_column t None len b children values = record {
   raw = slots len (value_slot (form_of t.tag) b (map (λ (c : Column). c.raw) children));
   resolved = slots len (value_slot (form_of t.tag) b (map (λ (c : Column). c.resolved) children));
   dictionaries = listed_of children;
+  offsets = node_offsets (form_of t.tag) len b;
+  below = map slots_of children;
 }
 node_column t (Some e) len b children values = record {
   data_type = t;
   encoding = Some e;
   raw = slots len (index_slot e b);
   resolved = slots len (entry_of_slot e b values);
-  dictionaries = (e.id, values) ∷ [];
+  dictionaries = (e.id, record { data_type = t; values = values }) ∷ [];
+  offsets = [];
+  below = [];
 }
 
 -- the children are those of the type; a dictionary-encoded node has none of its own

@@ -1,5 +1,5 @@
 -- What two slots are compared by, and the measures by which the comparison ends.
-use Rattle.std.specs.Prelude.{◌+◌, ◌*◌, ◌≤◌, ℕ, Bool, List, length}
+use Rattle.std.specs.Prelude.{◌≡◌, ◌+◌, ◌*◌, ◌≤◌, ℕ, Bool, List, length, take}
 use Rattle.std.specs.List.{AllByRecursion}
 use denote.Param.Weighed.{most}
 use Rattle.std.specs.Cmp.{IsPartialEquivalence, on_per, partial_equiv_from_equiv}
@@ -7,6 +7,7 @@ use Rattle.std.specs.Coded.{coded_list}
 use Rattle.std.specs.Ordering.{on}
 use Rattle.arrow_types.specs.Equality.{is_equal, is_equal_equivalence}
 use Rattle.arrow_array.specs.Column.{Column, ValueList, column_size}
+use Rattle.arrow_array.specs.PlainValue.{PlainValue}
 use Rattle.arrow_array.specs.Stored.{value_code}
 
 -- whether two dictionaries have the same values
@@ -16,6 +17,10 @@ same_values = on (λ (d : ValueList). d.values) (is_equal (coded_list value_code
 -- it is a partial equivalence, as equality by `==` asks
 pub same_values_laws : IsPartialEquivalence same_values
 same_values_laws = on_per (λ (d : ValueList). d.values) (partial_equiv_from_equiv (is_equal_equivalence (coded_list value_code)))
+
+-- the first list begins the second
+abbrev pub Begins : List PlainValue → List PlainValue → Type 0
+Begins old new = take (length old) new ≡ old
 
 -- each column has slot i
 abbrev pub HaveSlot : ℕ → List Column → Type 0

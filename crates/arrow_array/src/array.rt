@@ -1,19 +1,24 @@
 //! Arrays, and what stands in their slots.
 
-ghost use Rattle.std.specs.Prelude.{◌≡◌, ◌<◌, length, option_map, MatchOption, None};
+ghost use Rattle.std.specs.Prelude.{◌≡◌, ◌≤◌, ◌<◌, length, option_map, MatchOption, None};
 ghost use Rattle.arrow_types.specs.View.{type_view};
 ghost use Rattle.arrow_array.specs.Column.{HasItems, HasChild, HasField, HasEntry, HasNoIndex};
 ghost use Rattle.arrow_array.specs.Column.{HasDictionary, IsColumn, IsList, struct_fields};
 ghost use Rattle.arrow_array.specs.Column.{HasFields, IsStruct, type_of_field};
 ghost use Rattle.arrow_array.specs.PlainValue.{value_at, is_null_value, bool_in, int_in, binary_in};
 ghost use Rattle.arrow_array.specs.PlainValue.{utf8_in, items_in};
+ghost use Rattle.arrow_array.specs.Column.{values_from};
+ghost use Rattle.arrow_array.specs.Form.{node_form};
+ghost use Rattle.arrow_array.specs.FullSlots.{AreFull, IsFirstNull, value_bytes};
+ghost use Rattle.arrow_array.specs.Node.{validity_in};
 ghost use Rattle.arrow_array.specs.Shown.{HoldsValue, Shows, value_shown};
+ghost use Rattle.std.specs.List.{flat_map};
 
 use crate::buffers::{Bools, Fixed, Ints, Strings};
 use crate::byte_range::{ByteRange, bytes_in};
 use crate::dictionary::Dictionary;
 use crate::form::OffsetWidth;
-use crate::slot::{is_valid, range_at};
+use crate::slot::{first_invalid, is_valid, range_at};
 use arrow_types::{DataType, Encoding};
 use bytes::Bytes;
 use std::marker::Model;
@@ -39,6 +44,22 @@ pub(crate) enum Ranges {
         children: Vec<Array>,
     },
     Indices(Ints, Box<Dictionary>),
+}
+
+impl Ranges {
+    // Where the validity of the slots lies; None where every slot is null.
+    fn validity(&self) -> Option<ByteRange>
+        ensures { result ≡ validity_in self.now }
+    {
+        match self {
+            Ranges::Nulls => None,
+            Ranges::Bools(bools) => Some(bools.validity),
+            Ranges::Ints(ints) | Ranges::Indices(ints, _) => Some(ints.validity),
+            Ranges::Binaries(strings) | Ranges::Texts(strings) => Some(strings.validity),
+            Ranges::FixedBytes(fixed) => Some(fixed.validity),
+            Ranges::Lists { validity, .. } | Ranges::Structs { validity, .. } => Some(*validity),
+        }
+    }
 }
 
 /// A column: its type, and a value in each slot (Columnar Format, "Physical Memory Layout").
@@ -206,6 +227,47 @@ impl Array {
         ensures { result ≡ is_null_value (value_at self.now.raw i) }
     {
         matches!(self.seen(i), Seen::Nothing)
+    }
+
+    /// The first null slot from `start` on, or `stop` where none before it is null. Where the
+    /// column has no validity bitmap no slot is looked at.
+    pub fn first_null(&self, start: usize, stop: usize) -> usize
+        requires order { start ≤ stop }
+        requires inside { stop ≤ length self.now.raw }
+        ensures { IsFirstNull self.now start stop result }
+    {
+        match self.ranges.validity() {
+            Some(range) => first_invalid(bytes_in(self.body.as_slice(), range), start, stop),
+            None => start,
+        }
+    }
+
+    /// The bytes in which the values of a range of slots lie, one after another: of numbers or
+    /// indices those of the numbers, of byte strings and texts their own. No slot of the range is
+    /// null. Of slots that hold something else there are none. Nothing is copied.
+    pub fn value_bytes(&self, start: usize, stop: usize) -> &[u8]
+        requires order { start ≤ stop }
+        requires inside { stop ≤ length self.now.raw }
+        requires full { AreFull self.now start stop }
+        ensures { result.now ≡ flat_map
+            (value_bytes (node_form self.now.data_type.tag self.now.encoding))
+            (values_from self.now.raw start stop) }
+    {
+        if start == stop {
+            return &[];
+        }
+        let body = self.body.as_slice();
+        match &self.ranges {
+            Ranges::Nulls => &[],
+            Ranges::Bools(_) => &[],
+            Ranges::Ints(ints) => ints.part(body, self.len, start, stop),
+            Ranges::Binaries(strings) => strings.part(body, self.len, start, stop),
+            Ranges::Texts(strings) => strings.part(body, self.len, start, stop),
+            Ranges::FixedBytes(fixed) => fixed.part(body, self.len, start, stop),
+            Ranges::Lists { .. } => &[],
+            Ranges::Structs { .. } => &[],
+            Ranges::Indices(ints, _) => ints.part(body, self.len, start, stop),
+        }
     }
 
     /// The truth value in slot `i`. None where the slot is null or holds something else.

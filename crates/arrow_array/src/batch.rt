@@ -170,7 +170,7 @@ pub(crate) fn is_of(field: &Field, column: &Array) -> bool
         match (&field.dictionary, column.encoding()) {
             (Some(encoding), Some(other)) => *encoding == *other,
             (None, None) => true,
-            _ => false,
+            (Some(_), None) | (None, Some(_)) => false,
         }
     } else {
         false

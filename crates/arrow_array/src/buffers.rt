@@ -1,15 +1,29 @@
 //! The buffers of the layouts without children, each as its range of the body.
 
-ghost use Rattle.std.specs.Prelude.{◌≡◌, ◌<◌, MatchOption};
+ghost use Rattle.std.specs.Prelude.{◌≡◌, ◌≤◌, ◌<◌, ◌*◌, MatchOption, length, slice_range};
+ghost use Rattle.std.specs.List.Sorted.{IsNonDecreasing};
+ghost use Rattle.arrow_bits.specs.Offsets.{plain_list};
+ghost use Rattle.arrow_array.specs.Form.{offset_bytes};
 ghost use Rattle.arrow_array.specs.Node.{AreBools, AreInts, AreStrings, bool_at, int_at, binary_at};
 ghost use Rattle.arrow_array.specs.Node.{AreFixed, fixed_at, utf8_at, bytes_of};
 ghost use Rattle.arrow_array.specs.PlainValue.{null_value, bool_value, int_value, binary_value};
 ghost use Rattle.arrow_array.specs.PlainValue.{utf8_value};
-ghost use Rattle.arrow_array.specs.Slots.{AreTexts};
+ghost use Rattle.arrow_array.specs.Slots.{AreTexts, place_of};
 
 use crate::byte_range::{ByteRange, bytes_in};
 use crate::form::OffsetWidth;
 use crate::slot;
+
+// The bytes of a range of `len` slots that have `width` bytes each.
+#[tactic(auto, using(crate::proofs::Shown::parts_inside))]
+fn cells(values: &[u8], width: usize, len: usize, start: usize, stop: usize) -> &[u8]
+    requires order { start ≤ stop }
+    requires inside { stop ≤ len }
+    requires long { width * len ≤ length values.now }
+    ensures { result.now ≡ slice_range values.now (width * start) (width * stop) }
+{
+    &values[width * start..width * stop]
+}
 
 // Truth values: bit j is that of slot j.
 #[derive(Clone, Copy)]
@@ -60,6 +74,17 @@ impl Ints {
             i,
         )
     }
+
+    // The bytes of the numbers of a range of the `len` slots.
+    pub(crate) fn part(self, body: &[u8], len: usize, start: usize, stop: usize) -> &[u8]
+        requires order { start ≤ stop }
+        requires inside { stop ≤ len }
+        requires lies { AreInts len body.now self }
+        ensures { result.now ≡ slice_range (bytes_of body.now self.values)
+            (self.width * start) (self.width * stop) }
+    {
+        cells(bytes_in(body, self.values), self.width, len, start, stop)
+    }
 }
 
 // Byte strings of `width` bytes each.
@@ -85,6 +110,17 @@ impl Fixed {
             self.width,
             i,
         )
+    }
+
+    // The byte strings of a range of the `len` slots.
+    pub(crate) fn part(self, body: &[u8], len: usize, start: usize, stop: usize) -> &[u8]
+        requires order { start ≤ stop }
+        requires inside { stop ≤ len }
+        requires lies { AreFixed len body.now self }
+        ensures { result.now ≡ slice_range (bytes_of body.now self.values)
+            (self.width * start) (self.width * stop) }
+    {
+        cells(bytes_in(body, self.values), self.width, len, start, stop)
     }
 }
 
@@ -133,5 +169,21 @@ impl Strings {
             len,
             i,
         )
+    }
+    // The bytes of a range of the `len` slots, one slot after another, without regard to nulls.
+    pub(crate) fn part(self, body: &[u8], len: usize, start: usize, stop: usize) -> &[u8]
+        requires order { start < stop }
+        requires inside { stop ≤ len }
+        requires lies { AreStrings len body.now self }
+        ensures bytes { result.now ≡ slice_range (bytes_of body.now self.bytes)
+            (place_of self.width (bytes_of body.now self.offsets) start)
+            (place_of self.width (bytes_of body.now self.offsets) stop) }
+        ensures rising { IsNonDecreasing (plain_list (offset_bytes self.width) len
+            (bytes_of body.now self.offsets)) }
+    {
+        let bytes = bytes_in(body, self.bytes);
+        let offsets = bytes_in(body, self.offsets);
+        let (first, end) = slot::places_at(self.width, offsets, len, bytes.len(), start, stop);
+        &bytes[first..end]
     }
 }

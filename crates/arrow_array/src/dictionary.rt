@@ -5,9 +5,11 @@ ghost use Rattle.std.specs.Prelude.{false, OnOk, OnErr, []};
 ghost use Rattle.arrow_types.specs.Schema.{has_encoding};
 ghost use Rattle.arrow_types.specs.View.{type_view};
 ghost use Rattle.arrow_array.specs.Column.{HasValue, IsValueList};
+ghost use Rattle.arrow_array.specs.Same.{Begins};
 ghost use Rattle.arrow_array.specs.Segments.{columns_of, starts_of};
 
 use crate::array::Array;
+use crate::same::same_items;
 use arrow_types::DataType;
 use std::alloc::{AllocError, Global};
 use std::marker::Model;
@@ -115,7 +117,8 @@ impl Dictionary {
         self.len == 0
     }
 
-    /// Where value `i` stands: an array and a place there. The array is found by binary search.
+    /// Where value `i` stands: an array and a place there, behind which the values that follow stand
+    /// up to the array's end. The array is found by binary search.
     pub fn value(&self, i: usize) -> (&Array, usize)
         requires { i < length self.now.values }
         ensures { HasValue self.now i result.0.now result.1 }
@@ -154,6 +157,28 @@ impl Dictionary {
         Ok(())
     }
 
+    /// Whether the values of this dictionary are the first ones of another. The segments of both are
+    /// walked beside each other: one search for each run of values that lies in one segment of
+    /// both. No memory is taken.
+    pub fn begins(&self, other: &Dictionary) -> bool
+        ensures { IsTrue result ↔ Begins self.now.values other.now.values }
+    {
+        if other.len() < self.len() {
+            return false;
+        }
+        let mut i = 0;
+        while i < self.len() {
+            let (values, place) = self.value(i);
+            let (others, from) = other.value(i);
+            let count = (values.len() - place).min(others.len() - from);
+            if !same_items(values, place, place + count, others, from, from + count) {
+                return false;
+            }
+            i += count;
+        }
+        true
+    }
+
     /// An equal dictionary of the same type, which shares the values, or `AllocError` where a
     /// growth was refused.
     pub fn copy(&self, alloc: Global) -> Result<Dictionary, AllocError>
@@ -188,17 +213,7 @@ impl PartialEq for Dictionary {
 fn have_same_values(one: &Dictionary, other: &Dictionary) -> bool
     ensures { IsTrue result ↔ (one.now.values ≡ other.now.values) }
 {
-    if one.len() != other.len() {
-        return false;
-    }
-    for i in 0..one.len() {
-        let (values, place) = one.value(i);
-        let (others, other_place) = other.value(i);
-        if !values.same_slot(place, others, other_place) {
-            return false;
-        }
-    }
-    true
+    one.len() == other.len() && one.begins(other)
 }
 
 // The same arrays once more.

@@ -7,7 +7,8 @@ ghost use Rattle.arrow_types.specs.Schema.{has_encoding};
 ghost use Rattle.arrow_types.specs.View.{type_view};
 ghost use Rattle.arrow_array.specs.Column.{AreOf, IsColumn, IsValueList, counts_of};
 ghost use Rattle.arrow_array.specs.Layout.{buffer_count, IsLaid, IsText, IsIndexed};
-ghost use Rattle.arrow_array.specs.Node.{bytes_of, column_by, AreRanges, IsFormat, IsInside};
+ghost use Rattle.arrow_array.specs.Node.{bytes_of, column_by, AreBytes, AreRanges, IsFormat};
+ghost use Rattle.arrow_array.specs.Node.{IsInside};
 ghost use Rattle.arrow_array.specs.declared.form.Form.TheVariants as forms;
 ghost use Rattle.arrow_array.specs.Parts.{node_column, values_in, AreChildren, IsOfType};
 
@@ -86,6 +87,9 @@ fn of_ranges(
     ensures { IfOk result
         (λ a. a ≡ column_by (type_view data_type.now) encoding len body.now ranges) }
 {
+    // Called for what they say of every slice of bytes and of every type.
+    hold_bytes(body.as_slice());
+    form_of(data_type);
     Ok(Array {
         data_type: data_type.copy(alloc)?,
         encoding,
@@ -93,6 +97,13 @@ fn of_ranges(
         body: body.clone()?,
         ranges,
     })
+}
+
+// What every slice of bytes holds.
+fn hold_bytes(bytes: &[u8])
+    ensures { AreBytes bytes.now }
+{
+    bytes.len();
 }
 
 // The dictionary, or the empty one where there is none.

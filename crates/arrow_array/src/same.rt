@@ -40,7 +40,7 @@ impl Array {
 
 // Whether the values in two ranges of slots are equal, one by one.
 #[cycle(same)]
-fn same_items(
+pub(crate) fn same_items(
     items: &Array,
     start: usize,
     end: usize,

@@ -5,6 +5,7 @@ ghost use Rattle.std.specs.List.Sorted.{IsNonDecreasing};
 ghost use Rattle.arrow_bits.specs.Numbers.{IsWidth};
 ghost use Rattle.arrow_bits.specs.Offsets.{plain_list};
 ghost use Rattle.arrow_array.specs.Form.{offset_bytes};
+ghost use Rattle.arrow_array.specs.FullSlots.{IsFirstInvalid};
 ghost use Rattle.arrow_array.specs.PlainValue.{null_value, bool_value, int_value, binary_value};
 ghost use Rattle.arrow_array.specs.Slots.{is_valid_at, place_of, range_of, HasBits, HasOffsets};
 ghost use Rattle.arrow_array.specs.Slots.{AreTexts, bool_slot, fixed_slot, int_slot};
@@ -18,6 +19,22 @@ pub(crate) fn is_valid(validity: &[u8], i: usize) -> bool
     ensures { result ≡ is_valid_at validity.now i }
 {
     validity.is_empty() || bit(validity, i)
+}
+
+// The first slot from `start` up to `stop` that is not valid, `stop` where there is none.
+pub(crate) fn first_invalid(validity: &[u8], start: usize, stop: usize) -> usize
+    requires order { start ≤ stop }
+    requires bits { HasBits stop validity.now }
+    ensures { IsFirstInvalid validity.now start stop result }
+{
+    if validity.is_empty() {
+        return stop;
+    }
+    let mut i = start;
+    while i < stop && bit(validity, i) {
+        i += 1;
+    }
+    i
 }
 
 // The truth value of slot `i`, where it is valid.

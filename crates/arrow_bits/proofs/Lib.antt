@@ -1,6 +1,7 @@
 pub mod Places
 pub mod Reading
 pub mod Written
+pub mod Ranged
 pub mod Listed
 pub mod Packing
 pub mod Counting

@@ -50,7 +50,7 @@ pub signed_64 : (n : ℕ) → n < 18446744073709551616 → to_z w64 n ≡ twos_c
 signed_64 n h = grind (arith, ints)
 
 -- a part of bytes are bytes
-bytes_take : (n : ℕ) (xs : List ℕ) → ((i : ℕ) → get_or xs i 0 < 256) → (i : ℕ) → get_or (take n xs) i 0 < 256
+pub bytes_take : (n : ℕ) (xs : List ℕ) → ((i : ℕ) → get_or xs i 0 < 256) → (i : ℕ) → get_or (take n xs) i 0 < 256
 bytes_take zero xs small i = omega arith
 bytes_take (suc n) [] small i = omega arith
 bytes_take (suc n) (x ∷ xs) small zero = small zero

@@ -27,7 +27,7 @@ number_behind bytes width n h =
     rw (drop-append_seam bytes (number_bytes width n), whole) (number_of_bytes width n (omega (arith, pow256 width, h)))
 
 -- there are twice as many numbers of a width as there are that are not negative
-halves : (width : ℕ) → 1 ≤ width → 2 ^ (8 * width) ≡ 2 ^ (8 * width - 1) * 2
+pub halves : (width : ℕ) → 1 ≤ width → 2 ^ (8 * width) ≡ 2 ^ (8 * width - 1) * 2
 halves width h =
     let e : 8 * width ≡ suc (8 * width - 1) = omega arith in
     ap (λ k. 2 ^ k) e ∙ pow-suc 2 (8 * width - 1)

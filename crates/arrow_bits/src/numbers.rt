@@ -60,6 +60,7 @@ fn read_unsigned(bytes: &[u8], width: usize, place: usize) -> u64
         1 => u64::from(bytes[place]),
         2 => u64::from(u16_at(bytes, place)),
         4 => u64::from(u32_at(bytes, place)),
+        // 8, the width that is left
         _ => u64_at(bytes, place),
     }
 }
@@ -74,6 +75,7 @@ fn read_signed(bytes: &[u8], width: usize, place: usize) -> i64
         1 => i64::from(bytes[place].cast_signed()),
         2 => i64::from(u16_at(bytes, place).cast_signed()),
         4 => i64::from(u32_at(bytes, place).cast_signed()),
+        // 8, the width that is left
         _ => u64_at(bytes, place).cast_signed(),
     }
 }

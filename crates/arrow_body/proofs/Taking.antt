@@ -1,9 +1,8 @@
 -- What is left of nodes and buffers, field by field.
 use Rattle.std.proofs.Common.{◌≡◌, ◌≤◌, ◌<◌, ◌+◌, ◌-◌, ◌↔◌, ℕ, List, length, drop, get_or, Option, Some, None, refl, sym, ap, ◌∙◌, subst, arith, length-drop}
-use Rattle.std.specs.Prelude.{⊤}
 use Rattle.std.proofs.lemmas.List.{drop-drop}
 use Rattle.arrow_types.proofs.Fields.{fewer_below}
-use Rattle.arrow_types.specs.Field.{Fields, Head, none, more, count}
+use Rattle.arrow_types.specs.Field.{Fields, Head, more, count}
 use Rattle.arrow_types.specs.View.{field_view, fields_view}
 use Rattle.arrow_types.specs.declared.field.Encoding.{Encoding}
 use Rattle.arrow_types.specs.declared.field.Field.{Field}
@@ -97,15 +96,12 @@ pub all_next : (P : Head → Fields → List FieldNode → List Buffer → Type 
     → AllNodes P rest ns' bs'
 all_next P h c rest ns ns' bs bs' all is is' = (all_after P h c rest ns ns' bs bs' all.0 (all_inside P h c rest ns bs all) is is').1 all
 
-nothing_below : (e : Option Encoding) (c : Fields) (ns : List FieldNode) (bs : List Buffer) → AllNodes (λ _ _ _ _. ⊤) c ns bs → AllNodes (λ _ _ _ _. ⊤) (below e c) ns bs
-nothing_below None c ns bs all = all
-nothing_below (Some e) c ns bs all = tt
-
--- a condition that asks for nothing is met by all fields
-pub all_of_nothing : (fields : Fields) (ns : List FieldNode) (bs : List Buffer) → AllNodes (λ _ _ _ _. ⊤) fields ns bs
-all_of_nothing none ns bs = tt
-all_of_nothing (more h c rest) ns bs = (
-  tt,
-  (all_below (λ _ _ _ _. ⊤) h.encoding c (drop 1 ns) (drop (own_buffers h) bs)).1 (nothing_below h.encoding c (drop 1 ns) (drop (own_buffers h) bs) (all_of_nothing c (drop 1 ns) (drop (own_buffers h) bs))),
-  all_of_nothing rest (drop (1 + flattened h.encoding (taken_nodes c)) ns) (drop (own_buffers h + flattened h.encoding (taken_buffers c)) bs),
+-- a condition that two answers tell, of a field and of what stands below it, is theirs and that of the fields that follow
+pub all_told : (P : Head → Fields → List FieldNode → List Buffer → Type 0) (here inner : Type 0) (h : Head) (c rest : Fields) (ns ns' : List FieldNode) (bs bs' : List Buffer)
+    → here ↔ P h c ns bs → inner ↔ AllNodes P (below h.encoding c) (drop 1 ns) (drop (own_buffers h) bs)
+    → ns' ≡ drop (taken_nodes (below h.encoding c)) (drop 1 ns) → bs' ≡ drop (taken_buffers (below h.encoding c)) (drop (own_buffers h) bs)
+    → (here × inner × AllNodes P rest ns' bs') ↔ AllNodes P (more h c rest) ns bs
+all_told P here inner h c rest ns ns' bs bs' own under is is' = (
+  λ x. (all_after P h c rest ns ns' bs bs' (own.0 x.0) (under.0 x.1) is is').0 x.2,
+  λ w. (own.1 w.0, under.1 (all_inside P h c rest ns bs w), all_next P h c rest ns ns' bs bs' w is is'),
 )

@@ -6,12 +6,9 @@ ghost use Rattle.arrow_body.specs.Sound.{AreFit, Explains, IsExplained, IsSound,
 ghost use Rattle.arrow_body.specs.Sound.{number_of};
 
 use crate::build::build;
-use crate::indexed::Indices;
-use crate::laid::Places;
 use crate::listed::Listed;
-use crate::pass::all_hold;
-use crate::taken::{Left, after};
-use crate::text::Texts;
+use crate::look::look;
+use crate::taken::Left;
 use arrow_array::{Array, Dictionary};
 use arrow_types::{Buffer, Field, FieldNode};
 use bytes::Bytes;
@@ -69,7 +66,7 @@ impl Error for BodyFault {}
 /// where none does.
 ///
 /// Nodes and buffers stand in pre-order, depth first; those behind the last that is taken are not
-/// looked at. Three passes over all columns, which take no memory: only the texts, offsets and
+/// looked at. Each node is looked at once, and no memory is taken: only the texts, offsets and
 /// indices are looked at slot by slot, so that a length alone costs nothing. `Memory` is not
 /// answered.
 ///
@@ -89,14 +86,13 @@ pub fn check(
         (fields_view fields.now) nodes.now buffers.now) }
 {
     let left = Left { nodes, buffers };
-    if after(fields, left).is_none() || !all_hold(&Places { body }, fields, left) {
+    let Some(found) = look(fields, left, body, Listed::new(dictionaries)) else {
         return Err(BodyFault::Layout);
-    }
-    if !all_hold(&Texts { body }, fields, left) {
+    };
+    if !found.seen.texts {
         return Err(BodyFault::Text);
     }
-    let dictionaries = Listed::new(dictionaries);
-    if !all_hold(&Indices { body, dictionaries }, fields, left) {
+    if !found.seen.indices {
         return Err(BodyFault::Index);
     }
     Ok(())

@@ -47,6 +47,7 @@ pub(crate) fn own_ranges(body: &[u8], buffers: &[Buffer], own: usize) -> Option<
             let second = held(body, buffers[1])?;
             Some([first, second, ByteRange::EMPTY])
         }
+        // three, the number that is left
         _ => {
             let first = held(body, buffers[0])?;
             let second = held(body, buffers[1])?;

@@ -1,45 +1,49 @@
 //! Whether the indices of a body have their values.
 
-use crate::held::{bytes_at, own_ranges};
-use crate::laid::slots;
+ghost use Rattle.std.specs.Prelude.{◌≤◌, ◌↔◌, IsTrue, Some, length, map};
+ghost use Rattle.std.specs.List.{AllByRecursion};
+ghost use Rattle.arrow_array.specs.Layout.{HasFixed, buffer};
+ghost use Rattle.arrow_array.specs.Node.{bytes_of, IsInside};
+ghost use Rattle.arrow_array.specs.Parts.{values_in};
+ghost use Rattle.arrow_array.specs.Slots.{AreIndices, index_width};
+ghost use Rattle.arrow_body.specs.Sound.{dictionary_for};
+
+use crate::held::bytes_at;
 use crate::listed::Listed;
-use crate::pass::Condition;
-use crate::taken::Left;
+use arrow_array::ByteRange;
 use arrow_array::layout::are_indices;
-use arrow_types::Field;
+use arrow_types::Encoding;
 
-// That the valid slots of a dictionary-encoded node have their values.
-#[derive(Clone, Copy)]
-pub(crate) struct Indices<'a> {
-    pub(crate) body: &'a [u8],
-    pub(crate) dictionaries: Listed<'a>,
-}
-
-impl<'a> Condition for Indices<'a> {
-    ghost use Rattle.arrow_body.specs.Sound.{IsNodeIndexed, IsNodeLaid};
-
-    ghost is_known = { λ c. IsNodeLaid c.body.now };
-
-    ghost is_asked = { λ c. IsNodeIndexed c.body.now c.dictionaries.entries.now };
-
-    fn holds(&self, field: &Field, left: Left<'_>) -> bool {
-        let Some(encoding) = field.dictionary else {
-            return true;
-        };
-        let count = match self.dictionaries.find(encoding.id) {
-            Some(dictionary) => dictionary.len(),
-            None => 0,
-        };
-        match own_ranges(self.body, left.buffers, 2) {
-            Some(ranges) => are_indices(
-                slots(left.nodes),
-                (encoding.index.bits.bits() / 8) as usize,
-                encoding.index.signed,
-                bytes_at(self.body, &ranges[..2], 0),
-                bytes_at(self.body, &ranges[..2], 1),
-                count,
-            ),
-            None => false,
-        }
-    }
+// Whether the valid slots of a node with this encoding have their values; without a dictionary
+// there are none.
+pub(crate) fn have_values(
+    encoding: Encoding,
+    len: usize,
+    body: &[u8],
+    ranges: &[ByteRange],
+    dictionaries: Listed<'_>,
+) -> bool
+    requires count { 2 ≤ length ranges.now }
+    requires inside { AllByRecursion (IsInside body.now) ranges.now }
+    requires laid { HasFixed len (index_width encoding.index)
+        (buffer (map (bytes_of body.now) ranges.now) 0)
+        (buffer (map (bytes_of body.now) ranges.now) 1) }
+    ensures { IsTrue result
+        ↔ AreIndices len (index_width encoding.index) encoding.index.signed
+        (buffer (map (bytes_of body.now) ranges.now) 0)
+        (buffer (map (bytes_of body.now) ranges.now) 1)
+        (length (values_in (dictionary_for dictionaries.entry.entries.now (Some encoding)))) }
+{
+    let count = match dictionaries.find(encoding.id) {
+        Some(dictionary) => dictionary.len(),
+        None => 0,
+    };
+    are_indices(
+        len,
+        (encoding.index.bits.bits() / 8) as usize,
+        encoding.index.signed,
+        bytes_at(body, ranges, 0),
+        bytes_at(body, ranges, 1),
+        count,
+    )
 }

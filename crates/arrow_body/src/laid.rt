@@ -8,13 +8,12 @@ ghost use Rattle.arrow_array.specs.Slots.{HasBits};
 ghost use Rattle.arrow_types.specs.Field.{fields_of};
 ghost use Rattle.arrow_types.specs.View.{field_view, fields_view};
 ghost use Rattle.arrow_body.specs.Held.{count_of};
-ghost use Rattle.arrow_body.specs.Sound.{AreLaid, IsCount, IsCounted, IsNodeLaid, lengths_of};
+ghost use Rattle.arrow_body.specs.Sound.{IsCount, IsCounted, lengths_of};
 ghost use Rattle.arrow_body.specs.Sound.{slots_at};
 ghost use Rattle.arrow_body.specs.Taken.{AreThere, below, own_buffers};
 
-use crate::held::{bytes_at, own_ranges};
-use crate::pass::Condition;
-use crate::taken::{Left, after, below, inside, own_buffers};
+use crate::held::bytes_at;
+use crate::taken::{Left, after, below, inside};
 use arrow_array::ByteRange;
 use arrow_array::form::{Form, node_form};
 use arrow_array::layout::is_laid;
@@ -27,7 +26,7 @@ pub(crate) fn slots(nodes: &[FieldNode]) -> usize
 {
     match nodes.first() {
         Some(node) if node.length > 0 => node.length as usize,
-        _ => 0,
+        Some(_) | None => 0,
     }
 }
 
@@ -70,7 +69,7 @@ fn are_longer(fields: &[Field], left: Left<'_>, len: usize) -> bool
 }
 
 // Whether the buffers, and the nodes below, hold `len` slots of the field.
-fn are_buffers_laid(
+pub(crate) fn are_buffers_laid(
     field: &Field,
     len: usize,
     body: &[u8],
@@ -112,40 +111,15 @@ fn are_buffers_laid(
     }
 }
 
-// That a node and its buffers lie in the body as the type of their field asks for.
-#[derive(Clone, Copy)]
-pub(crate) struct Places<'a> {
-    pub(crate) body: &'a [u8],
-}
-
-impl<'a> Condition for Places<'a> {
-    ghost use Rattle.std.specs.Prelude.{⊤};
-    ghost use Rattle.arrow_body.specs.Sound.{IsNodeLaid};
-
-    ghost is_known = { λ _ _ _ _ _. ⊤ };
-
-    ghost is_asked = { λ c. IsNodeLaid c.body.now };
-
-    fn holds(&self, field: &Field, left: Left<'_>) -> bool {
-        let node = left.nodes[0];
-        if node.length < 0 || node.length > 2147483647 {
-            return false;
-        }
-        let len = node.length as usize;
-        let own = own_buffers(field);
-        match own_ranges(self.body, left.buffers, own) {
-            Some(ranges) => {
-                are_buffers_laid(field, len, self.body, &ranges[..own], inside(field, left))
-                    && is_counted(field, node, len, self.body, &ranges[..own])
-            }
-            None => false,
-        }
-    }
-}
-
 // Whether the number of nulls of a field is that of its bitmap; of a field of type Null any number
 // is taken.
-fn is_counted(field: &Field, node: FieldNode, len: usize, body: &[u8], ranges: &[ByteRange]) -> bool
+pub(crate) fn is_counted(
+    field: &Field,
+    node: FieldNode,
+    len: usize,
+    body: &[u8],
+    ranges: &[ByteRange],
+) -> bool
     requires count { own_buffers (field_view field.now).head ≡ length ranges.now }
     requires inside { AllByRecursion (IsInside body.now) ranges.now }
     requires slots { len ≡ count_of node.length }

@@ -1,9 +1,9 @@
 //! Bodies of batches, read: nodes, buffers and a body are columns, or are refused.
 //!
 //! A record batch's metadata lists a node for each field and the places of their buffers in the
-//! body. `load` looks at all of them before any array is made: in three passes over all columns it
-//! tests that nodes and buffers hold what their types ask for (Layout), that texts are UTF-8
-//! (Text), and that indices have their values (Index). Only then the arrays are made, as ranges of
+//! body. `load` looks at all of them before any array is made: one look at each node tests that it
+//! and its buffers hold what its type asks for (Layout), that its texts are UTF-8 (Text), and that
+//! its indices have their values (Index); of the faults of all columns the least is told. Only then the arrays are made, as ranges of
 //! the one body, which they share. Who has no `Bytes` yet calls `check`, which takes none, and then
 //! `load_unchecked` with the copy.
 //!
@@ -24,7 +24,7 @@ mod indexed;
 mod laid;
 pub mod laws;
 mod listed;
-mod pass;
+mod look;
 mod taken;
 mod text;
 

@@ -1,18 +1,18 @@
 -- What is chosen, by how long the lists are and whether one begins the other.
-use Rattle.std.proofs.Common.{◌≡◌, ◌<◌, ◌≤◌, ℕ, Bool, true, false, List, length, take, Some, cond, refl, sym, ap, ◌∙◌, subst, arith}
+use Rattle.std.proofs.Common.{◌≡◌, ◌<◌, ◌≤◌, Bool, true, false, List, length, take, Some, cond, refl, sym, ap, ◌∙◌, subst, arith}
 use Rattle.std.specs.Coded.{coded_list}
-use Rattle.std.proofs.lemmas.List.{ext_get_or, get_or-take, length-take-le, length-take}
+use Rattle.std.proofs.lemmas.List.{length-take}
 use Rattle.std.proofs.Math.Seq.{take-length}
 use Rattle.std.specs.Prelude.{min}
 use Rattle.arrow_types.specs.Equality.{is_equal_decides}
-use Rattle.arrow_array.specs.PlainValue.{PlainValue, null_value, value_at}
+use Rattle.arrow_array.specs.PlainValue.{PlainValue}
 use Rattle.arrow_array.specs.Stored.{value_code}
 use Rattle.arrow_dict.specs.declared.update.Update.TheVariants as updates
 use Rattle.arrow_dict.specs.declared.update.Updates.{Updates}
 use Rattle.arrow_dict.specs.declared.update.Updates.TheVariants as modes
 use Rattle.arrow_dict.specs.Choice.{same_list}
 use Rattle.arrow_dict.specs.Choice.{choice, growth}
-use Rattle.arrow_dict.specs.Tracking.{Begins}
+use Rattle.arrow_array.specs.Same.{Begins}
 
 untrue : (t : Bool) → (t ≡ true → ⊥) → t ≡ false
 untrue true n = absurd (n refl)
@@ -23,15 +23,6 @@ yes xs ys h = (is_equal_decides (coded_list value_code) xs ys).1 h
 
 no : (xs ys : List PlainValue) → (xs ≡ ys → ⊥) → same_list xs ys ≡ false
 no xs ys n = untrue (same_list xs ys) (λ h. n ((is_equal_decides (coded_list value_code) xs ys).0 h))
-
--- a list begins another where its values are the first ones
-pub begins_by : (old new : List PlainValue) → length old ≤ length new → ((k : ℕ) → k < length old → value_at old k ≡ value_at new k) → Begins old new
-begins_by old new few same =
-    let long = length-take-le (length old) new few in
-    ext_get_or null_value (take (length old) new) old long (λ k h. get_or-take (length old) new k null_value (omega (arith, long)) ∙ sym (same k (omega (arith, long))))
-
-pub begun : (old new : List PlainValue) (k : ℕ) → Begins old new → k < length old → value_at old k ≡ value_at new k
-begun old new k b h = ap (λ xs. value_at xs k) (sym b) ∙ get_or-take (length old) new k null_value h
 
 itself : (old new : List PlainValue) → old ≡ new → Begins old new
 itself old new e = subst (λ xs. Begins old xs) e (take-length old)

@@ -1,9 +1,8 @@
 -- The dictionaries that a writer sent, and those that it is about to send (Columnar Format, "Dictionary Messages").
-use Rattle.std.specs.Prelude.{◌≡◌, ◌≤◌, ◌+◌, ℤ, List, [], ◌∷◌, length, take, refl}
+use Rattle.std.specs.Prelude.{◌≤◌, ◌+◌, ℤ, List, [], ◌∷◌, refl}
 use Rattle.std.specs.Coded.{Coded, code_by, coded×}
 use Rattle.std.specs.Vec.{vec_len, vec_capacity}
 use Rattle.arrow_array.specs.Column.{ValueList}
-use Rattle.arrow_array.specs.PlainValue.{PlainValue}
 use Rattle.arrow_dict.specs.Dictionaries.{IsRising, placed, entries_code}
 use Rattle.arrow_dict.specs.declared.tracker.Tracker.TheInside.{Inside}
 
@@ -31,7 +30,3 @@ pub record IsTracker (v : Inside) : Type 0 where
   pub sent : IsRising v.sent.items
   pub staged : IsRising v.staged.items
   pub room : vec_len v.sent + vec_len v.staged ≤ vec_capacity v.sent
-
--- the first list begins the second
-abbrev pub Begins : List PlainValue → List PlainValue → Type 0
-Begins old new = take (length old) new ≡ old

@@ -1,11 +1,10 @@
 //! The dictionaries that a writer sent.
 
-ghost use Rattle.std.specs.Prelude.{◌≡◌, ◌↔◌, IsTrue, OnErr, OnOk, Some, [], option_map};
+ghost use Rattle.std.specs.Prelude.{◌≡◌, OnErr, OnOk, Some, [], option_map};
 ghost use Rattle.arrow_array.specs.Column.{ValueList};
 ghost use Rattle.arrow_array.specs.Listed.{listed};
 ghost use Rattle.arrow_dict.specs.Choice.{choice};
 ghost use Rattle.arrow_dict.specs.Dictionaries.{IsRising, placed};
-ghost use Rattle.arrow_dict.specs.Tracking.{Begins};
 
 use crate::entries::{find, place};
 use crate::update::{Update, Updates};
@@ -62,7 +61,8 @@ impl Tracker {
     }
 
     /// What is to be sent so that the id has this dictionary. Staged ones do not count. Values are
-    /// compared one by one, none is copied, and no memory is taken.
+    /// compared one by one, run by run of those that lie in one segment of both; none is copied, and
+    /// no memory is taken.
     pub fn plan(&self, id: i64, dictionary: &Dictionary, updates: Updates) -> Update
         ensures { result ≡ choice updates
             (option_map (λ (d : ValueList). d.values) (listed self.now.sent id))
@@ -114,7 +114,7 @@ impl Tracker {
 fn compared(old: &Dictionary, new: &Dictionary, updates: Updates) -> Update
     ensures { result ≡ choice updates (Some old.now.values) new.now.values }
 {
-    if !begins(old, new) {
+    if !old.begins(new) {
         return Update::Replace;
     }
     if old.len() == new.len() {
@@ -124,21 +124,4 @@ fn compared(old: &Dictionary, new: &Dictionary, updates: Updates) -> Update
         Updates::Delta => Update::Delta(old.len()),
         Updates::Resend => Update::Replace,
     }
-}
-
-// Whether the values of one dictionary are the first ones of another.
-fn begins(old: &Dictionary, new: &Dictionary) -> bool
-    ensures { IsTrue result ↔ Begins old.now.values new.now.values }
-{
-    if new.len() < old.len() {
-        return false;
-    }
-    for i in 0..old.len() {
-        let (values, place) = old.value(i);
-        let (others, other_place) = new.value(i);
-        if !values.same_slot(place, others, other_place) {
-            return false;
-        }
-    }
-    true
 }

@@ -4,12 +4,14 @@
 //! A [`Sink`] may take a part of a piece, and the rest is offered again; [`send`] does that until
 //! all is taken or a call fails. [`Counted`] makes a sink of any writer. What a sink accepted is
 //! said where it tells, as a sink over memory does; of a file or a socket nothing is claimed.
+//! [`probe`] has a sink and an input that fail where they are told to.
 //!
 //! The count of failures lets a caller know exactly when a fault comes from the sink: it rises by
 //! one with each call that fails, and with no other.
 #![tactic(auto)]
 
 mod counted;
+pub mod probe;
 mod sending;
 mod sink;
 

@@ -52,7 +52,7 @@ returns-in-Bytes-clause-same c =
     let three : 3 ≤ length c.args.buffers.now = subst (λ x. buffers_of x ≤ length c.args.buffers.now) form c.requires.count in
     let leaf : t.children ≡ none = subst (λ f. HasFieldsOf f t.children) c.in-Bytes.is c.form_of.ensures.below in
     let s = c.strings.ensures in
-    leaf_same t (forms.Bytes w) c.args.len (map (bytes_of c.args.body.now) c.args.buffers.now) c.args.children.items (binary_at c.args.body.now c.strings.result) form leaf c.requires.children
+    leaf_same t (forms.Bytes w) c.args.len (map (bytes_of c.args.body.now) c.args.buffers.now) c.args.children.items (binary_at c.args.body.now c.strings.result) form leaf c.requires.children refl
     (λ children. strings_same c.args.body.now c.args.buffers.now c.strings.result three s.validity s.offsets s.bytes (binary_slot c.strings.result.width) ∙ ap (λ x. value_slot (forms.Bytes x) (map (bytes_of c.args.body.now) c.args.buffers.now) children) s.width)
 
 pub returns-in-Texts-clause-same : goal.returns-in-Texts-clause-same
@@ -63,5 +63,5 @@ returns-in-Texts-clause-same c =
     let three : 3 ≤ length c.args.buffers.now = subst (λ x. buffers_of x ≤ length c.args.buffers.now) form c.requires.count in
     let leaf : t.children ≡ none = subst (λ f. HasFieldsOf f t.children) c.in-Texts.is c.form_of.ensures.below in
     let s = c.strings-in-Texts.ensures in
-    leaf_same t (forms.Texts w) c.args.len (map (bytes_of c.args.body.now) c.args.buffers.now) c.args.children.items (utf8_at c.args.body.now c.strings-in-Texts.result) form leaf c.requires.children
+    leaf_same t (forms.Texts w) c.args.len (map (bytes_of c.args.body.now) c.args.buffers.now) c.args.children.items (utf8_at c.args.body.now c.strings-in-Texts.result) form leaf c.requires.children refl
     (λ children. strings_same c.args.body.now c.args.buffers.now c.strings-in-Texts.result three s.validity s.offsets s.bytes (utf8_slot c.strings-in-Texts.result.width) ∙ ap (λ x. value_slot (forms.Texts x) (map (bytes_of c.args.body.now) c.args.buffers.now) children) s.width)

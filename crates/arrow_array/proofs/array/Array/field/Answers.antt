@@ -15,4 +15,4 @@ returns-in-Structs c =
     let ok = subst (AreRanges a.len t a.encoding a.body) c.in-Structs.is c.self.invariant.1 in
     let is = sym c.self.view_is ∙ ap (λ r. column_by t a.encoding a.len a.body r) c.in-Structs.is ∙ ap (λ e. column_by t e a.len a.body (Structs v c.in-Structs.children)) ok.0 in
     let found = found_from_lookup c.deref.result.now c.args.k c.get.result c.get.ensures.lookup.1 c.get.ensures.lookup.3 in
-    field_of_column c.args.self.now t a.len (bytes_of a.body v) cs c.args.k c.get.result is ok.1 ok.2.typed (longer_of_counts a.len cs ok.2.laid.longer) (rw c.deref.ensures.value at found)
+    field_of_column c.args.self.now t a.len (bytes_of a.body v) cs c.args.k c.get.result is ok.1 ok.2.typed ok.2.known (longer_of_counts a.len cs ok.2.laid.longer) (rw c.deref.ensures.value at found)

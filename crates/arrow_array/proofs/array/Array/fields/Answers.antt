@@ -20,7 +20,8 @@ returns-in-Structs c =
     let shown : HasFields c.args.self.now cs = record {
       is_struct = subst IsStruct (sym own) ok.1;
       typed = subst (λ (x : Column). AreOf x.data_type.children cs) (sym is) ok.2.typed;
+      whole = sym (ap (λ (x : Column). x.below) is);
       listed = sym (ap (λ (x : Column). x.dictionaries) is);
-      each = λ k child found. part_of_column c.args.self.now t a.len (bytes_of a.body v) cs k child own ok.1 ok.2.typed (longer_of_counts a.len cs ok.2.laid.longer) found;
+      each = λ k child found. part_of_column c.args.self.now t a.len (bytes_of a.body v) cs k child own ok.1 ok.2.typed ok.2.known (longer_of_counts a.len cs ok.2.laid.longer) found;
     } in
     subst (λ ds. HasFields c.args.self.now ds) (sym c.deref.ensures.value) shown

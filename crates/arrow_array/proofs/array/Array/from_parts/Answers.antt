@@ -1,7 +1,6 @@
 use Rattle.std.proofs.Common.{◌≡◌, ◌≤◌, ap, sym, ◌∙◌, subst, length, map, Some, None}
 use Rattle.std.proofs.lemmas.Result.{IfOk-weaker}
 use Rattle.arrow_types.specs.View.{type_view}
-use Rattle.arrow_array.specs.Column.{ValueList}
 use Rattle.arrow_array.specs.Layout.{buffer_count}
 use Rattle.arrow_array.specs.Node.{bytes_of, column_by}
 use Rattle.arrow_array.specs.Parts.{node_column, values_in}
@@ -23,9 +22,9 @@ returns-in_ok-dictionary-in-Some c =
     let b = map (bytes_of c.args.body.now) c.args.buffers.now in
     let two : 2 ≤ length c.args.buffers.now = subst (λ e. buffer_count t.tag e ≤ length c.args.buffers.now) c.in-Some.is c.requires.count in
     let d = c.in_ok-dictionary-in-Some.dictionary in
-    let values = ap (λ (x : ValueList). x.values) (c.in_ok-dictionary-in-Some.ensures.ok ∙ c.in_ok-or_empty-in-Some.ensures.same) in
+    let whole = c.in_ok-dictionary-in-Some.ensures.ok ∙ c.in_ok-or_empty-in-Some.ensures.same in
     let indexed = index_same t c.in-Some.encoding c.args.len c.args.body.now c.args.buffers.now c.args.children.items c.numbers-indices.result d (values_in c.args.dictionary)
-    c.numbers-indices.ensures.format c.numbers-indices.ensures.validity c.numbers-indices.ensures.values values two in
+    c.numbers-indices.ensures.format c.numbers-indices.ensures.validity c.numbers-indices.ensures.values whole two in
     let same = indexed ∙ ap (λ e. node_column t e c.args.len b c.args.children.items (values_in c.args.dictionary)) (sym c.in-Some.is) in
     IfOk-weaker c.of_ranges.result (λ a. a ≡ column_by t (Some c.in-Some.encoding) c.args.len c.args.body.now (Indices c.numbers-indices.result d))
     (λ a. a ≡ node_column t c.args.field.now.dictionary c.args.len b c.args.children.items (values_in c.args.dictionary)) (λ a e. e ∙ same) c.of_ranges.ensures
