@@ -1,7 +1,7 @@
 -- What a message is written as means the message again.
-use Rattle.std.proofs.Common.{◌≡◌, ℤ, pos, negsuc, Bool, true, false, not, ◌||◌, ◌==◌, if◌then◌else◌, List, [], ◌∷◌}
+use Rattle.std.proofs.Common.{◌≡◌, ℕ, ℤ, pos, negsuc, Bool, true, false, not, ◌||◌, ◌==◌, if◌then◌else◌, List, [], ◌∷◌}
 use Rattle.std.proofs.Common.{Option, Some, None, map, refl, ap}
-use Rattle.std.specs.Int.{cast_signed, cast_unsigned, w64}
+use Rattle.std.specs.Int.{cast_signed, cast_unsigned, w16, w64}
 use Rattle.std.specs.Option.{unwrap_or}
 use Rattle.std.proofs.lemmas.Bool.{or_parts}
 use Rattle.std.proofs.lemmas.Int.{to_z-of_z}
@@ -18,15 +18,15 @@ use Rattle.arrow_types.specs.declared.field.Encoding.{Encoding}
 use Rattle.arrow_types.specs.declared.node.FieldNode.{FieldNode}
 use Rattle.arrow_types.specs.declared.node.Buffer.{Buffer}
 use Rattle.arrow_meta.specs.Codes.{type_code, bit_width}
-use Rattle.arrow_meta_write.specs.Layouts.{flag, tag_code, node_pair, buffer_pair, header_code}
+use Rattle.arrow_meta_write.specs.Layouts.{flag, tag_code, node_pair, buffer_pair}
 use Rattle.arrow_meta.specs.Means.{PlainBatch, PlainHeader, schema, dictionary, batch, node_of}
-use Rattle.arrow_meta.specs.Means.{buffer_of, batch_of, header_by}
+use Rattle.arrow_meta.specs.Means.{buffer_of, batch_of, meaning_of}
 use Rattle.arrow_meta.specs.Parts.{parts}
 use Rattle.arrow_meta.specs.SchemaMeaning.{encoding_in, tag_by, head_of, fields_from}
 use Rattle.arrow_meta_write.specs.Writable.{IsLong, HasLongId, AreFields, AreNodes, AreBuffers}
 use Rattle.arrow_meta_write.specs.Writable.{IsBatch, IsHeader}
 use Rattle.arrow_meta_write.specs.Written.{type_tree, encoding_tree, field_parts, field_trees}
-use Rattle.arrow_meta_write.specs.Written.{batch_parts, header_tree}
+use Rattle.arrow_meta_write.specs.Written.{batch_parts, message_parts}
 
 -- a number that 64 bits hold
 long_again : (z : ℤ) → IsLong z → cast_signed w64 (cast_unsigned w64 z) ≡ z
@@ -119,8 +119,17 @@ batch_again b h = λ i. record {
   buffers = buffers_again b.buffers h.buffers i;
 }
 
--- a header
-pub header_again : (x : PlainHeader) → IsHeader x → header_by (header_code x) (parts (header_tree x)) ≡ x
-header_again (schema fields) h = ap schema (fields_again fields h.1 h.0.bounded.narrow)
-header_again (dictionary id delta b) h = λ i. dictionary (long_again id h.0 i) (flag_again delta i) (batch_again b h.1 i)
-header_again (batch b) h = ap batch (batch_again b h)
+-- a message of this header, whose version keeps its sign in 16 bits
+pub message_again : (x : PlainHeader) (version : ℤ) (body_len : ℕ) → IsHeader x → cast_signed w16 (cast_unsigned w16 version) ≡ version
+    → meaning_of (message_parts (record { version = version; header = x; body_len = body_len })) ≡ Some (record { version = version; header = x; body_len = body_len })
+message_again (schema fields) version body_len h signed = λ i. Some (record {
+  version = signed i;
+  header = schema (fields_again fields h.1 h.0.bounded.narrow i);
+  body_len = body_len;
+})
+message_again (dictionary id delta b) version body_len h signed = λ i. Some (record {
+  version = signed i;
+  header = dictionary (long_again id h.0 i) (flag_again delta i) (batch_again b h.1 i);
+  body_len = body_len;
+})
+message_again (batch b) version body_len h signed = λ i. Some (record { version = signed i; header = batch (batch_again b h i); body_len = body_len })

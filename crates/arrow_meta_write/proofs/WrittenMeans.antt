@@ -26,7 +26,7 @@ use Rattle.arrow_meta_write.specs.Metadata.{metadata, metadata_size, is_sendable
 use Rattle.arrow_meta.specs.Within.{IsWithin}
 use Rattle.arrow_meta_write.specs.Writable.{IsHeader, Allows}
 use Rattle.arrow_meta_write.specs.Written.{message_parts, message_tree}
-use Rattle.arrow_meta_write.proofs.Again.{header_again}
+use Rattle.arrow_meta_write.proofs.Again.{message_again}
 use Rattle.arrow_meta_write.proofs.Bounds.{shallow}
 use Rattle.arrow_meta_write.proofs.Faultless.{sound}
 use Rattle.arrow_meta_write.proofs.Fitting.{message_fits}
@@ -82,10 +82,10 @@ pub written_lies : (m : PlainMessage) (n : ℕ) (behind : List ℕ) → IsHeader
 written_lies m n behind x h = root_lies (metadata m ++ behind) (message_tree m) (stands (metadata m ++ behind) root (message_tree m) (written_aligned m n behind x h))
 
 -- The tree means the message.
-means_again : (m : PlainMessage) → IsHeader m.header → m.version ≡ pos 4 → m ≡ meaning_of (message_parts m)
+means_again : (m : PlainMessage) → IsHeader m.header → m.version ≡ pos 4 → meaning_of (message_parts m) ≡ Some m
 means_again m x v =
     let version : cast_signed w16 (cast_unsigned w16 m.version) ≡ m.version = ap (λ z. cast_signed w16 (cast_unsigned w16 z)) v ∙ sym v in
-    sym (λ i. record { version = version i; header = header_again m.header x i; body_len = m.body_len })
+    message_again m.header m.version m.body_len x version
 
 pub written_means : (m : PlainMessage) (n : ℕ) (behind : List ℕ) → IsHeader m.header → size_of m ≡ Some n → (limits : LimitNumbers) → MetadataMeans limits (metadata m ++ behind) m ↔ Allows limits m
 written_means m n behind x h limits =
@@ -120,4 +120,5 @@ read_alone m n behind x h limits k means =
     let lies = written_lies m n behind x h in
     let is = sized m n h in
     let same : means.0 ≡ message_tree m = one_root (metadata m ++ behind) means.0 (message_tree m) means.1.lies lies in
-    means.2.same ∙ ap (λ t. meaning_of (parts t)) same ∙ sym (means_again m x is.version)
+    let both : Some k ≡ Some m = sym means.2.same ∙ ap (λ t. meaning_of (parts t)) same ∙ means_again m x is.version in
+    cc

@@ -14,8 +14,9 @@ use Rattle.arrow_array.specs.Resolve.{resolve, resolve_items, resolve_parts, ent
 use Rattle.arrow_array.specs.Slots.{slots}
 use Rattle.arrow_body.specs.Sound.{ResolvesBy, columns_of, dictionary_for, if_flattened, own_bytes, slots_at, values_by}
 use Rattle.arrow_body.specs.Taken.{flattened, own_buffers, taken_buffers, taken_nodes}
-use Rattle.arrow_written.specs.Built.{HaveEntries}
-use Rattle.arrow_written.specs.Rows.{raws_of, resolved_of}
+use Rattle.arrow_body_written.specs.Entries.{HaveEntries}
+use Rattle.arrow_body_written.specs.Laws.{raws_of}
+use Rattle.arrow_written.specs.Rows.{resolved_of}
 
 -- RAW VALUES: no dictionary has a part in them
 
@@ -108,11 +109,11 @@ same_somes (x ∷ xs) (y ∷ ys) p =
 pub record Columnwise (d : ℤ → List PlainValue) (c : Column) : Type 0 where
   pub stands : map (resolve c.encoding c.data_type.children d) c.raw ≡ map Some c.resolved
 
-agree_left : (xs ys : List (ℤ × List PlainValue)) (d : ℤ → List PlainValue) → Agree (xs ++ ys) d → Agree xs d
+agree_left : (xs ys : List (ℤ × ValueList)) (d : ℤ → List PlainValue) → Agree (xs ++ ys) d → Agree xs d
 agree_left [] ys d h = tt
 agree_left (x ∷ xs) ys d h = (h.0, agree_left xs ys d h.1)
 
-agree_right : (xs ys : List (ℤ × List PlainValue)) (d : ℤ → List PlainValue) → Agree (xs ++ ys) d → Agree ys d
+agree_right : (xs ys : List (ℤ × ValueList)) (d : ℤ → List PlainValue) → Agree (xs ++ ys) d → Agree ys d
 agree_right [] ys d h = h
 agree_right (x ∷ xs) ys d h = agree_right xs ys d h.1
 

@@ -1,9 +1,10 @@
 -- The definitions at values: what is chosen, planned, admitted and left of a dictionary that grows, of two dictionaries of one id, of
 -- an empty dictionary, without columns and past a limit; where frames end, and how many batches lie in first bytes.
-use Rattle.std.proofs.Common.{◌≡◌, ℕ, ℤ, pos, ◌+◌, ◌-◌, ◌*◌, ◌/◌, ◌^◌, Bool, true, false, cond, List, [], ◌∷◌, ◌++◌, length, map, take, Option, Some, None, refl, ap, ◌∙◌, replicate}
+use Rattle.std.proofs.Common.{◌≡◌, ℕ, ℤ, pos, ◌+◌, ◌-◌, ◌^◌, Bool, true, false, cond, List, [], ◌∷◌, ◌++◌, length, map, take, Some, None, refl, ap, ◌∙◌, replicate}
 use Rattle.std.specs.List.{list_all}
 use Rattle.std.specs.Prelude.{◌&&◌, not, nat_le}
 use Rattle.std.specs.Coded.{coded_list}
+use Rattle.arrow_flatbuf.specs.Layout.{gap}
 use Rattle.arrow_types.specs.DataType.{utf8}
 use Rattle.arrow_types.specs.Equality.{is_equal, is_equal_decides}
 use Rattle.arrow_types.specs.Field.{Fields, none, more, Head}
@@ -13,18 +14,18 @@ use Rattle.arrow_types.specs.declared.data_type.BitWidth.TheVariants.{ThirtyTwo}
 use Rattle.arrow_types.specs.declared.field.Encoding.{Encoding}
 use Rattle.arrow_array.specs.Batch.{Table}
 use Rattle.arrow_array.specs.Column.{Column, ValueList}
-use Rattle.arrow_array.specs.PlainValue.{PlainValue, null_value, bool_value, int_value, binary_value, utf8_value, list_value, struct_value}
+use Rattle.arrow_array.specs.PlainValue.{PlainValue, int_value, utf8_value}
 use Rattle.arrow_array.specs.Stored.{value_code}
 use Rattle.arrow_dict.specs.Choice.{choice, growth, same_list}
 use Rattle.arrow_dict.specs.declared.update.Update.TheVariants as updates
 use Rattle.arrow_dict.specs.declared.update.Updates.{Updates}
 use Rattle.arrow_dict.specs.declared.update.Updates.TheVariants as modes
-use Rattle.arrow_written.specs.Admission.{admission, frame_fits, marker_fits, part_fits, record_size, schema_admission, sending_fits, sending_size, sendings_size}
+use Rattle.arrow_written.specs.Admission.{admission, fields_for, frame_fits, marker_fits, part_fits, record_size, schema_admission, sending_fits, sending_size, sendings_size}
 use Rattle.arrow_written.specs.Plan.{Sending, sending, plan, with_lists, lists_after, lists_sent}
-use Rattle.arrow_written.specs.Rows.{has_one_list, raws_of}
-use Rattle.arrow_written.specs.Sizes.{Options, Sizes}
+use Rattle.arrow_body_written.specs.Laws.{raws_of}
+use Rattle.arrow_written.specs.Rows.{has_one_list}
+use Rattle.arrow_written.specs.Sizes.{Options, batch_size, dictionary_size, schema_size}
 use Rattle.arrow_written.specs.Text.{whole_batches}
-use Rattle.arrow_written.specs.declared.write_fault.WriteFault.{WriteFault}
 use Rattle.arrow_written.specs.declared.write_fault.WriteFault.TheVariants.{SchemaDiffers, TooLarge, DictionariesDiffer}
 
 -- five texts of one byte
@@ -127,7 +128,7 @@ one_column = more field none none
 
 -- a column of these indices, which stand for these values of these
 abbrev column : List PlainValue → List PlainValue → List PlainValue → Column
-column indices resolved values = record { data_type = record { tag = utf8; children = none }; encoding = Some encoding; raw = indices; resolved = resolved; dictionaries = (pos 0, values) ∷ [] }
+column indices resolved values = record { data_type = record { tag = utf8; children = none }; encoding = Some encoding; raw = indices; resolved = resolved; dictionaries = (pos 0, record { data_type = record { tag = utf8; children = none }; values = values }) ∷ []; offsets = []; below = [] }
 
 abbrev batch_of : List Column → ℕ → Table
 batch_of columns rows = record { schema = one_column; columns = columns; rows = rows }
@@ -187,41 +188,18 @@ empty_sends_nothing = ap (λ u. sending (pos 0) u [] ++ []) empty_again_is_none
 
 -- SIZES, at an alignment of 8
 
-abbrev rounded : ℕ → ℕ
-rounded n = (n + 7) / 8 * 8
+-- the metadata of a schema, of a dictionary batch of texts, and of a record batch of one column of indices
+schema_takes : schema_size 8 one_column ≡ 192
+unfolding gap
+schema_takes = refl
 
-abbrev letters : PlainValue → ℕ
-letters null_value = 0
-letters (bool_value t) = 0
-letters (int_value n) = 0
-letters (binary_value bytes) = 0
-letters (utf8_value bytes) = length bytes
-letters (list_value vs) = 0
-letters (struct_value vs) = 0
+dictionary_takes : dictionary_size 8 (fields_for one_column (pos 0)) ≡ 192
+unfolding gap
+dictionary_takes = refl
 
-abbrev letters_in : List PlainValue → ℕ
-letters_in [] = 0
-letters_in (v ∷ vs) = letters v + letters_in vs
-
--- indices of 32 bits, or offsets and letters
-abbrev column_size : Option Encoding → List PlainValue → ℕ
-column_size (Some x) vs = rounded (4 * length vs)
-column_size None vs = rounded (4 * length vs + 4) + rounded (letters_in vs)
-
-abbrev columns_size : Fields → List (List PlainValue) → ℕ
-columns_size none raws = 0
-columns_size (more head children rest) [] = 0
-columns_size (more head children rest) (raw ∷ raws) = column_size head.encoding raw + columns_size rest raws
-
-abbrev sizes : Sizes
-sizes = record {
-  schema = λ fields. 192;
-  dictionary = λ fields. 192;
-  batch = λ fields. 144;
-  body = λ fields raws. columns_size fields raws;
-  slots = λ fields raws. map (λ (raw : List PlainValue). length raw) raws;
-  offsets = λ fields raws. true;
-}
+batch_takes : batch_size 8 one_column ≡ 144
+unfolding gap
+batch_takes = refl
 
 abbrev ends_from : ℕ → List ℕ → List ℕ
 ends_from p [] = []
@@ -229,32 +207,37 @@ ends_from p (n ∷ ns) = (p + n) ∷ ends_from (p + n) ns
 
 -- where the frames of a part end that begins at the place and sends these
 abbrev ends_by : ℕ → Table → List Sending → List ℕ
-ends_by p t ws = ends_from p (map (sending_size sizes one_column) ws ++ record_size sizes one_column t ∷ [])
+ends_by p t ws = ends_from p (map (sending_size 8 one_column) ws ++ record_size 8 one_column t ∷ [])
 
 abbrev ends : Updates → List (ℤ × ValueList) → ℕ → Table → List ℕ
 ends mode ds p t = ends_by p t (plan mode one_column ds t)
 
 -- as deltas: the schema ends at 200, then come 424, 592, 816, 976, 1208, 1368 and the end marker
 first_ends : (mode : Updates) → ends mode [] 200 first ≡ 424 ∷ 592 ∷ []
+unfolding gap
 first_ends mode = refl
 
 second_ends : ends modes.Delta (having abc) 592 second ≡ 816 ∷ 976 ∷ []
+unfolding gap
 second_ends = ap (ends_by 592 second) second_sends
 
 third_ends : ends modes.Delta (having abcde) 976 third ≡ 1208 ∷ 1368 ∷ []
+unfolding gap
 third_ends = ap (ends_by 976 third) third_sends
 
 -- sent whole each time
 second_ends_whole : ends modes.Resend (having abc) 592 second ≡ 824 ∷ 984 ∷ []
+unfolding gap
 second_ends_whole = ap (ends_by 592 second) second_sends_whole
 
 third_ends_whole : ends modes.Resend (having abcde) 984 third ≡ 1216 ∷ 1376 ∷ []
+unfolding gap
 third_ends_whole = ap (ends_by 984 third) third_sends_whole
 
 -- ADMISSION
 
 abbrev options : Updates → Options
-options mode = record { updates = mode; sizes = sizes }
+options mode = record { updates = mode; align = 8 }
 
 -- the first refusal that applies, by its tests
 by_tests : (l : LimitNumbers) (o : Options) (fields : Fields) (ds : List (ℤ × ValueList)) (p : ℕ) (t : Table) (x y z : Bool)
@@ -275,16 +258,19 @@ one_list values = ap (λ t. t && true) (same_yes values values refl)
 -- whether a part fits that sends these
 abbrev fits_by : LimitNumbers → ℕ → Table → List Sending → Bool
 fits_by l p t ws =
-    list_all (sending_fits l sizes one_column) ws && frame_fits l sizes 144 one_column (raws_of t.columns) t.rows
-    && nat_le (p + (sendings_size sizes one_column ws + record_size sizes one_column t)) (2 ^ 62)
+    list_all (sending_fits l 8 one_column) ws && frame_fits l 8 (batch_size 8 one_column) one_column (raws_of t.columns) t.rows
+    && nat_le (p + (sendings_size 8 one_column ws + record_size 8 one_column t)) (2 ^ 62)
 
 first_admitted : admission standard_numbers (options modes.Delta) one_column [] 200 first ≡ None
+unfolding gap
 first_admitted = by_tests standard_numbers (options modes.Delta) one_column [] 200 first true true true (same_schema one_column) (one_list abc) refl
 
 second_admitted : admission standard_numbers (options modes.Delta) one_column (having abc) 592 second ≡ None
+unfolding gap
 second_admitted = by_tests standard_numbers (options modes.Delta) one_column (having abc) 592 second true true true (same_schema one_column) (one_list abcde) (ap (fits_by standard_numbers 592 second) second_sends)
 
 third_admitted : admission standard_numbers (options modes.Delta) one_column (having abcde) 976 third ≡ None
+unfolding gap
 third_admitted = by_tests standard_numbers (options modes.Delta) one_column (having abcde) 976 third true true true (same_schema one_column) (one_list acde) (ap (fits_by standard_numbers 976 third) third_sends)
 
 -- at most four rows: the list of five values is refused, though only two of them would be sent
@@ -292,6 +278,7 @@ abbrev four_rows : LimitNumbers
 four_rows = record { max_metadata = 2 ^ 26; max_body = 2 ^ 36; max_rows = 4 }
 
 second_too_large : admission four_rows (options modes.Delta) one_column (having abc) 592 second ≡ Some TooLarge
+unfolding gap
 second_too_large = by_tests four_rows (options modes.Delta) one_column (having abc) 592 second true true false (same_schema one_column) (one_list abcde) (ap (fits_by four_rows 592 second) second_sends)
 
 -- the third batch is then compared with what was sent before the refused one
@@ -299,25 +286,31 @@ third_sends_instead : plan modes.Delta one_column (having abc) third ≡ whole_l
 third_sends_instead = ap (λ u. sending (pos 0) u acde ++ []) (changed_is_replace abc acde (λ h. cc) (λ h. cc))
 
 third_admitted_instead : admission four_rows (options modes.Delta) one_column (having abc) 592 third ≡ None
+unfolding gap
 third_admitted_instead = by_tests four_rows (options modes.Delta) one_column (having abc) 592 third true true true (same_schema one_column) (one_list acde) (ap (fits_by four_rows 592 third) third_sends_instead)
 
 third_ends_instead : ends modes.Delta (having abc) 592 third ≡ 824 ∷ 984 ∷ []
+unfolding gap
 third_ends_instead = ap (ends_by 592 third) third_sends_instead
 
 -- one byte past the last place
 past_the_last_place : admission standard_numbers (options modes.Delta) one_column [] (2 ^ 62 - 391) first ≡ Some TooLarge
+unfolding gap
 past_the_last_place = by_tests standard_numbers (options modes.Delta) one_column [] (2 ^ 62 - 391) first true true false (same_schema one_column) (one_list abc) refl
 
 up_to_the_last_place : admission standard_numbers (options modes.Delta) one_column [] (2 ^ 62 - 392) first ≡ None
+unfolding gap
 up_to_the_last_place = by_tests standard_numbers (options modes.Delta) one_column [] (2 ^ 62 - 392) first true true true (same_schema one_column) (one_list abc) refl
 
 no_marker_there : marker_fits (2 ^ 62 - 7) ≡ false
 no_marker_there = refl
 
 schema_admitted : schema_admission standard_numbers (options modes.Delta) one_column ≡ None
+unfolding gap
 schema_admitted = refl
 
 schema_too_large : schema_admission (record { max_metadata = 191; max_body = 0; max_rows = 0 }) (options modes.Delta) one_column ≡ Some TooLarge
+unfolding gap
 schema_too_large = refl
 
 -- TWO COLUMNS OF ONE ID
@@ -340,6 +333,7 @@ same_lists : has_one_list (side_by_side (a ∷ []) (a ∷ [])) ≡ true
 same_lists = ap (λ t. t && (t && true)) (same_yes (a ∷ []) (a ∷ []) refl)
 
 same_lists_admitted : admission standard_numbers (options modes.Delta) two_columns [] 200 (side_by_side (a ∷ []) (a ∷ [])) ≡ None
+unfolding gap
 same_lists_admitted = by_tests standard_numbers (options modes.Delta) two_columns [] 200 (side_by_side (a ∷ []) (a ∷ [])) true true true (same_schema two_columns) same_lists refl
 
 sent_once : plan modes.Delta two_columns [] (side_by_side (a ∷ []) (a ∷ [])) ≡ whole_list (a ∷ []) ∷ []
@@ -364,6 +358,7 @@ no_columns_plan : plan modes.Delta none [] no_columns ≡ []
 no_columns_plan = refl
 
 no_columns_admitted : admission standard_numbers (options modes.Delta) none [] 200 no_columns ≡ None
+unfolding gap
 no_columns_admitted = by_tests standard_numbers (options modes.Delta) none [] 200 no_columns true true true (same_schema none) refl refl
 
 -- FIRST BYTES, of the parts of the dictionary that grows as deltas

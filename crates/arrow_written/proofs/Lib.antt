@@ -6,4 +6,6 @@ pub mod Texts
 pub mod Lyings
 pub mod Deliveries
 pub mod Starts
+pub mod Aligning
 mod Examples
+pub mod Writers

@@ -36,9 +36,12 @@ use Rattle.arrow_stream.proofs.Fitness.{values_flat}
 use Rattle.arrow_stream.proofs.Whole.{frame_whole}
 use Rattle.arrow_written.specs.declared.write_fault.WriteFault.{WriteFault}
 use Rattle.arrow_written.specs.declared.write_fault.WriteFault.TheVariants.{SchemaDiffers, TooLarge, DictionariesDiffer}
-use Rattle.arrow_written.specs.Sizes.{Sizes, Options}
+use Rattle.arrow_body_written.specs.Size.{size_of}
+use Rattle.arrow_written.specs.Sizes.{Options, batch_size, dictionary_size, offsets_fit, slots_in}
+use Rattle.arrow_stream.specs.Batch.{IsLayout}
 use Rattle.arrow_dict.specs.Choice.{same_list}
-use Rattle.arrow_written.specs.Rows.{raws_of, list_of, has_one_list}
+use Rattle.arrow_body_written.specs.Laws.{raws_of}
+use Rattle.arrow_written.specs.Rows.{list_of, has_one_list}
 use Rattle.arrow_written.specs.Built.{IsBuilt}
 use Rattle.arrow_written.specs.Plan.{Sending, plan, with_list, with_lists, value_type}
 use Rattle.arrow_written.specs.Admission.{admission, fields_for, frame_fits, sending_fits, part_fits, part_size, sending_size, sendings_size}
@@ -60,25 +63,25 @@ refused true k o e = (refl, e)
 refused false k o e = absurd (cc)
 
 -- what a frame that fits keeps to
-pub record FrameFits (l : LimitNumbers) (z : Sizes) (metadata : ℕ) (fields : Fields) (raws : List (List PlainValue)) (rows : ℕ) : Type 0 where
+pub record FrameFits (l : LimitNumbers) (z : ℕ) (metadata : ℕ) (fields : Fields) (raws : List (List PlainValue)) (rows : ℕ) : Type 0 where
   pub metadata_fits : metadata ≤ l.max_metadata
-  pub body_fits : z.body fields raws ≤ l.max_body
+  pub body_fits : size_of z fields raws ≤ l.max_body
   pub rows_fit : rows ≤ l.max_rows
-  pub slots_fit : list_all (λ n. nat_le n l.max_rows) (z.slots fields raws) ≡ true
+  pub slots_fit : list_all (λ n. nat_le n l.max_rows) (slots_in fields raws) ≡ true
 
-pub frame_fits_so : (l : LimitNumbers) (z : Sizes) (metadata : ℕ) (fields : Fields) (raws : List (List PlainValue)) (rows : ℕ) → frame_fits l z metadata fields raws rows ≡ true → FrameFits l z metadata fields raws rows
+pub frame_fits_so : (l : LimitNumbers) (z : ℕ) (metadata : ℕ) (fields : Fields) (raws : List (List PlainValue)) (rows : ℕ) → frame_fits l z metadata fields raws rows ≡ true → FrameFits l z metadata fields raws rows
 frame_fits_so l z metadata fields raws rows e =
     let t1 = leb metadata l.max_metadata in
-    let t2 = leb (z.body fields raws) l.max_body in
+    let t2 = leb (size_of z fields raws) l.max_body in
     let t3 = leb rows l.max_rows in
-    let t4 = list_all (λ n. leb n l.max_rows) (z.slots fields raws) in
-    let w = both (t1 && t2 && t3 && t4) (z.offsets fields raws) e in
+    let t4 = list_all (λ n. leb n l.max_rows) (slots_in fields raws) in
+    let w = both (t1 && t2 && t3 && t4) (offsets_fit fields raws) e in
     let x = both (t1 && t2 && t3) t4 w.0 in
     let y = both (t1 && t2) t3 x.0 in
     let q = both t1 t2 y.0 in
     record {
       metadata_fits = leb-true metadata l.max_metadata q.0;
-      body_fits = leb-true (z.body fields raws) l.max_body q.1;
+      body_fits = leb-true (size_of z fields raws) l.max_body q.1;
       rows_fit = leb-true rows l.max_rows y.1;
       slots_fit = x.1;
     }
@@ -87,30 +90,30 @@ frame_fits_so l z metadata fields raws rows e =
 pub record PartFits (l : LimitNumbers) (o : Options) (fields : Fields) (ds : List (ℤ × ValueList)) (place : ℕ) (t : Table) : Type 0 where
   pub same_schema : t.schema ≡ fields
   pub one_list : Agree (listed_of t.columns) (list_of t)
-  pub updates_fit : list_all (sending_fits l o.sizes fields) (plan o.updates fields ds t) ≡ true
-  pub record_fits : FrameFits l o.sizes (o.sizes.batch fields) fields (raws_of t.columns) t.rows
+  pub updates_fit : list_all (sending_fits l o.align fields) (plan o.updates fields ds t) ≡ true
+  pub record_fits : FrameFits l o.align (batch_size o.align fields) fields (raws_of t.columns) t.rows
   pub near : place + part_size o fields ds t ≤ 2 ^ 62
 
-agree_so : (lists : ℤ → List PlainValue) (es : List (ℤ × List PlainValue)) → list_all (λ (d : ℤ × List PlainValue). same_list (lists d.0) d.1) es ≡ true → Agree es lists
+agree_so : (lists : ℤ → List PlainValue) (es : List (ℤ × ValueList)) → list_all (λ (d : ℤ × ValueList). same_list (lists d.0) d.1.values) es ≡ true → Agree es lists
 agree_so lists [] e = tt
 agree_so lists (d ∷ es) e =
-    let w = both (same_list (lists d.0) d.1) (list_all (λ (d : ℤ × List PlainValue). same_list (lists d.0) d.1) es) e in
-    ((is_equal_decides (coded_list value_code) (lists d.0) d.1).0 w.0, agree_so lists es w.1)
+    let w = both (same_list (lists d.0) d.1.values) (list_all (λ (d : ℤ × ValueList). same_list (lists d.0) d.1.values) es) e in
+    ((is_equal_decides (coded_list value_code) (lists d.0) d.1.values).0 w.0, agree_so lists es w.1)
 
 pub part_fits_so : (l : LimitNumbers) (o : Options) (fields : Fields) (ds : List (ℤ × ValueList)) (place : ℕ) (t : Table) → admission l o fields ds place t ≡ None → PartFits l o fields ds place t
 part_fits_so l o fields ds place t e =
     let w = refused (is_equal fields_code t.schema fields) SchemaDiffers _ e in
     let x = refused (has_one_list t) DictionariesDiffer _ w.1 in
     let y = refused (part_fits l o fields ds place t) TooLarge None x.1 in
-    let t1 = list_all (sending_fits l o.sizes fields) (plan o.updates fields ds t) in
-    let t2 = frame_fits l o.sizes (o.sizes.batch fields) fields (raws_of t.columns) t.rows in
+    let t1 = list_all (sending_fits l o.align fields) (plan o.updates fields ds t) in
+    let t2 = frame_fits l o.align (batch_size o.align fields) fields (raws_of t.columns) t.rows in
     let u = both (t1 && t2) (leb (place + part_size o fields ds t) (2 ^ 62)) y.0 in
     let v = both t1 t2 u.0 in
     record {
       same_schema = (is_equal_decides fields_code t.schema fields).0 w.0;
       one_list = agree_so (list_of t) (listed_of t.columns) x.0;
       updates_fit = v.0;
-      record_fits = frame_fits_so l o.sizes (o.sizes.batch fields) fields (raws_of t.columns) t.rows v.1;
+      record_fits = frame_fits_so l o.align (batch_size o.align fields) fields (raws_of t.columns) t.rows v.1;
       near = leb-true (place + part_size o fields ds t) (2 ^ 62) u.1;
     }
 
@@ -126,6 +129,10 @@ pub frame_first : (l : LimitNumbers) (s : StreamState) (p size : ℕ) (content :
     → BodySays s content body (Ok (s', g)) → First l s p b (whole (length b) s' g)
 frame_first l s p size content body b s' g f small near order free says =
     frame_whole l s p size content f.prefix f.metadata body b s' g f.eight f.continued f.number f.sized f.some f.bytes f.means small near order free says
+
+-- what is built is laid out as a reader asks for
+pub layout_of : {align : ℕ} {fields : Fields} {raws : List (List PlainValue)} {rows : ℕ} {record_batch : PlainBatch} {body : List ℕ} → IsBuilt align fields raws rows record_batch body → IsLayout body fields record_batch
+layout_of x = record { there = (omega (arith, x.columns.just_nodes), omega (arith, x.columns.just_buffers)); laid = x.columns.laid; long = x.level }
 
 -- NO ROWS TOO MANY
 
@@ -145,13 +152,13 @@ slots_good max (n ∷ ns) (s ∷ ss) e h =
     let there : map (λ (n : FieldNode). n.length) ns ≡ map pos ss = cc in
     neither (is_bad_length max n.length) (list_any (λ (n : FieldNode). is_bad_length max n.length) ns) (slot_good max s n.length here w.0) (slots_good max ns ss there w.1)
 
-pub lengths_good : (l : LimitNumbers) (z : Sizes) (metadata : ℕ) (fields : Fields) (raws : List (List PlainValue)) (rows : ℕ) (record_batch : PlainBatch) (body : List ℕ) → IsBuilt z fields raws rows record_batch body
+pub lengths_good : (l : LimitNumbers) (z : ℕ) (metadata : ℕ) (fields : Fields) (raws : List (List PlainValue)) (rows : ℕ) (record_batch : PlainBatch) (body : List ℕ) → IsBuilt z fields raws rows record_batch body
     → FrameFits l z metadata fields raws rows → has_bad_length l.max_rows fields record_batch ≡ false
 lengths_good l z metadata fields raws rows record_batch body x f =
-    let all : take (taken_nodes fields) record_batch.nodes ≡ record_batch.nodes = take_all (taken_nodes fields) record_batch.nodes (omega (arith, x.just_nodes)) in
+    let all : take (taken_nodes fields) record_batch.nodes ≡ record_batch.nodes = take_all (taken_nodes fields) record_batch.nodes (omega (arith, x.columns.just_nodes)) in
     neither (is_bad_length l.max_rows record_batch.length) (list_any (λ (n : FieldNode). is_bad_length l.max_rows n.length) (take (taken_nodes fields) record_batch.nodes))
     (ap (is_bad_length l.max_rows) x.long ∙ le-ltb l.max_rows rows f.rows_fit)
-    (ap (list_any (λ (n : FieldNode). is_bad_length l.max_rows n.length)) all ∙ slots_good l.max_rows record_batch.nodes (z.slots fields raws) x.slots f.slots_fit)
+    (ap (list_any (λ (n : FieldNode). is_bad_length l.max_rows n.length)) all ∙ slots_good l.max_rows record_batch.nodes (slots_in fields raws) x.slots f.slots_fit)
 
 -- A DICTIONARY BATCH
 
@@ -214,7 +221,7 @@ abbrev pub NoTables : List Frame → Type 0
 NoTables [] = ⊤
 NoTables (f ∷ fs) = (table_in f.gives ≡ []) × NoTables fs
 
-module _ (l : LimitNumbers) (z : Sizes) (fields : Fields) where
+module _ (l : LimitNumbers) (z : ℕ) (fields : Fields) where
   -- the frame of an update is one whole message
   pub update_first : (ds : List (ℤ × ValueList)) (w : Sending) (b : List ℕ) (p : ℕ) → IsSchema fields → IsChosen fields ds w → IsUpdate l z fields w b → sending_fits l z fields w ≡ true → p + length b ≤ 2 ^ 62
       → First l (state_of fields ds) p b (whole (length b) (state_of fields (with_list fields w ds)) (dictionary_given w.id))
@@ -225,21 +232,21 @@ module _ (l : LimitNumbers) (z : Sizes) (fields : Fields) where
       let t = chosen.typed.its_type in
       let named = chosen.typed.named in
       let x = u.built in
-      let two = both (frame_fits l z (z.dictionary own) own (w.carried ∷ []) (length w.carried)) (leb (length w.whole) l.max_rows) fits in
-      let f = frame_fits_so l z (z.dictionary own) own (w.carried ∷ []) (length w.carried) two.0 in
+      let two = both (frame_fits l z (dictionary_size z own) own (w.carried ∷ []) (length w.carried)) (leb (length w.whole) l.max_rows) fits in
+      let f = frame_fits_so l z (dictionary_size z own) own (w.carried ∷ []) (length w.carried) two.0 in
       let base = base_of w.is_delta (listed ds w.id) in
       let total : length base + count_of u.record_batch.length ≡ length w.whole =
       ap (λ n. length base + count_of n) x.long ∙ sym (length-append base w.carried) ∙ ap length chosen.behind in
       let none_against : against l.max_rows s (dictionary w.id w.is_delta u.record_batch) ≡ None =
       allowed_if (is_some o) (w.is_delta && not (is_some (listed ds w.id))) (has_bad_length l.max_rows own u.record_batch) (ltb l.max_rows (length base + count_of u.record_batch.length))
-      (ap is_some named) chosen.there (lengths_good l z (z.dictionary own) own (w.carried ∷ []) (length w.carried) u.record_batch u.body x f)
+      (ap is_some named) chosen.there (lengths_good l z (dictionary_size z own) own (w.carried ∷ []) (length w.carried) u.record_batch u.body x f)
       (le-ltb l.max_rows (length base + count_of u.record_batch.length) (let few = leb-true (length w.whole) l.max_rows two.1 in omega arith)) in
       let indexed = flat_indexed u.body [] own u.record_batch.nodes u.record_batch.buffers (flat_values o t named (values_flat fields w.id t known named)) in
-      let left = values_left u.body s w.id w.is_delta o t w.carried u.record_batch.nodes u.record_batch.buffers named x.raw
+      let left = values_left u.body s w.id w.is_delta o t w.carried u.record_batch.nodes u.record_batch.buffers named (x.columns.raw [])
       ∙ ap (λ vs. state_of fields (placed w.id (record { data_type = t; values = vs }) ds)) chosen.behind
       ∙ ap (λ y. state_of fields (placed w.id (record { data_type = y; values = w.whole }) ds)) (sym (type_is fields w.id t named)) in
-      frame_first l s p (z.dictionary own) (dictionary w.id w.is_delta u.record_batch) u.body b (state_of fields (with_list fields w ds)) (dictionary_given w.id) u.frame f.metadata_fits near refl none_against
-      (dictionary_comes (columns x.layout x.text indexed) (ap (λ y. Ok (y, dictionary_given w.id)) (sym left)))
+      frame_first l s p (dictionary_size z own) (dictionary w.id w.is_delta u.record_batch) u.body b (state_of fields (with_list fields w ds)) (dictionary_given w.id) u.frame f.metadata_fits near refl none_against
+      (dictionary_comes (columns (layout_of x) x.columns.text indexed) (ap (λ y. Ok (y, dictionary_given w.id)) (sym left)))
 
   -- what the frames of the updates are
   pub record Updated (ds : List (ℤ × ValueList)) (ws : List Sending) (p : ℕ) (fs : List Frame) : Type 0 where
@@ -257,7 +264,7 @@ module _ (l : LimitNumbers) (z : Sizes) (fields : Fields) where
       let rest = u.1 in
       let one = u.2 in
       let two = both (sending_fits l z fields w) (list_all (sending_fits l z fields) ws) fits in
-      let len : length b ≡ sending_size z fields w = frame_length one.frame ∙ ap (λ n. 8 + z.dictionary (fields_for fields w.id) + n) one.built.sized in
+      let len : length b ≡ sending_size z fields w = frame_length one.frame ∙ ap (λ n. 8 + dictionary_size z (fields_for fields w.id) + n) one.built.columns.sized in
       let first = update_first ds w b p known chosen.0 one two.0 (omega arith) in
       let i = updates_chain (with_list fields w ds) ws (p + length b) rest known chosen.1 u.3 two.1 (omega arith) in
       subst (λ gs. Updated ds (w ∷ ws) p gs) (sym u.4) (record {

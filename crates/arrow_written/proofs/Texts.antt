@@ -19,8 +19,9 @@ use Rattle.arrow_stream.specs.Frame.{BodySays, schema_comes, batch_comes, First,
 use Rattle.arrow_stream.specs.State.{StreamState, batch_given, schema_given, nothing_yet}
 use Rattle.arrow_stream.proofs.Whole.{marker_whole}
 use Rattle.arrow_written.specs.declared.write_fault.WriteFault.TheVariants.{TooLarge}
-use Rattle.arrow_written.specs.Sizes.{Options}
-use Rattle.arrow_written.specs.Rows.{raws_of, resolved_of, list_of, rows_of}
+use Rattle.arrow_written.specs.Sizes.{Options, batch_size, schema_size}
+use Rattle.arrow_body_written.specs.Laws.{raws_of}
+use Rattle.arrow_written.specs.Rows.{resolved_of, list_of, rows_of}
 use Rattle.arrow_written.specs.Plan.{plan, lists_after, lists_sent}
 use Rattle.arrow_dict.specs.declared.update.Updates.{Updates}
 use Rattle.arrow_written.specs.Admission.{marker_fits, part_size, record_size, sendings_size}
@@ -31,7 +32,7 @@ use Rattle.arrow_written.specs.Text.{state_of, table_read, record_frame, IsPart,
 use Rattle.arrow_written.proofs.Chains.{frames_bytes-append, left_by-append, Chain-append}
 use Rattle.arrow_written.proofs.Columns.{columns_stand, have_entries, raw_same, resolved_same}
 use Rattle.arrow_written.proofs.Lists.{plan_sent, ids_agree}
-use Rattle.arrow_written.proofs.Parts.{part_fits_so, frame_length, frame_first, lengths_good, NoTables, updates_chain}
+use Rattle.arrow_written.proofs.Parts.{layout_of, part_fits_so, frame_length, frame_first, lengths_good, NoTables, updates_chain}
 
 -- A PART
 
@@ -58,17 +59,17 @@ module _ {l : LimitNumbers} {o : Options} {fields : Fields} where
       let ws = plan o.updates fields ds t in
       let es = lists_after o.updates fields ds t in
       let s = state_of fields es in
-      let us = sendings_size o.sizes fields ws in
+      let us = sendings_size o.align fields ws in
       let near = f.near in
-      let up = updates_chain l o.sizes fields ds ws p x.updated known sent.chosen x.updates f.updates_fit (omega arith) in
+      let up = updates_chain l o.align fields ds ws p x.updated known sent.chosen x.updates f.updates_fit (omega arith) in
       let agree = ids_agree (values_by es) (list_of t) fields sent.lists_are in
       let typed : AreOf fields t.columns = subst (λ v. AreOf v t.columns) f.same_schema x.known.table.typed in
       let stand = columns_stand (list_of t) t.columns x.known.columns f.one_list in
-      let indexed = x.built.indexed es (have_entries (values_by es) (list_of t) fields t.columns typed agree stand) in
+      let indexed = x.built.columns.indexed es (have_entries (values_by es) (list_of t) fields t.columns typed agree stand) in
       let ns = x.record_batch.nodes in
       let bs = x.record_batch.buffers in
       let cs = columns_of x.body es fields ns bs in
-      let raw : raws_of cs ≡ raws_of t.columns = raw_same x.body es [] fields ns bs ∙ x.built.raw in
+      let raw : raws_of cs ≡ raws_of t.columns = raw_same x.body es [] fields ns bs ∙ x.built.columns.raw [] in
       let resolved : resolved_of cs ≡ resolved_of t.columns =
       resolved_same es (list_of t) fields cs t.columns (columns_typed x.body es fields ns bs) typed agree (columns_resolve x.body es fields ns bs indexed) stand raw in
       let table = table_read fields es x.record_batch x.body t.rows in
@@ -76,11 +77,11 @@ module _ {l : LimitNumbers} {o : Options} {fields : Fields} where
       let rows : rows_of table ≡ rows_of t = λ i. record { schema = same_schema i; raw = raw i; resolved = resolved i; count = t.rows } in
       let count : t.rows ≡ count_of x.record_batch.length = sym (ap count_of x.built.long) in
       let says : BodySays s (batch x.record_batch) x.body (Ok (s, batch_given table)) =
-      batch_comes (columns x.built.layout x.built.text indexed) (ap (λ n. Ok (s, batch_given (record { schema = fields; columns = cs; rows = n }))) count) in
+      batch_comes (columns (layout_of x.built) x.built.columns.text indexed) (ap (λ n. Ok (s, batch_given (record { schema = fields; columns = cs; rows = n }))) count) in
       let free : against l.max_rows s (batch x.record_batch) ≡ None =
-      bad_none _ (lengths_good l o.sizes (o.sizes.batch fields) fields (raws_of t.columns) t.rows x.record_batch x.body x.built f.record_fits) in
-      let len : length x.last ≡ record_size o.sizes fields t = frame_length x.frame ∙ ap (λ n. 8 + o.sizes.batch fields + n) x.built.sized in
-      let first = frame_first l s (p + us) (o.sizes.batch fields) (batch x.record_batch) x.body x.last s (batch_given table) x.frame f.record_fits.metadata_fits (omega arith) refl free says in
+      bad_none _ (lengths_good l o.align (batch_size o.align fields) fields (raws_of t.columns) t.rows x.record_batch x.body x.built f.record_fits) in
+      let len : length x.last ≡ record_size o.align fields t = frame_length x.frame ∙ ap (λ n. 8 + batch_size o.align fields + n) x.built.columns.sized in
+      let first = frame_first l s (p + us) (batch_size o.align fields) (batch x.record_batch) x.body x.last s (batch_given table) x.frame f.record_fits.metadata_fits (omega arith) refl free says in
       let last = record_frame fields es x.record_batch x.body t.rows x.last in
       let c1 : Chain l s (p + us) (last ∷ []) = (first, tt) in
       let c2 : Chain l (left_by (state_of fields ds) x.updated) (p + length (frames_bytes x.updated)) (last ∷ []) =
@@ -152,7 +153,7 @@ module _ {l : LimitNumbers} {o : Options} {fields : Fields} where
   pub text_is : {parts : List (List ℕ)} {batches : List Table} {frames : List Frame} → Text l o fields parts batches frames → TextIs l o fields parts batches frames
   text_is (begins b known a f) =
       let s = state_of fields [] in
-      let size = o.sizes.schema fields in
+      let size = schema_size o.align fields in
       let w = schema_fits (leb size l.max_metadata) (leb (8 + size) (2 ^ 62)) a in
       let near = leb-true (8 + size) (2 ^ 62) w.1 in
       let len = frame_length f in

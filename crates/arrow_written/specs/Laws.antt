@@ -1,5 +1,6 @@
 -- Laws of streams and of what a writer sends.
-use Rattle.std.specs.Prelude.{◌≡◌, ℕ, ◌≤◌, ◌⊎◌, Bool, List, [], length, take, drop, map, is_some, true}
+use Rattle.std.specs.Prelude.{◌≡◌, ℕ, ◌<◌, ◌≤◌, ◌%◌, ◌⊎◌, Bool, List, [], length, take, drop, map, is_some, true}
+use Rattle.std.specs.List.{AllByRecursion}
 use Rattle.arrow_types.specs.Field.{Fields}
 use Rattle.arrow_types.specs.Limits.{LimitNumbers}
 use Rattle.arrow_array.specs.Batch.{Table}
@@ -13,7 +14,7 @@ use Rattle.arrow_written.specs.Plan.{lists_sent}
 use Rattle.arrow_written.specs.Rows.{rows_of}
 use Rattle.arrow_stream.specs.Tables.{tables_of}
 use Rattle.arrow_written.specs.Frames.{Frame, frames_bytes, left_by, lying, ending_by, last_end, IsStream}
-use Rattle.arrow_written.specs.Text.{Written, joined, whole_batches}
+use Rattle.arrow_written.specs.Text.{Text, Written, joined, whole_batches}
 
 -- What a reader has of the first n bytes of a stream with these entries: the first of them, as far as they end there, no refusal,
 -- and a rest that begins where the last of these ends.
@@ -58,3 +59,14 @@ abbrev pub DeliveredBeginning : Type 0
 DeliveredBeginning =
     (limits : LimitNumbers) (o : Options) (fields : Fields) (finish : Bool) (parts : List (List ℕ)) (batches : List Table) (frames : List Frame) →
     Written limits o fields finish parts batches frames → (n : ℕ) → Delivered limits parts batches frames n
+
+-- the bytes of each frame are a multiple of the alignment
+abbrev pub AreAligned : ℕ → List Frame → Type 0
+AreAligned align frames = AllByRecursion (λ (f : Frame). length f.bytes % align ≡ 0) frames
+
+-- Each frame of the text of a connection begins and ends at a multiple of the alignment (Columnar Format, "Buffer Alignment and
+-- Padding", "Encapsulated message format"). The end marker has eight bytes.
+abbrev pub FramesAreAligned : Type 0
+FramesAreAligned =
+    (limits : LimitNumbers) (o : Options) (fields : Fields) (parts : List (List ℕ)) (batches : List Table) (frames : List Frame) → 0 < o.align →
+    Text limits o fields parts batches frames → AreAligned o.align frames

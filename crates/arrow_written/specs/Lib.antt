@@ -7,3 +7,5 @@ pub mod Admission
 pub mod Text
 pub mod Laws
 pub mod Refusals
+pub mod Writer
+pub mod Standing

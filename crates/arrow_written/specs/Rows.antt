@@ -1,16 +1,14 @@
 -- What the rows of a batch are, and the dictionaries that its columns refer to (Columnar Format, "Dictionary-encoded Layout").
-use Rattle.std.specs.Prelude.{ℕ, ℤ, Bool, List, [], ◌∷◌, map, if◌then◌else◌}
+use Rattle.std.specs.Prelude.{ℕ, ℤ, Bool, List, map}
 use Rattle.std.specs.List.{AllByRecursion, list_all}
-use Rattle.std.specs.Ordering.{int_eq}
 use Rattle.arrow_types.specs.Field.{Fields}
 use Rattle.arrow_array.specs.Batch.{Table, IsTable}
-use Rattle.arrow_array.specs.Column.{Column, IsColumn, listed_of}
+use Rattle.arrow_array.specs.Column.{Column, ValueList, IsColumn, listed_of}
+use Rattle.arrow_array.specs.Listed.{listed}
+use Rattle.arrow_array.specs.Parts.{values_in}
 use Rattle.arrow_array.specs.PlainValue.{PlainValue}
+use Rattle.arrow_body_written.specs.Laws.{raws_of}
 use Rattle.arrow_dict.specs.Choice.{same_list}
-
--- the raw values of columns, side by side
-abbrev pub raws_of : List Column → List (List PlainValue)
-raws_of cs = map (λ (c : Column). c.raw) cs
 
 -- their values with every index looked up
 abbrev pub resolved_of : List Column → List (List PlainValue)
@@ -28,18 +26,13 @@ pub record Rows : Type 0 where
 abbrev pub rows_of : Table → Rows
 rows_of t = record { schema = t.schema; raw = raws_of t.columns; resolved = resolved_of t.columns; count = t.rows }
 
--- the values that are listed first for an id, none where none are
-abbrev pub first_list : List (ℤ × List PlainValue) → ℤ → List PlainValue
-first_list [] id = []
-first_list (d ∷ ds) id = if int_eq d.0 id then d.1 else first_list ds id
-
--- the values of the batch's dictionary of an id, none where no column refers to one
+-- the values of the batch's dictionary of an id, the one that is listed first for it, none where no column refers to one
 abbrev pub list_of : Table → ℤ → List PlainValue
-list_of t id = first_list (listed_of t.columns) id
+list_of t id = values_in (listed (listed_of t.columns) id)
 
 -- whether all columns of the batch that refer to a dictionary of one id have equal values for it
 abbrev pub has_one_list : Table → Bool
-has_one_list t = list_all (λ (d : ℤ × List PlainValue). same_list (list_of t d.0) d.1) (listed_of t.columns)
+has_one_list t = list_all (λ (d : ℤ × ValueList). same_list (list_of t d.0) d.1.values) (listed_of t.columns)
 
 -- what is known of every batch and of each of its columns
 pub record IsKnown (t : Table) : Type 0 where

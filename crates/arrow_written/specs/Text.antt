@@ -9,8 +9,9 @@ use Rattle.arrow_array.specs.Column.{ValueList}
 use Rattle.arrow_body.specs.Sound.{columns_of}
 use Rattle.arrow_meta.specs.Means.{PlainBatch, schema, dictionary, batch}
 use Rattle.arrow_stream.specs.State.{StreamState, schema_given, dictionary_given, batch_given, ended, nothing_yet}
-use Rattle.arrow_written.specs.Sizes.{Sizes, Options}
-use Rattle.arrow_written.specs.Rows.{IsKnown, raws_of}
+use Rattle.arrow_written.specs.Sizes.{Options, batch_size, dictionary_size, schema_size}
+use Rattle.arrow_body_written.specs.Laws.{raws_of}
+use Rattle.arrow_written.specs.Rows.{IsKnown}
 use Rattle.arrow_written.specs.Built.{IsBuilt}
 use Rattle.arrow_written.specs.Plan.{Sending, plan, with_list, lists_after}
 use Rattle.arrow_written.specs.Admission.{admission, schema_admission, marker_fits, fields_for}
@@ -21,22 +22,28 @@ abbrev pub state_of : Fields → List (ℤ × ValueList) → StreamState
 state_of fields ds = record { schema = Some fields; dictionaries = ds }
 
 -- b is the frame of a dictionary batch: its length is the number of values that it carries, its one column is these values
-pub record IsUpdate (limits : LimitNumbers) (sizes : Sizes) (fields : Fields) (w : Sending) (b : List ℕ) : Type 0 where
+pub record IsUpdate (limits : LimitNumbers) (align : ℕ) (fields : Fields) (w : Sending) (b : List ℕ) : Type 0 where
   pub record_batch : PlainBatch
   pub body : List ℕ
-  pub built : IsBuilt sizes (fields_for fields w.id) (w.carried ∷ []) (length w.carried) record_batch body
-  pub frame : IsFrameOf limits (sizes.dictionary (fields_for fields w.id)) (dictionary w.id w.is_delta record_batch) body b
+  pub built : IsBuilt align (fields_for fields w.id) (w.carried ∷ []) (length w.carried) record_batch body
+  pub frame : IsFrameOf limits (dictionary_size align (fields_for fields w.id)) (dictionary w.id w.is_delta record_batch) body b
 
 -- the frame of a dictionary batch, with what it gives and leaves
 abbrev pub update_frame : Fields → List (ℤ × ValueList) → Sending → List ℕ → Frame
 update_frame fields ds w b = record { bytes = b; gives = dictionary_given w.id; leaves = state_of fields (with_list fields w ds) }
 
 -- these are the frames of the dictionary batches, one after another
-abbrev pub AreUpdates : LimitNumbers → Sizes → Fields → List (ℤ × ValueList) → List Sending → List Frame → Type 0
-AreUpdates limits sizes fields ds [] fs = fs ≡ []
-AreUpdates limits sizes fields ds (w ∷ ws) fs =
-    (b : List ℕ) × (rest : List Frame) × IsUpdate limits sizes fields w b × AreUpdates limits sizes fields (with_list fields w ds) ws rest
+abbrev pub AreUpdates : LimitNumbers → ℕ → Fields → List (ℤ × ValueList) → List Sending → List Frame → Type 0
+AreUpdates limits align fields ds [] fs = fs ≡ []
+AreUpdates limits align fields ds (w ∷ ws) fs =
+    (b : List ℕ) × (rest : List Frame) × IsUpdate limits align fields w b × AreUpdates limits align fields (with_list fields w ds) ws rest
     × (fs ≡ update_frame fields ds w b ∷ rest)
+
+-- These bytes are the frames of the dictionary batches, one after another, where these dictionaries were sent before.
+pub record AreBuilt (limits : LimitNumbers) (align : ℕ) (fields : Fields) (ds : List (ℤ × ValueList)) (ws : List Sending) (bytes : List ℕ) : Type 0 where
+  pub frames : List Frame
+  pub updates : AreUpdates limits align fields ds ws frames
+  pub same : frames_bytes frames ≡ bytes
 
 -- the batch that a reader has of a record batch's frame, with these dictionaries
 abbrev pub table_read : Fields → List (ℤ × ValueList) → PlainBatch → List ℕ → ℕ → Table
@@ -53,12 +60,12 @@ pub record IsPart (limits : LimitNumbers) (o : Options) (fields : Fields) (ds : 
   pub admitted : admission limits o fields ds place t ≡ None
   pub known : IsKnown t
   pub updated : List Frame
-  pub updates : AreUpdates limits o.sizes fields ds (plan o.updates fields ds t) updated
+  pub updates : AreUpdates limits o.align fields ds (plan o.updates fields ds t) updated
   pub record_batch : PlainBatch
   pub body : List ℕ
-  pub built : IsBuilt o.sizes fields (raws_of t.columns) t.rows record_batch body
+  pub built : IsBuilt o.align fields (raws_of t.columns) t.rows record_batch body
   pub last : List ℕ
-  pub frame : IsFrameOf limits (o.sizes.batch fields) (batch record_batch) body last
+  pub frame : IsFrameOf limits (batch_size o.align fields) (batch record_batch) body last
   pub frames : fs ≡ updated ++ record_frame fields (lists_after o.updates fields ds t) record_batch body t.rows last ∷ []
 
 -- the bytes of parts, one after another
@@ -74,7 +81,7 @@ schema_frame fields b = record { bytes = b; gives = schema_given; leaves = state
 -- each batch, by the dictionaries that the parts before it left.
 pub data Text (limits : LimitNumbers) (o : Options) (fields : Fields) : List (List ℕ) → List Table → List Frame → Type 0 where
   begins : (b : List ℕ) → IsSchema fields → schema_admission limits o fields ≡ None →
-      IsFrameOf limits (o.sizes.schema fields) (schema fields) [] b →
+      IsFrameOf limits (schema_size o.align fields) (schema fields) [] b →
       Text limits o fields (b ∷ []) [] (schema_frame fields b ∷ [])
   adds : (parts : List (List ℕ)) (batches : List Table) (frames : List Frame) (t : Table) (fs : List Frame) →
       Text limits o fields parts batches frames →

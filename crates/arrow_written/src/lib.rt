@@ -12,11 +12,16 @@
 //! it likes; how many bytes it takes is given by functions of sizes, whichever they are
 //! (`specs/Sizes.antt`).
 //!
+//! What a writer shows, what each of its calls may answer and at which parts and batches it then
+//! stands is said in `specs/Writer.antt`, with its [`Status`].
+//!
 //! [`laws`] says of all this what holds for all arguments: what is sent is a stream, and what a
 //! reader has of the first bytes of it are the rows of the batches that came wholly.
 #![tactic(auto)]
 
 pub mod laws;
+mod status;
 mod write_fault;
 
+pub use status::Status;
 pub use write_fault::WriteFault;

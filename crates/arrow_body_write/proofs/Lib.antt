@@ -1,0 +1,16 @@
+pub mod Packs
+pub mod Shown
+pub mod Steps
+pub mod Numbered
+pub mod Ranges
+pub mod Sending
+pub mod Running
+pub mod Passing
+pub mod Sources
+pub mod RunPasses
+pub mod Counting
+pub mod Forming
+pub mod Levels
+pub mod Measures
+pub mod Chunks
+pub mod Rooms

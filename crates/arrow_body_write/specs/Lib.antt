@@ -1,0 +1,10 @@
+pub mod Align
+pub mod Packing
+pub mod Part
+pub mod Sent
+pub mod Tally
+pub mod Pass
+pub mod Storable
+pub mod Storing
+pub mod Source
+pub mod Runs

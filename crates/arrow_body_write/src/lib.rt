@@ -1,0 +1,34 @@
+//! Columns laid out again as the one tidy body of a batch (Columnar Format, "RecordBatch message").
+//!
+//! What the field nodes, the buffers and the bytes of raw values are is said in
+//! `arrow_body_written`, as one function of the alignment, the fields and the raw values. `store`
+//! gives just that body of columns, and `body_size` tells before, without memory, how many bytes it
+//! has, or that it cannot be stored. `store_rest` and `rest_size` do the same of one column whose
+//! slots hold the values of a dictionary from one on.
+//!
+//! A body is written front to back, by the public calls of `arrow_array` alone, so that no byte is
+//! copied that stood under a null. A node is known by its number in pre-order. One walk finds the
+//! slots that a node is sent, below lists and structs too, and either counts them or writes one of
+//! the node's buffers (`pass`); so each node is walked once to be counted and once for each buffer,
+//! and nothing is kept of the slots.
+#![tactic(auto)]
+
+pub(crate) mod align;
+pub(crate) mod body;
+pub(crate) mod buffers;
+pub(crate) mod counts;
+pub(crate) mod forms;
+pub(crate) mod measured;
+pub(crate) mod nodes;
+pub(crate) mod packing;
+pub(crate) mod part;
+pub(crate) mod pass;
+pub(crate) mod sizes;
+pub(crate) mod slots;
+pub(crate) mod source;
+pub(crate) mod tally;
+pub(crate) mod writing;
+
+pub use align::Align;
+pub use body::{Body, store, store_rest};
+pub use measured::{body_size, rest_size};

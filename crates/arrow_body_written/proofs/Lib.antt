@@ -1,0 +1,23 @@
+mod Examples
+pub mod Bits
+pub mod Pieces
+pub mod Slotted
+pub mod Placed
+pub mod Walk
+pub mod Readback
+pub mod Layouts
+pub mod Soundness
+pub mod Below
+pub mod Standing
+pub mod Indexed
+pub mod Whole
+pub mod Tidied
+pub mod Raised
+pub mod Named
+pub mod Packings
+pub mod Joined
+pub mod Reordered
+pub mod Reslotted
+pub mod Reranged
+pub mod Kept
+pub mod Single

@@ -1,0 +1,8 @@
+pub mod Packed
+pub mod Raws
+pub mod Stored
+pub mod Size
+pub mod Entries
+pub mod Formed
+pub mod Tidy
+pub mod Laws

@@ -1,0 +1,17 @@
+pub mod Arrays
+pub mod Beginning
+pub mod Below
+pub mod Finishing
+pub mod Fitting
+pub mod Growing
+pub mod Held
+pub mod Leaves
+pub mod Listed
+pub mod Nested
+pub mod NodeParts
+pub mod NodeSlots
+pub mod OneBit
+pub mod Putting
+pub mod Ranging
+pub mod Storing
+pub mod Typing

@@ -1,0 +1,10 @@
+pub mod Below
+pub mod Buffers
+pub mod Built
+pub mod Columns
+pub mod Faults
+pub mod Fields
+pub mod Finished
+pub mod Kept
+pub mod Nodes
+pub mod Puts

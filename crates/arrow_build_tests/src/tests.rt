@@ -1,0 +1,7 @@
+//! Columns that are built value by value, against answers that are written out.
+
+mod arrays;
+mod kinds;
+mod pushes;
+mod told;
+mod values;

@@ -1,0 +1,231 @@
+// Arrays of the same values with other dictionaries.
+
+use super::kinds::{Kind, builder};
+use super::told::told;
+use super::values::Step::{self, Int, List, Null, Struct, Text};
+use super::values::value;
+use arrow_array::{Array, Dictionary};
+use arrow_build::{ArrayBuilder, ArrayFault};
+use arrow_types::BitWidth::Eight;
+use std::process::Abort;
+
+const MEMORY: &str = "memory";
+
+// A listed dictionary: its id, the kind of its values, and these.
+type Listed = (i64, Kind, &'static [&'static [Step]]);
+
+// The dictionaries that are listed, the number of the fault or 0, and what the array shows.
+type Finish = (&'static [Listed], u8, &'static str);
+
+static FINISHES: [(Kind, &[&[Step]], &[Finish]); 6] = [
+    (
+        Kind::Indices,
+        &[&[Int(0)], &[Null], &[Int(2)]],
+        &[
+            (
+                &[(7, Kind::Utf8, &[&[Text("a")], &[Text("b")], &[Text("c")]])],
+                0,
+                "0='a', null, 2='c'",
+            ),
+            (
+                &[(
+                    7,
+                    Kind::Utf8,
+                    &[&[Text("x")], &[Text("y")], &[Null], &[Text("z")]],
+                )],
+                0,
+                "0='x', null, 2=null",
+            ),
+            (&[(7, Kind::Utf8, &[&[Text("a")], &[Text("b")]])], 2, ""),
+            (&[], 2, ""),
+            (
+                &[(8, Kind::Utf8, &[&[Text("a")], &[Text("b")], &[Text("c")]])],
+                2,
+                "",
+            ),
+            (
+                &[(
+                    7,
+                    Kind::Int(Eight, true),
+                    &[&[Int(1)], &[Int(2)], &[Int(3)]],
+                )],
+                1,
+                "",
+            ),
+            (&[(7, Kind::Int(Eight, true), &[])], 1, ""),
+            (
+                &[
+                    (8, Kind::Int(Eight, true), &[]),
+                    (7, Kind::Utf8, &[&[Text("a")], &[Text("b")], &[Text("c")]]),
+                    (7, Kind::Utf8, &[&[Text("x")]]),
+                    (7, Kind::Int(Eight, true), &[]),
+                ],
+                0,
+                "0='a', null, 2='c'",
+            ),
+            (
+                &[
+                    (7, Kind::Utf8, &[&[Text("x")]]),
+                    (7, Kind::Utf8, &[&[Text("a")], &[Text("b")], &[Text("c")]]),
+                ],
+                2,
+                "",
+            ),
+        ],
+    ),
+    (
+        Kind::Indices,
+        &[&[Null], &[Null]],
+        &[
+            (&[], 0, "null, null"),
+            (&[(7, Kind::Utf8, &[])], 0, "null, null"),
+            (&[(7, Kind::Binary, &[])], 1, ""),
+        ],
+    ),
+    (
+        Kind::SignedIndices,
+        &[&[Int(-1)]],
+        &[(&[(7, Kind::Utf8, &[&[Text("a")]])], 2, "")],
+    ),
+    (
+        Kind::ListOfIndices,
+        &[&[Int(1), Int(0), List(2)], &[Null], &[Int(1), List(1)]],
+        &[
+            (
+                &[(7, Kind::Utf8, &[&[Text("a")], &[Text("b")]])],
+                0,
+                "[1='b';0='a';], null, [1='b';]",
+            ),
+            (&[(7, Kind::Utf8, &[&[Text("a")]])], 2, ""),
+            (
+                &[(7, Kind::LargeUtf8, &[&[Text("a")], &[Text("b")]])],
+                1,
+                "",
+            ),
+        ],
+    ),
+    (
+        Kind::StructOfIndices,
+        &[&[Int(5), Int(1), Struct(2)], &[Null]],
+        &[
+            (
+                &[(7, Kind::Utf8, &[&[Text("a")], &[Text("b")]])],
+                0,
+                " 5 1='b', null null null",
+            ),
+            (&[(7, Kind::Utf8, &[&[Text("a")]])], 2, ""),
+            (&[(7, Kind::Null, &[])], 1, ""),
+        ],
+    ),
+    (
+        Kind::ListOfIndices,
+        &[],
+        &[(&[], 0, ""), (&[(7, Kind::Bool, &[])], 1, "")],
+    ),
+];
+
+fn pushed(rt: &(impl Abort + AllocGlobal), kind: Kind, values: &[&[Step]]) -> ArrayBuilder {
+    let mut column = builder(rt, kind);
+    for steps in values {
+        column
+            .push(&value(rt, steps))
+            .expect(rt, "a value that fits");
+    }
+    column
+}
+
+// The dictionary of an array that refers to no dictionary.
+fn dictionary(rt: &(impl Abort + AllocGlobal), values: Array) -> Dictionary {
+    assert!(rt; values.encoding().is_none() && !values.data_type().has_encoding_below());
+    Dictionary::from_array(rt.alloc(), values).expect(rt, MEMORY)
+}
+
+fn one_listed(rt: &(impl Abort + AllocGlobal), kind: Kind, values: &[&[Step]]) -> Dictionary {
+    let array = pushed(rt, kind, values).finish(rt.alloc(), &[]);
+    dictionary(rt, array.expect(rt, "an array without dictionaries"))
+}
+
+fn all_listed(rt: &(impl Abort + AllocGlobal), all: &[Listed]) -> Vec<(i64, Dictionary)> {
+    let mut dictionaries = Vec::new(rt.alloc());
+    for (id, kind, values) in all {
+        dictionaries
+            .push((*id, one_listed(rt, *kind, values)))
+            .expect(rt, MEMORY);
+    }
+    dictionaries
+}
+
+fn is_finished(
+    rt: &(impl Abort + AllocGlobal),
+    row: usize,
+    column: &ArrayBuilder,
+    all: &[Listed],
+    fault: u8,
+    want: &str,
+) {
+    let dictionaries = all_listed(rt, all);
+    match column.finish(rt.alloc(), &dictionaries) {
+        Ok(array) => {
+            let text = told(rt, &array);
+            assert_eq!(rt; text.as_str(), want, "row {row}");
+            assert!(rt; fault == 0, "row {row}");
+        }
+        Err(other) => assert_eq!(rt; other.number(), fault, "row {row}"),
+    }
+}
+
+#[test]
+fn finished_again_and_again(rt: HostRuntime) {
+    for row in 0..FINISHES.len() {
+        let (kind, values, finishes) = &FINISHES[row];
+        let column = pushed(&rt, *kind, values);
+        for (all, fault, want) in *finishes {
+            is_finished(&rt, row, &column, all, *fault, want);
+        }
+    }
+}
+
+// Whether the slots of two arrays are the same, one by one.
+fn are_same(array: &Array, other: &Array) -> bool {
+    if array.len() != other.len() {
+        return false;
+    }
+    for j in 0..array.len() {
+        if !array.same_slot(j, other, j) {
+            return false;
+        }
+    }
+    true
+}
+
+fn array_of(rt: &(impl Abort + AllocGlobal), column: &ArrayBuilder) -> Array {
+    column.finish(rt.alloc(), &[]).expect(rt, "an array")
+}
+
+#[test]
+fn grown_after_an_array_was_made(rt: HostRuntime) {
+    let first: [&[Step]; 2] = [&[Int(1), Int(2), List(2)], &[Null]];
+    let mut column = pushed(&rt, Kind::List, &first);
+    let before = array_of(&rt, &column);
+    let again = array_of(&rt, &column);
+    assert!(&rt; are_same(&before, &again));
+    let more = value(&rt, &[Int(3), List(1)]);
+    column.push(&more).expect(&rt, "a value that fits");
+    let after = array_of(&rt, &column);
+    assert!(&rt; !are_same(&before, &after));
+    let text = told(&rt, &before);
+    assert_eq!(&rt; text.as_str(), "[1;2;], null");
+    let grown = told(&rt, &after);
+    assert_eq!(&rt; grown.as_str(), "[1;2;], null, [3;]");
+}
+
+#[test]
+fn faults_have_their_numbers(rt: HostRuntime) {
+    use arrow_build::PushFault;
+    assert!(&rt; PushFault::DoesNotFit.number() == 1);
+    assert!(&rt; PushFault::TooLong.number() == 2);
+    assert!(&rt; PushFault::Memory.number() == 3);
+    assert!(&rt; ArrayFault::DictionaryType.number() == 1);
+    assert!(&rt; ArrayFault::IndexRange.number() == 2);
+    assert!(&rt; ArrayFault::Memory.number() == 3);
+}

@@ -1,0 +1,125 @@
+// Fields of the kinds that the tables name, and builders of them.
+
+use arrow_build::ArrayBuilder;
+use arrow_types::{BitWidth, DataType, Encoding, Field, IndexType, Schema, TimeUnit};
+use std::process::Abort;
+
+const MEMORY: &str = "memory";
+
+#[derive(Clone, Copy)]
+pub(super) enum Kind {
+    Null,
+    Bool,
+    Int(BitWidth, bool),
+    Binary,
+    LargeBinary,
+    Utf8,
+    LargeUtf8,
+    // Byte strings of three bytes.
+    Fixed,
+    Duration,
+    // Lists of numbers of 8 bits.
+    List,
+    LargeList,
+    // Structs of a number of 8 bits and a text.
+    Struct,
+    // Lists of these structs.
+    ListOfStructs,
+    // Structs of a number of 8 bits and a list of them.
+    StructOfLists,
+    // Indices of 8 bits without a sign into texts, of dictionary 7.
+    Indices,
+    // The same with a sign.
+    SignedIndices,
+    // Lists of indices.
+    ListOfIndices,
+    // Structs of a number of 8 bits and an index.
+    StructOfIndices,
+}
+
+fn int8() -> DataType {
+    DataType::Int {
+        bits: BitWidth::Eight,
+        signed: true,
+    }
+}
+
+fn plain(rt: &(impl Abort + AllocGlobal), data_type: DataType) -> Field {
+    Field {
+        name: String::new(rt.alloc()),
+        nullable: true,
+        data_type,
+        dictionary: None,
+    }
+}
+
+fn encoded(rt: &(impl Abort + AllocGlobal), signed: bool) -> Field {
+    Field {
+        name: String::new(rt.alloc()),
+        nullable: true,
+        data_type: DataType::Utf8,
+        dictionary: Some(Encoding {
+            id: 7,
+            index: IndexType {
+                bits: BitWidth::Eight,
+                signed,
+            },
+            ordered: false,
+        }),
+    }
+}
+
+fn boxed(rt: &(impl Abort + AllocGlobal), field: Field) -> Box<Field> {
+    Box::new(rt.alloc(), field).expect(rt, MEMORY)
+}
+
+fn list(rt: &(impl Abort + AllocGlobal), item: Field) -> Field {
+    plain(rt, DataType::List(boxed(rt, item)))
+}
+
+// A struct of a number of 8 bits and another field.
+fn pair(rt: &(impl Abort + AllocGlobal), second: Field) -> Field {
+    let mut fields = Vec::new(rt.alloc());
+    fields.push(plain(rt, int8())).expect(rt, MEMORY);
+    fields.push(second).expect(rt, MEMORY);
+    plain(rt, DataType::Struct(fields))
+}
+
+fn field(rt: &(impl Abort + AllocGlobal), kind: Kind) -> Field {
+    match kind {
+        Kind::Null => plain(rt, DataType::Null),
+        Kind::Bool => plain(rt, DataType::Bool),
+        Kind::Int(bits, signed) => plain(rt, DataType::Int { bits, signed }),
+        Kind::Binary => plain(rt, DataType::Binary),
+        Kind::LargeBinary => plain(rt, DataType::LargeBinary),
+        Kind::Utf8 => plain(rt, DataType::Utf8),
+        Kind::LargeUtf8 => plain(rt, DataType::LargeUtf8),
+        Kind::Fixed => plain(rt, DataType::FixedSizeBinary(3)),
+        Kind::Duration => plain(rt, DataType::Duration(TimeUnit::Second)),
+        Kind::Indices => encoded(rt, false),
+        Kind::SignedIndices => encoded(rt, true),
+        Kind::List => list(rt, plain(rt, int8())),
+        Kind::LargeList => plain(rt, DataType::LargeList(boxed(rt, plain(rt, int8())))),
+        Kind::Struct => pair(rt, plain(rt, DataType::Utf8)),
+        Kind::ListOfStructs => list(rt, pair(rt, plain(rt, DataType::Utf8))),
+        Kind::StructOfLists => pair(rt, list(rt, plain(rt, int8()))),
+        Kind::ListOfIndices => list(rt, encoded(rt, false)),
+        Kind::StructOfIndices => pair(rt, encoded(rt, false)),
+    }
+}
+
+// A builder of the first field of a schema.
+fn of_schema(rt: &(impl Abort + AllocGlobal), schema: &Schema) -> ArrayBuilder {
+    let fields = schema.fields();
+    assert!(rt; !fields.is_empty());
+    ArrayBuilder::new(rt.alloc(), &fields[0]).expect(rt, MEMORY)
+}
+
+pub(super) fn builder(rt: &(impl Abort + AllocGlobal), kind: Kind) -> ArrayBuilder {
+    let mut fields = Vec::new(rt.alloc());
+    fields.push(field(rt, kind)).expect(rt, MEMORY);
+    of_schema(
+        rt,
+        &Schema::new(rt.alloc(), fields).expect(rt, "the field of a schema"),
+    )
+}
