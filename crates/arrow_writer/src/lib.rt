@@ -1,0 +1,28 @@
+//! The writer of a stream (Columnar Format, "IPC Streaming Format"): batches go in, frames come out,
+//! into any sink.
+//!
+//! A [`StreamWriter`] takes batches whose columns were read or made by whom they like, and sends for
+//! each the frames of the dictionary batches that it needs and of its record batch. What its calls
+//! answer and where they leave it is said in the words of `arrow_written`, of what it shows
+//! (`specs/Shown.antt`); by the laws there, and by [`laws::delivered_whole`], what a sink accepted of
+//! it is a stream of just the rows of the batches that were accepted.
+//!
+//! A part is built whole before a byte of it is sent (`parts.rt`), so that a refusal leaves all as it
+//! was. `BatchLists` (`lists.rt`) finds the dictionaries of a batch at its columns, on every level
+//! (Columnar Format, "Dictionary-encoded Layout"). `Updater` (`updating.rt`) goes through the ids of
+//! the schema, appends the frames of the dictionary batches that are to be sent, and stages the
+//! dictionaries. `frames.rt` builds frames of columns within the limits. `send_part` and `send_end`
+//! (`sending.rt`) send what was built: only where the sink took all of a part are the staged
+//! dictionaries sent ones.
+#![tactic(auto)]
+
+pub(crate) mod frames;
+pub mod laws;
+pub(crate) mod lists;
+pub(crate) mod parts;
+pub(crate) mod sending;
+pub(crate) mod settings;
+mod stream_writer;
+pub(crate) mod updating;
+
+pub use stream_writer::{Options, StreamWriter};
