@@ -1,13 +1,12 @@
-mod Asked
 mod Chars
-mod First
-mod Found
+pub mod First
+pub mod Found
 mod Indented
-mod Feeding
-mod Schemas
-mod Growing
-mod Sent
-mod Told
-mod Reading
-mod Reporting
+pub mod Feeding
+pub mod Schemas
+pub mod Growing
+pub mod Sent
+pub mod Told
+pub mod Reading
+pub mod Reporting
 mod Wanting

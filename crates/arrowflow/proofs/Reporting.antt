@@ -15,7 +15,7 @@ use Rattle.arrow_stream.specs.Tables.{tables_of}
 use Rattle.arrowflow.specs.declared.report.Report.{Report}
 use Rattle.arrowflow.specs.declared.report.Report.TheVariants.{Messages, Rows}
 use Rattle.arrowflow.specs.declared.tool_fault.ToolFault.{ToolFault}
-use Rattle.arrowflow.specs.declared.tool_fault.ToolFault.TheVariants.{Input, Output, Stream, Memory}
+use Rattle.arrowflow.specs.declared.tool_fault.ToolFault.TheVariants.{Input, Output, Stream, Refused, Memory}
 use Rattle.arrowflow.proofs.Feeding.{ended_same}
 use Rattle.arrowflow.proofs.First.{state_stays}
 use Rattle.arrowflow.proofs.Sent.{begun_behind}
@@ -83,6 +83,7 @@ module _ (report : Report) (limits : LimitNumbers) (bytes : List ℕ) (left firs
       by (Err Output) sent = (more_begun e held held' [] w is sent.0, sent.1 ∙ ap (λ n. n + 1) count)
       by (Err Memory) sent = (more_begun e held held' [] w is sent.0, sent.1 ∙ count)
       by (Err (Input n)) sent = absurd sent
+      by (Err (Refused what kind)) sent = absurd sent
       by (Err (Stream f)) sent = absurd sent
 
   -- nothing comes behind the rows where the input ends
@@ -111,6 +112,7 @@ module _ (report : Report) (limits : LimitNumbers) (bytes : List ℕ) (left firs
     -- it ended where no stream ends, or its end was not told
     pub end_reported : (f : ToolFault) (held' : Option (List ℕ)) (failed' : ℕ) → EndTold report r.at held failed (Err f) held' failed' → Reports report limits bytes left first start (Err f) held' failed'
     end_reported (Input n) held' failed' end = absurd end
+    end_reported (Refused what kind) held' failed' end = absurd end
     end_reported (Stream f) held' failed' end =
         let e = standing_of r x.stands.rest in
         (e, record { entries = es; front = w.front; text = x.text; is = x.is; wrote = Appends-kept first held held' x.text x.wrote end.1 }, inr (ends_so ∙ end.0, over), end.2 ∙ count)
@@ -135,6 +137,7 @@ module _ (report : Report) (limits : LimitNumbers) (bytes piece : List ℕ) (lef
   -- a piece that was not told to its end blames no input
   pub piece_blameless : (f : ToolFault) → PieceTold report first failed bytes piece (Err f) held failed' number r → BlamesNoInput (Err f)
   piece_blameless (Input n) told = absurd told
+  piece_blameless (Refused what kind) told = absurd told
   piece_blameless Output told = tt
   piece_blameless Memory told = tt
   piece_blameless (Stream f) told = tt
@@ -142,6 +145,7 @@ module _ (report : Report) (limits : LimitNumbers) (bytes piece : List ℕ) (lef
   -- the call ends with such a piece
   pub piece_reported : (f : ToolFault) → PieceTold report first failed bytes piece (Err f) held failed' number r → Reports report limits (bytes ++ piece) left first start (Err f) held failed'
   piece_reported (Input n) told = absurd told
+  piece_reported (Refused what kind) told = absurd told
   piece_reported Output told = (cut_begun told.0, told.1 ∙ ap (λ n. n + 1) count)
   piece_reported Memory told = (cut_begun told.0, told.1 ∙ count)
   piece_reported (Stream f) told =

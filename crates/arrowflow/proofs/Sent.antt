@@ -16,7 +16,7 @@ use Rattle.arrowflow.specs.Shown.{text_in}
 use Rattle.arrowflow.specs.declared.report.Report.{Report}
 use Rattle.arrowflow.specs.declared.report.Report.TheVariants.{Messages, Rows}
 use Rattle.arrowflow.specs.declared.tool_fault.ToolFault.{ToolFault}
-use Rattle.arrowflow.specs.declared.tool_fault.ToolFault.TheVariants.{Input, Output, Stream, Memory}
+use Rattle.arrowflow.specs.declared.tool_fault.ToolFault.TheVariants.{Input, Output, Stream, Refused, Memory}
 
 -- the rows of two ranges, one behind the other
 pub rows_join : (number : ℕ) (batch : Table) (mid end i : ℕ) → i ≤ mid → mid ≤ end → batch_rows number batch i mid ++ batch_rows number batch mid end ≡ batch_rows number batch i end
@@ -54,6 +54,7 @@ begun_longer a b s t (n, within, g) = (n, omega (arith, within, length-append s 
 -- a text was not sent to its end: behind one that was sent, and before one that was not
 pub cut_between : (f : ToolFault) (a b c : Option (List ℕ)) (n m k : ℕ) (s t u whole : List ℕ) → Appends a b s → m ≡ n → s ++ t ++ u ≡ whole → Sends b m t (Err f) c k → Sends a n whole (Err f) c k
 cut_between (Input x) a b c n m k s t u whole h same e sent = sent
+cut_between (Refused what kind) a b c n m k s t u whole h same e sent = sent
 cut_between (Stream x) a b c n m k s t u whole h same e sent = sent
 cut_between Output a b c n m k s t u whole h same e sent =
     (subst (AcceptsBeginning a c) e (begun_longer a c (s ++ t) u (begun_behind a b c s t h sent.0)), sent.1 ∙ ap (λ j. j + 1) same)

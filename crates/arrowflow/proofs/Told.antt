@@ -29,7 +29,7 @@ use Rattle.arrowflow.specs.Shown.{text_in}
 use Rattle.arrowflow.specs.declared.report.Report.{Report}
 use Rattle.arrowflow.specs.declared.report.Report.TheVariants.{Messages, Rows}
 use Rattle.arrowflow.specs.declared.tool_fault.ToolFault.{ToolFault}
-use Rattle.arrowflow.specs.declared.tool_fault.ToolFault.TheVariants.{Input, Output, Stream, Memory}
+use Rattle.arrowflow.specs.declared.tool_fault.ToolFault.TheVariants.{Input, Output, Stream, Refused, Memory}
 use Rattle.arrowflow.proofs.Feeding.{taken_all}
 use Rattle.arrowflow.proofs.First.{state_stays}
 use Rattle.arrowflow.proofs.Found.{told_refusal}
@@ -227,6 +227,7 @@ module _ (report : Report) (old : Shows) (before : Option (List ℕ)) (number : 
     pub telling_cut : (f : ToolFault) (held' : Option (List ℕ)) (number'' failed failed' : ℕ) → SendsSome (IsAdded report new.at.state.schema number' (given item)) held failed (Err f) held' failed'
         → (first : Option (List ℕ)) (t : List ℕ) (es : List Entry) → IsTold report first before number old t es → PieceTold report first failed t piece (Err f) held' failed' number'' new
     telling_cut (Input k) held' number'' failed failed' sent first t es x = absurd sent.2
+    telling_cut (Refused what kind) held' number'' failed failed' sent first t es x = absurd sent.2
     telling_cut (Stream k) held' number'' failed failed' sent first t es x = absurd sent.2
     telling_cut Output held' number'' failed failed' sent first t es x =
         let y = i.told first t es x in

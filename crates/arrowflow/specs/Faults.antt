@@ -4,8 +4,12 @@ use Rattle.std.specs.Fmt.{decimal}
 use Rattle.arrow_stream.specs.declared.fault.Fault.{Fault}
 use Rattle.arrow_stream.specs.declared.kind.Kind.{Kind}
 use Rattle.arrow_stream.specs.declared.kind.Kind.TheVariants as kinds
+use Rattle.arrow_written.specs.declared.write_fault.WriteFault.{WriteFault}
+use Rattle.arrow_written.specs.declared.write_fault.WriteFault.TheVariants as refusals
+use Rattle.arrowflow.specs.declared.what.What.{What}
+use Rattle.arrowflow.specs.declared.what.What.TheVariants.{Start, Batch, Finish}
 use Rattle.arrowflow.specs.declared.tool_fault.ToolFault.{ToolFault}
-use Rattle.arrowflow.specs.declared.tool_fault.ToolFault.TheVariants.{Input, Output, Stream, Memory}
+use Rattle.arrowflow.specs.declared.tool_fault.ToolFault.TheVariants.{Input, Output, Stream, Refused, Memory}
 
 -- a kind by its name
 abbrev pub kind_name : Kind → List ℕ
@@ -29,18 +33,36 @@ kind_name kinds.NoSchema = codes "NoSchema"
 kind_name kinds.Truncated = codes "Truncated"
 kind_name kinds.Memory = codes "Memory"
 
+-- a writer's refusal by its name
+abbrev pub refusal_name : WriteFault → List ℕ
+refusal_name refusals.SchemaDiffers = codes "SchemaDiffers"
+refusal_name refusals.TooLarge = codes "TooLarge"
+refusal_name refusals.DictionariesDiffer = codes "DictionariesDiffer"
+refusal_name refusals.Sink = codes "Sink"
+refusal_name refusals.Broken = codes "Broken"
+refusal_name refusals.Finished = codes "Finished"
+refusal_name refusals.Memory = codes "Memory"
+
+-- what was refused
+abbrev pub what_text : What → List ℕ
+what_text Start = codes "schema"
+what_text (Batch number) = codes "batch " ++ decimal number
+what_text Finish = codes "end"
+
 -- a fault's line, by the names of the input that failed and of the output
 abbrev pub fault_line : ToolFault → List ℕ → List ℕ → List ℕ
 fault_line (Input number) read written = codes "cannot read " ++ read
 fault_line Output read written = codes "cannot write " ++ written
 fault_line (Stream fault) read written = codes "fault at byte " ++ decimal fault.place ++ codes ": " ++ kind_name fault.kind
+fault_line (Refused what kind) read written = codes "refused " ++ what_text what ++ codes ": " ++ refusal_name kind
 fault_line Memory read written = codes "out of memory"
 
--- 1 where a stream was refused, 2 where an input, the output or memory failed
+-- 1 where a stream or a write was refused, 2 where an input, the output or memory failed
 abbrev pub status_of : ToolFault → ℕ
 status_of (Input number) = 2
 status_of Output = 2
 status_of (Stream fault) = 1
+status_of (Refused what kind) = 1
 status_of Memory = 2
 
 -- whether a kind is want of memory, which says nothing of the stream

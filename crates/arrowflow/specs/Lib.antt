@@ -1,4 +1,3 @@
-pub mod CommandLine
 pub mod Escapes
 pub mod Faults
 pub mod SchemaCall

@@ -2,7 +2,7 @@
 use Rattle.std.specs.Prelude.{◌≡◌, ◌≤◌, ℕ, List, ◌++◌, length, Result, Ok, Err, ⊤}
 use Rattle.arrowflow.specs.declared.pieces.ReadFailed.{ReadFailed}
 use Rattle.arrowflow.specs.declared.tool_fault.ToolFault.{ToolFault}
-use Rattle.arrowflow.specs.declared.tool_fault.ToolFault.TheVariants.{Input, Output, Stream, Memory}
+use Rattle.arrowflow.specs.declared.tool_fault.ToolFault.TheVariants.{Input, Output, Stream, Refused, Memory}
 
 -- The bytes came in pieces of 65,536 bytes at most, and all but those of the last piece call for more: so no piece was read
 -- behind the one that decided the answer.
@@ -24,4 +24,5 @@ BlamesNoInput (Ok done) = ⊤
 BlamesNoInput (Err (Input number)) = ⊥
 BlamesNoInput (Err Output) = ⊤
 BlamesNoInput (Err (Stream fault)) = ⊤
+BlamesNoInput (Err (Refused what kind)) = ⊤
 BlamesNoInput (Err Memory) = ⊤

@@ -20,7 +20,7 @@ use Rattle.arrowflow.specs.Shown.{text_in}
 use Rattle.arrowflow.specs.declared.report.Report.{Report}
 use Rattle.arrowflow.specs.declared.report.Report.TheVariants.{Messages, Rows}
 use Rattle.arrowflow.specs.declared.tool_fault.ToolFault.{ToolFault}
-use Rattle.arrowflow.specs.declared.tool_fault.ToolFault.TheVariants.{Input, Output, Stream, Memory}
+use Rattle.arrowflow.specs.declared.tool_fault.ToolFault.TheVariants.{Input, Output, Stream, Refused, Memory}
 
 -- The text of a stream of this schema and these batches. Of its rows it is their records; what the line of a message is,
 -- is not said here.
@@ -41,6 +41,7 @@ Sends before failed text (Err Output) after failed' = AcceptsBeginning before af
 Sends before failed text (Err Memory) after failed' = AcceptsBeginning before after text × (failed' ≡ failed)
 Sends before failed text (Err (Input number)) after failed' = ⊥
 Sends before failed text (Err (Stream fault)) after failed' = ⊥
+Sends before failed text (Err (Refused what kind)) after failed' = ⊥
 
 -- a text of this form was sent
 abbrev pub SendsSome : (List ℕ → Type 0) → Option (List ℕ) → ℕ → Result (Unit {0}) ToolFault → Option (List ℕ) → ℕ → Type 0
@@ -78,6 +79,7 @@ PieceTold report first failed t piece (Err Memory) held failed' number r = IsCut
 PieceTold report first failed t piece (Err (Stream fault)) held failed' number r =
     ((es : List Entry) × IsTold report first held number r (t ++ piece) es) × (failed' ≡ failed) × IsBadBy r.at.verdict r.at.place fault
 PieceTold report first failed t piece (Err (Input n)) held failed' number r = ⊥
+PieceTold report first failed t piece (Err (Refused what kind)) held failed' number r = ⊥
 
 -- the same for all bytes at which the reader stood and for all that was written
 abbrev pub TellsPiece : Report → Shows → Option (List ℕ) → ℕ → ℕ → List ℕ → Result Bool ToolFault → Shows → Option (List ℕ) → ℕ → ℕ → Type 0
@@ -126,6 +128,7 @@ Reports report limits bytes left before failed (Err Output) after failed' =
     IsBegun report limits bytes before after × (failed' ≡ failed + 1)
 Reports report limits bytes left before failed (Err Memory) after failed' =
     IsBegun report limits bytes before after × (failed' ≡ failed)
+Reports report limits bytes left before failed (Err (Refused what kind)) after failed' = ⊥
 
 -- at these bytes the stream goes on: no message of them is refused, and no end marker came
 pub record IsOpenAt (limits : LimitNumbers) (bytes : List ℕ) : Type 0 where
@@ -153,3 +156,4 @@ EndTold report e before failed (Err Output) after failed' = SendsSome (IsEnding 
 EndTold report e before failed (Err Memory) after failed' = SendsSome (IsEnding report) before failed (Err Memory) after failed'
 EndTold report e before failed (Err (Stream fault)) after failed' = (ended_so e ≡ Err fault) × Keeps before after × (failed' ≡ failed)
 EndTold report e before failed (Err (Input number)) after failed' = ⊥
+EndTold report e before failed (Err (Refused what kind)) after failed' = ⊥

@@ -15,7 +15,7 @@ use Rattle.arrow_stream.specs.State.{nothing_yet, schema_given}
 use Rattle.arrowflow.specs.Reads.{IsReadWhile}
 use Rattle.arrowflow.specs.SchemaText.{schema_lines}
 use Rattle.arrowflow.specs.declared.tool_fault.ToolFault.{ToolFault}
-use Rattle.arrowflow.specs.declared.tool_fault.ToolFault.TheVariants.{Input, Output, Stream, Memory}
+use Rattle.arrowflow.specs.declared.tool_fault.ToolFault.TheVariants.{Input, Output, Stream, Refused, Memory}
 
 -- the bytes begin with a whole schema message, which gives these fields
 pub record BeginWithSchema (limits : LimitNumbers) (bytes : List ℕ) (fields : Fields) : Type 0 where
@@ -54,6 +54,7 @@ Answers limits bytes left (Ok text) = BeginWithText limits bytes (string_bytes t
 Answers limits bytes left (Err (Stream fault)) = AreRefused limits bytes fault ⊎ EndEarly limits bytes left fault
 Answers limits bytes left (Err (Input number)) = (number ≡ 0) × AreNoMessage limits bytes
 Answers limits bytes left (Err Output) = ⊥
+Answers limits bytes left (Err (Refused what kind)) = ⊥
 Answers limits bytes left (Err Memory) = ⊤
 
 -- What is answered of an input that had these bytes before the call and has these behind it, and that no piece was read
@@ -68,6 +69,7 @@ Finds limits bytes left schema (Ok done) = (fields : Fields) × BeginWithSchema 
 Finds limits bytes left schema (Err (Stream fault)) = AreRefused limits bytes fault ⊎ EndEarly limits bytes left fault
 Finds limits bytes left schema (Err (Input number)) = (number ≡ 0) × AreNoMessage limits bytes
 Finds limits bytes left schema (Err Output) = ⊥
+Finds limits bytes left schema (Err (Refused what kind)) = ⊥
 Finds limits bytes left schema (Err Memory) = ⊤
 
 -- what it has found in an input that had these bytes before the call and has these behind it

@@ -3,8 +3,8 @@
 //! [`session::receive`] gives a reader the bytes of one connection in pieces, and hands out the
 //! batches at their front, the dictionaries that the whole messages left, and the ending. The rest
 //! takes an input with a stream and gives text to print, or a [`ToolFault`] with the line and the
-//! exit status that the program ends with. [`plan`] reads a command line. The program opens files,
-//! makes one of these calls and prints what it gives; it adds nothing of its own.
+//! exit status that the program ends with. The program opens files, makes one of these calls and
+//! prints what it gives; it adds nothing of its own.
 //!
 //! What is received of bytes is said by `Receives` (`specs/Session.antt`). The text of a schema is
 //! a definition, `schema_lines` (`specs/SchemaText.antt`), and [`schema_lines_of`] gives it for
@@ -14,16 +14,13 @@
 //! line for each of its messages, as they come: what is written, and how that ends, is said by
 //! `ReportsInput` (`specs/Reports.antt`). How far both read their input is said by
 //! `specs/Reads.antt`. What each message adds to the text of a stream's rows is said by
-//! `specs/Shown.antt`, and that the text grows so by [`laws`]. What the words of a line ask for is
-//! said by `AnswersLine` (`specs/CommandLine.antt`), in the words of clap.
+//! `specs/Shown.antt`, and that the text grows so by [`laws`].
 #![tactic(auto)]
 
-mod command_line;
 mod escapes;
 pub mod laws;
 mod lines;
-mod pieces;
-mod plans;
+pub mod pieces;
 mod report;
 mod reports;
 mod schema_call;
@@ -33,10 +30,10 @@ pub mod session;
 mod telling;
 mod tool_fault;
 mod type_names;
+mod what;
 
-pub use command_line::{ArgFault, plan};
-pub use plans::Plan;
 pub use reports::{check, show};
 pub use schema_call::schema_text;
 pub use schema_lines::schema_lines_of;
 pub use tool_fault::ToolFault;
+pub use what::What;

@@ -1,4 +1,4 @@
-//! The pieces in which an input is read.
+//! The pieces in which an input is read, for each call that reads one.
 
 ghost use Rattle.std.specs.Prelude.{◌≡◌, IfOk, IsErr, MatchResult, Ok, vec_len};
 ghost use Rattle.std.specs.Io.{ReadsAtMost};
@@ -16,10 +16,10 @@ const PIECE: usize = 65_536;
 /// A read that failed. Only [`read_piece`] makes one, so that no other call can hold an input to
 /// have failed.
 #[derive(Drop)]
-pub(crate) struct ReadFailed(());
+pub struct ReadFailed(());
 
 /// Room for a piece, in zero bytes.
-pub(crate) fn room_for_a_piece(alloc: Global) -> Result<Vec<u8>, AllocError>
+pub fn room_for_a_piece(alloc: Global) -> Result<Vec<u8>, AllocError>
     ensures { IfOk result (λ v. vec_len v ≡ 65536) }
 {
     zeroes(alloc, PIECE)
@@ -35,7 +35,7 @@ fn zeroes(alloc: Global, len: usize) -> Result<Vec<u8>, AllocError>
 /// Reads a piece: its bytes stand at the front of the room, and the answer is how many they are,
 /// none at the end of the input alone. `ReadFailed` where the read failed, an interrupted one
 /// included: then nothing was taken.
-pub(crate) fn read_piece<R: Read>(input: &mut R, room: &mut [u8]) -> Result<usize, ReadFailed>
+pub fn read_piece<R: Read>(input: &mut R, room: &mut [u8]) -> Result<usize, ReadFailed>
     ensures bound { ReadsAtMost result room.new }
     ensures bytes { ReadConsumes (R.remaining input.old) (R.remaining input.new) result room.new }
 {
@@ -54,7 +54,7 @@ fn took(read: io::Result<usize>) -> Result<usize, ReadFailed>
 
 /// The answer of a call that read an input: what the bytes decided, or `Input(0)` where a read
 /// failed.
-pub(crate) fn answer_of(read: Result<Result<(), ToolFault>, ReadFailed>) -> Result<(), ToolFault>
+pub fn answer_of(read: Result<Result<(), ToolFault>, ReadFailed>) -> Result<(), ToolFault>
     ensures { result ≡ answer_by read }
 {
     match read {

@@ -1,9 +1,12 @@
 //! Faults of the program's commands, with the line and the exit status of each.
 
-ghost use Rattle.std.specs.Prelude.{◌≡◌, IfOk, string_bytes};
-ghost use Rattle.arrowflow.specs.Faults.{fault_line, is_memory, kind_name, status_of, told};
+ghost use Rattle.std.specs.Prelude.{◌≡◌, ◌++◌, IfOk, OnOk, string_bytes};
+ghost use Rattle.arrowflow.specs.Faults.{fault_line, is_memory, kind_name, refusal_name};
+ghost use Rattle.arrowflow.specs.Faults.{status_of, told, what_text};
 
+use crate::what::What;
 use arrow_stream::{Fault, Kind};
+use arrow_written::WriteFault;
 use std::alloc::{AllocError, Global};
 use std::fmt::Write;
 use thiserror::Error;
@@ -21,6 +24,9 @@ pub enum ToolFault {
     /// A stream was refused, or ended too early.
     #[error("fault at byte {}: {:?}", .0.place, .0.kind)]
     Stream(Fault),
+    /// The writer refused the schema, a batch or the end marker.
+    #[error("refused {0:?}: {1:?}")]
+    Refused(What, WriteFault),
     /// A growth was refused.
     #[error("out of memory")]
     Memory,
@@ -45,7 +51,8 @@ impl ToolFault {
     /// `written` that of the output.
     ///
     /// `cannot read NAME`, `cannot write NAME`, `fault at byte P: KIND` with the place of the
-    /// message in bytes from the stream's beginning and the kind by its name, or `out of memory`.
+    /// message in bytes from the stream's beginning and the kind by its name, `refused schema:
+    /// KIND`, `refused batch B: KIND`, `refused end: KIND`, or `out of memory`.
     pub fn line(&self, alloc: Global, read: &str, written: &str) -> Result<String, AllocError>
         ensures { IfOk result (λ line. string_bytes line
             ≡ fault_line self.now read.now written.now) }
@@ -66,18 +73,24 @@ impl ToolFault {
                 line.push_str(": ")?;
                 line.push_str(kind_name(fault.kind))?;
             }
+            ToolFault::Refused(what, kind) => {
+                line.push_str("refused ")?;
+                push_what(&mut line, *what)?;
+                line.push_str(": ")?;
+                line.push_str(refusal_name(*kind))?;
+            }
             ToolFault::Memory => line.push_str("out of memory")?,
         }
         Ok(line)
     }
 
-    /// The program's exit status: 1 where a stream was refused, 2 where an input, the output or
-    /// memory failed.
+    /// The program's exit status: 1 where a stream or a write was refused, 2 where an input, the
+    /// output or memory failed.
     pub fn status(&self) -> u8
         ensures { result ≡ status_of self.now }
     {
         match self {
-            ToolFault::Stream(_) => 1,
+            ToolFault::Stream(_) | ToolFault::Refused(_, _) => 1,
             ToolFault::Input(_) | ToolFault::Output | ToolFault::Memory => 2,
         }
     }
@@ -107,6 +120,35 @@ pub(crate) fn is_memory(kind: Kind) -> bool
         | Kind::NoSchema
         | Kind::Truncated => false,
         Kind::Memory => true,
+    }
+}
+
+/// Appends what was refused.
+fn push_what(line: &mut String, what: What) -> Result<(), AllocError>
+    ensures { OnOk result (string_bytes line.new ≡ string_bytes line.old ++ what_text what) }
+{
+    match what {
+        What::Start => line.push_str("schema"),
+        What::Batch(number) => {
+            line.push_str("batch ")?;
+            Ok(write!(line, "{number}")?)
+        }
+        What::Finish => line.push_str("end"),
+    }
+}
+
+/// The name of a writer's refusal.
+fn refusal_name(kind: WriteFault) -> &'static str
+    ensures { result.now ≡ refusal_name kind }
+{
+    match kind {
+        WriteFault::SchemaDiffers => "SchemaDiffers",
+        WriteFault::TooLarge => "TooLarge",
+        WriteFault::DictionariesDiffer => "DictionariesDiffer",
+        WriteFault::Sink => "Sink",
+        WriteFault::Broken => "Broken",
+        WriteFault::Finished => "Finished",
+        WriteFault::Memory => "Memory",
     }
 }
 

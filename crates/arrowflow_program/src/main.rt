@@ -2,15 +2,19 @@
 //! prints what that gives, and ends with the call's exit status.
 #![tactic(auto)]
 
+mod ends;
 mod pipe;
 
+use crate::ends::{create, input_name, is_same_file, open, output_name};
 use crate::pipe::Pipe;
 use arrow_sink::Counted;
 use arrow_types::Limits;
-use arrowflow::{ArgFault, Plan, ToolFault, check, plan, schema_text, show};
+use arrow_writer::Options;
+use arrowflow::{ToolFault, check, schema_text, show};
+use arrowflow_copy::copy;
+use arrowflow_line::{ArgFault, Plan, plan};
 use std::alloc::Global;
-use std::fs::File;
-use std::io::{ErrorKind, Write};
+use std::io::{ErrorKind, Input, Write};
 use std::process::ExitCode;
 use std::rt::{Env, Files};
 use std::{env, io};
@@ -26,7 +30,7 @@ fn main(rt: HostRuntime) -> ExitCode {
 }
 
 /// Does what the command line asks for, and gives the exit status.
-fn run<R: AllocGlobal + Env + Files + Print + Eprint>(rt: &R) -> u8
+fn run<R: AllocGlobal + Env + Files + Input + Print + Eprint>(rt: &R) -> u8
 where
     R::File: Drop,
 {
@@ -50,11 +54,26 @@ where
         return out_of_memory(rt);
     };
     match plan(alloc, &words) {
-        Ok(Plan::Schema(name)) => print_schema(rt, alloc, &name),
-        Ok(Plan::Check(name)) => print_messages(rt, alloc, &name),
-        Ok(Plan::Show(name)) => print_rows(rt, alloc, &name),
+        Ok(plan) => carry_out(rt, alloc, &plan),
         Err(ArgFault::Line(error)) => print_help(rt, &error),
         Err(ArgFault::Memory) => out_of_memory(rt),
+    }
+}
+
+/// Makes the call that a plan asks for, and gives the exit status.
+fn carry_out<R: Files + Input + Print + Eprint>(rt: &R, alloc: Global, plan: &Plan) -> u8
+where
+    R::File: Drop,
+{
+    match plan {
+        Plan::Schema(name) => print_schema(rt, alloc, name),
+        Plan::Check(name) => print_messages(rt, alloc, name),
+        Plan::Show(name) => print_rows(rt, alloc, name),
+        Plan::Copy(input, output, options) => copy_file(rt, alloc, input, output, *options),
+        Plan::Drill(_, _, _, _) => {
+            let _ = eprintln!(rt; "drill is not written yet");
+            FAILED
+        }
     }
 }
 
@@ -69,12 +88,13 @@ fn print_help<R: Print + Eprint>(rt: &R, error: &clap::Error) -> u8 {
 }
 
 /// Prints the schema of the stream in the file of this name.
-fn print_schema<R: Files + Print + Eprint>(rt: &R, alloc: Global, name: &str) -> u8
+fn print_schema<R: Files + Input + Print + Eprint>(rt: &R, alloc: Global, name: &str) -> u8
 where
     R::File: Drop,
 {
-    let Ok(mut file) = File::open(rt, name) else {
-        return tell(rt, alloc, &ToolFault::Input(0), name);
+    let mut file = match open(rt, 0, name) {
+        Ok(file) => file,
+        Err(fault) => return tell(rt, alloc, &fault, name, "-"),
     };
     match schema_text(alloc, &mut file, &Limits::standard()) {
         Ok(text) => {
@@ -83,59 +103,88 @@ where
                 Ok(()) => Ok(()),
                 Err(_) => Err(ToolFault::Output),
             };
-            status_of(rt, alloc, answer, name, &output)
+            status_of(rt, alloc, answer, (name, "-"), &output)
         }
-        Err(fault) => tell(rt, alloc, &fault, name),
+        Err(fault) => tell(rt, alloc, &fault, name, "-"),
     }
 }
 
 /// Prints a line for each message of the stream in the file of this name.
-fn print_messages<R: Files + Print + Eprint>(rt: &R, alloc: Global, name: &str) -> u8
+fn print_messages<R: Files + Input + Print + Eprint>(rt: &R, alloc: Global, name: &str) -> u8
 where
     R::File: Drop,
 {
-    let Ok(mut file) = File::open(rt, name) else {
-        return tell(rt, alloc, &ToolFault::Input(0), name);
+    let mut file = match open(rt, 0, name) {
+        Ok(file) => file,
+        Err(fault) => return tell(rt, alloc, &fault, name, "-"),
     };
     let output = Counted::new(Pipe::new(io::writer(rt)));
     let (output, answer) = check(alloc, &mut file, output, &Limits::standard());
-    status_of(rt, alloc, answer, name, &output.into_inner())
+    status_of(rt, alloc, answer, (name, "-"), &output.into_inner())
 }
 
 /// Prints the rows of the stream in the file of this name.
-fn print_rows<R: Files + Print + Eprint>(rt: &R, alloc: Global, name: &str) -> u8
+fn print_rows<R: Files + Input + Print + Eprint>(rt: &R, alloc: Global, name: &str) -> u8
 where
     R::File: Drop,
 {
-    let Ok(mut file) = File::open(rt, name) else {
-        return tell(rt, alloc, &ToolFault::Input(0), name);
+    let mut file = match open(rt, 0, name) {
+        Ok(file) => file,
+        Err(fault) => return tell(rt, alloc, &fault, name, "-"),
     };
     let output = Counted::new(Pipe::new(io::writer(rt)));
     let (output, answer) = show(alloc, &mut file, output, &Limits::standard());
-    status_of(rt, alloc, answer, name, &output.into_inner())
+    status_of(rt, alloc, answer, (name, "-"), &output.into_inner())
 }
 
-/// Tells how a call ended that read the input of this name and wrote standard output, and gives its
-/// status.
+/// Writes the stream in the file of the first name again, into that of the second.
+fn copy_file<R: Files + Input + Print + Eprint>(
+    rt: &R,
+    alloc: Global,
+    from: &str,
+    to: &str,
+    options: Options,
+) -> u8
+where
+    R::File: Drop,
+{
+    let mut input = match open(rt, 0, from) {
+        Ok(input) => input,
+        Err(fault) => return tell(rt, alloc, &fault, from, to),
+    };
+    if is_same_file(rt, from, to) {
+        let _ = eprintln!(rt; "{from} and {to} are the same file");
+        return FAILED;
+    }
+    let output = match create(rt, to) {
+        Ok(output) => Counted::new(Pipe::new(output)),
+        Err(fault) => return tell(rt, alloc, &fault, from, to),
+    };
+    let (output, answer) = copy(alloc, &mut input, output, options, &Limits::standard());
+    status_of(rt, alloc, answer, (from, to), &output.into_inner())
+}
+
+/// Tells how a call ended that read the input of the first name and wrote the output of the second,
+/// and gives its status.
 fn status_of<R: Eprint, W: Write>(
     rt: &R,
     alloc: Global,
     answer: Result<(), ToolFault>,
-    read: &str,
+    names: (&str, &str),
     output: &Pipe<W>,
 ) -> u8 {
     match answer {
         Ok(()) => FINE,
         // whoever closes a pipe knows that, and wants to hear nothing of it
         Err(fault) if output.is_closed() => fault.status(),
-        Err(fault) => tell(rt, alloc, &fault, read),
+        Err(fault) => tell(rt, alloc, &fault, names.0, names.1),
     }
 }
 
-/// Tells a fault of a call that read the input of this name and wrote standard output, and gives
-/// its status.
-fn tell<R: Eprint>(rt: &R, alloc: Global, fault: &ToolFault, read: &str) -> u8 {
-    let Ok(line) = fault.line(alloc, read, "standard output") else {
+/// Tells a fault of a call that read the input of the first name and wrote the output of the
+/// second, and gives its status.
+fn tell<R: Eprint>(rt: &R, alloc: Global, fault: &ToolFault, read: &str, written: &str) -> u8 {
+    let Ok(line) = fault.line(alloc, input_name(read), output_name(written)) else {
         return out_of_memory(rt);
     };
     let _ = eprintln!(rt; "{line}");

@@ -1,0 +1,662 @@
+-- A stream that is copied message by message.
+use Rattle.std.proofs.Common.{◌≡◌, ℕ, ◌+◌, Bool, true, false, List, [], ◌∷◌, ◌++◌, length, take, drop, Option, None, Some, Result, Ok, Err, ◌⊎◌, inl, inr, refl, sym, ap, ◌∙◌, subst, append_assoc, append-nil, take-append-drop, is_some}
+use Rattle.std.specs.Io.KnownBytes.{Appends, IsAtEnd}
+use Rattle.std.proofs.KnownBytes.{Appends-nil}
+use Rattle.std.proofs.lemmas.Bool.{false≢true}
+use Rattle.std.proofs.lemmas.List.{length-append}
+use Rattle.arrow_types.specs.Field.{Fields}
+use Rattle.arrow_types.specs.Limits.{LimitNumbers}
+use Rattle.arrow_types.specs.Schema.{IsSchema}
+use Rattle.arrow_array.specs.Batch.{Table}
+use Rattle.arrow_sink.specs.Sinks.{AcceptsBeginning}
+use Rattle.arrow_stream.specs.declared.fault.Fault.{Fault}
+use Rattle.arrow_stream.specs.declared.item.Item.{Item}
+use Rattle.arrow_stream.specs.declared.kind.Kind.TheVariants.{NoSchema, Truncated}
+use Rattle.arrow_stream.specs.declared.reader.Verdict.TheVariants.{Open, Done, Bad}
+use Rattle.arrow_stream.specs.declared.reader.Verdict.{Verdict}
+use Rattle.arrow_stream.specs.Front.{Entry, Standing, Front, FrontOf, closes, fails, goes_on, rests}
+use Rattle.arrow_stream.specs.Kind.{kind_of}
+use Rattle.arrow_stream.specs.State.{StreamState, Given, batch_given, dictionary_given, ended, nothing_yet, schema_given}
+use Rattle.arrow_stream.specs.Stream.{Shows, Stands, GivesNext, TakesOn, Refuses, WantsMemory, ended_by, ended_so}
+use Rattle.arrow_stream.specs.Tables.{table_in, tables_of}
+use Rattle.arrow_stream.specs.Views.{given}
+use Rattle.arrow_stream.proofs.Streams.{ended_stands}
+use Rattle.arrow_written.specs.declared.status.Status.{Status}
+use Rattle.arrow_written.specs.declared.status.Status.TheVariants as statuses
+use Rattle.arrow_written.specs.declared.write_fault.WriteFault.{WriteFault}
+use Rattle.arrow_written.specs.declared.write_fault.WriteFault.TheVariants as kinds
+use Rattle.arrow_written.specs.Admission.{admission, marker_fits}
+use Rattle.arrow_written.specs.Frames.{Frame, frames_bytes, left_by}
+use Rattle.arrow_written.specs.Sizes.{Options}
+use Rattle.arrow_written.specs.Text.{IsPart, Text, Written, adds, begins, finished, joined, marker_frame, schema_frame, unfinished}
+use Rattle.arrow_written.specs.Writer as writers
+use Rattle.arrowflow.specs.Faults.{told}
+use Rattle.arrowflow.specs.Reports.{EndsWell, IsBadBy}
+use Rattle.arrowflow.specs.Reads.{BlamesNoInput}
+use Rattle.arrowflow.specs.declared.tool_fault.ToolFault.{ToolFault}
+use Rattle.arrowflow.specs.declared.tool_fault.ToolFault.TheVariants.{Input, Output, Stream, Refused, Memory}
+use Rattle.arrowflow.specs.declared.what.What.TheVariants.{Start, Batch, Finish}
+use Rattle.arrowflow.proofs.Feeding.{ended_same, taken_all}
+use Rattle.arrowflow.proofs.First.{state_stays}
+use Rattle.arrowflow.proofs.Found.{told_refusal}
+use Rattle.arrowflow.proofs.Growing.{one_table}
+use Rattle.arrowflow.proofs.Reporting.{standing_of}
+use Rattle.arrowflow.proofs.Schemas.{front_begins, front_behind, front_keeps}
+use Rattle.arrowflow.proofs.Sent.{begun_all}
+use Rattle.arrowflow.proofs.Told.{end_is_done, state_same}
+use Rattle.arrowflow_copy.specs.Copy.{Copies, IsBegun, IsClosed, IsCopied, IsSent, IsSentOf, IsSentInPart, IsSentInPartOf, RefusesBatch, RefusesEnd, RefusesSchema}
+use Rattle.arrowflow_copy.specs.Copying.{Adds, At, Begins, Closes, HasWritten, IsCopying, IsWriting, IsWritingOn, PieceCopied, Takes, TakesFirst, TakesOne, fault_of, failures_at, held_at, waiting, writing}
+
+-- ---- what was written
+
+-- the text of a writer that writes
+abbrev writing_text : (limits : LimitNumbers) (o : Options) (first : Option (List ℕ)) (start : ℕ) (schema : Option Fields) (batches : List Table) (w : writers.Shows) (x : IsWritingOn limits o first start schema batches w)
+    → Written limits o w.fields false x.parts batches x.stands.frames
+writing_text limits o first start schema batches w x =
+    subst (λ l. Written l o w.fields false x.parts batches x.stands.frames) x.limits_are
+    (subst (λ p. Written w.limits p w.fields false x.parts batches x.stands.frames) x.options_are x.stands.written)
+
+-- what it has sent
+abbrev writing_sent : (limits : LimitNumbers) (o : Options) (first : Option (List ℕ)) (start : ℕ) (schema : Option Fields) (batches : List Table) (w : writers.Shows) → IsWritingOn limits o first start schema batches w
+    → IsSent limits o w.fields false batches first w.contents
+writing_sent limits o first start schema batches w x = record {
+  parts = x.parts;
+  frames = x.stands.frames;
+  text = writing_text limits o first start schema batches w x;
+  wrote = x.stands.accepted;
+}
+
+-- what was sent of batches that were written
+pub sent_of : (limits : LimitNumbers) (o : Options) (first : Option (List ℕ)) (start : ℕ) (schema : Option Fields) (batches : List Table) (at : At) → HasWritten limits o first start schema batches at
+    → IsSentOf limits o schema batches first (held_at at)
+sent_of limits o first start schema batches (waiting held failed) x =
+    subst (λ s. IsSentOf limits o s batches first held) (sym x.0) (subst (λ h. Appends first h []) (sym x.1) (Appends-nil first))
+sent_of limits o first start schema batches (writing w) x =
+    subst (λ s. IsSentOf limits o s batches first w.contents) (sym x.fields_are) (writing_sent limits o first start schema batches w x)
+
+-- no call of the output failed
+pub failed_of : (limits : LimitNumbers) (o : Options) (first : Option (List ℕ)) (start : ℕ) (schema : Option Fields) (batches : List Table) (at : At) → HasWritten limits o first start schema batches at
+    → failures_at at ≡ start
+failed_of limits o first start schema batches (waiting held failed) x = x.2
+failed_of limits o first start schema batches (writing w) x = x.failures_are
+
+-- all that was sent is a beginning of it, for the first of more batches
+part_of : (limits : LimitNumbers) (o : Options) (schema : Option Fields) (batches later all : List Table) (before after : Option (List ℕ)) → batches ++ later ≡ all → IsSentOf limits o schema batches before after
+    → IsSentInPartOf limits o schema all before after
+part_of limits o None batches later all before after whole s = s
+part_of limits o (Some fields) batches later all before after whole s = inr (record {
+  closed = false;
+  first = batches;
+  later = later;
+  all = whole;
+  parts = s.parts;
+  frames = s.frames;
+  text = s.text;
+  wrote = begun_all before after (joined s.parts) s.wrote;
+})
+
+-- the text of a connection that is not closed
+open_text : {limits : LimitNumbers} {o : Options} {fields : Fields} {closed : Bool} {parts : List (List ℕ)} {batches : List Table} {frames : List Frame}
+    → Written limits o fields closed parts batches frames → closed ≡ false → Text limits o fields parts batches frames
+open_text (unfinished parts batches frames text) c = text
+open_text (finished parts batches frames b text fits marker) c = absurd (false≢true (sym c))
+
+-- ---- which message is the schema
+
+-- the front at which a reader stands
+pub front_at : (limits : LimitNumbers) (r : Shows) (t : List ℕ) (es : List Entry) (x : Stands r t es) → r.limits ≡ limits → FrontOf limits t es (standing_of r x.rest)
+front_at limits r t es x same = subst (λ l. FrontOf l t es (standing_of r x.rest)) same x.front
+
+-- a stream without a schema has given nothing
+nothing_given : {l : LimitNumbers} {t : List ℕ} {es : List Entry} {e : Standing} → FrontOf l t es e → e.state.schema ≡ None → es ≡ []
+nothing_given {es = []} front none = refl
+nothing_given {es = x ∷ es} front none = let b = front_begins front refl (λ q. cc) in let q = sym none ∙ b.schema in absurd (cc)
+
+-- its first message is the schema
+pub record ComesFirst (x : Entry) (es : List Entry) (f : Standing) : Type 0 where
+  pub fields : Fields
+  pub schema : f.state.schema ≡ Some fields
+  pub none : es ≡ []
+  pub is_schema : x.given ≡ schema_given
+
+comes_first : {l : LimitNumbers} {t : List ℕ} {es : List Entry} {e f : Standing} (c : List ℕ) (x : Entry) → FrontOf l t es e → e.state.schema ≡ None → FrontOf l (t ++ c) (es ++ x ∷ []) f → ComesFirst x es f
+comes_first {es = []} {f = f} c x old none new =
+    let b = front_begins new refl (λ q. cc) in
+    let same : x ≡ b.first = cc in
+    record { fields = b.fields; schema = b.schema; none = refl; is_schema = ap (λ (y : Entry). y.given) same ∙ b.given }
+comes_first {es = y ∷ es} c x old none new = let q = nothing_given old none in absurd (cc)
+
+last_of : (es more : List Entry) (x : Entry) → es ++ x ∷ [] ≡ es ++ more → more ≡ x ∷ []
+last_of [] more x q = sym q
+last_of (e ∷ es) more x q = let rest : es ++ x ∷ [] ≡ es ++ more = cc in last_of es more x rest
+
+-- no later one changes the schema
+schema_stays : {l : LimitNumbers} {t : List ℕ} {es : List Entry} {e f : Standing} (c : List ℕ) (x : Entry) (fields : Fields) → FrontOf l t es e → e.verdict ≡ Open → e.state.schema ≡ Some fields
+    → FrontOf l (t ++ c) (es ++ x ∷ []) f → f.state.schema ≡ Some fields
+schema_stays c x fields old o known new = let w = front_behind c old o new in (front_keeps w.behind fields known).schema
+
+-- ---- one message more
+
+module _ (limits : LimitNumbers) (o : Options) (first : Option (List ℕ)) (start : ℕ) (at : At) (number : ℕ) (now new : Shows) (u rest : List ℕ) (es : List Entry) (n : ℕ) (item : Item) (is_open : now.at.verdict ≡ Open)
+    (same : new.limits ≡ now.limits) (x : IsCopying limits o first start at number now u es) (gives : GivesNext rest n item new u es) where
+  abbrev entry : Entry
+  entry = record { given = given item; end = length u + n }
+
+  abbrev taken : List ℕ
+  taken = u ++ take n rest
+
+  abbrev entries : List Entry
+  entries = es ++ entry ∷ []
+
+  abbrev standing : Standing
+  standing = standing_of new gives.stands.rest
+
+  old_front : FrontOf limits u es (standing_of now x.stands.rest)
+  old_front = front_at limits now u es x.stands x.limits_are
+
+  new_front : FrontOf limits taken entries standing
+  new_front = front_at limits new taken entries gives.stands (same ∙ x.limits_are)
+
+  whole : taken ++ drop n rest ≡ u ++ rest
+  whole = append_assoc u (take n rest) (drop n rest) ∙ ap (λ y. u ++ y) (take-append-drop n rest)
+
+  tables : tables_of entries ≡ tables_of es ++ table_in (given item)
+  tables = one_table es entry
+
+  -- the copy stands behind it
+  copying : (at' : At) (number' : ℕ) → number' ≡ length (tables_of entries) → HasWritten limits o first start new.at.state.schema (tables_of entries) at' → IsCopying limits o first start at' number' new taken entries
+  copying at' number' k h = record { stands = gives.stands; limits_are = same ∙ x.limits_are; counted = k; written = h }
+
+  -- a beginning of what it is copied as was written
+  begun : (held : Option (List ℕ)) → IsSentInPartOf limits o new.at.state.schema (tables_of entries) first held → IsBegun limits o (u ++ rest) first held
+  begun held s = record { taken = taken; rest = drop n rest; whole = whole; standing = standing; entries = entries; front = new_front; sent = s }
+
+  -- what comes of it: the copy goes on, or ends
+  abbrev pub Goes : Result (Unit {0}) ToolFault → At → ℕ → Type 0
+  Goes (Ok done) at' number' = IsCopying limits o first start at' number' new taken entries
+  Goes (Err f) at' number' = BlamesNoInput (Err f) × ((left : Option (List ℕ)) → Copies limits o (u ++ rest) left first start (Err f) (held_at at') (failures_at at'))
+
+  module _ (fields : Fields) (schema : new.at.state.schema ≡ Some fields) (known : IsSchema fields) (none : es ≡ []) (is_schema : given item ≡ schema_given) where
+    no_tables : tables_of entries ≡ []
+    no_tables = tables ∙ ap (λ e. tables_of e ++ table_in (given item)) none ∙ ap table_in is_schema
+
+    no_number : (number' : ℕ) → number' ≡ number → number' ≡ length (tables_of entries)
+    no_number number' k = k ∙ x.counted ∙ ap (λ e. length (tables_of e)) none ∙ ap length (sym no_tables)
+
+    nothing_sent : (held : Option (List ℕ)) → held ≡ first → IsSentInPartOf limits o new.at.state.schema (tables_of entries) first held
+    nothing_sent held h = subst (λ s. IsSentInPartOf limits o s (tables_of entries) first held) (sym schema) (inl (subst (λ y. Appends first y []) (sym h) (Appends-nil first)))
+
+    begins_so : (answer : Result (Unit {0}) ToolFault) (at' : At) (number' : ℕ) → Begins limits o fields first start answer at' → number' ≡ number → Goes answer at' number'
+    begins_so (Ok done) at' number' b k =
+        let w = b.0 in
+        let s = b.2 in
+        subst (λ a. Goes (Ok done) a number') (sym b.1) (copying (writing w) number' (no_number number' k) (record {
+          parts = s.part ∷ [];
+          stands = subst (λ ts. writers.Stands w first false (s.part ∷ []) ts) (sym no_tables) s.stands;
+          fields_are = schema ∙ ap Some (sym (ap (λ (v : writers.Shows). v.fields) s.new_is));
+          limits_are = ap (λ (v : writers.Shows). v.limits) s.new_is;
+          options_are = ap (λ (v : writers.Shows). v.options) s.new_is;
+          failures_are = ap (λ (v : writers.Shows). v.failures) s.new_is;
+        }))
+    begins_so (Err f) at' number' b k =
+        subst (λ a. Goes (Err f) a number') (sym b.4) (subst (λ g. Goes (Err g) (waiting b.1 b.2) number') (sym b.3) (by b.0 b.1 b.2 b.5))
+      where
+        by : (kind : WriteFault) (held : Option (List ℕ)) (failed : ℕ) → writers.StartFails limits o fields first start kind held failed → Goes (Err (fault_of Start kind)) (waiting held failed) number'
+        by kinds.TooLarge held failed s = (
+          tt,
+          λ left. (
+            record {
+              taken = taken;
+              rest = drop n rest;
+              whole = whole;
+              entry = entry;
+              standing = standing;
+              front = subst (λ e. FrontOf limits taken (e ++ entry ∷ []) standing) none new_front;
+              is_schema = is_schema;
+              fields = fields;
+              schema = schema;
+              refusal = s.0;
+              wrote = subst (λ y. Appends first y []) (sym s.1) (Appends-nil first);
+            },
+            s.2,
+          ),
+        )
+        by kinds.Memory held failed s = (tt, λ left. (begun held (nothing_sent held s.0), s.1))
+        by kinds.Sink held failed s = (
+          tt,
+          λ left. (
+            begun held (subst (λ z. IsSentInPartOf limits o z (tables_of entries) first held) (sym schema) (inr (record {
+              closed = false;
+              first = [];
+              later = tables_of entries;
+              all = refl;
+              parts = s.part ∷ [];
+              frames = schema_frame fields s.part ∷ [];
+              text = unfinished (s.part ∷ []) [] (schema_frame fields s.part ∷ []) (begins s.part known s.admitted s.is_frame);
+              wrote = subst (AcceptsBeginning first held) (sym (append-nil s.part)) s.accepted;
+            }))),
+            s.failed,
+          ),
+        )
+        by kinds.SchemaDiffers held failed s = absurd s
+        by kinds.DictionariesDiffer held failed s = absurd s
+        by kinds.Broken held failed s = absurd s
+        by kinds.Finished held failed s = absurd s
+
+  module _ (w : writers.Shows) (y : IsWritingOn limits o first start now.at.state.schema (tables_of es) w) where
+    stays_open : new.at.state.schema ≡ Some w.fields
+    stays_open = schema_stays (take n rest) entry w.fields old_front is_open y.fields_are new_front
+
+    sent_before : IsSentInPartOf limits o new.at.state.schema (tables_of entries) first w.contents
+    sent_before =
+        subst (λ z. IsSentInPartOf limits o z (tables_of entries) first w.contents) (sym stays_open)
+        (part_of limits o (Some w.fields) (tables_of es) (table_in (given item)) (tables_of entries) first w.contents (sym tables) (writing_sent limits o first start now.at.state.schema (tables_of es) w y))
+
+    -- a message that is no batch changes nothing
+    passes : (answer : Result (Unit {0}) ToolFault) (at' : At) (number' : ℕ) → table_in (given item) ≡ [] → (answer ≡ Ok tt) × (at' ≡ writing w) × (number' ≡ number) → Goes answer at' number'
+    passes answer at' number' none z =
+        let all : tables_of es ≡ tables_of entries = sym (tables ∙ ap (λ ts. tables_of es ++ ts) none ∙ append-nil (tables_of es)) in
+        subst (λ r. Goes r at' number') (sym z.0)
+        (subst (λ a. Goes (Ok tt) a number') (sym z.1) (copying (writing w) number' (z.2 ∙ x.counted ∙ ap length all) (record {
+          parts = y.parts;
+          stands = subst (λ ts. writers.Stands w first false y.parts ts) all y.stands;
+          fields_are = stays_open;
+          limits_are = y.limits_are;
+          options_are = y.options_are;
+          failures_are = y.failures_are;
+        })))
+
+    module _ (t : Table) (is : given item ≡ batch_given t) where
+      with_batch : tables_of entries ≡ tables_of es ++ t ∷ []
+      with_batch = tables ∙ ap (λ g. tables_of es ++ table_in g) is
+
+      refuses : (kind : WriteFault) (w' : writers.Shows) → writers.Refuses w t kind w' → RefusesBatch limits o (u ++ rest) number kind first w'.contents × (w'.failures ≡ start)
+      refuses kind w' r =
+          subst (λ (v : writers.Shows). RefusesBatch limits o (u ++ rest) number kind first v.contents × (v.failures ≡ start)) (sym r.unchanged) (
+            record {
+              taken = taken;
+              rest = drop n rest;
+              whole = whole;
+              entries = es;
+              entry = entry;
+              standing = standing;
+              front = new_front;
+              table = t;
+              is_batch = is;
+              numbered = x.counted;
+              fields = w.fields;
+              schema = stays_open;
+              sent = writing_sent limits o first start now.at.state.schema (tables_of es) w y;
+              refusal = sym (λ i. admission (y.limits_are i) (y.options_are i) w.fields (y.stands.sent_are i) (y.stands.place_is i) t) ∙ r.refusal;
+            },
+            y.failures_are,
+          )
+
+      -- the part is one of this text
+      part_here : (fs : List Frame) → IsPart w.limits w.options w.fields w.sent w.place t fs → IsPart limits o w.fields (left_by nothing_yet y.stands.frames).dictionaries (length (joined y.parts)) t fs
+      part_here fs p =
+          subst (λ l. IsPart l o w.fields (left_by nothing_yet y.stands.frames).dictionaries (length (joined y.parts)) t fs) y.limits_are
+          (subst (λ q. IsPart w.limits q w.fields (left_by nothing_yet y.stands.frames).dictionaries (length (joined y.parts)) t fs) y.options_are
+          (subst (λ d. IsPart w.limits w.options w.fields d (length (joined y.parts)) t fs) y.stands.sent_are (subst (λ m. IsPart w.limits w.options w.fields w.sent m t fs) y.stands.place_is p)))
+
+      breaks : (w' : writers.Shows) → writers.Fails w t w' → IsSentInPartOf limits o new.at.state.schema (tables_of entries) first w'.contents
+      breaks w' f = subst (λ z. IsSentInPartOf limits o z (tables_of entries) first w'.contents) (sym stays_open) (inr (record {
+        closed = false;
+        first = tables_of es ++ t ∷ [];
+        later = [];
+        all = append-nil (tables_of es ++ t ∷ []) ∙ sym with_batch;
+        parts = y.parts ++ frames_bytes f.frames ∷ [];
+        frames = y.stands.frames ++ f.frames;
+        text = unfinished (y.parts ++ frames_bytes f.frames ∷ []) (tables_of es ++ t ∷ []) (y.stands.frames ++ f.frames)
+            (adds y.parts (tables_of es) y.stands.frames t f.frames (open_text (writing_text limits o first start now.at.state.schema (tables_of es) w y) refl) (part_here f.frames f.is_part));
+        wrote = f.in_all first y.parts (tables_of es) y.stands;
+      }))
+
+      stops : (kind : WriteFault) (w' : writers.Shows) (number' : ℕ) → writers.Writes w t (Err kind) w' → Goes (Err (fault_of (Batch number) kind)) (writing w') number'
+      stops kinds.SchemaDiffers w' number' r = (tt, λ left. refuses kinds.SchemaDiffers w' r)
+      stops kinds.TooLarge w' number' r = (tt, λ left. refuses kinds.TooLarge w' r)
+      stops kinds.DictionariesDiffer w' number' r = (tt, λ left. refuses kinds.DictionariesDiffer w' r)
+      stops kinds.Sink w' number' f = (tt, λ left. (begun w'.contents (breaks w' f), ap (λ (v : writers.Shows). v.failures) f.new_is ∙ ap (λ m. m + 1) y.failures_are))
+      stops kinds.Broken w' number' s = let q = sym s.before ∙ y.stands.status_is in absurd (cc)
+      stops kinds.Finished w' number' s = let q = sym s.before ∙ y.stands.status_is in absurd (cc)
+      stops kinds.Memory w' number' s =
+          (tt, λ left. subst (λ (v : writers.Shows). IsBegun limits o (u ++ rest) first v.contents × (v.failures ≡ start)) (sym s.unchanged) (begun w.contents sent_before, y.failures_are))
+
+      adds_so : (answer : Result (Unit {0}) ToolFault) (at' : At) (number' : ℕ) → Adds w t number answer at' number' → Goes answer at' number'
+      adds_so (Ok done) at' number' z =
+          let w' = z.0 in
+          let a = z.2 in
+          subst (λ b. Goes (Ok done) b number') (sym z.1) (copying (writing w') number' (z.3 ∙ ap (λ m. m + 1) x.counted ∙ sym (ap length with_batch ∙ length-append (tables_of es) (t ∷ []))) (record {
+            parts = y.parts ++ frames_bytes a.frames ∷ [];
+            stands = subst (λ ts. writers.Stands w' first false (y.parts ++ frames_bytes a.frames ∷ []) ts) (sym with_batch) (a.stands first y.parts (tables_of es) y.stands);
+            fields_are = stays_open ∙ ap Some (sym (ap (λ (v : writers.Shows). v.fields) a.new_is));
+            limits_are = ap (λ (v : writers.Shows). v.limits) a.new_is ∙ y.limits_are;
+            options_are = ap (λ (v : writers.Shows). v.options) a.new_is ∙ y.options_are;
+            failures_are = ap (λ (v : writers.Shows). v.failures) a.new_is ∙ y.failures_are;
+          }))
+      adds_so (Err f) at' number' (inl z) = subst (λ g. Goes (Err g) at' number') (sym z.0) (subst (λ b. Goes (Err Memory) b number') (sym z.1) (tt, λ left. (begun w.contents sent_before, y.failures_are)))
+      adds_so (Err f) at' number' (inr z) = subst (λ g. Goes (Err g) at' number') (sym z.2) (subst (λ b. Goes (Err (fault_of (Batch number) z.0)) b number') (sym z.3) (stops z.0 z.1 number' z.4))
+
+    takes_one : (g : Given) → given item ≡ g → (answer : Result (Unit {0}) ToolFault) (at' : At) (number' : ℕ) → TakesOne w g number answer at' number' → Goes answer at' number'
+    takes_one schema_given is answer at' number' z = passes answer at' number' (ap table_in is) z
+    takes_one (dictionary_given id) is answer at' number' z = passes answer at' number' (ap table_in is) z
+    takes_one (batch_given t) is answer at' number' z = adds_so t is answer at' number' z
+    takes_one ended is answer at' number' z = passes answer at' number' (ap table_in is) z
+
+  -- What is made of a message leaves the copy behind it, or ends it as it should.
+  pub item_goes : (answer : Result (Unit {0}) ToolFault) (at' : At) (number' : ℕ) → Takes limits o new.at.state.schema (given item) at number answer at' number' → Goes answer at' number'
+  item_goes answer at' number' takes = by at x.written takes
+    where
+      by : (a : At) → HasWritten limits o first start now.at.state.schema (tables_of es) a → Takes limits o new.at.state.schema (given item) a number answer at' number' → Goes answer at' number'
+      by (waiting held failed) h z =
+          let c = comes_first (take n rest) entry old_front h.0 new_front in
+          let b = subst (λ s. TakesFirst limits o s held failed answer at') c.schema z.0 in
+          begins_so c.fields c.schema b.0 c.none c.is_schema answer at' number' (subst (λ m. Begins limits o c.fields first m answer at') h.2 (subst (λ k. Begins limits o c.fields k failed answer at') h.1 b.1)) z.1
+      by (writing w) h z = takes_one w h (given item) refl answer at' number' z
+
+-- bytes without a message leave what was written
+pub still : (limits : LimitNumbers) (o : Options) (first : Option (List ℕ)) (start : ℕ) (at : At) (number : ℕ) (now new : Shows) (u c : List ℕ) (es : List Entry) → new.limits ≡ now.limits → IsCopying limits o first start at number now u es
+    → Stands new (u ++ c) es → IsCopying limits o first start at number new (u ++ c) es
+still limits o first start at number now new u c es same x stands =
+    let state : new.at.state ≡ now.at.state = state_same c (front_at limits now u es x.stands x.limits_are) (front_at limits new (u ++ c) es stands (same ∙ x.limits_are)) in
+    record { stands = stands; limits_are = same ∙ x.limits_are; counted = x.counted; written = subst (λ (s : StreamState). HasWritten limits o first start s.schema (tables_of es) at) (sym state) x.written }
+
+-- so far all was copied
+pub copied_at : (limits : LimitNumbers) (o : Options) (first : Option (List ℕ)) (start : ℕ) (at : At) (number : ℕ) (r : Shows) (t : List ℕ) (es : List Entry) (x : IsCopying limits o first start at number r t es)
+    → IsCopied limits o t (standing_of r x.stands.rest) first (held_at at)
+copied_at limits o first start at number r t es x = record {
+  entries = es;
+  front = front_at limits r t es x.stands x.limits_are;
+  sent = sent_of limits o first start r.at.state.schema (tables_of es) at x.written;
+}
+
+-- so it was begun, with more bytes behind
+pub begun_at : (limits : LimitNumbers) (o : Options) (first : Option (List ℕ)) (start : ℕ) (at : At) (number : ℕ) (r : Shows) (t c : List ℕ) (es : List Entry) → IsCopying limits o first start at number r t es → IsBegun limits o (t ++ c) first (held_at at)
+begun_at limits o first start at number r t c es x = record {
+  taken = t;
+  rest = c;
+  whole = refl;
+  standing = standing_of r x.stands.rest;
+  entries = es;
+  front = front_at limits r t es x.stands x.limits_are;
+  sent = part_of limits o r.at.state.schema (tables_of es) [] (tables_of es) first (held_at at) (append-nil (tables_of es)) (sent_of limits o first start r.at.state.schema (tables_of es) at x.written);
+}
+
+-- a fault of the reader ends the copy
+pub refused_at : (limits : LimitNumbers) (o : Options) (first : Option (List ℕ)) (start : ℕ) (at : At) (number : ℕ) (now new : Shows) (u rest : List ℕ) (es : List Entry) (fault : Fault) → new.limits ≡ now.limits
+    → IsCopying limits o first start at number now u es → WantsMemory now fault new ⊎ Refuses rest fault new u es
+    → BlamesNoInput (Err (told fault)) × ((left : Option (List ℕ)) → Copies limits o (u ++ rest) left first start (Err (told fault)) (held_at at) (failures_at at))
+refused_at limits o first start at number now new u rest es fault same x (inl m) =
+    subst (λ f. BlamesNoInput (Err (told f)) × ((left : Option (List ℕ)) → Copies limits o (u ++ rest) left first start (Err (told f)) (held_at at) (failures_at at))) (sym m.fault_is)
+    (tt, λ left. (begun_at limits o first start at number now u rest es x, failed_of limits o first start now.at.state.schema (tables_of es) at x.written))
+refused_at limits o first start at number now new u rest es fault same x (inr r) =
+    let f_is : fault ≡ record { kind = kind_of r.refusal; place = new.at.place } = λ i. record { kind = r.kind i; place = r.place i } in
+    let y = still limits o first start at number now new u rest es same x r.stands in
+    subst (λ f. BlamesNoInput (Err (told f)) × ((left : Option (List ℕ)) → Copies limits o (u ++ rest) left first start (Err (told f)) (held_at at) (failures_at at))) (sym f_is)
+    (subst (λ z. BlamesNoInput (Err z) × ((left : Option (List ℕ)) → Copies limits o (u ++ rest) left first start (Err z) (held_at at) (failures_at at))) (sym (told_refusal r.refusal new.at.place))
+    (tt, λ left. ((standing_of new y.stands.rest, copied_at limits o first start at number new (u ++ rest) es y, inl (r.refusal, r.verdict, refl)), failed_of limits o first start new.at.state.schema (tables_of es) at y.written)))
+
+-- ---- the end
+
+module _ (limits : LimitNumbers) (o : Options) (first : Option (List ℕ)) (start : ℕ) (number : ℕ) (r : Shows) (t : List ℕ) (es : List Entry) (left : Option (List ℕ)) where
+  module _ (w : writers.Shows) (x : IsCopying limits o first start (writing w) number r t es) (well : EndsWell left (standing_of r x.stands.rest)) where
+    abbrev y : IsWritingOn limits o first start r.at.state.schema (tables_of es) w
+    y = x.written
+
+    front : FrontOf limits t es (standing_of r x.stands.rest)
+    front = front_at limits r t es x.stands x.limits_are
+
+    ends : (w' : writers.Shows) → writers.Ends w w' → IsClosed limits o t (standing_of r x.stands.rest) first w'.contents
+    ends w' e =
+        let s = e.stands first y.parts (tables_of es) y.stands in
+        let parts = y.parts ++ e.marker ∷ [] in
+        let limits_are : w'.limits ≡ limits = ap (λ (v : writers.Shows). v.limits) e.new_is ∙ y.limits_are in
+        let options_are : w'.options ≡ o = ap (λ (v : writers.Shows). v.options) e.new_is ∙ y.options_are in
+        let fields_are : w'.fields ≡ w.fields = ap (λ (v : writers.Shows). v.fields) e.new_is in
+        record {
+          entries = es;
+          front = front;
+          fields = w.fields;
+          schema = y.fields_are;
+          sent = record {
+            parts = parts;
+            frames = s.frames;
+            text = subst (λ l. Written l o w.fields true parts (tables_of es) s.frames) limits_are
+                (subst (λ p. Written w'.limits p w.fields true parts (tables_of es) s.frames) options_are (subst (λ f. Written w'.limits w'.options f true parts (tables_of es) s.frames) fields_are s.written));
+            wrote = s.accepted;
+          };
+        }
+
+    fails_at_end : (w' : writers.Shows) → writers.FailsAtEnd w w' → IsBegun limits o t first w'.contents
+    fails_at_end w' f = record {
+      taken = t;
+      rest = [];
+      whole = append-nil t;
+      standing = standing_of r x.stands.rest;
+      entries = es;
+      front = front;
+      sent = subst (λ z. IsSentInPartOf limits o z (tables_of es) first w'.contents) (sym y.fields_are) (inr (record {
+        closed = true;
+        first = tables_of es;
+        later = [];
+        all = append-nil (tables_of es);
+        parts = y.parts ++ f.marker ∷ [];
+        frames = y.stands.frames ++ marker_frame (left_by nothing_yet y.stands.frames) f.marker ∷ [];
+        text = finished y.parts (tables_of es) y.stands.frames f.marker (open_text (writing_text limits o first start r.at.state.schema (tables_of es) w y) refl) (sym (ap marker_fits y.stands.place_is) ∙ f.fits_in) f.is_marker;
+        wrote = f.in_all first y.parts (tables_of es) y.stands;
+      }));
+    }
+
+    no_end : (kind : WriteFault) (w' : writers.Shows) → writers.Finishes w (Err kind) w' → Copies limits o t left first start (Err (fault_of Finish kind)) w'.contents w'.failures
+    no_end kinds.TooLarge w' p =
+        subst (λ (v : writers.Shows). Copies limits o t left first start (Err (Refused Finish kinds.TooLarge)) v.contents v.failures) (sym p.unchanged) (
+          (
+            standing_of r x.stands.rest,
+            record {
+              entries = es;
+              front = front;
+              fields = w.fields;
+              schema = y.fields_are;
+              sent = writing_sent limits o first start r.at.state.schema (tables_of es) w y;
+              refusal = sym (ap marker_fits y.stands.place_is) ∙ p.passes;
+              is_large = refl;
+            },
+            well,
+          ),
+          y.failures_are,
+        )
+    no_end kinds.Sink w' f = (fails_at_end w' f, ap (λ (v : writers.Shows). v.failures) f.new_is ∙ ap (λ m. m + 1) y.failures_are)
+    no_end kinds.Broken w' s = let q = sym s.before ∙ y.stands.status_is in absurd (cc)
+    no_end kinds.Finished w' s = let q = sym s.before ∙ y.stands.status_is in absurd (cc)
+    no_end kinds.Memory w' s = absurd s
+    no_end kinds.SchemaDiffers w' s = absurd s
+    no_end kinds.DictionariesDiffer w' s = absurd s
+
+    closes_so : (answer : Result (Unit {0}) ToolFault) (at' : At) → Closes (writing w) answer at' → Copies limits o t left first start answer (held_at at') (failures_at at')
+    closes_so (Ok done) at' z =
+        subst (λ b. Copies limits o t left first start (Ok done) (held_at b) (failures_at b)) (sym z.1)
+        ((standing_of r x.stands.rest, ends z.0 z.2, well), ap (λ (v : writers.Shows). v.failures) z.2.new_is ∙ y.failures_are)
+    closes_so (Err f) at' z =
+        subst (λ g. Copies limits o t left first start (Err g) (held_at at') (failures_at at')) (sym z.2)
+        (subst (λ b. Copies limits o t left first start (Err (fault_of Finish z.0)) (held_at b) (failures_at b)) (sym z.3) (no_end z.0 z.1 z.4))
+
+  -- The end marker behind all batches, or why there is none.
+  pub closed_so : (at : At) (x : IsCopying limits o first start at number r t es) → EndsWell left (standing_of r x.stands.rest) → (answer : Result (Unit {0}) ToolFault) (at' : At) → Closes at answer at'
+      → Copies limits o t left first start answer (held_at at') (failures_at at')
+  closed_so (waiting held failed) x well answer at' z = absurd z
+  closed_so (writing w) x well answer at' z = closes_so w x well answer at' z
+
+-- a stream with an end marker has given something
+done_some : {l : LimitNumbers} {s : StreamState} {p : ℕ} {b : List ℕ} {es : List Entry} {e : Standing} → Front l s p b es e → e.verdict ≡ Done → es ≡ [] → ⊥
+done_some (rests x) d q = absurd (cc)
+done_some (fails x) d q = absurd (cc)
+done_some (closes x) d q = absurd (cc)
+done_some (goes_on x xs) d q = absurd (cc)
+
+-- a stream that ends well has a schema
+pub ended_schema : (r : Shows) (t : List ℕ) (es : List Entry) → Stands r t es → ended_so r.at ≡ Ok tt → (r.at.state.schema ≡ None → ⊥)
+ended_schema r t es x well none = by r.at.verdict refl
+  where
+    by : (v : Verdict) → r.at.verdict ≡ v → ⊥
+    by Open v =
+        let q : ended_by Open false r.at.rest r.at.place ≡ Ok tt = sym (λ i. ended_by (v i) (is_some (none i)) r.at.rest r.at.place) ∙ well in
+        absurd (cc)
+    by Done v = let b = front_begins x.front refl (done_some x.front v) in let q = sym none ∙ b.schema in absurd (cc)
+    by (Bad k) v =
+        let q : ended_by (Bad k) false r.at.rest r.at.place ≡ Ok tt = sym (λ i. ended_by (v i) (is_some (none i)) r.at.rest r.at.place) ∙ well in
+        absurd (cc)
+
+-- so does one with an end marker
+pub done_schema : (r : Shows) (t : List ℕ) (es : List Entry) → Stands r t es → r.at.verdict ≡ Done → (r.at.state.schema ≡ None → ⊥)
+done_schema r t es x d none = let b = front_begins x.front refl (done_some x.front d) in let q = sym none ∙ b.schema in absurd (cc)
+
+-- where a stream has a schema there is a writer
+pub writes_by : (limits : LimitNumbers) (o : Options) (first : Option (List ℕ)) (start : ℕ) (at : At) (number : ℕ) (r : Shows) (t : List ℕ) (es : List Entry) → IsCopying limits o first start at number r t es → (r.at.state.schema ≡ None → ⊥)
+    → IsWriting at
+writes_by limits o first start (waiting held failed) number r t es x some = absurd (some x.written.0)
+writes_by limits o first start (writing w) number r t es x some = tt
+
+-- a message that is made something of leaves the count of failures
+pub takes_failures : (limits : LimitNumbers) (o : Options) (schema : Option Fields) (g : Given) (at at' : At) (number number' : ℕ) → Takes limits o schema g at number (Ok tt) at' number' → failures_at at' ≡ failures_at at
+takes_failures limits o None g (waiting held failed) at' number number' z = ap failures_at z.0.1
+takes_failures limits o (Some fields) g (waiting held failed) at' number number' z =
+    let b = z.0.1 in
+    ap failures_at b.1 ∙ ap (λ (v : writers.Shows). v.failures) b.2.new_is
+takes_failures limits o schema schema_given (writing w) at' number number' z = ap failures_at z.1
+takes_failures limits o schema (dictionary_given id) (writing w) at' number number' z = ap failures_at z.1
+takes_failures limits o schema (batch_given t) (writing w) at' number number' z = ap failures_at z.1 ∙ ap (λ (v : writers.Shows). v.failures) z.2.new_is
+takes_failures limits o schema ended (writing w) at' number number' z = ap failures_at z.1
+
+-- ---- the loop over a piece
+
+copying_at : (limits : LimitNumbers) (o : Options) (first : Option (List ℕ)) (start : ℕ) (at : At) (number : ℕ) (r : Shows) (u v : List ℕ) (es : List Entry) → u ≡ v → IsCopying limits o first start at number r u es → IsCopying limits o first start at number r v es
+copying_at limits o first start at number r u v es e x = subst (λ y. IsCopying limits o first start at number r y es) e x
+
+-- all of a piece but this rest was given to the reader and copied
+pub record IsTaking (limits : LimitNumbers) (o : Options) (before : At) (number : ℕ) (old : Shows) (piece : List ℕ) (at : At) (number' : ℕ) (now : Shows) (rest : List ℕ) : Type 0 where
+  pub taken : List ℕ
+  pub whole : taken ++ rest ≡ piece
+  pub copied : (first : Option (List ℕ)) (start : ℕ) (t : List ℕ) (es : List Entry) → IsCopying limits o first start before number old t es → (fs : List Entry) × IsCopying limits o first start at number' now (t ++ taken) fs
+  pub limits_are : now.limits ≡ old.limits
+
+pub taking_nothing : (limits : LimitNumbers) (o : Options) (at : At) (number : ℕ) (old : Shows) (piece : List ℕ) → IsTaking limits o at number old piece at number old piece
+taking_nothing limits o at number old piece = record {
+  taken = [];
+  whole = refl;
+  copied = λ first start t es x. (es, copying_at limits o first start at number old t (t ++ []) es (sym (append-nil t)) x);
+  limits_are = refl;
+}
+
+module _ (limits : LimitNumbers) (o : Options) (before : At) (number : ℕ) (old : Shows) (piece : List ℕ) (at : At) (number' : ℕ) (now : Shows) (rest : List ℕ) (i : IsTaking limits o before number old piece at number' now rest)
+    (new : Shows) (same : new.limits ≡ now.limits) where
+  module _ (n : ℕ) (item : Item) (is_open : now.at.verdict ≡ Open) (gives : (t : List ℕ) (es : List Entry) → Stands now t es → GivesNext rest n item new t es) where
+    whole_next : i.taken ++ take n rest ++ drop n rest ≡ piece
+    whole_next = append_assoc i.taken (take n rest) (drop n rest) ∙ ap (λ y. i.taken ++ y) (take-append-drop n rest) ∙ i.whole
+
+    -- a message was copied
+    pub taking_next : (at' : At) (number'' : ℕ) → Takes limits o new.at.state.schema (given item) at number' (Ok tt) at' number'' → IsTaking limits o before number old piece at' number'' new (drop n rest)
+    taking_next at' number'' takes = record {
+      taken = i.taken ++ take n rest;
+      whole = whole_next;
+      copied = λ first start t es x.
+          let y = i.copied first start t es x in
+          let u = t ++ i.taken in
+          let fs = y.0 ++ record { given = given item; end = length u + n } ∷ [] in (
+            fs,
+            copying_at limits o first start at' number'' new (u ++ take n rest) (t ++ (i.taken ++ take n rest)) fs (append_assoc t i.taken (take n rest))
+                (item_goes limits o first start at number' now new u rest y.0 n item is_open same y.1 (gives u y.0 y.1.stands) (Ok tt) at' number'' takes),
+          );
+      limits_are = same ∙ i.limits_are;
+    }
+
+    -- the copy ended at a message
+    pub taking_stops : (f : ToolFault) (at' : At) (number'' : ℕ) → Takes limits o new.at.state.schema (given item) at number' (Err f) at' number''
+        → (first : Option (List ℕ)) (start : ℕ) (t : List ℕ) (es : List Entry) → IsCopying limits o first start before number old t es → PieceCopied limits o first start t piece (Err f) at' number'' new
+    taking_stops f at' number'' takes first start t es x =
+        let y = i.copied first start t es x in
+        let u = t ++ i.taken in
+        let all : u ++ rest ≡ t ++ piece = append_assoc t i.taken rest ∙ ap (λ z. t ++ z) i.whole in
+        let z = item_goes limits o first start at number' now new u rest y.0 n item is_open same y.1 (gives u y.0 y.1.stands) (Err f) at' number'' takes in
+        (z.0, λ left. subst (λ b. Copies limits o b left first start (Err f) (held_at at') (failures_at at')) all (z.1 left))
+
+    -- the end marker came
+    pub taking_ended : (at' : At) (number'' : ℕ) → Takes limits o new.at.state.schema (given item) at number' (Ok tt) at' number'' → given item ≡ ended
+        → (first : Option (List ℕ)) (start : ℕ) (t : List ℕ) (es : List Entry) → IsCopying limits o first start before number old t es → PieceCopied limits o first start t piece (Ok true) at' number'' new
+    taking_ended at' number'' takes e first start t es x =
+        let y = i.copied first start t es x in
+        let g = gives (t ++ i.taken) y.0 y.1.stands in
+        let d = end_is_done g.stands.front y.0 (record { given = given item; end = length (t ++ i.taken) + n }) refl e in
+        let j = taking_next at' number'' takes in
+        let z = j.copied first start t es x in
+        let stands = ended_stands new (t ++ j.taken) z.0 (drop n rest) (λ q. let w : Done ≡ Open = sym d ∙ q in cc) z.1.stands in
+        let all : (t ++ j.taken) ++ drop n rest ≡ t ++ piece = append_assoc t j.taken (drop n rest) ∙ ap (λ w. t ++ w) j.whole in
+        ((z.0, copying_at limits o first start at' number'' new _ (t ++ piece) z.0 all (still limits o first start at' number'' new new (t ++ j.taken) (drop n rest) z.0 refl z.1 stands)), λ q. d)
+
+  -- no message came: the rest is taken too
+  pub taking_all : (n : ℕ) → ((t : List ℕ) (es : List Entry) → Stands now t es → TakesOn now rest n new t es)
+      → (first : Option (List ℕ)) (start : ℕ) (t : List ℕ) (es : List Entry) → IsCopying limits o first start before number old t es → PieceCopied limits o first start t piece (Ok false) at number' new
+  taking_all n takes first start t es x =
+      let y = i.copied first start t es x in
+      let u = t ++ i.taken in
+      let all : u ++ rest ≡ t ++ piece = append_assoc t i.taken rest ∙ ap (λ z. t ++ z) i.whole in
+      let stands = taken_all now new rest n u y.0 (takes u y.0 y.1.stands) in
+      ((y.0, copying_at limits o first start at number' new (u ++ rest) (t ++ piece) y.0 all (still limits o first start at number' now new u rest y.0 same y.1 stands)), λ q. absurd (false≢true q))
+
+  -- the rest is refused, or a growth was
+  pub taking_refused : (fault : Fault) → ((t : List ℕ) (es : List Entry) → Stands now t es → WantsMemory now fault new ⊎ Refuses rest fault new t es)
+      → (first : Option (List ℕ)) (start : ℕ) (t : List ℕ) (es : List Entry) → IsCopying limits o first start before number old t es → PieceCopied limits o first start t piece (Err (told fault)) at number' new
+  taking_refused fault refuses first start t es x =
+      let y = i.copied first start t es x in
+      let u = t ++ i.taken in
+      let all : u ++ rest ≡ t ++ piece = append_assoc t i.taken rest ∙ ap (λ z. t ++ z) i.whole in
+      let z = refused_at limits o first start at number' now new u rest y.0 fault same y.1 (refuses u y.0 y.1.stands) in
+      (z.0, λ left. subst (λ b. Copies limits o b left first start (Err (told fault)) (held_at at) (failures_at at)) all (z.1 left))
+
+-- ---- how the input ends
+
+-- an end marker that is refused holds no input to have failed
+pub closes_blameless : (at : At) (answer : Result (Unit {0}) ToolFault) (at' : At) → Closes at answer at' → BlamesNoInput answer
+closes_blameless (waiting held failed) answer at' z = absurd z
+closes_blameless (writing w) (Ok done) at' z = tt
+closes_blameless (writing w) (Err f) at' z = subst (λ g. BlamesNoInput (Err g)) (sym z.2) (by z.0)
+  where
+    by : (kind : WriteFault) → BlamesNoInput (Err (fault_of Finish kind))
+    by kinds.SchemaDiffers = tt
+    by kinds.TooLarge = tt
+    by kinds.DictionariesDiffer = tt
+    by kinds.Sink = tt
+    by kinds.Broken = tt
+    by kinds.Finished = tt
+    by kinds.Memory = tt
+
+-- what a reader tells of an end is no want of memory
+ended_told : (v : Verdict) (has_schema : Bool) (rest : List ℕ) (place : ℕ) (fault : Fault) → ended_by v has_schema rest place ≡ Err fault → told fault ≡ Stream fault
+ended_told Open false rest place fault e = let same : record { kind = NoSchema; place = place } ≡ fault = cc in subst (λ f. told f ≡ Stream f) same refl
+ended_told Open true [] place fault e = absurd (cc)
+ended_told Open true (x ∷ rest) place fault e = let same : record { kind = Truncated; place = place } ≡ fault = cc in subst (λ f. told f ≡ Stream f) same refl
+ended_told Done has_schema rest place fault e = absurd (cc)
+ended_told (Bad k) has_schema rest place fault e = let same : record { kind = kind_of k; place = place } ≡ fault = cc in subst (λ f. told f ≡ Stream f) same (told_refusal k place)
+
+module _ (limits : LimitNumbers) (o : Options) (first : Option (List ℕ)) (start : ℕ) (at : At) (number : ℕ) (r : Shows) (t : List ℕ) (es : List Entry) (left : Option (List ℕ)) (x : IsCopying limits o first start at number r t es) (over : IsAtEnd left) where
+  ends_so : ended_so (standing_of r x.stands.rest) ≡ ended_so r.at
+  ends_so = sym (ended_same r.at.verdict (is_some r.at.state.schema) x.stands.rest r.at.rest r.at.place x.stands.held)
+
+  -- the input ended at the end of a message
+  pub ended_closed : ended_so r.at ≡ Ok tt → (answer : Result (Unit {0}) ToolFault) (at' : At) → Closes at answer at' → BlamesNoInput answer × Copies limits o t left first start answer (held_at at') (failures_at at')
+  ended_closed well answer at' z = (closes_blameless at answer at' z, closed_so limits o first start number r t es left at x (ends_so ∙ well, inr over) answer at' z)
+
+  -- it ended where no stream ends
+  pub ended_badly : (fault : Fault) → ended_so r.at ≡ Err fault → BlamesNoInput (Err (told fault)) × Copies limits o t left first start (Err (told fault)) (held_at at) (failures_at at)
+  ended_badly fault bad =
+      subst (λ f. BlamesNoInput (Err f) × Copies limits o t left first start (Err f) (held_at at) (failures_at at)) (sym (ended_told r.at.verdict (is_some r.at.state.schema) r.at.rest r.at.place fault bad))
+      (tt, ((standing_of r x.stands.rest, copied_at limits o first start at number r t es x, inr (ends_so ∙ bad, over)), failed_of limits o first start r.at.state.schema (tables_of es) at x.written))
+
+-- The end marker came, and behind all batches one is written.
+pub marker_closed : (limits : LimitNumbers) (o : Options) (first : Option (List ℕ)) (start : ℕ) (at : At) (number : ℕ) (r : Shows) (t : List ℕ) (es : List Entry) (left : Option (List ℕ)) (x : IsCopying limits o first start at number r t es)
+    → r.at.verdict ≡ Done → (answer : Result (Unit {0}) ToolFault) (at' : At) → Closes at answer at' → BlamesNoInput answer × Copies limits o t left first start answer (held_at at') (failures_at at')
+marker_closed limits o first start at number r t es left x d answer at' z =
+    (closes_blameless at answer at' z, closed_so limits o first start number r t es left at x (ap (λ v. ended_by v (is_some r.at.state.schema) x.stands.rest r.at.place) d, inl d) answer at' z)
+
+-- at its beginning nothing was copied
+pub copying_nothing : (limits : LimitNumbers) (o : Options) (held : Option (List ℕ)) (failed : ℕ) (r : Shows) → r.limits ≡ limits → Stands r [] [] → IsCopying limits o held failed (waiting held failed) 0 r [] []
+copying_nothing limits o held failed r same stands = record { stands = stands; limits_are = same; counted = refl; written = (ap (λ (s : StreamState). s.schema) (state_stays stands.front refl), refl, refl) }

@@ -1,0 +1,143 @@
+-- What is written of a stream that is copied, and how that ends (Columnar Format, "IPC Streaming Format").
+use Rattle.std.specs.Prelude.{◌≡◌, ◌⊎◌, ℕ, ◌+◌, false, true, Bool, List, [], ◌∷◌, ◌++◌, length, Option, None, Some, Result, Ok, Err}
+use Rattle.std.specs.Io.KnownBytes.{Appends, Consumes}
+use Rattle.arrow_types.specs.Field.{Fields}
+use Rattle.arrow_types.specs.Limits.{LimitNumbers}
+use Rattle.arrow_array.specs.Batch.{Table}
+use Rattle.arrow_sink.specs.Sinks.{AcceptsBeginning}
+use Rattle.arrow_stream.specs.declared.reader.Verdict.TheVariants.{Open}
+use Rattle.arrow_stream.specs.Front.{Entry, Standing, FrontOf}
+use Rattle.arrow_stream.specs.State.{batch_given, nothing_yet, schema_given}
+use Rattle.arrow_stream.specs.Tables.{tables_of}
+use Rattle.arrow_written.specs.declared.write_fault.WriteFault.{WriteFault}
+use Rattle.arrow_written.specs.declared.write_fault.WriteFault.TheVariants.{TooLarge}
+use Rattle.arrow_written.specs.Admission.{admission, marker_fits, schema_admission}
+use Rattle.arrow_written.specs.Frames.{Frame, left_by}
+use Rattle.arrow_written.specs.Sizes.{Options}
+use Rattle.arrow_written.specs.Text.{Written, joined}
+use Rattle.arrowflow.specs.Reads.{IsReadWhile}
+use Rattle.arrowflow.specs.Reports.{EndsBadly, EndsWell, IsOpenAt}
+use Rattle.arrowflow.specs.declared.what.What.{What}
+use Rattle.arrowflow.specs.declared.what.What.TheVariants as parts
+use Rattle.arrowflow.specs.declared.tool_fault.ToolFault.{ToolFault}
+use Rattle.arrowflow.specs.declared.tool_fault.ToolFault.TheVariants.{Input, Output, Stream, Refused, Memory}
+
+-- The text of a connection with these batches, closed by the end marker or not, and its parts, one after another, were written.
+pub record IsSent (limits : LimitNumbers) (o : Options) (fields : Fields) (closed : Bool) (batches : List Table) (before after : Option (List ℕ)) : Type 0 where
+  pub parts : List (List ℕ)
+  pub frames : List Frame
+  pub text : Written limits o fields closed parts batches frames
+  pub wrote : Appends before after (joined parts)
+
+-- The same without end marker, of a stream that has this schema: nothing where it has none yet.
+abbrev pub IsSentOf : LimitNumbers → Options → Option Fields → List Table → Option (List ℕ) → Option (List ℕ) → Type 0
+IsSentOf limits o None batches before after = Appends before after []
+IsSentOf limits o (Some fields) batches before after = IsSent limits o fields false batches before after
+
+-- the batches of the messages at the front of these bytes were written, without end marker
+pub record IsCopied (limits : LimitNumbers) (o : Options) (bytes : List ℕ) (e : Standing) (before after : Option (List ℕ)) : Type 0 where
+  pub entries : List Entry
+  pub front : FrontOf limits bytes entries e
+  pub sent : IsSentOf limits o e.state.schema (tables_of entries) before after
+
+-- the same with the end marker
+pub record IsClosed (limits : LimitNumbers) (o : Options) (bytes : List ℕ) (e : Standing) (before after : Option (List ℕ)) : Type 0 where
+  pub entries : List Entry
+  pub front : FrontOf limits bytes entries e
+  pub fields : Fields
+  pub schema : e.state.schema ≡ Some fields
+  pub sent : IsSent limits o fields true (tables_of entries) before after
+
+-- The first message of these bytes, the schema, is refused, and nothing was written.
+pub record RefusesSchema (limits : LimitNumbers) (o : Options) (bytes : List ℕ) (kind : WriteFault) (before after : Option (List ℕ)) : Type 0 where
+  pub taken : List ℕ
+  pub rest : List ℕ
+  pub whole : taken ++ rest ≡ bytes
+  pub entry : Entry
+  pub standing : Standing
+  pub front : FrontOf limits taken (entry ∷ []) standing
+  pub is_schema : entry.given ≡ schema_given
+  pub fields : Fields
+  pub schema : standing.state.schema ≡ Some fields
+  pub refusal : schema_admission limits o fields ≡ Some kind
+  pub wrote : Appends before after []
+
+-- The batch of this number among these bytes is refused, behind the text of those before it, which was written.
+pub record RefusesBatch (limits : LimitNumbers) (o : Options) (bytes : List ℕ) (number : ℕ) (kind : WriteFault) (before after : Option (List ℕ)) : Type 0 where
+  pub taken : List ℕ
+  pub rest : List ℕ
+  pub whole : taken ++ rest ≡ bytes
+  pub entries : List Entry
+  pub entry : Entry
+  pub standing : Standing
+  pub front : FrontOf limits taken (entries ++ entry ∷ []) standing
+  pub table : Table
+  pub is_batch : entry.given ≡ batch_given table
+  pub numbered : number ≡ length (tables_of entries)
+  pub fields : Fields
+  pub schema : standing.state.schema ≡ Some fields
+  pub sent : IsSent limits o fields false (tables_of entries) before after
+  pub refusal : admission limits o fields (left_by nothing_yet sent.frames).dictionaries (length (joined sent.parts)) table ≡ Some kind
+
+-- The end marker is refused, behind the text of all batches, which was written.
+pub record RefusesEnd (limits : LimitNumbers) (o : Options) (bytes : List ℕ) (e : Standing) (kind : WriteFault) (before after : Option (List ℕ)) : Type 0 where
+  pub entries : List Entry
+  pub front : FrontOf limits bytes entries e
+  pub fields : Fields
+  pub schema : e.state.schema ≡ Some fields
+  pub sent : IsSent limits o fields false (tables_of entries) before after
+  pub refusal : marker_fits (length (joined sent.parts)) ≡ false
+  pub is_large : kind ≡ TooLarge
+
+-- what is refused of a stream with these bytes, of whose input this is left
+abbrev pub Refuses : LimitNumbers → Options → List ℕ → Option (List ℕ) → What → WriteFault → Option (List ℕ) → Option (List ℕ) → Type 0
+Refuses limits o bytes left parts.Start kind before after = RefusesSchema limits o bytes kind before after
+Refuses limits o bytes left (parts.Batch number) kind before after = RefusesBatch limits o bytes number kind before after
+Refuses limits o bytes left parts.Finish kind before after = (e : Standing) × RefusesEnd limits o bytes e kind before after × EndsWell left e
+
+-- a beginning was written of the text of a connection with the first of these batches, closed or not
+pub record IsSentInPart (limits : LimitNumbers) (o : Options) (fields : Fields) (batches : List Table) (before after : Option (List ℕ)) : Type 0 where
+  pub closed : Bool
+  pub first : List Table
+  pub later : List Table
+  pub all : first ++ later ≡ batches
+  pub parts : List (List ℕ)
+  pub frames : List Frame
+  pub text : Written limits o fields closed parts first frames
+  pub wrote : AcceptsBeginning before after (joined parts)
+
+-- nothing was written, or such a beginning for a stream that has this schema
+abbrev pub IsSentInPartOf : LimitNumbers → Options → Option Fields → List Table → Option (List ℕ) → Option (List ℕ) → Type 0
+IsSentInPartOf limits o None batches before after = Appends before after []
+IsSentInPartOf limits o (Some fields) batches before after = Appends before after [] ⊎ IsSentInPart limits o fields batches before after
+
+-- a beginning was written of what the messages at the front of a beginning of these bytes are copied as
+pub record IsBegun (limits : LimitNumbers) (o : Options) (bytes : List ℕ) (before after : Option (List ℕ)) : Type 0 where
+  pub taken : List ℕ
+  pub rest : List ℕ
+  pub whole : taken ++ rest ≡ bytes
+  pub standing : Standing
+  pub entries : List Entry
+  pub front : FrontOf limits taken entries standing
+  pub sent : IsSentInPartOf limits o standing.state.schema (tables_of entries) before after
+
+-- What was written, and why the call ended, when these bytes were read of an input of which this is left. `Output` is
+-- answered exactly where the output failed, and then once.
+abbrev pub Copies : LimitNumbers → Options → List ℕ → Option (List ℕ) → Option (List ℕ) → ℕ → Result (Unit {0}) ToolFault → Option (List ℕ) → ℕ → Type 0
+Copies limits o bytes left before failed (Ok done) after failed' =
+    ((e : Standing) × IsClosed limits o bytes e before after × EndsWell left e) × (failed' ≡ failed)
+Copies limits o bytes left before failed (Err (Stream fault)) after failed' =
+    ((e : Standing) × IsCopied limits o bytes e before after × EndsBadly left e fault) × (failed' ≡ failed)
+Copies limits o bytes left before failed (Err (Input number)) after failed' =
+    (number ≡ 0) × ((e : Standing) × (e.verdict ≡ Open) × IsCopied limits o bytes e before after) × (failed' ≡ failed)
+Copies limits o bytes left before failed (Err (Refused what kind)) after failed' =
+    Refuses limits o bytes left what kind before after × (failed' ≡ failed)
+Copies limits o bytes left before failed (Err Output) after failed' = IsBegun limits o bytes before after × (failed' ≡ failed + 1)
+Copies limits o bytes left before failed (Err Memory) after failed' = IsBegun limits o bytes before after × (failed' ≡ failed)
+
+-- The same of an input that had these bytes before the call and has these behind it, and that no piece was read behind the
+-- one in which the stream is refused or ends with its marker.
+abbrev pub CopiesInput : LimitNumbers → Options → Option (List ℕ) → Option (List ℕ) → Option (List ℕ) → ℕ → Result (Unit {0}) ToolFault → Option (List ℕ) → ℕ → Type 0
+CopiesInput limits o had left before failed answer after failed' =
+    (bytes : List ℕ) × Consumes had left bytes × IsReadWhile (IsOpenAt limits) bytes
+    × Copies limits o bytes left before failed answer after failed'

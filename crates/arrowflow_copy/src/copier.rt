@@ -1,0 +1,159 @@
+//! Messages on their way to a writer.
+
+ghost use Rattle.std.specs.Prelude.{◌≡◌, ◌<◌, ◌-◌, ◌^◌, OnOk};
+ghost use Rattle.arrow_stream.specs.Views.{given};
+ghost use Rattle.arrow_types.specs.Schema.{IsSchema};
+ghost use Rattle.arrow_writer.specs.Shown.{options_view, shown};
+ghost use Rattle.arrowflow_copy.specs.Copying.{Adds, Begins, Closes, IsWriting, Takes, TakesOne};
+ghost use Rattle.arrowflow_copy.specs.Copying.{failures_at, fault_of, writing};
+ghost use Rattle.arrowflow_copy.specs.Target.{IsPassedOn, at_of, sink_in};
+
+use arrow_array::Batch;
+use arrow_sink::Sink;
+use arrow_stream::{Item, StreamReader};
+use arrow_types::{Limits, Schema};
+use arrow_writer::{Options, StreamWriter};
+use arrow_written::WriteFault;
+use arrowflow::{ToolFault, What};
+use std::alloc::Global;
+
+/// Where the new stream goes: the output as it came, or, once the schema was read, a writer over
+/// it.
+#[derive(Drop)]
+pub(crate) enum Target<S: Sink> {
+    Waiting(S),
+    Writing(StreamWriter<S>),
+}
+
+/// How a stream is written again.
+#[derive(Drop)]
+pub(crate) struct Terms {
+    pub(crate) alloc: Global,
+    pub(crate) options: Options,
+    pub(crate) limits: Limits,
+}
+
+/// Starts a writer of the schema.
+fn begin<S: Sink>(terms: &Terms, sink: S, schema: &Schema) -> (Target<S>, Result<(), ToolFault>)
+    requires { S.failed sink < 2 ^ 64 - 1 }
+    ensures known { IsSchema schema.now }
+    ensures begins { Begins terms.now.limits (options_view terms.now.options) schema.now (S.contents sink)
+        (S.failed sink) result.1 (at_of S.contents S.failed result.0) }
+{
+    // what is known of each schema is known of this one, also where its frame is cut off
+    let _fields = schema.fields();
+    match StreamWriter::start(terms.alloc, sink, schema, terms.options, terms.limits) {
+        Ok(writer) => (Target::Writing(writer), Ok(())),
+        Err((kind, sink)) => (Target::Waiting(sink), Err(fault_of(What::Start, kind))),
+    }
+}
+
+/// Writes a batch, and counts it.
+fn add<S: Sink>(
+    writer: &mut StreamWriter<S>,
+    number: &mut usize,
+    batch: &Batch,
+) -> Result<(), ToolFault>
+    requires { S.failed writer.old.sink < 2 ^ 64 - 1 }
+    ensures { Adds (shown S.contents S.failed writer.old) batch.now number.old result
+        (writing (shown S.contents S.failed writer.new)) number.new }
+{
+    let before = *number;
+    let Some(next) = before.checked_add(1) else {
+        return Err(ToolFault::Memory);
+    };
+    match writer.write(batch) {
+        Ok(()) => {
+            *number = next;
+            Ok(())
+        }
+        Err(kind) => Err(fault_of(What::Batch(before), kind)),
+    }
+}
+
+/// What a writer makes of a message: of a batch its part, of others nothing.
+fn take_one<S: Sink>(
+    writer: &mut StreamWriter<S>,
+    number: &mut usize,
+    item: &Item,
+) -> Result<(), ToolFault>
+    requires { S.failed writer.old.sink < 2 ^ 64 - 1 }
+    ensures { TakesOne (shown S.contents S.failed writer.old) (given item.now) number.old result
+        (writing (shown S.contents S.failed writer.new)) number.new }
+{
+    match item {
+        Item::Batch(batch) => add(writer, number, batch),
+        Item::Schema | Item::Dictionary(_) | Item::End => Ok(()),
+    }
+}
+
+/// What is made of a message that the reader has just read: the first one, the schema, starts the
+/// writer.
+pub(crate) fn take<S: Sink>(
+    terms: &Terms,
+    reader: &StreamReader,
+    item: &Item,
+    target: Target<S>,
+    number: &mut usize,
+) -> (Target<S>, Result<(), ToolFault>)
+    requires { failures_at (at_of S.contents S.failed target) < 2 ^ 64 - 1 }
+    ensures { Takes terms.now.limits (options_view terms.now.options) reader.now.at.state.schema
+        (given item.now) (at_of S.contents S.failed target) number.old result.1
+        (at_of S.contents S.failed result.0) number.new }
+{
+    match target {
+        Target::Waiting(sink) => match reader.schema() {
+            Some(schema) => begin(terms, sink, schema),
+            None => (Target::Waiting(sink), Ok(())),
+        },
+        Target::Writing(mut writer) => {
+            let answer = take_one(&mut writer, number, item);
+            (Target::Writing(writer), answer)
+        }
+    }
+}
+
+/// Writes the end marker behind the last batch.
+pub(crate) fn close<S: Sink>(target: Target<S>) -> (Target<S>, Result<(), ToolFault>)
+    requires writing { IsWriting (at_of S.contents S.failed target) }
+    requires failed { failures_at (at_of S.contents S.failed target) < 2 ^ 64 - 1 }
+    ensures closes { Closes (at_of S.contents S.failed target) result.1
+        (at_of S.contents S.failed result.0) }
+    ensures passed { OnOk result.1 (IsPassedOn S.is_passed_on result.0) }
+{
+    let Target::Writing(mut writer) = target else {
+        unreachable!();
+    };
+    let answer = match writer.finish() {
+        Ok(()) => Ok(()),
+        Err(kind) => Err(fault_of(What::Finish, kind)),
+    };
+    (Target::Writing(writer), answer)
+}
+
+impl<S: Sink> Target<S> {
+    /// The output.
+    pub(crate) fn into_sink(self) -> S
+        ensures { result ≡ sink_in self }
+    {
+        match self {
+            Target::Waiting(sink) => sink,
+            Target::Writing(writer) => writer.into_sink(),
+        }
+    }
+}
+
+/// What is told of a writer's fault.
+fn fault_of(what: What, kind: WriteFault) -> ToolFault
+    ensures { result ≡ fault_of what kind }
+{
+    match kind {
+        WriteFault::Sink => ToolFault::Output,
+        WriteFault::Memory => ToolFault::Memory,
+        WriteFault::SchemaDiffers
+        | WriteFault::TooLarge
+        | WriteFault::DictionariesDiffer
+        | WriteFault::Broken
+        | WriteFault::Finished => ToolFault::Refused(what, kind),
+    }
+}

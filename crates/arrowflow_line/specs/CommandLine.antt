@@ -1,0 +1,164 @@
+-- What the words of a command line ask for, in the terms of clap: what it reads of a command, and what it finds in words.
+use Rattle.std.specs.Prelude.{◌≡◌, ◌≤◌, ◌^◌, ◌⊎◌, ℕ, List, [], ◌∷◌, true, false, codes, map, if◌then◌else◌, Option, Some, Result, Ok, Err, ⊤, string_bytes, unwrap_or}
+use Rattle.std.specs.Str.{bytes_eq}
+use Rattle.std.specs.Str.Parse.{digits_value, without_leading_plus}
+use Rattle.std.specs.Borrow.{Bor}
+use Rattle.arrow_body_write.specs.declared.align.Align.{Align}
+use Rattle.arrow_body_write.specs.declared.align.Align.TheVariants.{Eight, SixtyFour}
+use Rattle.arrow_dict.specs.declared.update.Updates.{Updates}
+use Rattle.arrow_dict.specs.declared.update.Updates.TheVariants.{Delta, Resend}
+use Rattle.arrow_writer.specs.declared.stream_writer.Options.{Options}
+use Rattle.clap.specs.Lexer.{usize_max}
+use Rattle.clap.specs.Values.{IsUnsignedIn}
+use Rattle.clap.specs.declared.builder.command.Command.{Command}
+use Rattle.clap.specs.declared.builder.command.Command.TheViews.{out-Command}
+use Rattle.clap.specs.declared.builder.value_parser.ValueParser.{ValueParser}
+use Rattle.clap.specs.declared.builder.value_parser.ValueParser.TheVariants as parsers
+use Rattle.clap.specs.Simple.{on_top}
+use Rattle.clap.specs.Walk.{Rule}
+use Rattle.clap.specs.Words.{App, HasKind, Row, Text, all_of, fault_of, first_of, new_app, new_rule, one_of, subcommand_of, with_rule, with_subcommand}
+use Rattle.arrowflow_line.specs.declared.fault.ArgFault.{ArgFault}
+use Rattle.arrowflow_line.specs.declared.fault.ArgFault.TheVariants.{Line, Memory}
+use Rattle.arrowflow_line.specs.declared.plans.Plan.{Plan}
+use Rattle.arrowflow_line.specs.declared.plans.Plan.TheVariants.{Schema, Check, Show, Copy, Drill}
+
+-- no argument of the command is one of its subcommands too
+abbrev pub HasNoGlobals : Command → Type 0
+HasNoGlobals c = (out-Command c).has_globals ≡ false
+
+-- a line without a subcommand is refused
+abbrev pub NeedsSubcommand : Command → Type 0
+NeedsSubcommand c = (out-Command c).subcommand_required ≡ true
+
+-- ---- what the program takes
+
+-- a name that has to stand there
+abbrev pub needed : Text → Rule
+needed id = record (new_rule id) { required = true }
+
+-- one name or more
+abbrev pub needed_some : Text → Rule
+needed_some id = record (needed id) { range = Some (record { start_inclusive = 1; end_inclusive = usize_max }) }
+
+-- an option of this name with a value that passes this parser, and what stands for it where it is not given
+abbrev pub option : Text → ValueParser → Text → Rule
+option name parser default = record (new_rule name) { long = Some name; parser = Some parser; defaults = default ∷ [] }
+
+-- words among which a value has to be
+abbrev pub Choices : Type 0
+Choices = Bor (List (Bor Text))
+
+-- the words that are such
+abbrev pub words_of : Choices → List Text
+words_of choices = map (λ w. w.now) choices.now
+
+-- a command with the options of how a stream is written
+abbrev pub with_options : App → Choices → Choices → App
+with_options app updates aligns =
+    with_rule (with_rule app (option (codes "updates") (parsers.Names updates) (codes "delta"))) (option (codes "align") (parsers.Names aligns) (codes "64"))
+
+-- a command of this name that takes one file
+abbrev pub file_app : Text → App
+file_app name = with_rule (new_app name) (needed (codes "FILE"))
+
+-- the command that copies
+abbrev pub copy_app : Choices → Choices → App
+copy_app updates aligns = with_options (with_rule (with_rule (new_app (codes "copy")) (needed (codes "IN"))) (needed (codes "OUT"))) updates aligns
+
+-- a command with the options of what is delivered of a connection
+abbrev pub with_delivery : App → App
+with_delivery app =
+    with_rule (with_rule app (option (codes "bytes") (parsers.Unsigned 0 (2 ^ 62)) (codes "4611686018427387904"))) (option (codes "piece") (parsers.Unsigned 1 (2 ^ 30)) (codes "65536"))
+
+-- the command that drills
+abbrev pub drill_app : Choices → Choices → App
+drill_app updates aligns = with_options (with_delivery (with_rule (new_app (codes "drill")) (needed_some (codes "FILE")))) updates aligns
+
+-- a command with such options: updates are sent as deltas or again, and the alignment is 8 or 64
+pub record Offers (command : Choices → Choices → App) (app : App) : Type 0 where
+  pub updates : Choices
+  pub aligns : Choices
+  pub updates_are : words_of updates ≡ codes "delta" ∷ codes "resend" ∷ []
+  pub aligns_are : words_of aligns ≡ codes "8" ∷ codes "64" ∷ []
+  pub is : app ≡ command updates aligns
+
+-- a command line with a command more
+abbrev pub with_command : App → App → App
+with_command app command = with_subcommand app command.top
+
+-- the commands of one file
+abbrev pub reading_app : App
+reading_app = with_command (with_command (with_command (new_app (codes "arrowflow")) (file_app (codes "schema"))) (file_app (codes "check"))) (file_app (codes "show"))
+
+-- the program's command line: one of five commands has to stand there
+abbrev pub program_app : App → App → App
+program_app copying drilling = on_top (λ s. record s { subcommand_required = true }) (with_command (with_command reading_app copying) drilling)
+
+-- it is the program's command line
+pub record IsProgram (app : App) : Type 0 where
+  pub copying : App
+  pub copies : Offers copy_app copying
+  pub drilling : App
+  pub drills : Offers drill_app drilling
+  pub is : app ≡ program_app copying drilling
+
+-- ---- what is asked for
+
+-- the text that clap found for an argument, empty where it found none
+abbrev pub name_in : Text → List Row → Text
+name_in id rows = unwrap_or (first_of id rows) []
+
+-- all of them
+abbrev pub names_in : Text → List Row → List Text
+names_in id rows = unwrap_or (all_of id rows) []
+
+-- the text of a number
+abbrev pub number_text : Text → List Row → Option Text
+number_text id rows = one_of id rows
+
+-- The number that a text says, in these bounds. (clap refuses a text that says no such number.)
+pub record IsNumberOf (least most : ℕ) (text : Option Text) (n : ℕ) : Type 0 where
+  pub low : least ≤ n
+  pub high : n ≤ most
+  pub said : (t : Text) → text ≡ Some t → IsUnsignedIn least most t → n ≡ digits_value 10 (without_leading_plus t)
+
+-- what is sent of dictionaries, by the word for it
+abbrev pub updates_by : Text → Updates
+updates_by word = if bytes_eq word (codes "resend") then Resend else Delta
+
+-- the alignment, by the number of its bytes
+abbrev pub align_by : Text → Align
+align_by word = if bytes_eq word (codes "8") then Eight else SixtyFour
+
+-- how a stream is written
+abbrev pub options_in : List Row → Options
+options_in rows = record { updates = updates_by (name_in (codes "updates") rows); align = align_by (name_in (codes "align") rows) }
+
+-- a command that the program has
+abbrev pub IsCommand : Text → Type 0
+IsCommand name = (name ≡ codes "schema") ⊎ ((name ≡ codes "check") ⊎ ((name ≡ codes "show") ⊎ ((name ≡ codes "copy") ⊎ (name ≡ codes "drill"))))
+
+-- the plan of the command of this name, with what clap found behind it
+abbrev pub IsPlan : Text → List Row → Plan → Type 0
+IsPlan name rows (Schema file) = (name ≡ codes "schema") × (string_bytes file ≡ name_in (codes "FILE") rows)
+IsPlan name rows (Check file) = (name ≡ codes "check") × (string_bytes file ≡ name_in (codes "FILE") rows)
+IsPlan name rows (Show file) = (name ≡ codes "show") × (string_bytes file ≡ name_in (codes "FILE") rows)
+IsPlan name rows (Copy input output options) =
+    (name ≡ codes "copy") × (string_bytes input ≡ name_in (codes "IN") rows) × (string_bytes output ≡ name_in (codes "OUT") rows) × (options ≡ options_in rows)
+IsPlan name rows (Drill files options bytes piece) =
+    (name ≡ codes "drill") × (map string_bytes files.items ≡ names_in (codes "FILE") rows) × (options ≡ options_in rows)
+    × IsNumberOf 0 (2 ^ 62) (number_text (codes "bytes") rows) bytes × IsNumberOf 1 (2 ^ 30) (number_text (codes "piece") rows) piece
+
+-- the plan of the command that clap finds in the words, with what it finds behind its name
+pub record IsAskedFor (app : App) (words : List Text) (plan : Plan) : Type 0 where
+  pub name : Text
+  pub rows : List Row
+  pub found : subcommand_of app words ≡ Some (name, rows)
+  pub is : IsPlan name rows plan
+
+-- What is answered of the words of a line: a plan where clap has no fault for them, else an error of a kind that it has.
+-- Want of memory may come at any time.
+abbrev pub AnswersLine : List Text → Result Plan ArgFault → Type 0
+AnswersLine words (Ok plan) = (app : App) × IsProgram app × IsAskedFor app words plan × (fault_of app words ≡ [])
+AnswersLine words (Err (Line error)) = (app : App) × IsProgram app × HasKind (fault_of app words) error
+AnswersLine words (Err Memory) = ⊤

@@ -1,0 +1,246 @@
+//! The program's command line: one word for the command, then its names and options.
+
+ghost use Rattle.std.specs.Prelude.{◌≡◌, IfOk, false, map};
+ghost use Rattle.clap.specs.Walk.{rule_of};
+ghost use Rattle.clap.specs.Words.{app_of};
+ghost use Rattle.arrowflow_line.specs.CommandLine.{AnswersLine, HasNoGlobals, IsProgram};
+ghost use Rattle.arrowflow_line.specs.CommandLine.{NeedsSubcommand, Offers, copy_app, drill_app};
+ghost use Rattle.arrowflow_line.specs.CommandLine.{file_app, needed, needed_some, option};
+ghost use Rattle.arrowflow_line.specs.CommandLine.{with_delivery, with_options};
+
+use crate::fault::ArgFault;
+use crate::plans::Plan;
+use crate::reading::{MOST_BYTES, MOST_PIECE, plan_of};
+use clap::builder::ValueParser;
+use clap::{Arg, Command};
+use std::alloc::{AllocError, Global};
+
+/// What the help of the whole program says before the commands.
+const ABOUT: &str = "Reads, checks and writes Apache Arrow IPC streams";
+
+/// What it says behind them.
+const EXAMPLE: &str = "Example:\n  arrowflow show examples/growing_dictionary.arrows";
+
+/// What the help of `schema` says before its argument.
+const SCHEMA_ABOUT: &str =
+    "Prints the columns of a stream, one line a field, children below their parent";
+
+/// What it says behind it.
+const SCHEMA_EXAMPLE: &str =
+    "Only the stream's first message is read. The exit status is 0, 1 where the stream is refused, and 2 where\nthe file cannot be read or memory is wanting.\n\nExample:\n  arrowflow schema - < examples/one_column.arrows";
+
+/// What the help of `check` says before its argument.
+const CHECK_ABOUT: &str = "Reads a whole stream and prints one line for each of its messages";
+
+/// What it says behind it.
+const CHECK_EXAMPLE: &str =
+    "A line has the message's place in bytes, what it is, and its columns, values or rows. The exit status is 0, 1\nwhere the stream is refused or ends too early, and 2 where the file cannot be read, the output cannot be\nwritten or memory is wanting.\n\nExample:\n  arrowflow check examples/growing_dictionary.arrows";
+
+/// What the help of `show` says before its argument.
+const SHOW_ABOUT: &str = "Prints the rows of a stream as comma-separated values";
+
+/// What it says behind it.
+const SHOW_EXAMPLE: &str =
+    "The first record has the names of the columns, and each row begins with the number of its batch, counted from\n0. The exit status is 0, 1 where the stream is refused or ends too early, and 2 where the file cannot be\nread, the output cannot be written or memory is wanting.\n\nExample:\n  arrowflow show examples/growing_dictionary.arrows";
+
+/// What the help of `copy` says before its arguments.
+const COPY_ABOUT: &str =
+    "Writes a stream again, with its dictionaries and buffers sent as the options say";
+
+/// What it says behind them.
+const COPY_EXAMPLE: &str =
+    "The rows stay what they are; the new stream has an end marker. OUT is created, and emptied first where it is\nthere: a stream is never copied into its own file, whatever name that has. The exit status is 0, 1 where the\nstream is refused, ends too early or cannot be written again within the limits, and 2 where IN cannot be read,\nOUT cannot be written or memory is wanting.\n\nExample:\n  arrowflow copy examples/growing_dictionary.arrows - --updates resend | arrowflow check -";
+
+/// What the help of `drill` says before its arguments.
+const DRILL_ABOUT: &str =
+    "Writes streams again over connections that break, and tells what both ends then have";
+
+/// What it says behind them.
+const DRILL_EXAMPLE: &str =
+    "Each FILE is one connection, of which the first N bytes are delivered in pieces of M. The exit status is 0\nhowever the connections end, 1 where a FILE is refused or ends too early, and 2 where one cannot be read, the\noutput cannot be written or memory is wanting.\n\nExample:\n  arrowflow drill examples/growing_dictionary.arrows --align 8 --bytes 975 --piece 1";
+
+/// The words for what is sent of dictionaries that grew.
+static UPDATES: [&str; 2] = ["delta", "resend"];
+
+/// The alignments, in bytes.
+static ALIGNS: [&str; 2] = ["8", "64"];
+
+/// A name that has to stand in the line.
+fn needed<'a>(alloc: Global, id: &'a str, help: &'a str) -> Arg<'a>
+    ensures rule { rule_of result ≡ needed id.now }
+    ensures local { result.global ≡ false }
+{
+    Arg::new(alloc, id).required(true).help(help)
+}
+
+/// Names of which one at least has to stand in the line.
+fn needed_some<'a>(alloc: Global, id: &'a str, help: &'a str) -> Arg<'a>
+    ensures rule { rule_of result ≡ needed_some id.now }
+    ensures local { result.global ≡ false }
+{
+    needed(alloc, id, help).num_args(1..)
+}
+
+/// An option with a value, and what stands for it where it is not given.
+fn option<'a>(
+    alloc: Global,
+    name: &'a str,
+    parser: ValueParser<'a>,
+    default: &'a str,
+    help: &'a str,
+) -> Arg<'a>
+    ensures rule { rule_of result ≡ option name.now parser.entry default.now }
+    ensures local { result.global ≡ false }
+{
+    Arg::new(alloc, name)
+        .long(name)
+        .value_parser(parser)
+        .default_value(default)
+        .help(help)
+}
+
+/// A command of one file, with what its help says before and behind the argument.
+fn file_command<'a>(
+    alloc: Global,
+    name: &'a str,
+    about: &'a str,
+    example: &'a str,
+) -> Result<Command<'a>, AllocError>
+    ensures globals { IfOk result HasNoGlobals }
+    ensures app { IfOk result (λ c. app_of c ≡ file_app name.now) }
+{
+    let file = needed(
+        alloc,
+        "FILE",
+        "A file with an Arrow IPC stream; - is standard input",
+    );
+    Command::new(alloc, name)
+        .about(about)
+        .after_help(example)
+        .arg(file)
+}
+
+/// The command with the options of how a stream is written.
+fn with_options<'a>(alloc: Global, command: Command<'a>) -> Result<Command<'a>, AllocError>
+    requires { HasNoGlobals command }
+    ensures globals { IfOk result HasNoGlobals }
+    ensures app { IfOk result (λ c. Offers (with_options (app_of command.entry)) (app_of c)) }
+{
+    let updates = option(
+        alloc,
+        "updates",
+        ValueParser::from(UPDATES.as_slice()),
+        "delta",
+        "What is sent of a dictionary that grew: the new values, or all",
+    );
+    let align = option(
+        alloc,
+        "align",
+        ValueParser::from(ALIGNS.as_slice()),
+        "64",
+        "To how many bytes each buffer is padded",
+    );
+    command.arg(updates)?.arg(align)
+}
+
+/// The command that copies.
+fn copy_command<'a>(alloc: Global) -> Result<Command<'a>, AllocError>
+    ensures globals { IfOk result HasNoGlobals }
+    ensures app { IfOk result (λ c. Offers copy_app (app_of c)) }
+{
+    let input = needed(
+        alloc,
+        "IN",
+        "A file with an Arrow IPC stream; - is standard input",
+    );
+    let output = needed(
+        alloc,
+        "OUT",
+        "Where the new stream goes; - is standard output",
+    );
+    let command = Command::new(alloc, "copy")
+        .about(COPY_ABOUT)
+        .after_help(COPY_EXAMPLE)
+        .arg(input)?
+        .arg(output)?;
+    with_options(alloc, command)
+}
+
+/// The command with the options of what is delivered of a connection.
+fn with_delivery<'a>(alloc: Global, command: Command<'a>) -> Result<Command<'a>, AllocError>
+    requires { HasNoGlobals command }
+    ensures globals { IfOk result HasNoGlobals }
+    ensures app { IfOk result (λ c. app_of c ≡ with_delivery (app_of command.entry)) }
+{
+    let bytes = option(
+        alloc,
+        "bytes",
+        ValueParser::unsigned(0, MOST_BYTES),
+        "4611686018427387904",
+        "How many bytes of each connection are delivered",
+    );
+    let piece = option(
+        alloc,
+        "piece",
+        ValueParser::unsigned(1, MOST_PIECE),
+        "65536",
+        "How many bytes are delivered at once",
+    );
+    let whole = command.arg(bytes)?.arg(piece)?;
+    Ok(whole)
+}
+
+/// The command that drills.
+fn drill_command<'a>(alloc: Global) -> Result<Command<'a>, AllocError>
+    ensures globals { IfOk result HasNoGlobals }
+    ensures app { IfOk result (λ c. Offers drill_app (app_of c)) }
+{
+    let files = needed_some(
+        alloc,
+        "FILE",
+        "Files with an Arrow IPC stream each; - is standard input",
+    );
+    let command = Command::new(alloc, "drill")
+        .about(DRILL_ABOUT)
+        .after_help(DRILL_EXAMPLE)
+        .arg(files)?;
+    with_options(alloc, with_delivery(alloc, command)?)
+}
+
+/// The whole command line.
+fn command<'a>(alloc: Global) -> Result<Command<'a>, AllocError>
+    ensures globals { IfOk result HasNoGlobals }
+    ensures needs { IfOk result NeedsSubcommand }
+    ensures app { IfOk result (λ c. IsProgram (app_of c)) }
+{
+    let whole = Command::new(alloc, "arrowflow")
+        .bin_name("arrowflow")?
+        .about(ABOUT)
+        .after_help(EXAMPLE)
+        .subcommand(file_command(alloc, "schema", SCHEMA_ABOUT, SCHEMA_EXAMPLE)?)?
+        .subcommand(file_command(alloc, "check", CHECK_ABOUT, CHECK_EXAMPLE)?)?
+        .subcommand(file_command(alloc, "show", SHOW_ABOUT, SHOW_EXAMPLE)?)?
+        .subcommand(copy_command(alloc)?)?
+        .subcommand(drill_command(alloc)?)?;
+    Ok(whole.subcommand_required(true))
+}
+
+/// What the words of a command line ask for. The first word is the program's own name.
+///
+/// `ArgFault::Line` where the words are not a command with its names and options, or ask for help;
+/// `ArgFault::Memory` where a growth was refused.
+pub fn plan(alloc: Global, words: &[&str]) -> Result<Plan, ArgFault>
+    ensures { AnswersLine (map (λ w. w.now) words.now) result }
+{
+    let matches = match command(alloc)?.try_get_matches_from(words) {
+        Ok(matches) => matches,
+        Err(error) => return Err(ArgFault::Line(error)),
+    };
+    let Some((command, given)) = matches.subcommand() else {
+        unreachable!();
+    };
+    let Some(plan) = plan_of(alloc, command, given)? else {
+        unreachable!();
+    };
+    Ok(plan)
+}

@@ -1,0 +1,15 @@
+//! The command line of the program `arrowflow`, and what it asks for.
+//!
+//! [`plan`] takes the words of a line and gives a [`Plan`]: the command, the names that it was
+//! given and its options; or an [`ArgFault`], which prints itself. What the words of a line ask for
+//! is said by `AnswersLine` (`specs/CommandLine.antt`), in the words of clap.
+#![tactic(auto)]
+
+mod command_line;
+mod fault;
+mod plans;
+mod reading;
+
+pub use command_line::plan;
+pub use fault::ArgFault;
+pub use plans::Plan;

@@ -1,0 +1,20 @@
+//! What a command line asks for.
+
+use arrow_writer::Options;
+
+/// One command of the program, with the names that it was given, `-` being standard input or
+/// output.
+#[derive(Debug, Drop, PartialEq, Eq)]
+pub enum Plan {
+    /// Print the schema of the stream in the file of this name.
+    Schema(String),
+    /// Print a line for each message of the stream in the file of this name.
+    Check(String),
+    /// Print the rows of the stream in the file of this name.
+    Show(String),
+    /// Write the stream in the file of the first name again, into that of the second.
+    Copy(String, String, Options),
+    /// Write the streams in these files again, each over a connection of its own that breaks after
+    /// so many bytes, at most 2^62, and read what came in pieces of so many, from 1 to 2^30.
+    Drill(Vec<String>, Options, u64, u64),
+}

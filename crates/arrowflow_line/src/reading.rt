@@ -1,0 +1,141 @@
+//! What clap found behind a command's name, as the parts of a plan.
+
+ghost use Rattle.std.specs.Prelude.{◌≡◌, ◌≤◌, IfOk, MatchOption, codes, map};
+ghost use Rattle.std.specs.Prelude.{string_bytes};
+ghost use Rattle.clap.specs.Words.{found_of, rows_of};
+ghost use Rattle.arrowflow_line.specs.CommandLine.{IsCommand, IsNumberOf, IsPlan, align_by};
+ghost use Rattle.arrowflow_line.specs.CommandLine.{name_in, names_in, number_text, options_in};
+ghost use Rattle.arrowflow_line.specs.CommandLine.{updates_by};
+
+use crate::plans::Plan;
+use arrow_body_write::Align;
+use arrow_dict::Updates;
+use arrow_writer::Options;
+use clap::ArgMatches;
+use std::alloc::{AllocError, Global};
+
+/// The most bytes of a connection that a drill may be told to deliver: no stream has more.
+pub(crate) const MOST_BYTES: u64 = 4_611_686_018_427_387_904;
+
+/// The most bytes of a piece.
+pub(crate) const MOST_PIECE: u64 = 1_073_741_824;
+
+/// The text that an argument was given, empty where it was given none.
+#[tactic(auto, using(crate::proofs::Asked::name_found))]
+fn text_of<'a>(matches: &ArgMatches<'a>, argument: &str) -> &'a str
+    ensures { result.now ≡ name_in argument.now (rows_of (found_of matches.now)) }
+{
+    matches.get_str(argument).unwrap_or("")
+}
+
+/// The name that an argument was given.
+fn name_of(alloc: Global, matches: &ArgMatches<'_>, argument: &str) -> Result<String, AllocError>
+    ensures { IfOk result (λ s. string_bytes s
+        ≡ name_in argument.now (rows_of (found_of matches.now))) }
+{
+    String::from_str(alloc, text_of(matches, argument))
+}
+
+/// All names that an argument was given, in their order.
+#[tactic(auto, using(crate::proofs::Asked::names_found))]
+fn names_of(
+    alloc: Global,
+    matches: &ArgMatches<'_>,
+    argument: &str,
+) -> Result<Vec<String>, AllocError>
+    ensures { IfOk result (λ v. map string_bytes v.items
+        ≡ names_in argument.now (rows_of (found_of matches.now))) }
+{
+    let mut names = Vec::new(alloc);
+    let Some(given) = matches.get_strs(argument) else {
+        return Ok(names);
+    };
+    for name in given {
+        names.push(String::from_str(alloc, name)?)?;
+    }
+    Ok(names)
+}
+
+/// The number that an argument was given, in these bounds: clap takes no other.
+fn number_of(matches: &ArgMatches<'_>, argument: &str, least: u64, most: u64) -> u64
+    requires { least ≤ most }
+    ensures { IsNumberOf least most (number_text argument.now (rows_of (found_of matches.now)))
+        result }
+{
+    match matches.get_one::<u64>(argument) {
+        Some(number) => number.max(least).min(most),
+        None => most,
+    }
+}
+
+/// What is sent of dictionaries, by the word for it.
+fn updates_by(word: &str) -> Updates
+    ensures { result ≡ updates_by word.now }
+{
+    match word {
+        "resend" => Updates::Resend,
+        // `delta`: clap takes no other word
+        _ => Updates::Delta,
+    }
+}
+
+/// The alignment, by the number of its bytes.
+fn align_by(word: &str) -> Align
+    ensures { result ≡ align_by word.now }
+{
+    match word {
+        "8" => Align::Eight,
+        // `64`: clap takes no other word
+        _ => Align::SixtyFour,
+    }
+}
+
+/// The options of a command that writes streams.
+fn options_of(matches: &ArgMatches<'_>) -> Options
+    ensures { result ≡ options_in (rows_of (found_of matches.now)) }
+{
+    Options {
+        updates: updates_by(text_of(matches, "updates")),
+        align: align_by(text_of(matches, "align")),
+    }
+}
+
+/// The plan of the command of this name, with what was found behind the name; None where there is
+/// no such command.
+pub(crate) fn plan_of(
+    alloc: Global,
+    command: &str,
+    given: &ArgMatches<'_>,
+) -> Result<Option<Plan>, AllocError>
+    ensures { IfOk result (λ plan. MatchOption plan (IsCommand command.now → ⊥)
+        (λ p. IsPlan command.now (rows_of (found_of given.now)) p)) }
+{
+    Ok(Some(match command {
+        "schema" => Plan::Schema(name_of(alloc, given, "FILE")?),
+        "check" => Plan::Check(name_of(alloc, given, "FILE")?),
+        "show" => Plan::Show(name_of(alloc, given, "FILE")?),
+        "copy" => copy_of(alloc, given)?,
+        "drill" => drill_of(alloc, given)?,
+        // a text that names no command
+        _ => return Ok(None),
+    }))
+}
+
+/// What is copied, and how.
+fn copy_of(alloc: Global, given: &ArgMatches<'_>) -> Result<Plan, AllocError>
+    ensures { IfOk result (λ p. IsPlan (codes "copy") (rows_of (found_of given.now)) p) }
+{
+    let input = name_of(alloc, given, "IN")?;
+    let output = name_of(alloc, given, "OUT")?;
+    Ok(Plan::Copy(input, output, options_of(given)))
+}
+
+/// What is drilled, and how.
+fn drill_of(alloc: Global, given: &ArgMatches<'_>) -> Result<Plan, AllocError>
+    ensures { IfOk result (λ p. IsPlan (codes "drill") (rows_of (found_of given.now)) p) }
+{
+    let inputs = names_of(alloc, given, "FILE")?;
+    let bytes = number_of(given, "bytes", 0, MOST_BYTES);
+    let piece = number_of(given, "piece", 1, MOST_PIECE);
+    Ok(Plan::Drill(inputs, options_of(given), bytes, piece))
+}

@@ -1,0 +1,111 @@
+//! Where a stream comes from, and where one goes: files, or standard input and output.
+
+use arrowflow::ToolFault;
+use std::fs::File;
+use std::io::{Input, Read, Write};
+use std::os::unix::fs::MetadataExt;
+use std::rt::Files;
+use std::{fs, io};
+
+/// The name that stands for standard input or output.
+const STANDARD: &str = "-";
+
+/// What an input is called in a line on it.
+pub(crate) fn input_name(name: &str) -> &str {
+    if name == STANDARD {
+        "standard input"
+    } else {
+        name
+    }
+}
+
+/// What an output is called in a line on it.
+pub(crate) fn output_name(name: &str) -> &str {
+    if name == STANDARD {
+        "standard output"
+    } else {
+        name
+    }
+}
+
+/// A file, or standard input.
+#[derive(Drop)]
+pub(crate) enum Source<F: Read + Drop, I: Read + Drop> {
+    File(F),
+    Standard(I),
+}
+
+impl<F: Read + Drop, I: Read + Drop> Read for Source<F, I> {
+    fn read(&mut self, piece: &mut [u8]) -> io::Result<usize> {
+        match self {
+            Source::File(file) => file.read(piece),
+            Source::Standard(input) => input.read(piece),
+        }
+    }
+}
+
+/// Opens the input of this number and name.
+pub(crate) fn open<R: Files + Input>(
+    rt: &R,
+    number: u64,
+    name: &str,
+) -> Result<Source<R::File, R::Reader>, ToolFault>
+where
+    R::File: Drop,
+{
+    if name == STANDARD {
+        return Ok(Source::Standard(rt.reader()));
+    }
+    match File::open(rt, name) {
+        Ok(file) => Ok(Source::File(file)),
+        Err(_) => Err(ToolFault::Input(number)),
+    }
+}
+
+/// A file, or standard output.
+#[derive(Drop)]
+pub(crate) enum Destination<F: Write + Drop, O: Write + Drop> {
+    File(F),
+    Standard(O),
+}
+
+impl<F: Write + Drop, O: Write + Drop> Write for Destination<F, O> {
+    fn write(&mut self, bytes: &[u8]) -> io::Result<usize> {
+        match self {
+            Destination::File(file) => file.write(bytes),
+            Destination::Standard(output) => output.write(bytes),
+        }
+    }
+
+    fn flush(&mut self) -> io::Result<()> {
+        match self {
+            Destination::File(file) => file.flush(),
+            Destination::Standard(output) => output.flush(),
+        }
+    }
+}
+
+/// Opens the output of this name: a file is created, and emptied where it is there.
+pub(crate) fn create<'a, R: Files + Print>(
+    rt: &'a R,
+    name: &str,
+) -> Result<Destination<R::File, io::Printer<'a, R>>, ToolFault>
+where
+    R::File: Drop,
+{
+    if name == STANDARD {
+        return Ok(Destination::Standard(io::writer(rt)));
+    }
+    match File::create(rt, name) {
+        Ok(file) => Ok(Destination::File(file)),
+        Err(_) => Err(ToolFault::Output),
+    }
+}
+
+/// Whether both names are of one regular file, as far as the system tells.
+pub(crate) fn is_same_file<R: Files>(rt: &R, one: &str, other: &str) -> bool {
+    let (Ok(one), Ok(other)) = (fs::metadata(rt, one), fs::metadata(rt, other)) else {
+        return false;
+    };
+    one.is_file() && one.dev() == other.dev() && one.ino() == other.ino()
+}
