@@ -14,6 +14,10 @@ from frames import (BINARY, BOOL, END_MARKER, INT32, LIST, NULL, STRUCT, UTF8, b
 # The places where the frames of the growing dictionary begin, and its end, at an alignment of 8.
 GROWING_PLACES = [0, 200, 424, 592, 816, 976, 1208, 1368, 1376]
 
+# How many bytes some of the streams have that are written.
+WRITTEN_SIZES = {"GROWING": 1376, "RESENT": 1384, "SECOND_LEFT_OUT": 992, "FROM_NO_VALUES": 1128, "NUMBERS": 336,
+                 "NUMBERS_64": 520}
+
 
 def letters_schema(align=8):
     """One column `k` of texts, by signed 32-bit indices into dictionary 0."""
@@ -212,6 +216,82 @@ def reported():
     return held | REPORTED
 
 
+def resent_dictionary():
+    """The growing dictionary, with all its values each time."""
+    return [letters_schema(), letters("abc"), batch(numbers([0, 1, 2])), letters("abcde"), batch(numbers([4, 0])),
+            letters("acde"), batch(numbers([1, 3])), END_MARKER]
+
+
+def other_letters():
+    """Another column of texts, by unsigned 8-bit indices into dictionary 0."""
+    return [schema(field("other", UTF8, encoding=dictionary(0, 8, False))), letters("xy"),
+            batch(numbers([1, 0, 1], "B")), END_MARKER]
+
+
+def list_after_a_gap():
+    """One list, whose one item is the second one."""
+    items = numbers([7, 8])
+    places = struct.pack("<2i", 1, 2)
+    column = frames.Column([(1, 0)] + items.nodes, [b"", places] + items.buffers)
+    return [schema(field("l", LIST, [field("item", INT32)])), batch(column, length=1), END_MARKER]
+
+
+def sessions():
+    """The streams that the tests of sessions hold, with what each is."""
+    return {
+        "GROWING": ("Three batches of letters, whose dictionary grows and is then replaced.",
+                    b"".join(growing_dictionary())),
+        "GROWING_64": ("The same, padded to 64 bytes.", b"".join(growing_dictionary(64))),
+        "RESENT": ("The same, with each dictionary whole.", b"".join(resent_dictionary())),
+        "OTHER": ("One batch of letters by another schema, with the same id.", b"".join(other_letters())),
+        "GAP": ("One list of the second of two items.", b"".join(list_after_a_gap())),
+    }
+
+
+def hiding(words, hidden):
+    """Texts, of which each null hides these bytes."""
+    shown = [hidden if word is None else word for word in words]
+    return frames.Column([frames.node(words)], [frames.validity(words), frames.offsets(shown), "".join(shown).encode()])
+
+
+def written():
+    """The streams that the tests of arrow_writer hold, with what each is: what is read, and what is to be written of it."""
+    opening = b"".join(growing_dictionary()[:3])
+    closing = b"".join(growing_dictionary()[5:])
+    indices = batch(numbers([0, 1]))
+    a_null = joined(LETTERS, "SCHEMA"), letters(["a", None]), indices
+    two_columns = schema(field("k", UTF8, encoding=dictionary(0)), field("j", UTF8, encoding=dictionary(0)))
+    one_batch = [[schema(field("n", INT32), align=align), batch(numbers([1, None, 3]), align=align), END_MARKER]
+                 for align in (8, 64)]
+    return {
+        "GROWING": ("Three batches of letters, whose dictionary grows by a delta and is then replaced.",
+                    b"".join(growing_dictionary())),
+        "RESENT": ("The same, with the dictionary that grew sent once more.",
+                   opening + letters("abcde") + batch(numbers([4, 0])) + closing),
+        "SECOND_LEFT_OUT": ("The same without the second batch: the third one's dictionary is another one than the first one's.",
+                            opening + closing),
+        "FROM_NO_VALUES": ("Two batches of nulls, by the dictionary of no values, and one of its first letter.",
+                           b"".join([letters_schema(), letters(""), batch(numbers([None, None])), batch(numbers([None, None])),
+                                     letters("a", delta=True), batch(numbers([0])), END_MARKER])),
+        "HIDING": ("Two batches by the list of `a` and a null, under which other bytes are hidden in each.",
+                   a_null[0] + dictionary_batch(0, hiding(["a", None], "x")) + indices
+                   + dictionary_batch(0, hiding(["a", None], "yz")) + indices + END_MARKER),
+        "TIDY": ("The same without the hidden bytes, and without the second list, which is equal.",
+                 b"".join(a_null) + indices + END_MARKER),
+        "NO_COLUMNS": ("One batch of three rows without columns.", joined(COLUMNS, "NO_COLUMNS THREE_ROWS END")),
+        "NUMBERS": ("One batch of 1, a null and 3, at an alignment of 8.", b"".join(one_batch[0])),
+        "NUMBERS_64": ("The same at an alignment of 64.", b"".join(one_batch[1])),
+        "ONLY_X": ("Letters by the dictionary of `x`.", letters_schema() + letters("x") + batch(numbers([0])) + END_MARKER),
+        "ONLY_Y": ("Letters by the dictionary of `y`.", letters_schema() + letters("y") + batch(numbers([0])) + END_MARKER),
+        "TWO_COLUMNS": ("The schema of two columns of letters by one dictionary.", two_columns),
+        "TWICE_X": ("One batch of `x` in both of them.",
+                    two_columns + letters("x") + batch(numbers([0]), numbers([0])) + END_MARKER),
+        "NESTED": ("Lists and structs of letters by one dictionary.", encoded("BELOW ABC BELOW_ROWS END")),
+        "MANY_TYPES": ("One batch of nulls, integers, byte strings, dates, times and timestamps.",
+                       joined(COLUMNS, "MANY MANY_ROWS END")),
+    }
+
+
 def check():
     """Ends the program where the frames of the growing dictionary stand at other places than they should."""
     frames.check()
@@ -220,6 +300,9 @@ def check():
         places.append(places[-1] + len(part))
     if places != GROWING_PLACES:
         sys.exit(f"the frames of the growing dictionary stand at {places}")
+    sizes = {name: len(stream) for name, (_, stream) in written().items() if name in WRITTEN_SIZES}
+    if sizes != WRITTEN_SIZES:
+        sys.exit(f"streams that are written have the sizes {sizes}")
 
 
 if __name__ == "__main__":

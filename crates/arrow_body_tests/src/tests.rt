@@ -2,13 +2,20 @@
 
 mod cases;
 mod columns;
+mod columns_of_nine;
 mod counts;
 mod faults;
 mod fields;
+mod fit;
+mod forms;
+mod hidden;
 mod ids;
 mod indices;
+mod layouts;
 mod nested;
 mod reading;
+mod rests;
 mod shown;
+mod stored;
 mod wide;
 mod written;

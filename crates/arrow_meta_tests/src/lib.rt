@@ -3,6 +3,10 @@
 #![tactic(auto)]
 
 #[cfg(test)]
+mod foreign;
+#[cfg(test)]
+mod laid;
+#[cfg(test)]
 mod tests;
 #[cfg(test)]
 mod vectors;

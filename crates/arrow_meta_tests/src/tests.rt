@@ -2,6 +2,8 @@
 //!
 //! A row changes bytes of a metadata at places counted from its first byte.
 
+mod codes;
+mod defaults;
 mod faults;
 mod meanings;
 mod reading;

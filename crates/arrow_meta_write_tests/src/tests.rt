@@ -3,6 +3,7 @@
 
 mod again;
 mod built;
+mod frames;
 mod refused;
 mod tables;
 mod written;

@@ -1,10 +1,11 @@
 //! Frames laid out by hand, each byte from the standard's tables (`Message.fbs`, `Schema.fbs`).
 //!
 //! Those of the modules below are written by `examples/make`, which lays out the same bytes for
-//! these.
+//! these; those of `foreign` by `examples/foreign`.
 
 pub(crate) mod columns;
 pub(crate) mod encoded;
+pub(crate) mod foreign;
 pub(crate) mod letters;
 
 /// The frame of a schema of one nullable field `n` of signed 32-bit integers: 8 bytes, then 144 of

@@ -12,6 +12,7 @@ mod growing;
 mod indices;
 mod layouts;
 mod limits;
+mod order;
 mod refusals;
 mod schemas;
 mod telling;

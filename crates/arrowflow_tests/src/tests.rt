@@ -1,15 +1,14 @@
 //! What no clause says: that texts are the ones that are meant, and that calls succeed.
 
 mod command_line;
+mod copying;
 mod edits;
 mod failures;
 mod growing;
-mod inputs;
 mod reports;
 mod schema_call;
 mod schema_lines;
 mod session;
 mod single_bytes;
-mod sinks;
 mod streams;
 mod told;

@@ -1,9 +1,9 @@
 // Batches, and why columns make none.
 
-use super::forms::{Form, INT32, data_type};
+use super::forms::{Form, INT32, data_type, referring};
 use super::making::{column, field, indices, int32, one, range};
 use arrow_array::{Array, Batch, BatchFault, ByteRange};
-use arrow_types::{DataType, Schema};
+use arrow_types::{BitWidth, DataType, Encoding, Field, IndexType, Schema};
 use bytes::Bytes;
 use std::process::Abort;
 use std::rc::Rc;
@@ -97,15 +97,90 @@ fn the_least_fault_is_told(rt: HostRuntime) {
     }
 }
 
+// An encoding: the dictionary's id, the width of the indices and whether they are signed, and
+// whether the dictionary is ordered.
+type By = (i64, BitWidth, bool, bool);
+
+const BY: By = (0, BitWidth::Eight, true, false);
+
+// The encoding of the schema's one field, and the fault of a column of texts by `BY`.
+static ENCODINGS: [(Option<By>, Option<BatchFault>); 8] = [
+    (Some(BY), None),
+    (
+        Some((1, BitWidth::Eight, true, false)),
+        Some(BatchFault::ColumnType),
+    ),
+    (
+        Some((0, BitWidth::Sixteen, true, false)),
+        Some(BatchFault::ColumnType),
+    ),
+    (
+        Some((0, BitWidth::ThirtyTwo, true, false)),
+        Some(BatchFault::ColumnType),
+    ),
+    (
+        Some((0, BitWidth::SixtyFour, true, false)),
+        Some(BatchFault::ColumnType),
+    ),
+    (
+        Some((0, BitWidth::Eight, false, false)),
+        Some(BatchFault::ColumnType),
+    ),
+    (
+        Some((0, BitWidth::Eight, true, true)),
+        Some(BatchFault::ColumnType),
+    ),
+    (None, Some(BatchFault::ColumnType)),
+];
+
+fn encoding(by: Option<By>) -> Option<Encoding> {
+    let (id, bits, signed, ordered) = by?;
+    let index = IndexType { bits, signed };
+    Some(Encoding { id, index, ordered })
+}
+
+fn fault_by(rt: &(impl Abort + AllocGlobal), form: Form, by: Option<By>) -> Option<BatchFault> {
+    let texts = Field {
+        name: String::new(rt.alloc()),
+        nullable: true,
+        data_type: data_type(rt, form),
+        dictionary: encoding(by),
+    };
+    let schema = Schema::new(rt.alloc(), one(rt, texts)).expect(rt, "there is no fault");
+    let schema = Rc::new(rt.alloc(), schema).expect(rt, "memory");
+    let column = referring(rt, Form::Utf8, &[0], &[0], None).expect(rt, "a null");
+    Batch::new(schema, one(rt, column), 1).err()
+}
+
+#[test]
+fn all_of_an_encoding_is_compared(rt: HostRuntime) {
+    for (row, (by, want)) in ENCODINGS.iter().enumerate() {
+        let fault = fault_by(&rt, Form::Utf8, *by);
+        assert_eq!(rt; fault, *want, "row {row}");
+    }
+    let fault = fault_by(&rt, Form::Binary, Some(BY));
+    assert_eq!(rt; fault, Some(BatchFault::ColumnType));
+}
+
+// The faults with their numbers and words.
+static FAULT_WORDS: [(BatchFault, &str); 5] = [
+    (BatchFault::ColumnCount, "1 not one column for each field"),
+    (
+        BatchFault::ColumnType,
+        "2 a column of another type than its field",
+    ),
+    (
+        BatchFault::ColumnLength,
+        "3 a column with another number of slots than rows",
+    ),
+    (BatchFault::IndexRange, "4 an index without a value"),
+    (BatchFault::Memory, "5 out of memory"),
+];
+
 #[test]
 fn faults_have_their_numbers(rt: HostRuntime) {
-    for (fault, number) in [
-        (BatchFault::ColumnCount, 1),
-        (BatchFault::ColumnType, 2),
-        (BatchFault::ColumnLength, 3),
-        (BatchFault::IndexRange, 4),
-        (BatchFault::Memory, 5),
-    ] {
-        assert_eq!(rt; fault.number(), number);
+    for &(fault, want) in &FAULT_WORDS {
+        let words = format!(in rt.alloc(); "{} {fault}", fault.number()).expect(&rt, "memory");
+        assert_eq!(rt; words.as_str(), want);
     }
 }

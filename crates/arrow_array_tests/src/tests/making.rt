@@ -168,7 +168,7 @@ fn is_of(field: &Field, column: &Array) -> bool
         && match (&field.dictionary, column.encoding()) {
             (Some(encoding), Some(other)) => *encoding == *other,
             (None, None) => true,
-            _ => false,
+            (Some(_), None) | (None, Some(_)) => false,
         }
 }
 
@@ -261,7 +261,7 @@ fn is_indexed(
 }
 
 // How many bytes an index takes.
-fn index_width(index: IndexType) -> usize
+pub(super) fn index_width(index: IndexType) -> usize
     ensures same { result ≡ index_width index }
     ensures whole { IsWidth result }
 {

@@ -41,7 +41,7 @@ fn numbers_that_do_not_lie(rt: HostRuntime) {
     }
 }
 
-static MISSING: [Case<'static>; 3] = [
+static MISSING: [Case<'static>; 4] = [
     Case {
         of: &[Kind::Number],
         nodes: &[],
@@ -61,6 +61,14 @@ static MISSING: [Case<'static>; 3] = [
         nodes: &[(0, 0)],
         buffers: &[(0, 0), (0, 0), (0, 0), (0, 0)],
         body: &NUMBERS,
+        want: "Layout",
+    },
+    // One slot more than a column can have, which lie in no body.
+    Case {
+        of: &[Kind::Null],
+        nodes: &[(2147483648, 7)],
+        buffers: &[],
+        body: &[],
         want: "Layout",
     },
 ];
@@ -159,16 +167,21 @@ fn the_least_fault_of_all_columns(rt: HostRuntime) {
     }
 }
 
-static FAULT_NUMBERS: [(BodyFault, u8); 4] = [
-    (BodyFault::Layout, 1),
-    (BodyFault::Text, 2),
-    (BodyFault::Index, 3),
-    (BodyFault::Memory, 4),
+// The faults with their numbers and words.
+static FAULT_WORDS: [(BodyFault, &str); 4] = [
+    (
+        BodyFault::Layout,
+        "1 nodes and buffers that do not fit the body",
+    ),
+    (BodyFault::Text, "2 a text that is not UTF-8"),
+    (BodyFault::Index, "3 an index without a value"),
+    (BodyFault::Memory, "4 out of memory"),
 ];
 
 #[test]
-fn numbers_of_faults(rt: HostRuntime) {
-    for &(fault, number) in &FAULT_NUMBERS {
-        assert_eq!(rt; fault.number(), number);
+fn faults_have_their_numbers(rt: HostRuntime) {
+    for &(fault, want) in &FAULT_WORDS {
+        let words = format!(in rt.alloc(); "{} {fault}", fault.number()).expect(&rt, "memory");
+        assert_eq!(rt; words.as_str(), want);
     }
 }

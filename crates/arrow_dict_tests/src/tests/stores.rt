@@ -13,7 +13,7 @@ const MIDDLE: Step = Step::Put(3, &[8]);
 const HIGH: Step = Step::Put(9, &[14]);
 
 // Steps from a new store, and what it tells.
-static SCRIPTS: [(&[Step], &str); 12] = [
+static SCRIPTS: [(&[Step], &str); 13] = [
     // A new store has nothing.
     (
         &[
@@ -38,6 +38,18 @@ static SCRIPTS: [(&[Step], &str); 12] = [
             Step::All,
         ],
         "[70]; [71 72]; [80]; none; all 7=[71 72] 8=[80]",
+    ),
+    // Also by equal values of another type: by none.
+    (
+        &[
+            Step::Put(7, &[]),
+            Step::Type(7),
+            Step::PutNulls(7, 0),
+            Step::Type(7),
+            Step::Put(7, &[]),
+            Step::Type(7),
+        ],
+        "Int { bits: Eight, signed: true }; Null; Int { bits: Eight, signed: true }",
     ),
     // Ids far apart.
     (

@@ -18,7 +18,7 @@ const COMPRESSED: Option<MetaFault> = Some(MetaFault::Compressed {
 });
 
 // A metadata, the bytes of it that are changed, and the least fault of it.
-static FAULTS: [(&str, &[u8], Edits, Option<MetaFault>); 50] = [
+static FAULTS: [(&str, &[u8], Edits, Option<MetaFault>); 49] = [
     ("nothing changed", ONE_FIELD, &[], None),
     (
         "a name that is not UTF-8",
@@ -49,12 +49,6 @@ static FAULTS: [(&str, &[u8], Edits, Option<MetaFault>); 50] = [
         ONE_FIELD,
         &[(20, 3), (112, 0xff)],
         METADATA,
-    ),
-    (
-        "header code Tensor",
-        ONE_FIELD,
-        &[(22, 4)],
-        Some(MetaFault::Header),
     ),
     (
         "no header code",
@@ -270,6 +264,40 @@ static TYPE_FAULTS: [(&str, &[u8], Edits, Option<MetaFault>); 12] = [
     ("RunEndEncoded", ONE_FIELD, &[(97, 22)], UNSUPPORTED),
 ];
 
+// The same, by the header's code.
+static HEADER_FAULTS: [(&str, &[u8], Edits, Option<MetaFault>); 5] = [
+    (
+        "header code NONE",
+        ONE_FIELD,
+        &[(22, 0)],
+        Some(MetaFault::Header),
+    ),
+    (
+        "header code Tensor",
+        ONE_FIELD,
+        &[(22, 4)],
+        Some(MetaFault::Header),
+    ),
+    (
+        "header code SparseTensor",
+        ONE_FIELD,
+        &[(22, 5)],
+        Some(MetaFault::Header),
+    ),
+    (
+        "header code 6, which has no name",
+        ONE_FIELD,
+        &[(22, 6)],
+        Some(MetaFault::Header),
+    ),
+    (
+        "header code 255",
+        ONE_FIELD,
+        &[(22, 255)],
+        Some(MetaFault::Header),
+    ),
+];
+
 fn are_refused(rt: &(impl Abort + AllocGlobal), rows: &[(&str, &[u8], Edits, Option<MetaFault>)]) {
     for (what, bytes, edits, fault) in rows {
         let bytes = edited(rt, rt.alloc(), bytes, edits);
@@ -280,6 +308,7 @@ fn are_refused(rt: &(impl Abort + AllocGlobal), rows: &[(&str, &[u8], Edits, Opt
 #[test]
 fn the_least_fault_is_answered(rt: HostRuntime) {
     are_refused(&rt, &FAULTS);
+    are_refused(&rt, &HEADER_FAULTS);
     are_refused(&rt, &TYPE_FAULTS);
 }
 

@@ -85,7 +85,7 @@ static TYPES: [(Edits, &str); 33] = [
 fn a_type_is_read(rt: HostRuntime) {
     for (edits, want) in &TYPES {
         let bytes = edited(&rt, rt.alloc(), ONE_FIELD, edits);
-        means(&rt, rt.alloc(), &bytes, want);
+        means(&rt, rt.alloc(), "changed", &bytes, want);
     }
 }
 
@@ -122,7 +122,7 @@ static PARTS: [(Edits, &str); 7] = [
 fn absent_parts_have_their_defaults(rt: HostRuntime) {
     for (edits, want) in &PARTS {
         let bytes = edited(&rt, rt.alloc(), ONE_FIELD, edits);
-        means(&rt, rt.alloc(), &bytes, want);
+        means(&rt, rt.alloc(), "changed", &bytes, want);
     }
 }
 
@@ -192,7 +192,7 @@ static MESSAGES: [(&[u8], Edits, &str); 8] = [
 fn messages_are_read(rt: HostRuntime) {
     for (bytes, edits, want) in &MESSAGES {
         let bytes = edited(&rt, rt.alloc(), bytes, edits);
-        means(&rt, rt.alloc(), &bytes, want);
+        means(&rt, rt.alloc(), "changed", &bytes, want);
     }
 }
 

@@ -112,10 +112,12 @@ pub(super) fn push_message(rt: &impl Abort, text: &mut String, message: &Message
     }
 }
 
-// That bytes have this meaning.
-pub(super) fn means(rt: &impl Abort, alloc: Global, bytes: &[u8], want: &str) {
-    let message = decode(alloc, bytes, &Limits::standard()).expect(rt, "a message");
+// That bytes have this meaning, or this fault.
+pub(super) fn means(rt: &impl Abort, alloc: Global, what: &str, bytes: &[u8], want: &str) {
     let mut text = String::new(alloc);
-    push_message(rt, &mut text, &message);
-    assert_eq!(rt; text.as_str(), want);
+    match decode(alloc, bytes, &Limits::standard()) {
+        Ok(message) => push_message(rt, &mut text, &message),
+        Err(fault) => write!(text, "{fault:?}").expect(rt, MEMORY),
+    }
+    assert_eq!(rt; text.as_str(), want, "{what}");
 }

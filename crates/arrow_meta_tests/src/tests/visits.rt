@@ -35,6 +35,45 @@ fn shared_fields(rt: &impl Abort, alloc: Global, depth: u32, width: u8) -> Vec<u
     bytes
 }
 
+// A schema of `count` columns of nulls: all of them one table, or where `stride` is 8 each of its
+// own.
+fn flat_fields(rt: &impl Abort, alloc: Global, count: u32, stride: u32) -> Vec<u8> {
+    let mut bytes = edited(rt, alloc, &ONE_FIELD[..60], UNCHANGED);
+    push(rt, &mut bytes, &count.to_le_bytes());
+    // behind the offsets, 4 bytes each from place 64, the vtable of 12 bytes, then the tables
+    let tables = count.wrapping_mul(4).wrapping_add(76);
+    for number in 0..count {
+        let place = number.wrapping_mul(4).wrapping_add(64);
+        let table = number.wrapping_mul(stride).wrapping_add(tables);
+        push(rt, &mut bytes, &table.wrapping_sub(place).to_le_bytes());
+    }
+    push(rt, &mut bytes, b"\x0a\0\x05\0\0\0\0\0\x04\0\0\0");
+    let own = if stride == 0 { 1 } else { count };
+    for number in 0..own {
+        let back = number.wrapping_mul(stride).wrapping_add(12);
+        push(rt, &mut bytes, &back.to_le_bytes());
+        push(rt, &mut bytes, b"\x01\0\0\0");
+    }
+    bytes
+}
+
+// How many columns, how far their tables stand apart, and the fault.
+static FLAT: [(u32, u32, Option<MetaFault>); 5] = [
+    (2, 8, None),
+    (65536, 0, None),
+    (65537, 0, METADATA),
+    (65536, 8, None),
+    (65537, 8, METADATA),
+];
+
+#[test]
+fn each_column_counts(rt: HostRuntime) {
+    for &(count, stride, fault) in &FLAT {
+        let bytes = flat_fields(&rt, rt.alloc(), count, stride);
+        is_refused(&rt, rt.alloc(), "flat", &bytes, &Limits::standard(), fault);
+    }
+}
+
 // How deep structs are nested, how many children each has, and the fault.
 static NESTED: [(u32, u8, Option<MetaFault>); 4] = [
     (16, 2, None),

@@ -2,6 +2,7 @@
 
 use arrow_meta::{Header, Message, RecordBatch};
 use arrow_meta_write::encoded_size;
+use arrow_types::FieldNode;
 use std::alloc::Global;
 
 // The message of an empty batch.
@@ -38,4 +39,29 @@ fn other_versions_and_longer_bodies_have_no_size(rt: HostRuntime) {
         let message = empty_batch(rt.alloc(), version, body_len);
         assert_eq!(rt; encoded_size(&message), size);
     }
+}
+
+// The size of the message of a batch with so many field nodes.
+fn size_of_nodes(alloc: Global, count: usize) -> Option<u64> {
+    let node = FieldNode {
+        length: 0,
+        null_count: 0,
+    };
+    let batch = RecordBatch {
+        length: 0,
+        nodes: Vec::from_elem(alloc, node, count).ok()?,
+        buffers: Vec::new(alloc),
+    };
+    encoded_size(&Message {
+        version: 4,
+        header: Header::Batch(batch),
+        body_len: 0,
+    })
+}
+
+// Sixteen bytes a node: the most that metadata may have, and one node more.
+#[test]
+fn no_metadata_are_longer_than_a_gibibyte(rt: HostRuntime) {
+    assert_eq!(rt; size_of_nodes(rt.alloc(), 67_108_858), Some(1 << 30));
+    assert_eq!(rt; size_of_nodes(rt.alloc(), 67_108_859), None);
 }

@@ -1,73 +1,10 @@
 // Sinks over memory, and sinks that take little or fail.
 
-ghost use Rattle.std.specs.Prelude.{◌≡◌, ◌≤◌, length};
-
-use arrow_sink::{Counted, Sink, SinkFault, send};
-use std::alloc::Global;
+use arrow_sink::probe::{Failing, Narrow, Trickle};
+use arrow_sink::{Counted, Sink, send};
 use std::io;
-use std::io::Write;
+use std::io::{ErrorKind, Read, Write};
 use std::test::Fail;
-
-// Takes at most `most` bytes at once and `left` in all, and then fails: by an error, or by taking
-// nothing.
-#[derive(Drop)]
-struct Narrow {
-    taken: Vec<u8>,
-    most: usize,
-    left: usize,
-    by_error: bool,
-    count: u64,
-}
-
-impl Narrow {
-    fn new(alloc: Global, most: usize, left: usize, by_error: bool) -> Narrow
-        ensures { result.count ≡ 0 }
-    {
-        Narrow {
-            taken: Vec::new(alloc),
-            most,
-            left,
-            by_error,
-            count: 0,
-        }
-    }
-
-    // How many bytes of a piece are kept; none where memory is wanting.
-    fn keep(&mut self, piece: &[u8]) -> usize
-        ensures bound { result ≤ length piece.now }
-        ensures count { self.new.count ≡ self.old.count }
-    {
-        let n = piece.len().min(self.most).min(self.left);
-        if self.taken.extend_from_slice(&piece[..n]).is_err() {
-            return 0;
-        }
-        self.left -= n;
-        n
-    }
-}
-
-impl Sink for Narrow {
-    ghost failed = { λ s. s.count };
-
-    fn put(&mut self, piece: &[u8]) -> Result<usize, SinkFault> {
-        let n = self.keep(piece);
-        if n == 0 && !piece.is_empty() {
-            self.count += 1;
-            if self.by_error {
-                return Err(SinkFault);
-            }
-        }
-        Ok(n)
-    }
-
-    fn flush(&mut self) -> Result<(), SinkFault> {
-        Ok(())
-    }
-
-    fn failures(&self) -> u64 {
-        self.count
-    }
-}
 
 #[test]
 fn all_is_sent_to_memory(rt: HostRuntime) -> Result<(), Fail> {
@@ -83,27 +20,27 @@ fn all_is_sent_to_memory(rt: HostRuntime) -> Result<(), Fail> {
 
 #[test]
 fn a_piece_is_taken_in_parts(rt: HostRuntime) -> Result<(), Fail> {
-    let mut sink = Narrow::new(rt.alloc(), 2, 9, true);
+    let mut sink = Narrow::new(rt.alloc(), 2, 9, Failing::ByError);
     assert!(rt; send(&mut sink, b"record".as_slice()).is_ok());
     assert_eq!(rt; sink.failures(), 0);
-    assert_eq!(rt; sink.taken.as_slice(), b"record".as_slice());
+    assert_eq!(rt; sink.taken(), b"record".as_slice());
     Ok(())
 }
 
 #[test]
 fn a_sink_that_fails_keeps_a_beginning(rt: HostRuntime) -> Result<(), Fail> {
-    for by_error in [true, false] {
-        let mut sink = Narrow::new(rt.alloc(), 2, 5, by_error);
+    for failing in [Failing::ByError, Failing::ByNothing] {
+        let mut sink = Narrow::new(rt.alloc(), 2, 5, failing);
         assert!(rt; send(&mut sink, b"record".as_slice()).is_err());
         assert_eq!(rt; sink.failures(), 1);
-        assert_eq!(rt; sink.taken.as_slice(), b"recor".as_slice());
+        assert_eq!(rt; sink.taken(), b"recor".as_slice());
     }
     Ok(())
 }
 
 #[test]
 fn nothing_is_asked_of_a_sink_for_no_bytes(rt: HostRuntime) -> Result<(), Fail> {
-    let mut sink = Narrow::new(rt.alloc(), 2, 0, true);
+    let mut sink = Narrow::new(rt.alloc(), 2, 0, Failing::ByError);
     assert!(rt; send(&mut sink, b"").is_ok());
     assert_eq!(rt; sink.failures(), 0);
     assert!(rt; send(&mut sink, b"x").is_err());
@@ -132,5 +69,47 @@ fn errors_of_a_writer_are_told_and_counted(rt: HostRuntime) -> Result<(), Fail> 
     assert_eq!(rt; sink.failures(), 1);
     assert!(rt; sink.flush().is_err());
     assert_eq!(rt; sink.failures(), 2);
+    Ok(())
+}
+
+#[test]
+fn a_narrow_sink_fails_as_it_is_told(rt: HostRuntime) -> Result<(), Fail> {
+    let mut sink = Narrow::new(rt.alloc(), 3, 4, Failing::AtFlush);
+    assert_eq!(rt; (sink.room(2), sink.room(9)), (2, 3));
+    assert_eq!(rt; sink.put(b"frames"), Ok(3));
+    assert_eq!(rt; sink.put(b"mes"), Ok(1));
+    assert_eq!(rt; sink.put(b""), Ok(0));
+    assert_eq!(rt; sink.put(b"es"), Ok(0));
+    assert_eq!(rt; (sink.taken(), sink.failures()), (b"fram".as_slice(), 1));
+    assert!(rt; sink.flush().is_err());
+    assert_eq!(rt; (sink.flushes(), sink.failures()), (1, 2));
+    Ok(())
+}
+
+#[test]
+fn an_input_gives_little_and_fails(rt: HostRuntime) -> Result<(), Fail> {
+    let fails = Some((3, ErrorKind::BrokenPipe));
+    let mut input = Trickle::new(b"record".as_slice(), 2, fails);
+    let mut room = [0; 4];
+    assert_eq!(rt; input.read(&mut room).ok(), Some(2));
+    assert_eq!(rt; input.read(&mut room[2..]).ok(), Some(1));
+    assert_eq!(rt; (input.given(), room), (3, *b"rec\0"));
+    for _again in 0..2 {
+        let failed = input.read(&mut room).err().map(|e| e.kind());
+        assert_eq!(rt; failed, Some(ErrorKind::BrokenPipe));
+    }
+    assert_eq!(rt; input.given(), 3);
+    Ok(())
+}
+
+#[test]
+fn an_input_ends(rt: HostRuntime) -> Result<(), Fail> {
+    let mut input = Trickle::new(b"re".as_slice(), 0, Some((3, ErrorKind::Other)));
+    let mut room = [0; 4];
+    assert_eq!(rt; input.read(&mut room[..0]).ok(), Some(0));
+    assert_eq!(rt; input.read(&mut room).ok(), Some(1));
+    assert_eq!(rt; input.read(&mut room[1..]).ok(), Some(1));
+    assert_eq!(rt; input.read(&mut room).ok(), Some(0));
+    assert_eq!(rt; (input.given(), room), (2, *b"re\0\0"));
     Ok(())
 }

@@ -193,7 +193,21 @@ fn push_column(rt: &impl Abort, text: &mut String, field: &Field) {
             bits: BitWidth::ThirtyTwo,
             signed: false,
         } => "uint32",
-        _ => "another type",
+        DataType::Int {
+            bits: BitWidth::Eight | BitWidth::Sixteen | BitWidth::SixtyFour,
+            signed: _,
+        }
+        | DataType::Date(_)
+        | DataType::Time(_)
+        | DataType::Timestamp(_, _)
+        | DataType::Duration(_)
+        | DataType::Binary
+        | DataType::LargeBinary
+        | DataType::LargeUtf8
+        | DataType::FixedSizeBinary(_)
+        | DataType::List(_)
+        | DataType::LargeList(_)
+        | DataType::Struct(_) => "another type",
     };
     let nulls = if field.nullable { "" } else { " not null" };
     write!(text, "{}: {data_type}{nulls}", field.name).expect(rt, MEMORY);

@@ -1,30 +1,30 @@
 //! How `schema` and `show` end where the input or the output fails.
 
 use super::growing::GROWING;
-use super::inputs::Trickle;
 use super::reports::{LETTERS, NUMBERS};
 use super::schema_call::ONE_COLUMN;
-use super::sinks::{Failing, Narrow};
 use super::streams::ONE_BATCH;
 use super::told::{Call, assert_told_of, written};
 use arrow_sink::Sink;
+use arrow_sink::probe::{Failing, Narrow, Trickle};
 use arrow_types::Limits;
 use arrowflow::show;
 use std::alloc::Global;
+use std::io::ErrorKind;
 use std::process::Abort;
 
 #[test]
 fn schema_where_the_input_fails(rt: HostRuntime) {
     let stream = ONE_COLUMN.as_slice();
     for place in 0..160 {
-        let mut input = Trickle::new(stream, Some(place));
+        let mut input = Trickle::new(stream, 1, Some((place, ErrorKind::Interrupted)));
         let expected = if place < stream.len() {
             "2 cannot read in"
         } else {
             "n: int32\n"
         };
         assert_told_of(&rt, rt.alloc(), Call::Schema, &mut input, expected);
-        assert_eq!(rt; input.at, place.min(stream.len()));
+        assert_eq!(rt; input.given(), place.min(stream.len()));
     }
 }
 
@@ -42,7 +42,7 @@ fn rows_at_failure(place: usize) -> &'static str {
 fn show_where_the_input_fails(rt: HostRuntime) {
     let stream = ONE_BATCH.as_slice();
     for place in 0..=stream.len() {
-        let mut input = Trickle::new(stream, Some(place));
+        let mut input = Trickle::new(stream, 1, Some((place, ErrorKind::Interrupted)));
         let expected = rows_at_failure(place);
         assert_told_of(&rt, rt.alloc(), Call::Show, &mut input, expected);
     }
@@ -59,10 +59,14 @@ fn assert_narrowed(
 ) {
     let (failing, left) = sink;
     let mut input = GROWING.as_slice();
-    let output = Narrow::new(alloc, left, failing);
+    let output = Narrow::new(alloc, usize::MAX, left, failing);
     let (output, answer) = show(alloc, &mut input, output, &Limits::standard());
-    assert_eq!(rt; (output.flushes, output.failures()), counts, "{left} bytes");
-    let text = written(rt, alloc, &output.taken, &answer);
+    assert_eq!(rt;
+        (output.flushes(), output.failures()),
+        counts,
+        "{left} bytes"
+    );
+    let text = written(rt, alloc, output.taken(), &answer);
     let beginning = LETTERS.get(..left).expect(rt, "letters of one byte");
     let rest = text.as_str().strip_prefix(beginning);
     assert_eq!(rt; rest.expect(rt, "the first rows"), line, "{left} bytes");
@@ -74,7 +78,7 @@ fn show_where_the_output_fails(rt: HostRuntime) {
     let line = "2 cannot write out";
     for left in 0..LETTERS.len() {
         assert_narrowed(&rt, alloc, (Failing::ByError, left), line, (0, 1));
-        assert_narrowed(&rt, alloc, (Failing::TakingNothing, left), line, (0, 1));
+        assert_narrowed(&rt, alloc, (Failing::ByNothing, left), line, (0, 1));
     }
 }
 
@@ -83,7 +87,7 @@ fn show_where_the_output_takes_all(rt: HostRuntime) {
     let alloc = rt.alloc();
     let all = LETTERS.len();
     assert_narrowed(&rt, alloc, (Failing::ByError, all), "", (1, 0));
-    assert_narrowed(&rt, alloc, (Failing::TakingNothing, all), "", (1, 0));
+    assert_narrowed(&rt, alloc, (Failing::ByNothing, all), "", (1, 0));
     assert_narrowed(
         &rt,
         alloc,

@@ -1,9 +1,9 @@
 //! Each byte of a schema and of a batch set to each of its 255 other values: whatever a call tells
 //! of the stream, it tells the same in one piece and in pieces of one byte.
 
-use super::inputs::Trickle;
 use super::streams::ONE_BATCH;
 use super::told::{Call, assert_told_of, told};
+use arrow_sink::probe::Trickle;
 use arrow_types::Limits;
 use std::alloc::Global;
 use std::process::Abort;
@@ -12,7 +12,7 @@ use std::process::Abort;
 fn assert_same_in_pieces(rt: &impl Abort, alloc: Global, call: Call, bytes: &[u8]) {
     let mut whole = bytes;
     let text = told(rt, alloc, call, &mut whole, &Limits::standard());
-    let mut bit_by_bit = Trickle::new(bytes, None);
+    let mut bit_by_bit = Trickle::new(bytes, 1, None);
     assert_told_of(rt, alloc, call, &mut bit_by_bit, &text);
 }
 

@@ -1,8 +1,8 @@
 //! What a call tells of an input: the text that it gives, and behind it the status and the line of
 //! its fault.
 
-use super::inputs::Trickle;
 use arrow_sink::Counted;
+use arrow_sink::probe::Trickle;
 use arrow_types::Limits;
 use arrowflow::{ToolFault, check, schema_text, show};
 use std::alloc::{AllocError, Global};
@@ -94,6 +94,6 @@ pub(super) fn assert_told(
 ) {
     let mut whole = bytes;
     assert_told_of(rt, alloc, call, &mut whole, expected);
-    let mut bit_by_bit = Trickle::new(bytes, None);
+    let mut bit_by_bit = Trickle::new(bytes, 1, None);
     assert_told_of(rt, alloc, call, &mut bit_by_bit, expected);
 }

@@ -1,0 +1,167 @@
+// Indices of each width and sign, by themselves.
+
+use super::forms::{Form, leaf};
+use super::making::{NO_COLUMN, column, dictionary, index_width, one, range};
+use arrow_array::ByteRange;
+use arrow_array::layout::{are_indices, has_fixed};
+use arrow_types::{BitWidth, DataType, Encoding, Field, IndexType};
+use bytes::Bytes;
+use std::process::Abort;
+
+// The width of an index, whether it is signed, its bytes, how many values there are, and whether it
+// leads to one.
+static INDICES: [(BitWidth, bool, &[u8], usize, bool); 30] = [
+    (BitWidth::Eight, false, &[0], 1, true),
+    (BitWidth::Eight, false, &[0], 0, false),
+    (BitWidth::Eight, false, &[199], 200, true),
+    (BitWidth::Eight, false, &[200], 200, false),
+    (BitWidth::Eight, false, &[255], 256, true),
+    (BitWidth::Eight, true, &[199], 200, false),
+    (BitWidth::Eight, true, &[127], 200, true),
+    (BitWidth::Eight, true, &[127], 127, false),
+    (BitWidth::Eight, true, &[255], 256, false),
+    (BitWidth::Sixteen, false, &[255, 255], 65536, true),
+    (BitWidth::Sixteen, false, &[255, 255], 65535, false),
+    (BitWidth::Sixteen, false, &[0, 1], 256, false),
+    (BitWidth::Sixteen, true, &[0, 128], 65536, false),
+    (BitWidth::Sixteen, true, &[255, 127], 32768, true),
+    (BitWidth::Sixteen, true, &[255, 127], 32767, false),
+    (
+        BitWidth::ThirtyTwo,
+        false,
+        &[0, 0, 0, 128],
+        2147483649,
+        true,
+    ),
+    (
+        BitWidth::ThirtyTwo,
+        false,
+        &[0, 0, 0, 128],
+        2147483648,
+        false,
+    ),
+    (
+        BitWidth::ThirtyTwo,
+        false,
+        &[255, 255, 255, 255],
+        4294967296,
+        true,
+    ),
+    (
+        BitWidth::ThirtyTwo,
+        true,
+        &[0, 0, 0, 128],
+        2147483649,
+        false,
+    ),
+    (
+        BitWidth::ThirtyTwo,
+        true,
+        &[255, 255, 255, 127],
+        2147483648,
+        true,
+    ),
+    (
+        BitWidth::ThirtyTwo,
+        true,
+        &[255, 255, 255, 127],
+        2147483647,
+        false,
+    ),
+    (BitWidth::ThirtyTwo, true, &[0, 0, 1, 0], 65536, false),
+    (
+        BitWidth::SixtyFour,
+        false,
+        &[0, 0, 0, 0, 1, 0, 0, 0],
+        4294967297,
+        true,
+    ),
+    (
+        BitWidth::SixtyFour,
+        false,
+        &[0, 0, 0, 0, 1, 0, 0, 0],
+        4294967296,
+        false,
+    ),
+    (
+        BitWidth::SixtyFour,
+        false,
+        &[0, 0, 0, 0, 0, 0, 0, 128],
+        usize::MAX,
+        true,
+    ),
+    (BitWidth::SixtyFour, false, &[255; 8], usize::MAX, false),
+    (
+        BitWidth::SixtyFour,
+        true,
+        &[0, 0, 0, 0, 1, 0, 0, 0],
+        4294967297,
+        true,
+    ),
+    (
+        BitWidth::SixtyFour,
+        true,
+        &[0, 0, 0, 0, 1, 0, 0, 0],
+        4294967296,
+        false,
+    ),
+    (
+        BitWidth::SixtyFour,
+        true,
+        &[0, 0, 0, 0, 0, 0, 0, 128],
+        usize::MAX,
+        false,
+    ),
+    (BitWidth::SixtyFour, true, &[255; 8], usize::MAX, false),
+];
+
+// Whether the one index leads to a value, without a bitmap and with one; under a null it always
+// does.
+fn leads(rt: &impl Abort, index: IndexType, bytes: &[u8], count: usize, want: bool) {
+    let width = index_width(index);
+    for (validity, want) in [(&[] as &[u8], want), (&[1], want), (&[0], true)] {
+        assert!(rt; has_fixed(1, width, validity, bytes));
+        let leads = are_indices(1, width, index.signed, validity, bytes, count);
+        assert_eq!(rt; leads, want, "{index:?} {bytes:?} of {count}");
+    }
+}
+
+#[test]
+fn an_index_by_its_width_and_sign(rt: HostRuntime) {
+    for &(bits, signed, bytes, count, want) in &INDICES {
+        leads(&rt, IndexType { bits, signed }, bytes, count, want);
+    }
+}
+
+// The number that an index of 8 bits to one of 300 nulls is shown as.
+fn shown(rt: &(impl Abort + AllocGlobal), signed: bool, byte: u8) -> Option<i128> {
+    let field = Field {
+        name: String::new(rt.alloc()),
+        nullable: true,
+        data_type: DataType::Null,
+        dictionary: Some(Encoding {
+            id: 0,
+            index: IndexType {
+                bits: BitWidth::Eight,
+                signed,
+            },
+            ordered: false,
+        }),
+    };
+    let values = leaf(rt, &(Form::Null, &[], (300, &[]))).expect(rt, NO_COLUMN);
+    let values = dictionary(rt, one(rt, values));
+    let body = Bytes::copy_from_slice(rt.alloc(), &[byte]).expect(rt, "memory");
+    let buffers = [ByteRange::EMPTY, range(0, 1)];
+    let children = Vec::new(rt.alloc());
+    let column = column(rt, &field, 1, &body, &buffers, children, Some(values));
+    let column = column.expect(rt, NO_COLUMN);
+    assert!(rt; 0 < column.len());
+    column.int_at(0)
+}
+
+#[test]
+fn an_index_is_shown_with_its_sign(rt: HostRuntime) {
+    for (signed, byte) in [(false, 200), (false, 100), (true, 100)] {
+        assert_eq!(rt; shown(&rt, signed, byte), Some(i128::from(byte)));
+    }
+}

@@ -1,0 +1,143 @@
+//! Streams written again: their bytes, and how that ends where the output fails or the writer
+//! refuses.
+
+use super::growing::GROWING;
+use super::reports::{LETTERS, NUMBERS};
+use super::streams::ONE_BATCH;
+use super::told::{Call, assert_told};
+use arrow_body_write::Align;
+use arrow_dict::Updates;
+use arrow_sink::probe::{Failing, Narrow};
+use arrow_sink::{Counted, Sink};
+use arrow_types::Limits;
+use arrow_writer::Options;
+use arrowflow::ToolFault;
+use arrowflow_copy::copy;
+use std::alloc::Global;
+use std::io::Read;
+use std::process::Abort;
+
+const DELTA: Options = Options {
+    updates: Updates::Delta,
+    align: Align::Eight,
+};
+
+const RESEND: Options = Options {
+    updates: Updates::Resend,
+    align: Align::Eight,
+};
+
+const WIDE: Options = Options {
+    updates: Updates::Delta,
+    align: Align::SixtyFour,
+};
+
+/// What is written of an input, and behind it the status and the line of the fault, if one came.
+fn copied<R: Read>(
+    rt: &impl Abort,
+    alloc: Global,
+    input: &mut R,
+    options: Options,
+    limits: &Limits,
+) -> (Vec<u8>, String) {
+    let output = Counted::new(Vec::new(alloc));
+    let (output, answer) = copy(alloc, input, output, options, limits);
+    (output.into_inner(), ending(rt, alloc, &answer))
+}
+
+/// The status and the line of a fault, nothing where there is none.
+fn ending(rt: &impl Abort, alloc: Global, answer: &Result<(), ToolFault>) -> String {
+    match answer {
+        Ok(()) => String::new(alloc),
+        Err(fault) => {
+            let line = fault.line(alloc, "in", "out").expect(rt, "memory");
+            format!(in alloc; "{} {line}", fault.status()).expect(rt, "memory")
+        }
+    }
+}
+
+/// The bytes that a whole stream is written again as.
+fn copy_of(rt: &impl Abort, alloc: Global, stream: &[u8], options: Options) -> Vec<u8> {
+    let mut input = stream;
+    let (bytes, ending) = copied(rt, alloc, &mut input, options, &Limits::standard());
+    assert_eq!(rt; ending.as_str(), "");
+    bytes
+}
+
+#[test]
+fn dictionaries_are_sent_as_asked(rt: HostRuntime) {
+    let alloc = rt.alloc();
+    let resent = copy_of(&rt, alloc, &GROWING, RESEND);
+    assert_eq!(rt; resent.len(), 1384);
+    assert_told(&rt, alloc, Call::Show, &resent, LETTERS);
+    let back = copy_of(&rt, alloc, &resent, DELTA);
+    assert!(rt; back.as_slice() == GROWING.as_slice());
+}
+
+#[test]
+fn buffers_are_padded_as_asked(rt: HostRuntime) {
+    let alloc = rt.alloc();
+    let wide = copy_of(&rt, alloc, &ONE_BATCH, WIDE);
+    assert_eq!(rt; wide.len(), 520);
+    assert_told(&rt, alloc, Call::Show, &wide, NUMBERS);
+    let back = copy_of(&rt, alloc, &wide, DELTA);
+    assert!(rt; back.as_slice() == ONE_BATCH.as_slice());
+}
+
+#[test]
+fn an_end_marker_is_written_where_there_was_none(rt: HostRuntime) {
+    let back = copy_of(&rt, rt.alloc(), &ONE_BATCH[..328], DELTA);
+    assert!(rt; back.as_slice() == ONE_BATCH.as_slice());
+}
+
+/// In a sink that takes so many bytes stands the beginning of the copy, and it was flushed and
+/// failed so often.
+fn assert_narrowed(rt: &impl Abort, alloc: Global, sink: (Failing, usize), counts: (u64, u64)) {
+    let (failing, left) = sink;
+    let mut input = ONE_BATCH.as_slice();
+    let output = Narrow::new(alloc, 100, left, failing);
+    let (output, answer) = copy(alloc, &mut input, output, DELTA, &Limits::standard());
+    let line = if counts.1 == 0 {
+        ""
+    } else {
+        "2 cannot write out"
+    };
+    assert_eq!(rt; ending(rt, alloc, &answer).as_str(), line, "{left} bytes");
+    assert_eq!(rt;
+        (output.flushes(), output.failures()),
+        counts,
+        "{left} bytes"
+    );
+    assert!(rt;
+        output.taken() == &ONE_BATCH[..left.min(336)],
+        "{left} bytes"
+    );
+}
+
+#[test]
+fn the_output_fails(rt: HostRuntime) {
+    let alloc = rt.alloc();
+    for left in 0..336 {
+        assert_narrowed(&rt, alloc, (Failing::ByError, left), (0, 1));
+        assert_narrowed(&rt, alloc, (Failing::ByNothing, left), (0, 1));
+    }
+    assert_narrowed(&rt, alloc, (Failing::AtFlush, 336), (1, 1));
+    assert_narrowed(&rt, alloc, (Failing::ByError, 336), (1, 0));
+}
+
+/// With these limits on metadata and bodies, one batch is written again as so many bytes, and this
+/// is refused.
+fn assert_refused(rt: &impl Abort, alloc: Global, limits: (u64, u64), written: usize, line: &str) {
+    let limits = Limits::new(limits.0, limits.1, 1_000).expect(rt, "limits");
+    let mut input = ONE_BATCH.as_slice();
+    let (bytes, ending) = copied(rt, alloc, &mut input, WIDE, &limits);
+    assert_eq!(rt; (bytes.len(), ending.as_str()), (written, line));
+}
+
+#[test]
+fn what_passes_a_limit_is_refused(rt: HostRuntime) {
+    let alloc = rt.alloc();
+    assert_refused(&rt, alloc, (183, 1_000), 0, "1 refused schema: TooLarge");
+    assert_refused(&rt, alloc, (184, 127), 192, "1 refused batch 0: TooLarge");
+    assert_refused(&rt, alloc, (184, 128), 520, "");
+}
