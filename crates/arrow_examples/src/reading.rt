@@ -1,0 +1,41 @@
+//! A stream read, and its columns used.
+
+use arrow_array::Array;
+use arrow_stream::{Fault, StreamReader};
+use arrow_types::Limits;
+use arrowflow::session::{Ending, receive};
+use std::alloc::{AllocError, Global};
+use thiserror::Error;
+
+/// Why a stream has no answer.
+#[derive(Debug, Drop, Error)]
+pub enum ReadError {
+    /// The stream is refused, or ends too early.
+    #[error("byte {}: {:?}", .0.place, .0.kind)]
+    Stream(Fault),
+    /// A growth was refused.
+    #[error(transparent)]
+    Memory(#[from(alloc)] AllocError),
+}
+
+/// The length in bytes of the longest text in any dictionary-encoded column of a stream.
+pub fn longest(alloc: Global, stream: &[u8]) -> Result<usize, ReadError> {
+    let mut reader = StreamReader::new(alloc, Limits::standard());
+    let received = receive(alloc, &mut reader, stream, &[])?;
+    if let Ending::Fault(fault) = received.ending {
+        return Err(ReadError::Stream(fault));
+    }
+    let columns = received.handed.iter().flat_map(|batch| batch.columns());
+    Ok(columns.map(longest_in).max().unwrap_or(0))
+}
+
+/// The same of one column.
+fn longest_in(column: &Array) -> usize {
+    let mut longest = 0;
+    for row in 0..column.len() {
+        if let Some((values, place)) = column.resolved(row) {
+            longest = longest.max(values.text_at(place).unwrap_or("").len());
+        }
+    }
+    longest
+}

@@ -1,0 +1,33 @@
+//! That both callers do what is said of them.
+
+mod outside;
+
+use crate::{ReadError, longest, numbers, write_all};
+use outside::{NUMBERS, WORDS};
+use std::process::Abort;
+
+#[test]
+fn the_longest_word(rt: HostRuntime) {
+    let found = longest(rt.alloc(), &WORDS);
+    assert!(rt; matches!(found, Ok(3)));
+}
+
+#[test]
+fn a_stream_cut_off(rt: HostRuntime) {
+    let found = longest(rt.alloc(), &WORDS[..WORDS.len() - 9]);
+    assert!(rt; matches!(found, Err(ReadError::Stream(_))));
+}
+
+#[test]
+fn numbers_written(rt: HostRuntime) {
+    let alloc = rt.alloc();
+    let batch = numbers(alloc, &[Some(5), None, Some(-1)]).expect(&rt, "a batch");
+    let written = write_all(
+        alloc,
+        Vec::new(alloc),
+        batch.schema(),
+        std::slice::from_ref(&batch),
+    );
+    let written = written.expect(&rt, "written");
+    assert_eq!(rt; written.as_slice(), NUMBERS.as_slice());
+}
