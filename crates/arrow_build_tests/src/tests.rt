@@ -2,6 +2,8 @@
 
 mod arrays;
 mod kinds;
+mod lengths;
 mod pushes;
+mod sums;
 mod told;
 mod values;

@@ -1,7 +1,7 @@
 // Fields of the kinds that the tables name, and builders of them.
 
 use arrow_build::ArrayBuilder;
-use arrow_types::{BitWidth, DataType, Encoding, Field, IndexType, Schema, TimeUnit};
+use arrow_types::{BitWidth, DataType, DateUnit, Encoding, Field, IndexType, Schema, TimeUnit};
 use std::process::Abort;
 
 const MEMORY: &str = "memory";
@@ -17,6 +17,9 @@ pub(super) enum Kind {
     LargeUtf8,
     // Byte strings of three bytes.
     Fixed,
+    Date(DateUnit),
+    Time(TimeUnit),
+    Timestamp(TimeUnit),
     Duration,
     // Lists of numbers of 8 bits.
     List,
@@ -95,6 +98,9 @@ fn field(rt: &(impl Abort + AllocGlobal), kind: Kind) -> Field {
         Kind::Utf8 => plain(rt, DataType::Utf8),
         Kind::LargeUtf8 => plain(rt, DataType::LargeUtf8),
         Kind::Fixed => plain(rt, DataType::FixedSizeBinary(3)),
+        Kind::Date(unit) => plain(rt, DataType::Date(unit)),
+        Kind::Time(unit) => plain(rt, DataType::Time(unit)),
+        Kind::Timestamp(unit) => plain(rt, DataType::Timestamp(unit, None)),
         Kind::Duration => plain(rt, DataType::Duration(TimeUnit::Second)),
         Kind::Indices => encoded(rt, false),
         Kind::SignedIndices => encoded(rt, true),

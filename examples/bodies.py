@@ -1,0 +1,128 @@
+"""Columns of each kind at each length and with nulls in each place, and sums over how they are laid out: with no Arrow
+library, by frames.py. The tests of arrow_build build the same columns and store them.
+
+What stands in slot i is told by `value` below, and by the same rules in crates/arrow_build_tests/src/tests/lengths.rt.
+"""
+import struct
+
+import frames
+
+LENGTHS = [0, 1, 7, 8, 9, 63, 64, 65]
+
+# Which slots are null: none, the first, the last, all, each third.
+NULLS = [
+    lambda slot, length: False,
+    lambda slot, length: slot == 0,
+    lambda slot, length: slot == length - 1,
+    lambda slot, length: True,
+    lambda slot, length: slot % 3 == 2,
+]
+
+STRINGS = ["", "a", "é€", "0123456789"]
+
+
+def number(bits, signed, slot):
+    """The least number, the greatest, 0, and the number of the slot, in turn."""
+    least, greatest = (-2 ** (bits - 1), 2 ** (bits - 1) - 1) if signed else (0, 2 ** bits - 1)
+    return [least, greatest, 0, slot][slot % 4]
+
+
+def integers(bits, signed):
+    form = dict(zip((8, 16, 32, 64), "bhiq"))[bits]
+    return (lambda slot: number(bits, signed, slot)), lambda values: frames.numbers(values, form if signed else form.upper())
+
+
+def string(slot):
+    return STRINGS[slot % 4].encode()
+
+
+def large_offsets(values):
+    ends = [0]
+    for value in values:
+        ends.append(ends[-1] + len(value or ()))
+    return struct.pack(f"<{len(ends)}q", *ends)
+
+
+def large_strings(values):
+    return frames.Column([frames.node(values)],
+                         [frames.validity(values), large_offsets(values), b"".join(value or b"" for value in values)])
+
+
+def fixed(values):
+    return frames.Column([frames.node(values)],
+                         [frames.validity(values), b"".join(value or bytes(3) for value in values)])
+
+
+def bytes_of_number(values):
+    return frames.numbers(values, "b")
+
+
+def items(slot):
+    return [[], [-128, 127], [None], [slot, 1, 2]][slot % 4]
+
+
+def large_lists(values):
+    child = bytes_of_number([item for value in values for item in value or ()])
+    return frames.Column([frames.node(values)] + child.nodes,
+                         [frames.validity(values), large_offsets(values)] + child.buffers)
+
+
+def pair(slot):
+    return (None if slot % 5 == 4 else number(8, True, slot), string(slot))
+
+
+def pairs(values):
+    """Structs of a number and a text; below a null both are null."""
+    parts = [value or (None, None) for value in values]
+    return frames.structs(values, bytes_of_number([part[0] for part in parts]),
+                          frames.strings([part[1] for part in parts]))
+
+
+def pairs_in_list(slot):
+    return [[], [pair(slot)], [None, pair(slot + 1)]][slot % 3]
+
+
+# What stands in a slot of each kind, and the column of such values.
+KINDS = [
+    (lambda slot: None, lambda values: frames.nulls(len(values))),
+    (lambda slot: slot % 3 == 0, frames.bools),
+    *(integers(bits, signed) for bits in (8, 16, 32, 64) for signed in (True, False)),
+    *2 * [integers(32, True)],      # days, and times of day in seconds
+    *2 * [integers(64, True)],      # timestamps, and lengths of time
+    *2 * [(string, frames.strings)],
+    *2 * [(string, large_strings)],
+    (lambda slot: bytes([slot, 255, 0]), fixed),
+    (items, lambda values: frames.lists(values, bytes_of_number)),
+    (items, large_lists),
+    (pair, pairs),
+    (pairs_in_list, lambda values: frames.lists(values, pairs)),
+]
+
+
+def summed(so_far, numbers):
+    for it in numbers:
+        so_far = (so_far * 16777619 + it + 1) % 2 ** 32
+    return so_far
+
+
+def sum_of(kind, length):
+    """A sum over the nodes, the places of the buffers and the bytes, for all places of nulls and both alignments."""
+    value, column = kind
+    total = 1
+    for is_null in NULLS:
+        values = [None if is_null(slot, length) else value(slot) for slot in range(length)]
+        for align in (8, 64):
+            nodes, places, body = frames.laid([column(values)], align)
+            total = summed(total, [it for pair in nodes + places for it in pair])
+            total = summed(total, body)
+    return total
+
+
+def module():
+    """The module that the tests hold: a row for each kind, with a sum for each length."""
+    lines = "//! Sums over how columns are laid out: for each kind one for each length.\n\n"
+    lines += f"pub(super) static SUMS: [[u32; {len(LENGTHS)}]; {len(KINDS)}] = [\n"
+    for kind in KINDS:
+        sums = [f"0x{sum_of(kind, length):08x}" for length in LENGTHS]
+        lines += "    [\n        " + ", ".join(sums[:7]) + ",\n        " + sums[7] + ",\n    ],\n"
+    return lines + "];\n"
