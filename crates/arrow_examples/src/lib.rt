@@ -6,7 +6,7 @@ mod reading;
 mod writing;
 
 pub use reading::{ReadError, longest};
-pub use writing::{WriteError, numbers, write_all};
+pub use writing::{WriteError, write_numbers};
 
 #[cfg(test)]
 mod tests;

@@ -2,7 +2,7 @@
 
 mod outside;
 
-use crate::{ReadError, longest, numbers, write_all};
+use crate::{ReadError, longest, write_numbers};
 use outside::{NUMBERS, WORDS};
 use std::process::Abort;
 
@@ -20,14 +20,7 @@ fn a_stream_cut_off(rt: HostRuntime) {
 
 #[test]
 fn numbers_written(rt: HostRuntime) {
-    let alloc = rt.alloc();
-    let batch = numbers(alloc, &[Some(5), None, Some(-1)]).expect(&rt, "a batch");
-    let written = write_all(
-        alloc,
-        Vec::new(alloc),
-        batch.schema(),
-        std::slice::from_ref(&batch),
-    );
+    let written = write_numbers(rt.alloc(), &[Some(5), None, Some(-1)]);
     let written = written.expect(&rt, "written");
     assert_eq!(rt; written.as_slice(), NUMBERS.as_slice());
 }

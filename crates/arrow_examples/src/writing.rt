@@ -1,17 +1,15 @@
 //! A batch built, and written.
 
-ghost use Rattle.std.specs.Prelude.{◌≡◌};
+ghost use Rattle.std.specs.Prelude.{◌≡◌, IfOk, false};
+ghost use Rattle.arrow_types.specs.Field.{field_view};
+ghost use Rattle.arrow_types.specs.Schema.{field_is_nested};
 
 use arrow_array::{Batch, BatchFault, Value};
-use arrow_body_write::Align;
 use arrow_build::{ArrayBuilder, ArrayFault, PushFault};
-use arrow_dict::Updates;
 use arrow_sink::Counted;
 use arrow_types::{BitWidth, DataType, Field, Limits, Schema, SchemaFault};
-use arrow_writer::{Options, StreamWriter};
-use arrow_written::WriteFault;
+use arrow_writer::{Align, Options, StreamWriter, Updates, WriteFault};
 use std::alloc::{AllocError, Global};
-use std::io::Write;
 use std::rc::Rc;
 use thiserror::Error;
 
@@ -38,9 +36,17 @@ pub enum WriteError {
     Memory(#[from(alloc)] AllocError),
 }
 
-/// A batch of one column `n` of numbers, some of them null.
-pub fn numbers(alloc: Global, values: &[Option<i64>]) -> Result<Batch, WriteError> {
-    let field = Field {
+/// How streams are written here.
+const OPTIONS: Options = Options {
+    updates: Updates::Delta,
+    align: Align::SixtyFour,
+};
+
+/// The field of a nullable column `n` of numbers of 64 bits.
+fn number_field(alloc: Global) -> Result<Field, AllocError>
+    ensures { IfOk result (λ f. field_is_nested (field_view f) ≡ false) }
+{
+    Ok(Field {
         name: String::from_str(alloc, "n")?,
         nullable: true,
         data_type: DataType::Int {
@@ -48,34 +54,24 @@ pub fn numbers(alloc: Global, values: &[Option<i64>]) -> Result<Batch, WriteErro
             signed: true,
         },
         dictionary: None,
-    };
-    let mut builder = ArrayBuilder::new(alloc, &field)?;
-    for value in values {
-        builder.push(&value.map_or(Value::Null, |number| Value::Int(number as i128)))?;
-    }
-    let columns = vec![in alloc; builder.finish(alloc, &[])?]?;
-    let schema = Schema::new(alloc, vec![in alloc; field]?)?;
-    Ok(Batch::new(Rc::new(alloc, schema)?, columns, values.len())?)
+    })
 }
 
-/// Writes batches of one schema as a stream, padded to 64 bytes, with deltas of dictionaries.
-pub fn write_all<W: Write + Drop>(
-    alloc: Global,
-    output: W,
-    schema: &Schema,
-    batches: &[Batch],
-) -> Result<W, WriteError> {
-    let options = Options {
-        updates: Updates::Delta,
-        align: Align::SixtyFour,
-    };
-    let sink = Counted::new(output);
-    let mut writer = StreamWriter::start(alloc, sink, schema, options, Limits::standard()).map_err(
+/// Writes numbers, some of them null, as a stream of one batch with one column.
+pub fn write_numbers(alloc: Global, numbers: &[Option<i64>]) -> Result<Vec<u8>, WriteError> {
+    let field = number_field(alloc)?;
+    let mut builder = ArrayBuilder::new(alloc, &field)?;
+    for number in numbers {
+        builder.push(&number.map_or(Value::Null, |it| Value::Int(it as i128)))?;
+    }
+    let columns = vec![in alloc; builder.finish(alloc, &[])?]?;
+    let schema = Rc::new(alloc, Schema::new(alloc, vec![in alloc; field]?)?)?;
+    let batch = Batch::new(schema.clone()?, columns, numbers.len())?;
+    let sink = Counted::new(Vec::new(alloc));
+    let mut writer = StreamWriter::start(alloc, sink, &schema, OPTIONS, Limits::standard()).map_err(
         |(fault, _)| fault,
     )?;
-    for batch in batches {
-        writer.write(batch)?;
-    }
+    writer.write(&batch)?;
     writer.finish()?;
     Ok(writer.into_sink().into_inner())
 }

@@ -22,7 +22,7 @@ use Rattle.arrow_session.specs.Asked.{Asked, Progress, Outcome, begun, with_batc
 use Rattle.arrow_session.specs.Report.{Sends}
 use Rattle.arrow_session.specs.Running.{StartsNot, Tries, SoFar, IsOver, Finished, SentPlain, IsSent, progress_at}
 use Rattle.arrow_session.specs.declared.refusal.Refusal.{Refusal}
-use Rattle.arrow_session.specs.declared.refusal.What.TheVariants.{Start, Batch}
+use Rattle.arrowflow.specs.declared.what.What.TheVariants.{Start, Batch}
 
 -- what stands after the bytes that were there before
 pub behind : (x now more : List ℕ) (c c' : Option (List ℕ)) → Some x ≡ c → Some now ≡ c' → Appends c c' more → drop (length x) now ≡ more

@@ -13,7 +13,7 @@ use Rattle.arrow_written.specs.Admission.{admission, schema_admission, marker_fi
 use Rattle.arrow_written.specs.Writer.{first_place}
 use Rattle.arrow_writer.specs.Shown.{options_view}
 use Rattle.arrow_session.specs.declared.refusal.Refusal.{Refusal}
-use Rattle.arrow_session.specs.declared.refusal.What.TheVariants.{Start, Batch, Finish}
+use Rattle.arrowflow.specs.declared.what.What.TheVariants.{Start, Batch, Finish}
 use Rattle.arrow_session.specs.declared.session.Connection.{Connection}
 
 -- What is asked of a connection: the schema and the batches to be written, how, whether an end marker too, and how many bytes of

@@ -18,7 +18,7 @@ use Rattle.arrow_session.specs.Asked.{Asked, Progress, begun, outcome_of, with_b
 use Rattle.arrow_session.specs.Report.{Sends, items_of}
 use Rattle.arrow_session.specs.declared.kept.Kept.{Kept}
 use Rattle.arrow_session.specs.declared.refusal.Refusal.{Refusal}
-use Rattle.arrow_session.specs.declared.refusal.What.TheVariants.{Start, Batch, Finish}
+use Rattle.arrowflow.specs.declared.what.What.TheVariants.{Start, Batch, Finish}
 use Rattle.arrow_session.specs.declared.sending.Sent.{Sent}
 
 -- what a writer into memory shows

@@ -10,12 +10,13 @@ ghost use Rattle.arrow_session.specs.Running.{Finished, IsNothing, IsOver, IsSen
 ghost use Rattle.arrow_session.specs.Running.{StartsNot, sent_plain, shown_kept};
 
 use crate::kept::Kept;
-use crate::refusal::{Refusal, What};
+use crate::refusal::Refusal;
 use crate::session::Connection;
 use arrow_array::{Batch, Dictionary};
 use arrow_types::{Limits, Schema};
 use arrow_writer::{Options, StreamWriter};
 use arrow_written::WriteFault;
+use arrowflow::What;
 use std::alloc::{AllocError, Global};
 
 /// What was sent over a connection.

@@ -5,12 +5,13 @@ ghost use Rattle.arrowflow.specs.Session.{Receives};
 ghost use Rattle.arrow_session.specs.Asked.{asked_of};
 ghost use Rattle.arrow_session.specs.Report.{IsReport, Reports, told_by};
 
-pub use crate::refusal::{Refusal, What};
+pub use crate::refusal::Refusal;
 use crate::sending::{Sent, send_all};
 use arrow_array::{Batch, Dictionary};
 use arrow_stream::StreamReader;
 use arrow_types::{Limits, Schema};
 pub use arrow_writer::Options;
+pub use arrowflow::What;
 use arrowflow::session::{Received, receive};
 use std::alloc::{AllocError, Global};
 

@@ -25,4 +25,7 @@ pub(crate) mod settings;
 mod stream_writer;
 pub(crate) mod updating;
 
+pub use arrow_body_write::Align;
+pub use arrow_dict::Updates;
+pub use arrow_written::WriteFault;
 pub use stream_writer::{Options, StreamWriter};
