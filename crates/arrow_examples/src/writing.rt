@@ -1,7 +1,7 @@
 //! A batch built, and written.
 
 ghost use Rattle.std.specs.Prelude.{◌≡◌, IfOk, false};
-ghost use Rattle.arrow_types.specs.Field.{field_view};
+ghost use Rattle.arrow_types.specs.View.{field_view};
 ghost use Rattle.arrow_types.specs.Schema.{field_is_nested};
 
 use arrow_array::{Batch, BatchFault, Value};
