@@ -33,6 +33,7 @@ pub(crate) mod indexed;
 pub(crate) mod leaf;
 pub(crate) mod node;
 pub(crate) mod slots;
+pub(crate) mod tally;
 pub(crate) mod typed;
 
 pub use builder::ArrayBuilder;

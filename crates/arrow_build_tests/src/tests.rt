@@ -2,6 +2,7 @@
 
 mod arrays;
 mod kinds;
+mod limits;
 mod pushes;
 mod told;
 mod values;
