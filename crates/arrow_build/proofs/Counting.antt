@@ -1,5 +1,5 @@
 -- Values counted one after another, in a column and in those below it.
-use Rattle.std.proofs.Common.{◌≡◌, ℕ, zero, suc, ◌+◌, ◌<◌, ◌≤◌, Bool, true, false, List, [], ◌∷◌, ◌++◌, length, map, take, drop, get_or, set, refl, ap, sym, ◌∙◌, subst, arith, Option, None, Some}
+use Rattle.std.proofs.Common.{◌≡◌, ℕ, zero, suc, ◌+◌, ◌<◌, ◌≤◌, Bool, true, false, List, [], ◌∷◌, ◌++◌, length, take, drop, get_or, set, refl, ap, sym, ◌∙◌, subst, arith, None, Some}
 use denote.Param.Weighed.{most}
 use Rattle.std.proofs.lemmas.Bool.{false≢true}
 use Rattle.std.proofs.lemmas.List.{append-nil, append_assoc, take-append-drop}
@@ -11,12 +11,12 @@ use Rattle.arrow_array.specs.declared.form.Form.{Form}
 use Rattle.arrow_array.specs.declared.value.Value.{Value}
 use Rattle.arrow_build.specs.Columns.{AllBelow, AllNodes, child_column}
 use Rattle.arrow_build.specs.Fields.{field_form}
-use Rattle.arrow_build.specs.Tally.{Adds, AddsBelow, AllSettle, AreCounted, Grows, IsCounted, IsTotal, Settles, total_of}
-use Rattle.arrow_build.specs.Within.{IsShort, IsShortNode}
+use Rattle.arrow_build.specs.Tally.{Adds, AddsBelow, AreCounted, Grows, IsCounted, IsTotal, Settles}
+use Rattle.arrow_build.specs.Within.{IsShortNode}
 use Rattle.arrow_build.specs.declared.tally.Tally.{Tally, out-Tally, size-Tally, size_is-Tally}
 use Rattle.arrow_build.specs.declared.tally.Total.{Total}
 use Rattle.arrow_build.proofs.Held.{column_append, column_of_none}
-use Rattle.arrow_build.proofs.Within.{nodes_front, short_none}
+use Rattle.arrow_build.proofs.Within.{nodes_front}
 
 -- no values
 pub adds_none : (t : Tally) → Adds [] t t true

@@ -1,5 +1,5 @@
 -- Columns that pass no limit.
-use Rattle.std.proofs.Common.{◌≡◌, ℕ, ◌+◌, ◌<◌, ◌≤◌, List, [], ◌∷◌, ◌++◌, length, refl, subst, arith, length-append, ◌⊎◌, inl, inr}
+use Rattle.std.proofs.Common.{◌≡◌, ℕ, ◌+◌, ◌≤◌, List, [], ◌∷◌, ◌++◌, length, subst, arith, length-append}
 use Rattle.arrow_types.specs.Field.{Fields, FieldShape, none, more}
 use Rattle.arrow_array.specs.Form.{node_form}
 use Rattle.arrow_array.specs.PlainValue.{PlainValue}
@@ -44,15 +44,17 @@ short_none form = record { few = omega arith; near = omega arith }
 
 -- the total with one more value
 pub total_more : (form : Form) (raw : List PlainValue) (value : PlainValue) (total : Total) (bytes : ℕ) → IsTotal form raw total
-    → bytes ≡ total.bytes + slot_bytes form value → total.slots < 2147483647 → bytes ≤ most_bytes form
-    → (length (raw ++ value ∷ []) ≡ total.slots + 1) × (data_bytes form (raw ++ value ∷ []) ≡ bytes) × IsShort form (raw ++ value ∷ [])
-total_more form raw value total bytes h is few near =
-    let long : length (raw ++ value ∷ []) ≡ total.slots + 1 = omega (arith, h.slots, length-append raw (value ∷ [])) in
-    let heavy : data_bytes form (raw ++ value ∷ []) ≡ bytes = omega (arith, h.bytes, is, data_append form raw (value ∷ [])) in
-    (long, heavy, record { few = omega (arith, long, few); near = omega (arith, heavy, near) })
+    → bytes ≡ total.bytes + slot_bytes form value → (total.slots + 1 ≤ 2147483647) × (bytes ≤ most_bytes form)
+    → (total.slots + 1 ≡ length (raw ++ value ∷ [])) × (bytes ≡ data_bytes form (raw ++ value ∷ [])) × IsShort form (raw ++ value ∷ [])
+total_more form raw value total bytes h is short =
+    let slots : total.slots + 1 ≡ length (raw ++ value ∷ []) = omega (arith, h.slots, length-append raw (value ∷ [])) in
+    let heavy : bytes ≡ data_bytes form (raw ++ value ∷ []) = omega (arith, h.bytes, is, data_append form raw (value ∷ [])) in
+    (slots, heavy, record { few = omega (arith, slots, short.0); near = omega (arith, heavy, short.1) })
 
--- a value behind as many as there can be, or with more bytes than there can be, is one too many
+-- where these are too many slots or bytes, a limit is passed
 pub total_past : (form : Form) (raw : List PlainValue) (value : PlainValue) (total : Total) → IsTotal form raw total
-    → (2147483647 ≤ total.slots) ⊎ (most_bytes form < total.bytes + slot_bytes form value) → IsShort form (raw ++ value ∷ []) → ⊥
-total_past form raw value total h (inl many) short = omega (arith, h.slots, many, short.few, length-append raw (value ∷ []))
-total_past form raw value total h (inr long) short = omega (arith, h.bytes, long, short.near, data_append form raw (value ∷ []))
+    → ((total.slots + 1 ≤ 2147483647) × (total.bytes + slot_bytes form value ≤ most_bytes form) → ⊥) → IsShort form (raw ++ value ∷ []) → ⊥
+total_past form raw value total h long short = long (
+  omega (arith, h.slots, short.few, length-append raw (value ∷ [])),
+  omega (arith, h.bytes, short.near, data_append form raw (value ∷ [])),
+)

@@ -2,7 +2,7 @@
 -- Binary Layout"). Every node has at most 2,147,483,647 slots; one whose offsets have 32 bits at most as many bytes, and one of
 -- wider offsets or of byte strings of a fixed width at most 2^40.
 use Rattle.std.specs.Prelude.{◌≤◌, ◌+◌, ◌^◌, ℕ, List, [], ◌∷◌, length}
-use Rattle.arrow_types.specs.Field.{FieldShape, Head}
+use Rattle.arrow_types.specs.Field.{Head}
 use Rattle.arrow_array.specs.Form.{node_form}
 use Rattle.arrow_array.specs.PlainValue.{PlainValue, null_value, bool_value, int_value, binary_value, utf8_value, list_value, struct_value}
 use Rattle.arrow_array.specs.declared.form.Form.{Form}

@@ -3,7 +3,7 @@
 //!
 //! What a value adds is counted on every level before it is put anywhere, without memory.
 
-ghost use Rattle.std.specs.Prelude.{◌≡◌, ◌∷◌, [], false, ℕ, IfOk};
+ghost use Rattle.std.specs.Prelude.{◌≡◌, ◌≤◌, ◌↔◌, ◌∷◌, [], false, ℕ, IfOk, IsTrue};
 ghost use Rattle.arrow_array.specs.PlainValue.{null_value};
 ghost use Rattle.arrow_array.specs.Value.{value_view, values_view};
 ghost use Rattle.arrow_array.specs.declared.form.Form.{Form};
@@ -49,10 +49,7 @@ pub(crate) fn nothing(alloc: Global, field: &Field) -> Result<Tally, AllocError>
 {
     let below = nothing_below(alloc, field.children())?;
     let form = node_form(&field.data_type, field.dictionary);
-    let none = Total {
-        slots: 0,
-        bytes: 0,
-    };
+    let none = Total { slots: 0, bytes: 0 };
     Ok(Tally {
         form,
         held: none,
@@ -158,14 +155,19 @@ fn add_all(tally: &mut Tally, values: &[Value]) -> bool
 fn grown(total: Total, form: Form, value: &Value) -> Option<Total>
     ensures { Grows form (value_view value.now) total result }
 {
+    let slots = total.slots.checked_add(1)?;
     let bytes = total.bytes.checked_add(slot_bytes(form, value))?;
-    if total.slots >= MOST_SLOTS || bytes > most_bytes(form) {
+    if !is_short(form, slots, bytes) {
         return None;
     }
-    Some(Total {
-        slots: total.slots + 1,
-        bytes,
-    })
+    Some(Total { slots, bytes })
+}
+
+// Whether a column of the form may have so many slots and bytes of data.
+fn is_short(form: Form, slots: usize, bytes: u64) -> bool
+    ensures { IsTrue result ↔ (slots ≤ 2147483647) × (bytes ≤ most_bytes form) }
+{
+    slots <= MOST_SLOTS && bytes <= most_bytes(form)
 }
 
 // How many bytes of data the value takes in a column of the form.
@@ -175,11 +177,7 @@ fn slot_bytes(form: Form, value: &Value) -> u64
     match form {
         Form::Bytes(_) | Form::Texts(_) => value_bytes(value),
         Form::FixedBytes(width) => u64::from(width),
-        Form::Nulls
-        | Form::Bits
-        | Form::Numbers { .. }
-        | Form::Lists(_)
-        | Form::Structs => 0,
+        Form::Nulls | Form::Bits | Form::Numbers { .. } | Form::Lists(_) | Form::Structs => 0,
     }
 }
 
@@ -201,11 +199,7 @@ fn most_bytes(form: Form) -> u64
     match form {
         Form::Bytes(width) | Form::Texts(width) => most_behind(width),
         Form::FixedBytes(_) => MOST_LARGE,
-        Form::Nulls
-        | Form::Bits
-        | Form::Numbers { .. }
-        | Form::Lists(_)
-        | Form::Structs => 0,
+        Form::Nulls | Form::Bits | Form::Numbers { .. } | Form::Lists(_) | Form::Structs => 0,
     }
 }
 

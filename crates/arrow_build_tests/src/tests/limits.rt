@@ -26,9 +26,21 @@ static LIMITS: [Limit; 12] = [
     (Kind::WideList(3), (913, &[Bytes(b"abc")]), 0),
     (Kind::WideList(0), (913, &[Null]), 0),
     (Kind::ListOfWideStructs(1_202_966_770), (913, &[Null]), 2),
-    (Kind::ListOfWideStructs(1_202_966_770), (913, &[Int(5), Null, Struct(2)]), 2),
-    (Kind::ListOfWideStructs(1_202_966_770), (913, &[Int(500), Null, Struct(2)]), 1),
-    (Kind::ListOfWideStructs(3), (913, &[Int(5), Null, Struct(2)]), 0),
+    (
+        Kind::ListOfWideStructs(1_202_966_770),
+        (913, &[Int(5), Null, Struct(2)]),
+        2,
+    ),
+    (
+        Kind::ListOfWideStructs(1_202_966_770),
+        (913, &[Int(500), Null, Struct(2)]),
+        1,
+    ),
+    (
+        Kind::ListOfWideStructs(3),
+        (913, &[Int(5), Null, Struct(2)]),
+        0,
+    ),
     (Kind::StructOfWideLists(1_202_966_770), (913, &[Null]), 2),
     (Kind::StructOfWideLists(3), (913, &[Null]), 0),
 ];
@@ -84,7 +96,9 @@ fn refused_values_leave_no_count(rt: HostRuntime) {
         let answer = column.push(&items(&rt, &(913, &[Null])));
         assert!(&rt; answer == Err(PushFault::TooLong));
     }
-    column.push(&value(&rt, &[List(0)])).expect(&rt, "a list without items");
+    column
+        .push(&value(&rt, &[List(0)]))
+        .expect(&rt, "a list without items");
     column.push(&Value::Null).expect(&rt, "a null");
     let array = column.finish(rt.alloc(), &[]).expect(&rt, "an array");
     let text = told(&rt, &array);

@@ -7,7 +7,7 @@ use Rattle.arrow_build.specs.Built.{items_of}
 use Rattle.arrow_build.specs.Columns.{child_column, list_of}
 use Rattle.arrow_build.specs.Tally.{Adds}
 use Rattle.arrow_build.specs.declared.tally.Tally.{Tally, Tally-F, out-Tally, out-roll-Tally, size-Tally}
-use Rattle.arrow_build.proofs.Counting.{Gives, UpTo, adds_next, adds_stopped, adds_value, all_given, one_past, tally_depth, up_to_more, up_to_next}
+use Rattle.arrow_build.proofs.Counting.{Gives, UpTo, adds_next, adds_stopped, all_given, one_past, tally_depth, up_to_more, up_to_next}
 use Rattle.arrow_build.proofs.Held.{list_of_values}
 use Rattle.arrow_build.proofs.tally.+add.Goals as goal
 

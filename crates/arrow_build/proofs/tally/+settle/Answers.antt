@@ -14,8 +14,10 @@ settle_all-loop-k-preserved t c =
     let more : suc k ≡ k + 1 = omega arith in
     let settled = up_to_more (λ _. Settles c.args.next) k 0 c.args.tallies.now c.loop-k.tallies d new before.0 (omega (arith, c.loop-k-test.true)) (subst (λ x. Settles c.args.next x new) here c.settle.ensures) in (
       subst (λ n. UpTo (λ _. Settles c.args.next) n 0 c.args.tallies.now (set c.loop-k.tallies k new)) more settled,
-      length-set c.loop-k.tallies k new ∙ before.1,
-      λ j e after. get_or-set_other c.loop-k.tallies k j new e (λ same. omega (arith, same, after)) ∙ before.2 j e (omega (arith, after)),
+      (
+        length-set c.loop-k.tallies k new ∙ before.1.0,
+        λ j e after. get_or-set_other c.loop-k.tallies k j new e (λ same. omega (arith, same, after)) ∙ before.1.1 j e (omega (arith, after)),
+      ),
     )
 
 pub settle_all-returns : goal.settle_all-returns
