@@ -1,6 +1,7 @@
 pub mod Arrays
 pub mod Beginning
 pub mod Below
+pub mod Counting
 pub mod Finishing
 pub mod Fitting
 pub mod Growing
@@ -15,3 +16,4 @@ pub mod Putting
 pub mod Ranging
 pub mod Storing
 pub mod Typing
+pub mod Within

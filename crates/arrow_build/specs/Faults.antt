@@ -2,9 +2,10 @@
 use Rattle.std.specs.Prelude.{ℕ, ℤ, List, codes}
 use Rattle.arrow_array.specs.Column.{ValueList}
 use Rattle.arrow_array.specs.PlainValue.{PlainValue}
-use Rattle.arrow_build.specs.Built.{Built}
+use Rattle.arrow_build.specs.Built.{Built, with_value}
 use Rattle.arrow_build.specs.Fields.{FitsField}
 use Rattle.arrow_build.specs.Finished.{AreIndexed, AreTyped}
+use Rattle.arrow_build.specs.Within.{IsWithin}
 use Rattle.arrow_build.specs.declared.faults.ArrayFault.{ArrayFault}
 use Rattle.arrow_build.specs.declared.faults.ArrayFault.TheVariants as array
 use Rattle.arrow_build.specs.declared.faults.PushFault.{PushFault}
@@ -16,11 +17,16 @@ ExplainsArray array.DictionaryType ds b = AreTyped ds b.field → ⊥
 ExplainsArray array.IndexRange ds b = AreTyped ds b.field × (AreIndexed ds b → ⊥)
 ExplainsArray array.Memory ds b = AreTyped ds b.field × AreIndexed ds b
 
--- The value does not fit, or it does and there is no memory for it. That a column would be too long is not told.
+-- the column may have the value behind its others: it fits, and no column passes a limit by it, the field's or one below it
+abbrev pub TakesValue : Built → PlainValue → Type 0
+TakesValue b value = FitsField b.field value × IsWithin (with_value b value)
+
+-- The fault is the least that applies: the value does not fit, or it does and some column would pass a limit by it, or neither
+-- and there is no memory for it.
 abbrev pub ExplainsPush : PushFault → Built → PlainValue → Type 0
 ExplainsPush push.DoesNotFit b value = FitsField b.field value → ⊥
-ExplainsPush push.TooLong b value = ⊥
-ExplainsPush push.Memory b value = FitsField b.field value
+ExplainsPush push.TooLong b value = FitsField b.field value × (IsWithin (with_value b value) → ⊥)
+ExplainsPush push.Memory b value = TakesValue b value
 
 -- the number of a fault of an array
 abbrev pub array_number : ArrayFault → ℕ

@@ -8,3 +8,5 @@ pub mod Finished
 pub mod Kept
 pub mod Nodes
 pub mod Puts
+pub mod Tally
+pub mod Within

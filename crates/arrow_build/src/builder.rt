@@ -3,8 +3,7 @@
 ghost use Rattle.std.specs.Prelude.{◌≡◌, false, length, IfOk, OnErr, OnOk, MatchResult};
 ghost use Rattle.arrow_array.specs.Value.{value_view};
 ghost use Rattle.arrow_build.specs.Built.{no_values_of, with_value};
-ghost use Rattle.arrow_build.specs.Faults.{ExplainsArray, ExplainsPush};
-ghost use Rattle.arrow_build.specs.Fields.{FitsField};
+ghost use Rattle.arrow_build.specs.Faults.{ExplainsArray, ExplainsPush, TakesValue};
 ghost use Rattle.arrow_build.specs.Finished.{AreIndexed, AreTyped, IsArrayOf, ResolvesBy};
 ghost use Rattle.arrow_types.specs.Schema.{field_is_nested};
 ghost use Rattle.arrow_types.specs.View.{field_view};
@@ -15,6 +14,7 @@ use crate::finish::finish;
 use crate::fits::fits;
 use crate::indexed::are_indexed;
 use crate::node::{Node, push_value};
+use crate::tally::{Tally, add, nothing, settle};
 use crate::typed::are_typed;
 use arrow_array::{Array, Dictionary, Value};
 use arrow_types::Field;
@@ -29,6 +29,7 @@ use std::marker::Model;
 #[derive(Drop)]
 pub struct ArrayBuilder {
     node: Node,
+    tally: Tally,
 }
 
 impl Model for ArrayBuilder {
@@ -39,6 +40,11 @@ impl Model for ArrayBuilder {
     ghost coded = { built_code };
 
     ghost view = { λ b. b.node };
+
+    ghost use Rattle.std.specs.Prelude.{false};
+    ghost use Rattle.arrow_build.specs.Tally.{IsCounted};
+
+    ghost invariant = { λ b. IsCounted false b.node.field b.node.raw b.tally };
 }
 
 impl ArrayBuilder {
@@ -50,6 +56,7 @@ impl ArrayBuilder {
     {
         Ok(ArrayBuilder {
             node: begin(alloc, field)?,
+            tally: nothing(alloc, field)?,
         })
     }
 
@@ -60,23 +67,30 @@ impl ArrayBuilder {
         self.node.len()
     }
 
-    /// Puts a value behind the others, or tells that it does not fit, and else that there is no
-    /// memory for it; after every fault the builder is as it was.
+    /// Puts a value behind the others, or tells the fault with the least number of those that apply:
+    /// that the value does not fit; that a column, the field's or one below it, would be too long
+    /// with it; and else that there is no memory for it. After every fault the builder is as it was.
     ///
-    /// `TooLong` is not told yet: where a column cannot have more slots or bytes, `Memory` is.
+    /// A column has at most 2,147,483,647 slots. One of `Binary` or `Utf8` has at most as many bytes
+    /// of data, one of `LargeBinary`, `LargeUtf8` or `FixedSizeBinary` at most 2^40.
     pub fn push(&mut self, value: &Value) -> Result<(), PushFault>
         ensures ok { OnOk result (self.new ≡ with_value self.old (value_view value.now)) }
         ensures err { OnErr result (self.new ≡ self.old) }
-        ensures why { MatchResult result (λ _. FitsField self.old.field (value_view value.now))
+        ensures why { MatchResult result (λ _. TakesValue self.old (value_view value.now))
             (λ fault. ExplainsPush fault self.old (value_view value.now)) }
     {
         if !fits(value, &self.node.field) {
             return Err(PushFault::DoesNotFit);
         }
-        match push_value(&mut self.node, value) {
-            Ok(()) => Ok(()),
-            Err(_) => Err(PushFault::Memory),
+        settle(&mut self.tally, false);
+        if !add(&mut self.tally, value) {
+            return Err(PushFault::TooLong);
         }
+        let Ok(()) = push_value(&mut self.node, value) else {
+            return Err(PushFault::Memory);
+        };
+        settle(&mut self.tally, true);
+        Ok(())
     }
 
     /// The array of the values, or the fault with the least number of those that apply. The builder

@@ -13,10 +13,10 @@ pub enum PushFault {
     /// The value is none of the field: it is of another type, or a number, a byte string, an item
     /// or a part of it does not fit.
     DoesNotFit,
-    /// A column of a field, its own or one below it, would have more slots or more bytes of data
-    /// than a column can have. Not told yet.
+    /// A column, the field's own or one below it, would have more slots or more bytes of data than a
+    /// column can have. The value fits.
     TooLong,
-    /// A growth was refused, or a column cannot have more slots or bytes. The value fits.
+    /// A growth was refused. None of the faults before it applies.
     Memory,
 }
 

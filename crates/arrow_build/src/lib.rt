@@ -4,14 +4,17 @@
 //! dictionaries that are listed for the ids of its fields. To contracts it is its field and its raw
 //! values (`specs/Built.antt`). What fits a field is `Fits` of `arrow_array`; what the columns
 //! below have by the values of the field's own is said in `specs/Columns.antt`, which array a
-//! column is in `specs/Finished.antt`, and which fault applies in `specs/Faults.antt`.
+//! column is in `specs/Finished.antt`, how long columns may be in `specs/Within.antt`, and which
+//! fault applies in `specs/Faults.antt`.
 //!
-//! `fits` says whether a value may stand in a slot of a field. `begin` makes the nodes of a field:
-//! its own and those of its children, each with buffers that grow. `node` puts a value that fits
-//! behind the others, in every node that it reaches: its slot, its items and its parts. Where no
-//! memory is left, or a node would pass what its offsets can say, the values are as they were: what
-//! was put of the value lies behind the slots that the node above shows, and is cut off before the
-//! next value is put there, so that nothing has to be taken back.
+//! `fits` says whether a value may stand in a slot of a field. `tally` counts on every level,
+//! without memory, what the value adds, and tells whether a column would be too long with it.
+//!
+//! `begin` makes the nodes of a field: its own and those of its children, each with buffers that
+//! grow. `node` puts a value that fits behind the others, in every node that it reaches: its slot,
+//! its items and its parts. Where no memory is left the values are as they were: what was put of
+//! the value lies behind the slots that the node above shows, and is cut off before the next value
+//! is put there, so that nothing has to be taken back.
 //!
 //! `leaf` and `slots` put one slot into the buffers of a node, over what stands behind the first
 //! ones. What is put where is said by `specs/Puts.antt`, and what the buffers hold of the first
@@ -33,6 +36,7 @@ pub(crate) mod indexed;
 pub(crate) mod leaf;
 pub(crate) mod node;
 pub(crate) mod slots;
+pub(crate) mod tally;
 pub(crate) mod typed;
 
 pub use builder::ArrayBuilder;

@@ -116,8 +116,8 @@ impl Node {
     }
 }
 
-// The most slots that a node has.
-const MOST_SLOTS: usize = 2_147_483_647;
+/// The most slots that a node has.
+pub(crate) const MOST_SLOTS: usize = 2_147_483_647;
 
 /// Puts a value that fits behind the others. After an error, where no memory is left or a node
 /// would have too many slots or bytes, the values are as they were.
@@ -239,8 +239,8 @@ fn push_at(node: &mut Node, at: usize, value: &Value) -> Result<(), AllocError>
     push_value(node, value)
 }
 
-// No value.
-fn null() -> Value
+/// No value.
+pub(crate) fn null() -> Value
     ensures { value_view result ≡ null_value }
 {
     Value::Null
@@ -261,8 +261,8 @@ fn is_null(value: &Value) -> bool
     }
 }
 
-// The items of a list, none where it is null.
-fn items_in(value: &Value) -> &[Value]
+/// The items of a list, none where it is null.
+pub(crate) fn items_in(value: &Value) -> &[Value]
     ensures { values_of (values_view result.now) ≡ items_of (value_view value.now) }
 {
     match value {
@@ -276,8 +276,8 @@ fn items_in(value: &Value) -> &[Value]
     }
 }
 
-// The value of field `k`, null where the struct is null.
-fn part_of<'a>(value: &'a Value, null: &'a Value, k: usize) -> &'a Value
+/// The value of field `k`, null where the struct is null.
+pub(crate) fn part_of<'a>(value: &'a Value, null: &'a Value, k: usize) -> &'a Value
     requires { value_view null.now ≡ null_value }
     ensures { value_view result.now ≡ field_value k (value_view value.now) }
 {

@@ -3,6 +3,7 @@
 mod arrays;
 mod kinds;
 mod lengths;
+mod limits;
 mod pushes;
 mod sums;
 mod told;

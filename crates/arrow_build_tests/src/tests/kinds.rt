@@ -38,6 +38,12 @@ pub(super) enum Kind {
     ListOfIndices,
     // Structs of a number of 8 bits and an index.
     StructOfIndices,
+    // Lists of byte strings of so many bytes.
+    WideList(u32),
+    // Lists of structs of a number of 8 bits and a byte string of so many bytes.
+    ListOfWideStructs(u32),
+    // Structs of a number of 8 bits and a list of such byte strings.
+    StructOfWideLists(u32),
 }
 
 fn int8() -> DataType {
@@ -88,6 +94,10 @@ fn pair(rt: &(impl Abort + AllocGlobal), second: Field) -> Field {
     plain(rt, DataType::Struct(fields))
 }
 
+fn wide(rt: &(impl Abort + AllocGlobal), width: u32) -> Field {
+    plain(rt, DataType::FixedSizeBinary(width))
+}
+
 fn field(rt: &(impl Abort + AllocGlobal), kind: Kind) -> Field {
     match kind {
         Kind::Null => plain(rt, DataType::Null),
@@ -111,6 +121,9 @@ fn field(rt: &(impl Abort + AllocGlobal), kind: Kind) -> Field {
         Kind::StructOfLists => pair(rt, list(rt, plain(rt, int8()))),
         Kind::ListOfIndices => list(rt, encoded(rt, false)),
         Kind::StructOfIndices => pair(rt, encoded(rt, false)),
+        Kind::WideList(width) => list(rt, wide(rt, width)),
+        Kind::ListOfWideStructs(width) => list(rt, pair(rt, wide(rt, width))),
+        Kind::StructOfWideLists(width) => pair(rt, list(rt, wide(rt, width))),
     }
 }
 

@@ -170,7 +170,10 @@ fn value(rt: &(impl Abort + AllocGlobal), kind: Kind, slot: usize) -> Value {
         | Kind::Indices
         | Kind::SignedIndices
         | Kind::ListOfIndices
-        | Kind::StructOfIndices => Value::Null,
+        | Kind::StructOfIndices
+        | Kind::WideList(_)
+        | Kind::ListOfWideStructs(_)
+        | Kind::StructOfWideLists(_) => Value::Null,
     }
 }
 
