@@ -43,9 +43,12 @@ pub(crate) fn read_all<R: Read>(
 {
     let mut connections = Vec::new(terms.alloc);
     for (number, input) in inputs.iter_mut().enumerate() {
-        let connection = read_one(terms, number as u64, input)?;
-        if connections.push(connection).is_err() {
-            return Err(ToolFault::Memory);
+        match read_one(terms, number as u64, input) {
+            Ok(connection) => match connections.push(connection) {
+                Ok(()) => {}
+                Err(_) => return Err(ToolFault::Memory),
+            },
+            Err(fault) => return Err(fault),
         }
     }
     Ok(connections)
