@@ -84,7 +84,7 @@ module _ {R : Type 0} (remaining : R → Option (List ℕ)) (asks : Asks) where
     ends_here cs fault a x =
         let here : take k hads ++ had ∷ drop (k + 1) now ≡ hads = ap (λ y. take k hads ++ y) (sym after_hads) ∙ take-append-drop k hads in
         let there : take k now ++ left ∷ drop (k + 1) now ≡ set now k left =
-            sym (ap (λ y. y ++ (left ∷ drop (k + 1) now)) (take-set now k left)) ∙ sym (ap (λ y. take k (set now k left) ++ y) (drop-set now k left low)) ∙ take-append-drop k (set now k left) in
+        sym (ap (λ y. y ++ (left ∷ drop (k + 1) now)) (take-set now k left)) ∙ sym (ap (λ y. take k (set now k left) ++ y) (drop-set now k left low)) ∙ take-append-drop k (set now k left) in
         subst (λ hs. EndsReading remaining asks 0 hs (set now k left) fault) here
         (subst (λ ls. EndsReading remaining asks 0 (take k hads ++ had ∷ drop (k + 1) now) ls fault) there
         (ended_at 0 (take k hads) (take k now) cs had left (drop (k + 1) now) fault a (subst (λ m. IsRead asks m (remaining had) (remaining left) (Err fault)) (sym numbered) x)))

@@ -1,10 +1,10 @@
 -- The batches of a stream that are kept piece by piece.
-use Rattle.std.proofs.Common.{◌≡◌, ℕ, ◌+◌, true, false, List, [], ◌∷◌, ◌++◌, length, take, drop, Ok, Err, ◌⊎◌, inl, inr, refl, sym, ap, ◌∙◌, subst, append_assoc, append-nil, take-append-drop}
+use Rattle.std.proofs.Common.{◌≡◌, ℕ, ◌+◌, true, false, List, [], ◌++◌, length, take, drop, Ok, Err, ◌⊎◌, inl, inr, refl, sym, ap, ◌∙◌, subst, append_assoc, append-nil, take-append-drop}
 use Rattle.std.proofs.lemmas.Bool.{false≢true}
 use Rattle.arrow_array.specs.Batch.{Table}
 use Rattle.arrow_stream.specs.declared.fault.Fault.{Fault}
 use Rattle.arrow_stream.specs.declared.item.Item.{Item}
-use Rattle.arrow_stream.specs.declared.reader.Verdict.TheVariants.{Open, Done}
+use Rattle.arrow_stream.specs.declared.reader.Verdict.TheVariants.{Done}
 use Rattle.arrow_stream.specs.Front.{Entry}
 use Rattle.arrow_stream.specs.Kind.{kind_of}
 use Rattle.arrow_stream.specs.State.{ended}
@@ -73,7 +73,7 @@ module _ (first now new : Shows) (kept kept' : List Table) (piece rest : List �
       let d = end_is_done g.stands.front o.entries (record { given = given item; end = length (t ++ i.taken) + n }) refl marker in
       let next = fed_out first new t (i.taken ++ take n rest) kept kept'' (fed_next first now new kept kept' i.taken rest i.feeds kept'' n item gives k) h in
       let all : (t ++ (i.taken ++ take n rest)) ++ drop n rest ≡ t ++ piece =
-          append_assoc t (i.taken ++ take n rest) (drop n rest) ∙ ap (λ y. t ++ y) (append_assoc i.taken (take n rest) (drop n rest) ∙ ap (λ y. i.taken ++ y) (take-append-drop n rest) ∙ i.whole) in
+      append_assoc t (i.taken ++ take n rest) (drop n rest) ∙ ap (λ y. t ++ y) (append_assoc i.taken (take n rest) (drop n rest) ∙ ap (λ y. i.taken ++ y) (take-append-drop n rest) ∙ i.whole) in
       (out_at new kept'' _ (t ++ piece) all (out_ended new kept'' (t ++ (i.taken ++ take n rest)) (drop n rest) d next), λ q. d)
 
   -- no item came: the rest is taken too

@@ -34,8 +34,11 @@ pub fn drill<R: Read>(
     limits: &Limits,
 ) -> Result<String, ToolFault>
     requires { 0 < piece }
-    ensures { Drills R.remaining (record { limits = limits.now; options = options_view options;
-        deliver = bytes }) inputs.old inputs.new result }
+    ensures { Drills R.remaining (record {
+      limits = limits.now;
+      options = options_view options;
+      deliver = bytes;
+    }) inputs.old inputs.new result }
 {
     let terms = Terms {
         alloc,

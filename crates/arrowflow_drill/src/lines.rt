@@ -38,7 +38,10 @@ fn push_written(
     let parts = report.parts.len();
     let delivered = size.min(delivery.0);
     let piece = delivery.1;
-    write!(text, "connection {number}: wrote {size} bytes in {parts} parts, ")?;
+    write!(
+        text,
+        "connection {number}: wrote {size} bytes in {parts} parts, "
+    )?;
     write!(text, "delivered {delivered} in pieces of {piece}\n")
 }
 
@@ -76,7 +79,10 @@ fn push_handed(
 ) -> Result<(), AllocError> {
     let rows = rows_of(&report.received.handed)?;
     let handed = report.received.handed.len();
-    write!(text, "connection {number}: handed out {handed} of {batches} batches, ")?;
+    write!(
+        text,
+        "connection {number}: handed out {handed} of {batches} batches, "
+    )?;
     write!(text, "{rows} rows\n")
 }
 

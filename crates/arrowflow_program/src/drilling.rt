@@ -1,5 +1,7 @@
 //! The command `drill`: connections rehearsed over the streams in files.
 
+ghost use Rattle.std.specs.Prelude.{◌<◌};
+
 use crate::ends::{Source, open};
 use crate::{print_text, tell};
 use arrow_types::Limits;
@@ -21,6 +23,7 @@ pub(crate) fn drill_files<R: Files + Input + Print + Eprint>(
 ) -> u8
 where
     R::File: Drop,
+    requires { 0 < delivery.1 }
 {
     let mut inputs = match open_all(rt, alloc, names) {
         Ok(inputs) => inputs,
@@ -61,12 +64,8 @@ fn tell_of<R: Eprint>(rt: &R, alloc: Global, fault: &ToolFault, names: &[String]
 /// The name of the input that failed. Where another fault came, its line names none.
 fn failed_name<'a>(fault: &ToolFault, names: &'a [String]) -> &'a str {
     match fault {
-        ToolFault::Input(number) => names
-            .get(*number as usize)
-            .map_or("", |name| name.as_str()),
-        ToolFault::Output
-        | ToolFault::Stream(_)
-        | ToolFault::Refused(_, _)
-        | ToolFault::Memory => "",
+        ToolFault::Input(number) => names.get(*number as usize).map_or("", |name| name.as_str()),
+        ToolFault::Output | ToolFault::Stream(_) | ToolFault::Refused(_, _) | ToolFault::Memory =>
+            "",
     }
 }

@@ -2,6 +2,8 @@
 //! prints what that gives, and ends with the call's exit status.
 #![tactic(auto)]
 
+ghost use Rattle.arrowflow_program.specs.Plans.{HasPieces};
+
 mod drilling;
 mod ends;
 mod pipe;
@@ -66,6 +68,7 @@ where
 fn carry_out<R: Files + Input + Print + Eprint>(rt: &R, alloc: Global, plan: &Plan) -> u8
 where
     R::File: Drop,
+    requires { HasPieces plan.now }
 {
     match plan {
         Plan::Schema(name) => print_schema(rt, alloc, name),

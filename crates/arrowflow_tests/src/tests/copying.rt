@@ -136,7 +136,10 @@ fn assert_cut_off(rt: &impl Abort, alloc: Global, count: usize, whole: usize, ex
     let mut input = GROWING.get(..count).expect(rt, "so many bytes");
     let (bytes, ending) = copied(rt, alloc, &mut input, DELTA, &Limits::standard());
     assert_eq!(rt; ending.as_str(), expected);
-    assert!(rt; Some(bytes.as_slice()) == GROWING.get(..whole), "{count} bytes");
+    assert!(rt;
+        Some(bytes.as_slice()) == GROWING.get(..whole),
+        "{count} bytes"
+    );
 }
 
 #[test]

@@ -1,4 +1,4 @@
-use Rattle.std.proofs.Common.{◌≡◌, ◌++◌, ℕ, List, Err, sym, ap, ◌∙◌, subst, ◌⊎◌}
+use Rattle.std.proofs.Common.{ℕ, List, Err, sym, ap, subst, ◌⊎◌}
 use Rattle.std.proofs.lemmas.List.{take_rest}
 use Rattle.arrow_stream.specs.Front.{Entry}
 use Rattle.arrow_stream.specs.Stream.{GivesNext, Refuses, Stands, TakesOn, WantsMemory}

@@ -1,4 +1,4 @@
-use Rattle.std.proofs.Common.{◌≡◌, ◌<◌, ◌++◌, take, length, Ok, refl, ap, ◌∙◌, arith}
+use Rattle.std.proofs.Common.{◌++◌, take, Ok, refl, ap, ◌∙◌, arith}
 use Rattle.std.proofs.KnownBytes.{Consumes-trans}
 use Rattle.arrowflow.specs.Reports.{IsOpenAt}
 use Rattle.arrowflow.proofs.Reading.{less_left, piece_some, read_last}
