@@ -18,9 +18,9 @@ use std::io::Read;
 /// (Columnar Format, "IPC Streaming Format").
 ///
 /// The inputs are read one after the other, in pieces of 65,536 bytes, each up to an end marker or
-/// to its end. The first that cannot be read or is refused ends it, before anything is sent: `Input`
-/// with its number from 0 where a read failed, an interrupted one included; `Stream` where the
-/// stream is refused, or where it ends without being at the end of a message after its schema.
+/// to its end. The first that cannot be read or is refused ends it, before anything is sent:
+/// `Input` with its number from 0 where a read failed, an interrupted one included; `Stream` where
+/// the stream is refused, or where it ends without being at the end of a message after its schema.
 /// `Memory` where an allocation failed. What a writer refuses, and how the connections end, is no
 /// fault: the text tells of it. What stands in the text is shown by tests.
 ///

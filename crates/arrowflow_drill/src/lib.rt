@@ -1,10 +1,10 @@
 //! Connections rehearsed: streams are read, and sent again over connections that break.
 //!
-//! [`drill`] reads each input as one connection, runs the connections twice by
+//! [`drill`] takes inputs with streams, reads each as one connection, runs the connections by
 //! `arrow_session::session::run`, and gives a text that tells what was sent and received of each.
-//! Which connections come of the inputs is said by `AreRead` (`specs/Reading.antt`), what comes of
-//! them by `Reports` of `arrow_session`, and what is told of that by `drill_text`
-//! (`specs/Text.antt`).
+//! What an input is read as, and how that ends, is said by `specs/Reading.antt`, and what is
+//! answered of all inputs by `Drills` (`specs/Drill.antt`), in the words of `arrow_stream` and
+//! `arrow_session`. What stands in the lines is shown by tests.
 #![tactic(auto)]
 
 mod drilling;
