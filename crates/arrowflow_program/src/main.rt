@@ -2,9 +2,13 @@
 //! prints what that gives, and ends with the call's exit status.
 #![tactic(auto)]
 
+ghost use Rattle.arrowflow_program.specs.Plans.{HasPieces};
+
+mod drilling;
 mod ends;
 mod pipe;
 
+use crate::drilling::drill_files;
 use crate::ends::{create, input_name, is_same_file, open, output_name};
 use crate::pipe::Pipe;
 use arrow_sink::Counted;
@@ -64,15 +68,15 @@ where
 fn carry_out<R: Files + Input + Print + Eprint>(rt: &R, alloc: Global, plan: &Plan) -> u8
 where
     R::File: Drop,
+    requires { HasPieces plan.now }
 {
     match plan {
         Plan::Schema(name) => print_schema(rt, alloc, name),
         Plan::Check(name) => print_messages(rt, alloc, name),
         Plan::Show(name) => print_rows(rt, alloc, name),
         Plan::Copy(input, output, options) => copy_file(rt, alloc, input, output, *options),
-        Plan::Drill(_, _, _, _) => {
-            let _ = eprintln!(rt; "drill is not written yet");
-            FAILED
+        Plan::Drill(names, options, bytes, piece) => {
+            drill_files(rt, alloc, names, *options, (*bytes, *piece))
         }
     }
 }
@@ -97,16 +101,19 @@ where
         Err(fault) => return tell(rt, alloc, &fault, name, "-"),
     };
     match schema_text(alloc, &mut file, &Limits::standard()) {
-        Ok(text) => {
-            let mut output = Pipe::new(io::writer(rt));
-            let answer = match output.write_all(text.as_bytes()) {
-                Ok(()) => Ok(()),
-                Err(_) => Err(ToolFault::Output),
-            };
-            status_of(rt, alloc, answer, (name, "-"), &output)
-        }
+        Ok(text) => print_text(rt, alloc, &text),
         Err(fault) => tell(rt, alloc, &fault, name, "-"),
     }
+}
+
+/// Prints a text to standard output, and gives the exit status.
+pub(crate) fn print_text<R: Print + Eprint>(rt: &R, alloc: Global, text: &str) -> u8 {
+    let mut output = Pipe::new(io::writer(rt));
+    let answer = match output.write_all(text.as_bytes()) {
+        Ok(()) => Ok(()),
+        Err(_) => Err(ToolFault::Output),
+    };
+    status_of(rt, alloc, answer, ("-", "-"), &output)
 }
 
 /// Prints a line for each message of the stream in the file of this name.
@@ -183,7 +190,13 @@ fn status_of<R: Eprint, W: Write>(
 
 /// Tells a fault of a call that read the input of the first name and wrote the output of the
 /// second, and gives its status.
-fn tell<R: Eprint>(rt: &R, alloc: Global, fault: &ToolFault, read: &str, written: &str) -> u8 {
+pub(crate) fn tell<R: Eprint>(
+    rt: &R,
+    alloc: Global,
+    fault: &ToolFault,
+    read: &str,
+    written: &str,
+) -> u8 {
     let Ok(line) = fault.line(alloc, input_name(read), output_name(written)) else {
         return out_of_memory(rt);
     };

@@ -2,6 +2,7 @@
 
 mod command_line;
 mod copying;
+mod drilling;
 mod edits;
 mod failures;
 mod growing;

@@ -7,14 +7,14 @@ use super::streams::ONE_BATCH;
 use super::told::{Call, assert_told};
 use arrow_body_write::Align;
 use arrow_dict::Updates;
-use arrow_sink::probe::{Failing, Narrow};
+use arrow_sink::probe::{Failing, Narrow, Trickle};
 use arrow_sink::{Counted, Sink};
 use arrow_types::Limits;
 use arrow_writer::Options;
 use arrowflow::ToolFault;
 use arrowflow_copy::copy;
 use std::alloc::Global;
-use std::io::Read;
+use std::io::{ErrorKind, Read};
 use std::process::Abort;
 
 const DELTA: Options = Options {
@@ -88,6 +88,66 @@ fn buffers_are_padded_as_asked(rt: HostRuntime) {
 fn an_end_marker_is_written_where_there_was_none(rt: HostRuntime) {
     let back = copy_of(&rt, rt.alloc(), &ONE_BATCH[..328], DELTA);
     assert!(rt; back.as_slice() == ONE_BATCH.as_slice());
+}
+
+/// How many bytes of one batch are whole messages in its first bytes, the end marker aside.
+fn whole_messages(count: usize) -> usize {
+    match count {
+        0..152 => 0,
+        152..328 => 152,
+        _ => 328,
+    }
+}
+
+/// Of an input that fails after so many bytes the whole messages are copied.
+fn assert_copied_to_failure(rt: &impl Abort, alloc: Global, place: usize) {
+    let fails = Some((place, ErrorKind::Interrupted));
+    let mut input = Trickle::new(ONE_BATCH.as_slice(), 7, fails);
+    let (bytes, ending) = copied(rt, alloc, &mut input, DELTA, &Limits::standard());
+    assert_eq!(rt; ending.as_str(), "2 cannot read in", "{place} bytes");
+    let whole = ONE_BATCH.get(..whole_messages(place));
+    assert!(rt; Some(bytes.as_slice()) == whole, "{place} bytes");
+}
+
+#[test]
+fn the_input_fails(rt: HostRuntime) {
+    let alloc = rt.alloc();
+    for place in 0..336 {
+        assert_copied_to_failure(&rt, alloc, place);
+    }
+    let mut input = Trickle::new(ONE_BATCH.as_slice(), 7, Some((336, ErrorKind::Other)));
+    let (bytes, ending) = copied(&rt, alloc, &mut input, DELTA, &Limits::standard());
+    assert_eq!(&rt; ending.as_str(), "");
+    assert!(&rt; bytes.as_slice() == ONE_BATCH.as_slice());
+}
+
+/// Where a copy of growing dictionaries ends that has so many bytes of them, and its fault.
+static EARLY: [(usize, usize, &str); 7] = [
+    (0, 0, "1 fault at byte 0: NoSchema"),
+    (199, 0, "1 fault at byte 0: NoSchema"),
+    (201, 200, "1 fault at byte 200: Truncated"),
+    (425, 200, "1 fault at byte 424: Truncated"),
+    (815, 592, "1 fault at byte 592: Truncated"),
+    (975, 592, "1 fault at byte 816: Truncated"),
+    (1375, 1368, "1 fault at byte 1368: Truncated"),
+];
+
+fn assert_cut_off(rt: &impl Abort, alloc: Global, count: usize, whole: usize, expected: &str) {
+    let mut input = GROWING.get(..count).expect(rt, "so many bytes");
+    let (bytes, ending) = copied(rt, alloc, &mut input, DELTA, &Limits::standard());
+    assert_eq!(rt; ending.as_str(), expected);
+    assert!(rt;
+        Some(bytes.as_slice()) == GROWING.get(..whole),
+        "{count} bytes"
+    );
+}
+
+#[test]
+fn the_input_ends_early(rt: HostRuntime) {
+    let alloc = rt.alloc();
+    for (count, whole, expected) in &EARLY {
+        assert_cut_off(&rt, alloc, *count, *whole, expected);
+    }
 }
 
 /// In a sink that takes so many bytes stands the beginning of the copy, and it was flushed and

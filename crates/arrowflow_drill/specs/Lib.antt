@@ -1,0 +1,4 @@
+pub mod Reading
+pub mod Terms
+pub mod Counts
+pub mod Drill

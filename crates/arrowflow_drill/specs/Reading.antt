@@ -1,0 +1,142 @@
+-- Inputs that are read as connections (Columnar Format, "IPC Streaming Format").
+use Rattle.std.specs.Prelude.{◌≡◌, ◌⊎◌, ℕ, ◌+◌, true, Bool, IsTrue, List, [], ◌∷◌, ◌++◌, map, Option, Some, Result, Ok, Err, Vec, ⊤}
+use Rattle.std.specs.Io.KnownBytes.{Consumes}
+use Rattle.std.specs.declared.alloc.Global.{Global}
+use Rattle.arrow_types.specs.Field.{Fields}
+use Rattle.arrow_types.specs.Limits.{LimitNumbers}
+use Rattle.arrow_array.specs.Batch.{Table}
+use Rattle.arrow_stream.specs.declared.fault.Fault.{Fault}
+use Rattle.arrow_stream.specs.declared.reader.Verdict.TheVariants.{Done}
+use Rattle.arrow_stream.specs.Front.{Entry, Standing, FrontOf}
+use Rattle.arrow_stream.specs.Stream.{Shows}
+use Rattle.arrow_stream.specs.Tables.{tables_of}
+use Rattle.arrow_written.specs.Sizes.{Options}
+use Rattle.arrow_session.specs.Asked.{Asked, asked_of}
+use Rattle.arrow_session.specs.declared.session.Connection.{Connection}
+use Rattle.arrowflow.specs.Pieces.{HandsOut}
+use Rattle.arrowflow.specs.Reads.{IsReadWhile}
+use Rattle.arrowflow.specs.Reports.{EndsBadly, EndsWell, IsBadBy, IsOpenAt}
+use Rattle.arrowflow.specs.declared.pieces.ReadFailed.{ReadFailed}
+use Rattle.arrowflow.specs.declared.tool_fault.ToolFault.{ToolFault}
+use Rattle.arrowflow.specs.declared.tool_fault.ToolFault.TheVariants.{Input, Output, Stream, Refused, Memory}
+
+-- ---- a piece
+
+-- With these bytes a piece was given to the reader, and the batches of their messages were kept; the answer tells whether an end
+-- marker came, or how the stream is refused.
+abbrev pub PieceKept : List ℕ → Result Bool ToolFault → Shows → List Table → Type 0
+PieceKept bytes (Ok ends) new kept = HandsOut bytes kept new × (IsTrue ends → new.at.verdict ≡ Done)
+PieceKept bytes (Err (Stream fault)) new kept = HandsOut bytes kept new × IsBadBy new.at.verdict new.at.place fault
+PieceKept bytes (Err Memory) new kept = ⊤
+PieceKept bytes (Err (Input number)) new kept = ⊥
+PieceKept bytes (Err Output) new kept = ⊥
+PieceKept bytes (Err (Refused what kind)) new kept = ⊥
+
+-- the same for all bytes before the piece of which the batches were kept
+abbrev pub KeepsPiece : Shows → List Table → List ℕ → Result Bool ToolFault → Shows → List Table → Type 0
+KeepsPiece old kept piece answer new kept' = (t : List ℕ) → HandsOut t kept old → PieceKept (t ++ piece) answer new kept'
+
+-- ---- a stream
+
+-- These bytes are a stream that ends well, of this schema and these batches.
+pub record IsWhole (limits : LimitNumbers) (bytes : List ℕ) (left : Option (List ℕ)) (schema : Option Fields) (batches : List Table) : Type 0 where
+  pub entries : List Entry
+  pub standing : Standing
+  pub front : FrontOf limits bytes entries standing
+  pub ends : EndsWell left standing
+  pub schema_is : schema ≡ standing.state.schema
+  pub batches_are : batches ≡ tables_of entries
+
+-- They are a stream that is refused, or ends too early, by this fault.
+pub record IsRefused (limits : LimitNumbers) (bytes : List ℕ) (left : Option (List ℕ)) (fault : Fault) : Type 0 where
+  pub entries : List Entry
+  pub standing : Standing
+  pub front : FrontOf limits bytes entries standing
+  pub ends : EndsBadly left standing fault
+
+-- what these bytes decided of an input of which this is left: nothing of them holds the input to have failed
+abbrev pub Decides : LimitNumbers → List ℕ → Option (List ℕ) → Result (Unit {0}) ToolFault → Option Fields → List Table → Type 0
+Decides limits bytes left (Ok done) schema batches = IsWhole limits bytes left schema batches
+Decides limits bytes left (Err (Stream fault)) schema batches = IsRefused limits bytes left fault
+Decides limits bytes left (Err Memory) schema batches = ⊤
+Decides limits bytes left (Err (Input number)) schema batches = ⊥
+Decides limits bytes left (Err Output) schema batches = ⊥
+Decides limits bytes left (Err (Refused what kind)) schema batches = ⊥
+
+-- the same, or that a read failed where the bytes before it call for more
+abbrev pub DecidesOrFails : LimitNumbers → List ℕ → Option (List ℕ) → Result (Result (Unit {0}) ToolFault) ReadFailed → Option Fields → List Table → Type 0
+DecidesOrFails limits bytes left (Ok answer) schema batches = Decides limits bytes left answer schema batches
+DecidesOrFails limits bytes left (Err failed) schema batches = IsOpenAt limits bytes
+
+-- The same of an input that had these bytes before and has these after it. No piece was read after the one in which the stream is
+-- refused or ends with its marker.
+abbrev pub ReadsStream : LimitNumbers → Option (List ℕ) → Option (List ℕ) → Result (Result (Unit {0}) ToolFault) ReadFailed → Option Fields → List Table → Type 0
+ReadsStream limits had left answer schema batches =
+    (bytes : List ℕ) × Consumes had left bytes × IsReadWhile (IsOpenAt limits) bytes × DecidesOrFails limits bytes left answer schema batches
+
+-- ---- connections
+
+-- how streams are read, and what is asked of their connections besides: how they are sent, and how many bytes are delivered
+pub record Asks : Type 0 where
+  pub limits : LimitNumbers
+  pub options : Options
+  pub deliver : ℕ
+
+-- The connection of a stream: its schema and its batches, with an end marker.
+pub record IsConnectionOf (asks : Asks) (bytes : List ℕ) (left : Option (List ℕ)) (c : Asked) : Type 0 where
+  pub stream : IsWhole asks.limits bytes left (Some c.fields) c.batches
+  pub options_are : c.options ≡ asks.options
+  pub finishes : c.finish ≡ true
+  pub delivers : c.deliver ≡ asks.deliver
+
+-- What comes of the input of this number. Of faults a failed read is the input's alone.
+abbrev pub Brings : Asks → ℕ → List ℕ → Option (List ℕ) → Result Asked ToolFault → Type 0
+Brings asks number bytes left (Ok c) = IsConnectionOf asks bytes left c
+Brings asks number bytes left (Err (Stream fault)) = IsRefused asks.limits bytes left fault
+Brings asks number bytes left (Err (Input n)) = (n ≡ number) × IsOpenAt asks.limits bytes
+Brings asks number bytes left (Err Memory) = ⊤
+Brings asks number bytes left (Err Output) = ⊥
+Brings asks number bytes left (Err (Refused what kind)) = ⊥
+
+-- the same of one that had these bytes before and has these after it
+abbrev pub IsRead : Asks → ℕ → Option (List ℕ) → Option (List ℕ) → Result Asked ToolFault → Type 0
+IsRead asks number had left answer =
+    (bytes : List ℕ) × Consumes had left bytes × IsReadWhile (IsOpenAt asks.limits) bytes × Brings asks number bytes left answer
+
+-- what is asked of the connection that came of an input, or its fault
+abbrev pub asked_in : Result Connection ToolFault → Result Asked ToolFault
+asked_in (Ok c) = Ok (asked_of c)
+asked_in (Err fault) = Err fault
+
+-- The inputs from this number on, of which each had bytes before and has bytes after it, were read one after another, each as a
+-- connection.
+abbrev pub AreRead : {R : Type 0} → (R → Option (List ℕ)) → Asks → ℕ → List R → List R → List Asked → Type 0
+AreRead remaining asks number [] [] [] = Unit {0}
+AreRead remaining asks number [] [] (c ∷ cs) = ⊥
+AreRead remaining asks number [] (left ∷ lefts) cs = ⊥
+AreRead remaining asks number (had ∷ hads) [] cs = ⊥
+AreRead remaining asks number (had ∷ hads) (left ∷ lefts) [] = ⊥
+AreRead remaining asks number (had ∷ hads) (left ∷ lefts) (c ∷ cs) =
+    IsRead asks number (remaining had) (remaining left) (Ok c) × AreRead remaining asks (number + 1) hads lefts cs
+
+-- One of them ended it with this fault: those before it were read as connections, those after it not at all.
+abbrev pub EndsReading : {R : Type 0} → (R → Option (List ℕ)) → Asks → ℕ → List R → List R → ToolFault → Type 0
+EndsReading remaining asks number [] lefts fault = ⊥
+EndsReading remaining asks number (had ∷ hads) [] fault = ⊥
+EndsReading remaining asks number (had ∷ hads) (left ∷ lefts) fault =
+    (IsRead asks number (remaining had) (remaining left) (Err fault) × (lefts ≡ hads))
+    ⊎ (((c : Asked) × IsRead asks number (remaining had) (remaining left) (Ok c)) × EndsReading remaining asks (number + 1) hads lefts fault)
+
+-- What comes of all inputs. Want of memory may end it at any time.
+abbrev pub ReadsAll : {R : Type 0} → (R → Option (List ℕ)) → Asks → List R → List R → Result (List Asked) ToolFault → Type 0
+ReadsAll remaining asks hads lefts (Ok cs) = AreRead remaining asks 0 hads lefts cs
+ReadsAll remaining asks hads lefts (Err (Stream fault)) = EndsReading remaining asks 0 hads lefts (Stream fault)
+ReadsAll remaining asks hads lefts (Err (Input number)) = EndsReading remaining asks 0 hads lefts (Input number)
+ReadsAll remaining asks hads lefts (Err Memory) = ⊤
+ReadsAll remaining asks hads lefts (Err Output) = ⊥
+ReadsAll remaining asks hads lefts (Err (Refused what kind)) = ⊥
+
+-- what is asked of the connections that came of all inputs, or the fault
+abbrev pub all_asked_in : Result (Vec Connection Global) ToolFault → Result (List Asked) ToolFault
+all_asked_in (Ok cs) = Ok (map asked_of cs.items)
+all_asked_in (Err fault) = Err fault

@@ -1,0 +1,115 @@
+//! Connections rehearsed, and what is told of them.
+
+ghost use Rattle.std.specs.Prelude.{◌≡◌, ◌<◌, ◌^◌, ◌≤◌, IfOk, length};
+ghost use Rattle.arrow_session.specs.Report.{Reports};
+ghost use Rattle.arrow_writer.specs.Shown.{options_view};
+ghost use Rattle.arrowflow_drill.specs.Drill.{AskTheSame, Drills};
+
+use crate::lines::{push_connection, size_of};
+use crate::reading::{Terms, read_all};
+use arrow_session::session::{Connection, Options, Report, run};
+use arrow_types::Limits;
+use arrowflow::ToolFault;
+use std::alloc::{AllocError, Global};
+use std::io::Read;
+
+/// Reads each input as one connection, writes its batches again, with an end marker, as the options
+/// say, delivers the first so many bytes of it in pieces of a length, and tells what came of it
+/// (Columnar Format, "IPC Streaming Format").
+///
+/// The inputs are read one after the other, in pieces of 65,536 bytes, each up to an end marker or
+/// to its end. The first that cannot be read or is refused ends it, before anything is sent:
+/// `Input` with its number from 0 where a read failed, an interrupted one included; `Stream` where
+/// the stream is refused, or where it ends without being at the end of a message after its schema.
+/// `Memory` where an allocation failed. What a writer refuses, and how the connections end, is no
+/// fault: the text tells of it. What stands in the text is shown by tests.
+///
+/// All batches of all inputs are held, and what is sent of them.
+pub fn drill<R: Read>(
+    alloc: Global,
+    inputs: &mut [R],
+    options: Options,
+    bytes: u64,
+    piece: u64,
+    limits: &Limits,
+) -> Result<String, ToolFault>
+    requires { 0 < piece }
+    ensures { Drills R.remaining (record {
+      limits = limits.now;
+      options = options_view options;
+      deliver = bytes;
+    }) inputs.old inputs.new result }
+{
+    let terms = Terms {
+        alloc,
+        limits: *limits,
+        options,
+        deliver: bytes,
+    };
+    let mut connections = read_all(&terms, inputs)?;
+    let Ok(reports) = rehearse(alloc, *limits, &mut connections, piece) else {
+        return Err(ToolFault::Memory);
+    };
+    match text_of(alloc, &connections, &reports, piece) {
+        Ok(text) => Ok(text),
+        Err(_) => Err(ToolFault::Memory),
+    }
+}
+
+/// Runs connections in pieces of this length. A first run, in one piece, tells how many there are
+/// of them.
+fn rehearse(
+    alloc: Global,
+    limits: Limits,
+    connections: &mut [Connection],
+    piece: u64,
+) -> Result<Vec<Report>, AllocError>
+    requires { 0 < piece }
+    ensures reports { IfOk result (λ reports. Reports limits connections.new reports.items) }
+    ensures same { AskTheSame connections.old connections.new }
+{
+    let whole = run(alloc, limits, connections)?;
+    cut_up(alloc, connections, &whole, piece)?;
+    run(alloc, limits, connections)
+}
+
+/// Has each connection delivered in pieces of this length. The reports tell how many bytes there
+/// are of it.
+fn cut_up(
+    alloc: Global,
+    connections: &mut [Connection],
+    reports: &[Report],
+    piece: u64,
+) -> Result<(), AllocError>
+    requires piece { 0 < piece }
+    requires reports { length reports.now ≡ length connections.old }
+    ensures { AskTheSame connections.old connections.new }
+{
+    for (number, connection) in connections.iter_mut().enumerate() {
+        let delivered = size_of(&reports[number].parts)?.min(connection.deliver);
+        connection.cuts = cuts(alloc, delivered, piece)?;
+    }
+    Ok(())
+}
+
+/// The lengths of the pieces of so many bytes, but for the last one.
+fn cuts(alloc: Global, bytes: u64, piece: u64) -> Result<Vec<usize>, AllocError>
+    requires { 0 < piece }
+{
+    let count = bytes.saturating_sub(1) / piece;
+    Vec::from_elem(alloc, piece as usize, count as usize)
+}
+
+/// The lines of all connections, which were delivered in pieces of this length.
+fn text_of(
+    alloc: Global,
+    connections: &[Connection],
+    reports: &[Report],
+    piece: u64,
+) -> Result<String, AllocError> {
+    let mut text = String::new(alloc);
+    for (number, (connection, report)) in connections.iter().zip(reports).enumerate() {
+        push_connection(&mut text, number, connection, report, piece)?;
+    }
+    Ok(text)
+}
