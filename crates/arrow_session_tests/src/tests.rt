@@ -12,6 +12,7 @@ mod reading;
 mod session;
 mod stream;
 mod telling;
+mod writers;
 
 use arrow_writer::laws;
 

@@ -2,11 +2,10 @@
 //! it.
 
 use super::beginnings::{GROWN, beginning};
-use super::calls::{assert_shown, finished, written};
-use super::copies::DELTA;
 use super::reading::{batch_of, batches_of, received, schema_of};
 use super::stream::Stream::{Growing, Other};
 use super::telling::received_told;
+use super::writers::{DELTA, assert_shown, finished, written};
 use arrow_array::Batch;
 use arrow_sink::Sink;
 use arrow_sink::probe::{Failing, Narrow};
@@ -15,8 +14,8 @@ use arrow_writer::StreamWriter;
 use arrow_written::WriteFault;
 use std::process::Abort;
 
-/// What is written: the schema and the batches of `Stream::Growing`, and at the end a batch of another
-/// schema.
+/// What is written: the schema and the batches of `Stream::Growing`, and at the end a batch of
+/// another schema.
 #[derive(Drop)]
 struct Letters {
     schema: Schema,
@@ -24,7 +23,7 @@ struct Letters {
     other: Batch,
 }
 
-fn letters(rt: &(impl Abort + AllocGlobal)) -> Letters {
+fn all_letters(rt: &(impl Abort + AllocGlobal)) -> Letters {
     Letters {
         schema: schema_of(rt, Growing),
         batches: batches_of(rt, Growing),
@@ -32,12 +31,18 @@ fn letters(rt: &(impl Abort + AllocGlobal)) -> Letters {
     }
 }
 
-/// Where the part of each batch begins and ends, and the dictionaries that were sent with it.
-static PARTS: [(usize, usize, &str); 3] = [
-    (200, 592, "0:abc "),
-    (592, 976, "0:abcde "),
-    (976, 1368, "0:acde "),
-];
+/// Where the part of each batch begins and ends.
+static PARTS: [(usize, usize); 3] = [(200, 592), (592, 976), (976, 1368)];
+
+/// The dictionaries that were sent with the whole parts in the first `len` bytes.
+fn sent(len: usize) -> &'static str {
+    match len {
+        0..592 => "",
+        592..976 => "0:abc ",
+        976..1368 => "0:abcde ",
+        _ => "0:acde ",
+    }
+}
 
 /// What a call answers that sends the bytes between these places, into a sink for `left` bytes.
 fn answer(left: usize, begin: usize, end: usize) -> Option<WriteFault> {
@@ -59,17 +64,14 @@ fn assert_batches(
     left: usize,
 ) {
     assert_eq!(rt; batches.len(), PARTS.len());
-    let mut sent = "";
-    for (batch, (begin, end, whole)) in batches.iter().zip(&PARTS) {
+    for (batch, (begin, end)) in batches.iter().zip(&PARTS) {
         let refusal = written(rt, writer, batch);
         assert!(rt;
             refusal == answer(left, *begin, *end),
             "{left} bytes, at {begin}"
         );
-        if refusal.is_none() {
-            sent = whole;
-        }
-        assert_shown(rt, writer, Growing, left.min(*end), sent);
+        let len = left.min(*end);
+        assert_shown(rt, writer, Growing, len, sent(len));
     }
 }
 
@@ -119,7 +121,7 @@ fn assert_broken(rt: &(impl Abort + AllocGlobal), it: &Letters, failing: Failing
 
 #[test]
 fn sinks_that_answer_an_error(rt: HostRuntime) {
-    let letters = letters(&rt);
+    let letters = all_letters(&rt);
     for left in 0..1376 {
         assert_broken(&rt, &letters, Failing::ByError, left);
     }
@@ -127,7 +129,7 @@ fn sinks_that_answer_an_error(rt: HostRuntime) {
 
 #[test]
 fn sinks_that_take_nothing(rt: HostRuntime) {
-    let letters = letters(&rt);
+    let letters = all_letters(&rt);
     for left in 0..1376 {
         assert_broken(&rt, &letters, Failing::ByNothing, left);
     }
@@ -157,7 +159,7 @@ fn assert_whole(
 
 #[test]
 fn sinks_that_take_all(rt: HostRuntime) {
-    let letters = letters(&rt);
+    let letters = all_letters(&rt);
     let fine = (None, WriteFault::Finished);
     assert_whole(&rt, &letters, (Failing::ByError, 1376), fine, (1, 0));
     assert_whole(&rt, &letters, (Failing::ByNothing, 5_000), fine, (1, 0));

@@ -23,11 +23,11 @@ fn texts(rt: &(impl Abort + AllocGlobal)) -> Schema {
     Schema::new(rt.alloc(), fields).expect(rt, "a schema")
 }
 
-/// A builder of a column of the schema.
-fn builder(rt: &(impl Abort + AllocGlobal), schema: &Schema, k: usize) -> ArrayBuilder {
+/// A builder of the first column of the schema.
+fn builder(rt: &(impl Abort + AllocGlobal), schema: &Schema) -> ArrayBuilder {
     let fields = schema.fields();
-    assert!(rt; k < fields.len());
-    ArrayBuilder::new(rt.alloc(), &fields[k]).expect(rt, MEMORY)
+    assert!(rt; !fields.is_empty());
+    ArrayBuilder::new(rt.alloc(), &fields[0]).expect(rt, MEMORY)
 }
 
 fn push_text(rt: &(impl Abort + AllocGlobal), column: &mut ArrayBuilder, text: &str) {
@@ -37,7 +37,7 @@ fn push_text(rt: &(impl Abort + AllocGlobal), column: &mut ArrayBuilder, text: &
 
 /// The dictionary of these texts.
 fn dictionary(rt: &(impl Abort + AllocGlobal), words: &[&str]) -> Dictionary {
-    let mut column = builder(rt, &texts(rt), 0);
+    let mut column = builder(rt, &texts(rt));
     for word in words {
         push_text(rt, &mut column, word);
     }
@@ -46,15 +46,14 @@ fn dictionary(rt: &(impl Abort + AllocGlobal), words: &[&str]) -> Dictionary {
     Dictionary::from_array(rt.alloc(), values).expect(rt, MEMORY)
 }
 
-/// The column of these indices into the dictionary of these texts.
+/// The first column of the schema, of these indices into the dictionary of these texts.
 fn column(
     rt: &(impl Abort + AllocGlobal),
     schema: &Schema,
-    k: usize,
     words: &[&str],
     indices: &[i128],
 ) -> Array {
-    let mut column = builder(rt, schema, k);
+    let mut column = builder(rt, schema);
     for index in indices {
         column.push(&Value::Int(*index)).expect(rt, "an index");
     }
@@ -82,18 +81,19 @@ pub(super) fn letters(rt: &(impl Abort + AllocGlobal), words: &[&str], indices: 
     let schema = schema_of(rt, Growing);
     let mut columns = Vec::new(rt.alloc());
     columns
-        .push(column(rt, &schema, 0, words, indices))
+        .push(column(rt, &schema, words, indices))
         .expect(rt, MEMORY);
     batch(rt, schema, columns, indices.len())
 }
 
-/// One row of the columns of `Stream::TwiceX`, each with a dictionary of its own.
+/// One row of the columns of `Stream::TwiceX`, which have one type, each with a dictionary of its
+/// own.
 pub(super) fn pair(rt: &(impl Abort + AllocGlobal), words: [&str; 2]) -> Batch {
     let schema = schema_of(rt, TwiceX);
     let mut columns = Vec::new(rt.alloc());
-    for (k, word) in words.iter().enumerate() {
+    for word in &words {
         columns
-            .push(column(rt, &schema, k, &[*word], &[0]))
+            .push(column(rt, &schema, &[*word], &[0]))
             .expect(rt, MEMORY);
     }
     batch(rt, schema, columns, 1)

@@ -2,19 +2,14 @@
 //! then show.
 
 use super::building::{letters, pair};
-use super::copies::{DELTA, RESEND};
 use super::reading::{batch_of, schema_of};
 use super::stream::Stream::{
     self, FromNoValues, Gap, Growing, Hiding, NoColumns, Numbers, Numbers64, OnlyX, Other, Renamed,
     Resent, SecondLeftOut, Shared, Tidy, TwiceX,
 };
-use super::telling::dictionaries_told;
-use arrow_array::Batch;
-use arrow_body_write::Align;
-use arrow_dict::Updates;
+use super::writers::{DELTA, DELTA_64, RESEND, assert_shown, finished, limits_of, written};
 use arrow_sink::Sink;
 use arrow_sink::probe::{Failing, Narrow};
-use arrow_types::Limits;
 use arrow_writer::{Options, StreamWriter};
 use arrow_written::WriteFault::{self, DictionariesDiffer, Finished, SchemaDiffers, TooLarge};
 use std::process::Abort;
@@ -27,7 +22,7 @@ enum Call {
     /// A batch that was built: its dictionary and its indices.
     Built(&'static [&'static str], &'static [i128]),
     /// A batch that was built of two columns with these dictionaries for one id.
-    Pair([&'static str; 2]),
+    Pair(&'static str, &'static str),
     /// The end marker.
     Finish,
 }
@@ -49,11 +44,6 @@ struct Calls {
     /// What is sent by all calls, or more.
     written: Stream,
 }
-
-const DELTA_64: Options = Options {
-    updates: Updates::Delta,
-    align: Align::SixtyFour,
-};
 
 /// Limits that nothing here passes.
 const WIDE: (u64, u64, u64) = (1_000, 1_000, 1_000);
@@ -188,7 +178,7 @@ static REFUSED: [Calls; 4] = [
             (Read(Renamed, 0), (Some(SchemaDiffers), 200, "")),
             (ABC, (None, 592, "0:abc ")),
             (Read(Renamed, 0), (Some(SchemaDiffers), 592, "0:abc ")),
-            (Pair(["x", "y"]), (Some(SchemaDiffers), 592, "0:abc ")),
+            (Pair("x", "y"), (Some(SchemaDiffers), 592, "0:abc ")),
             (Read(NoColumns, 0), (Some(SchemaDiffers), 592, "0:abc ")),
             (ABCDE, (None, 976, "0:abcde ")),
             (Read(Other, 0), (Some(SchemaDiffers), 976, "0:abcde ")),
@@ -205,12 +195,12 @@ static REFUSED: [Calls; 4] = [
         options: DELTA,
         limits: WIDE,
         calls: &[
-            (Pair(["x", "y"]), (Some(DictionariesDiffer), 320, "")),
-            (Pair(["x", "x"]), (None, 752, "0:x ")),
-            (Pair(["y", "x"]), (Some(DictionariesDiffer), 752, "0:x ")),
+            (Pair("x", "y"), (Some(DictionariesDiffer), 320, "")),
+            (Pair("x", "x"), (None, 752, "0:x ")),
+            (Pair("y", "x"), (Some(DictionariesDiffer), 752, "0:x ")),
             (Read(OnlyX, 0), (Some(SchemaDiffers), 752, "0:x ")),
             (Finish, (None, 760, "0:x ")),
-            (Pair(["x", "y"]), (Some(Finished), 760, "0:x ")),
+            (Pair("x", "y"), (Some(Finished), 760, "0:x ")),
         ],
         written: TwiceX,
     },
@@ -219,8 +209,8 @@ static REFUSED: [Calls; 4] = [
         options: DELTA,
         limits: (1_000, 1_000, 0),
         calls: &[
-            (Pair(["x", "x"]), (Some(TooLarge), 320, "")),
-            (Pair(["x", "y"]), (Some(DictionariesDiffer), 320, "")),
+            (Pair("x", "x"), (Some(TooLarge), 320, "")),
+            (Pair("x", "y"), (Some(DictionariesDiffer), 320, "")),
             (ABC, (Some(SchemaDiffers), 320, "")),
         ],
         written: TwiceX,
@@ -328,12 +318,8 @@ static LIMITED: [Calls; 9] = [
     },
 ];
 
-fn limits_of(rt: &impl Abort, limits: (u64, u64, u64)) -> Limits {
-    Limits::new(limits.0, limits.1, limits.2).expect(rt, "limits")
-}
-
 /// A sink that takes all.
-pub(super) fn roomy(rt: &(impl Abort + AllocGlobal)) -> Narrow {
+fn roomy(rt: &(impl Abort + AllocGlobal)) -> Narrow {
     Narrow::new(rt.alloc(), usize::MAX, usize::MAX, Failing::ByError)
 }
 
@@ -348,22 +334,6 @@ fn started(rt: &(impl Abort + AllocGlobal), row: &Calls) -> StreamWriter<Narrow>
     }
 }
 
-/// What a batch is refused with.
-pub(super) fn written(
-    rt: &impl Abort,
-    writer: &mut StreamWriter<Narrow>,
-    batch: &Batch,
-) -> Option<WriteFault> {
-    assert!(rt; writer.sink().failures() < u64::MAX);
-    writer.write(batch).err()
-}
-
-/// What the end marker is refused with.
-pub(super) fn finished(rt: &impl Abort, writer: &mut StreamWriter<Narrow>) -> Option<WriteFault> {
-    assert!(rt; writer.sink().failures() < u64::MAX);
-    writer.finish().err()
-}
-
 fn called(
     rt: &(impl Abort + AllocGlobal),
     writer: &mut StreamWriter<Narrow>,
@@ -372,26 +342,9 @@ fn called(
     match call {
         Read(stream, number) => written(rt, writer, &batch_of(rt, stream, number)),
         Built(words, indices) => written(rt, writer, &letters(rt, words, indices)),
-        Pair(words) => written(rt, writer, &pair(rt, words)),
+        Pair(first, second) => written(rt, writer, &pair(rt, [first, second])),
         Finish => finished(rt, writer),
     }
-}
-
-/// The sink holds the first `len` of these bytes, and these dictionaries were sent.
-pub(super) fn assert_shown(
-    rt: &(impl Abort + AllocGlobal),
-    writer: &StreamWriter<Narrow>,
-    stream: Stream,
-    len: usize,
-    sent: &str,
-) {
-    assert_eq!(rt; writer.sink().taken().len(), len);
-    assert!(rt;
-        stream.bytes().get(..len) == Some(writer.sink().taken()),
-        "{len} bytes"
-    );
-    let text = dictionaries_told(rt, writer.sent().entries());
-    assert_eq!(rt; text.as_str(), sent, "{len} bytes");
 }
 
 fn assert_answers(rt: &(impl Abort + AllocGlobal), number: usize, row: &Calls) {

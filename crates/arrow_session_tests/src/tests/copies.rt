@@ -5,28 +5,12 @@ use super::stream::Stream::{
     self, ClosedGap, FromNoValues, Gap, Growing, Growing64, Hiding, ManyTypes, Nested, NoColumns,
     Numbers, Numbers64, Resent, Shared, Tidy, TwiceX,
 };
+use super::writers::{DELTA, DELTA_64, RESEND};
 use arrow_array::Batch;
-use arrow_body_write::Align;
-use arrow_dict::Updates;
 use arrow_sink::{Counted, Sink};
 use arrow_types::{Limits, Schema};
 use arrow_writer::{Options, StreamWriter};
 use std::process::Abort;
-
-pub(super) const DELTA: Options = Options {
-    updates: Updates::Delta,
-    align: Align::Eight,
-};
-
-pub(super) const RESEND: Options = Options {
-    updates: Updates::Resend,
-    align: Align::Eight,
-};
-
-const DELTA_64: Options = Options {
-    updates: Updates::Delta,
-    align: Align::SixtyFour,
-};
 
 /// A writer into memory.
 type Writer = StreamWriter<Counted<Vec<u8>>>;

@@ -2,12 +2,12 @@
 
 use super::beginnings::{self, Frame, beginning};
 use super::building::pair;
-use super::copies::{DELTA, RESEND};
 use super::reading::{batch_of, batches_of, schema_of};
 use super::stream::Stream::{
     self, ClosedGap, Empty, Gap, Growing, NoColumns, Other, Resent, SecondLeftOut, TwiceX,
 };
 use super::telling::{push_dictionaries, push_received};
+use super::writers::{DELTA, RESEND, limits_of};
 use arrow_array::Array;
 use arrow_session::session::{Connection, Options, Report, run};
 use arrow_types::Limits;
@@ -82,10 +82,6 @@ fn assert_reports(
     for (report, (text, stream)) in reports.iter().zip(expected) {
         assert_report(rt, report, text, stream, row);
     }
-}
-
-fn limits_of(rt: &impl Abort, limits: (u64, u64, u64)) -> Limits {
-    Limits::new(limits.0, limits.1, limits.2).expect(rt, "limits")
 }
 
 /// What is sent over a connection, and what of its first bytes comes at the other end.
@@ -238,12 +234,14 @@ fn connections_that_are_not_finished(rt: HostRuntime) {
     connections[1].finish = false;
     connections[1].batches.clear();
     connections[2].batches.clear();
+    let unfinished = Growing.bytes().get(..1368).expect(&rt, "all batches");
+    let schema = Growing.bytes().get(..200).expect(&rt, "a schema");
     let expected: [(&str, &[u8]); 3] = [
         (
             "200 392 384 392 0:acde | abc ea ce 0:acde Clean",
-            &Growing.bytes()[..1368],
+            unfinished,
         ),
-        ("200 | Clean", &Growing.bytes()[..200]),
+        ("200 | Clean", schema),
         ("200 8 | Clean", Empty.bytes()),
     ];
     assert_reports(&rt, Limits::standard(), &connections, &expected, 0);
