@@ -174,6 +174,7 @@ def streams():
     return {
         "growing_dictionary": b"".join(growing_dictionary()),
         "growing_dictionary_64": b"".join(growing_dictionary(64)),
+        "other_letters": b"".join(other_letters()),
         "one_batch": frames.ONE_COLUMN + frames.ONE_BATCH + END_MARKER,
         "all_null_indices": letters_schema() + batch(numbers([None, None, None])) + END_MARKER,
         "index_above": changed(abc, 584, b"\x03"),
@@ -236,26 +237,20 @@ def list_after_a_gap():
     return [schema(field("l", LIST, [field("item", INT32)])), batch(column, length=1), END_MARKER]
 
 
-def sessions():
-    """The streams that the tests of sessions hold, with what each is."""
-    return {
-        "GROWING": ("Three batches of letters, whose dictionary grows and is then replaced.",
-                    b"".join(growing_dictionary())),
-        "GROWING_64": ("The same, padded to 64 bytes.", b"".join(growing_dictionary(64))),
-        "RESENT": ("The same, with each dictionary whole.", b"".join(resent_dictionary())),
-        "OTHER": ("One batch of letters by another schema, with the same id.", b"".join(other_letters())),
-        "GAP": ("One list of the second of two items.", b"".join(list_after_a_gap())),
-    }
-
-
 def hiding(words, hidden):
     """Texts, of which each null hides these bytes."""
     shown = [hidden if word is None else word for word in words]
     return frames.Column([frames.node(words)], [frames.validity(words), frames.offsets(shown), "".join(shown).encode()])
 
 
+def closed_gap():
+    """The same without the item that no list refers to."""
+    return [list_after_a_gap()[0], batch(lists([[8]], numbers)), END_MARKER]
+
+
 def written():
-    """The streams that the tests of arrow_writer hold, with what each is: what is read, and what is to be written of it."""
+    """The streams that the tests of arrow_writer and arrow_session hold, with what each is: what is read, and what is to be
+    written of it."""
     opening = b"".join(growing_dictionary()[:3])
     closing = b"".join(growing_dictionary()[5:])
     indices = batch(numbers([0, 1]))
@@ -266,8 +261,9 @@ def written():
     return {
         "GROWING": ("Three batches of letters, whose dictionary grows by a delta and is then replaced.",
                     b"".join(growing_dictionary())),
-        "RESENT": ("The same, with the dictionary that grew sent once more.",
-                   opening + letters("abcde") + batch(numbers([4, 0])) + closing),
+        "GROWING_64": ("The same at an alignment of 64.", b"".join(growing_dictionary(64))),
+        "RESENT": ("The same at an alignment of 8, with the dictionary that grew sent once more.",
+                   b"".join(resent_dictionary())),
         "SECOND_LEFT_OUT": ("The same without the second batch: the third one's dictionary is another one than the first one's.",
                             opening + closing),
         "FROM_NO_VALUES": ("Two batches of nulls, by the dictionary of no values, and one of its first letter.",
@@ -278,14 +274,19 @@ def written():
                    + dictionary_batch(0, hiding(["a", None], "yz")) + indices + END_MARKER),
         "TIDY": ("The same without the hidden bytes, and without the second list, which is equal.",
                  b"".join(a_null) + indices + END_MARKER),
+        "EMPTY": ("The schema of letters, and no batch.", joined(LETTERS, "SCHEMA END")),
         "NO_COLUMNS": ("One batch of three rows without columns.", joined(COLUMNS, "NO_COLUMNS THREE_ROWS END")),
         "NUMBERS": ("One batch of 1, a null and 3, at an alignment of 8.", b"".join(one_batch[0])),
         "NUMBERS_64": ("The same at an alignment of 64.", b"".join(one_batch[1])),
+        "OTHER": ("One batch of letters by another schema, with the same id.", b"".join(other_letters())),
+        "RENAMED": ("One batch of letters, whose column has another name alone.",
+                    schema(field("K", UTF8, encoding=dictionary(0))) + letters("abc") + batch(numbers([0, 1, 2])) + END_MARKER),
         "ONLY_X": ("Letters by the dictionary of `x`.", letters_schema() + letters("x") + batch(numbers([0])) + END_MARKER),
-        "ONLY_Y": ("Letters by the dictionary of `y`.", letters_schema() + letters("y") + batch(numbers([0])) + END_MARKER),
-        "TWO_COLUMNS": ("The schema of two columns of letters by one dictionary.", two_columns),
-        "TWICE_X": ("One batch of `x` in both of them.",
+        "TWICE_X": ("One batch of `x` in two columns by one dictionary.",
                     two_columns + letters("x") + batch(numbers([0]), numbers([0])) + END_MARKER),
+        "GAP": ("One list of the second of two items.", b"".join(list_after_a_gap())),
+        "CLOSED_GAP": ("The same without the first item.", b"".join(closed_gap())),
+        "SHARED": ("Three columns of texts by indices of two dictionaries.", encoded("SHARED ANIMALS COLORS SHARED_ROWS END")),
         "NESTED": ("Lists and structs of letters by one dictionary.", encoded("BELOW ABC BELOW_ROWS END")),
         "MANY_TYPES": ("One batch of nulls, integers, byte strings, dates, times and timestamps.",
                        joined(COLUMNS, "MANY MANY_ROWS END")),

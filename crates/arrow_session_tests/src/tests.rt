@@ -1,0 +1,22 @@
+//! What no clause says: that what is sent is what the format means, byte by byte, and that calls
+//! succeed.
+//!
+//! Batches are read from streams that another program laid out, or built value by value.
+
+mod beginnings;
+mod broken;
+mod building;
+mod calls;
+mod copies;
+mod reading;
+mod session;
+mod stream;
+mod telling;
+mod writers;
+
+use arrow_writer::laws;
+
+#[test]
+fn the_law_can_be_called() {
+    laws::delivered_whole();
+}

@@ -1,0 +1,56 @@
+//! The streams that tests read, and those that are to be written of their batches.
+
+use crate::written;
+
+/// A stream of the module [`written`], which says of each what it is.
+#[derive(Clone, Copy, Debug)]
+pub(super) enum Stream {
+    Growing,
+    Growing64,
+    Resent,
+    SecondLeftOut,
+    FromNoValues,
+    Hiding,
+    Tidy,
+    Empty,
+    NoColumns,
+    Numbers,
+    Numbers64,
+    Other,
+    Renamed,
+    OnlyX,
+    TwiceX,
+    Gap,
+    ClosedGap,
+    Shared,
+    Nested,
+    ManyTypes,
+}
+
+impl Stream {
+    /// Its bytes.
+    pub(super) fn bytes(self) -> &'static [u8] {
+        match self {
+            Stream::Growing => &written::GROWING,
+            Stream::Growing64 => &written::GROWING_64,
+            Stream::Resent => &written::RESENT,
+            Stream::SecondLeftOut => &written::SECOND_LEFT_OUT,
+            Stream::FromNoValues => &written::FROM_NO_VALUES,
+            Stream::Hiding => &written::HIDING,
+            Stream::Tidy => &written::TIDY,
+            Stream::Empty => &written::EMPTY,
+            Stream::NoColumns => &written::NO_COLUMNS,
+            Stream::Numbers => &written::NUMBERS,
+            Stream::Numbers64 => &written::NUMBERS_64,
+            Stream::Other => &written::OTHER,
+            Stream::Renamed => &written::RENAMED,
+            Stream::OnlyX => &written::ONLY_X,
+            Stream::TwiceX => &written::TWICE_X,
+            Stream::Gap => &written::GAP,
+            Stream::ClosedGap => &written::CLOSED_GAP,
+            Stream::Shared => &written::SHARED,
+            Stream::Nested => &written::NESTED,
+            Stream::ManyTypes => &written::MANY_TYPES,
+        }
+    }
+}
