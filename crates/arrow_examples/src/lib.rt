@@ -1,12 +1,10 @@
 //! Two callers of the libraries, as README shows them: one reads a stream and uses its columns, the
-//! other builds a batch and writes it.
+//! other builds a batch and writes it. They are built with their tests alone.
 #![tactic(auto)]
 
+#[cfg(test)]
 mod reading;
-mod writing;
-
-pub use reading::{ReadError, longest};
-pub use writing::{WriteError, write_numbers};
-
 #[cfg(test)]
 mod tests;
+#[cfg(test)]
+mod writing;

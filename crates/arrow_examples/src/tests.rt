@@ -2,7 +2,8 @@
 
 mod outside;
 
-use crate::{ReadError, longest, write_numbers};
+use crate::reading::{ReadError, longest};
+use crate::writing::write_numbers;
 use outside::{NUMBERS, WORDS};
 use std::process::Abort;
 
