@@ -52,7 +52,7 @@ fn is_null(nulls: Nulls, slot: usize, length: usize) -> bool {
     match nulls {
         Nulls::None => false,
         Nulls::First => slot == 0,
-        Nulls::Last => slot + 1 == length,
+        Nulls::Last => slot.wrapping_add(1) == length,
         Nulls::All => true,
         Nulls::EachThird => slot % 3 == 2,
     }
