@@ -1,5 +1,6 @@
 pub mod Clashes
 pub mod Counts
+pub mod Encodings
 pub mod Fields
 pub mod Ids
 pub mod Look

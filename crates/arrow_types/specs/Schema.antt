@@ -1,5 +1,5 @@
 -- What makes fields a schema (Schema.fbs, table "Schema"), and which fault applies to fields that are none.
-use Rattle.std.specs.Prelude.{◌≡◌, ◌≤◌, ℕ, ℤ, Bool, false, not, ◌||◌, ◌&&◌, List, [], ◌∷◌, ◌++◌, map, filter, slice_get, Option, Some, None, is_some, Result, Ok, Err, nat_lt, if◌then◌else◌, codes}
+use Rattle.std.specs.Prelude.{◌≡◌, ◌≤◌, ℕ, ℤ, Bool, true, false, not, ◌||◌, ◌&&◌, List, [], ◌∷◌, ◌++◌, map, filter, slice_get, Option, Some, None, is_some, Result, Ok, Err, nat_lt, if◌then◌else◌, codes}
 use Rattle.std.specs.List.{list_any}
 use Rattle.std.specs.Ordering.{int_eq}
 use Rattle.arrow_types.specs.DataType.{Tag, null, boolean, int, binary, large_binary, fixed_size_binary, utf8, large_utf8, date, time, timestamp, duration, list, large_list, struct}
@@ -126,10 +126,11 @@ abbrev pub fault_of : Fields → Option SchemaFault
 fault_of s = fault_or (if is_too_wide s then Some ByteWidth else None) s
 
 -- An answer to fields: the schema of just these where no fault applies, else the first fault that does. Want of
--- memory is told only of fields to which no fault before it applies.
+-- memory is told only of fields to which no fault before it applies and one of which, on some level, is
+-- dictionary-encoded.
 abbrev pub Judges : Result Fields SchemaFault → Fields → Type 0
 Judges (Ok schema) s = (fault_of s ≡ None) × (schema ≡ s)
-Judges (Err Memory) s = fault_or None s ≡ None
+Judges (Err Memory) s = (fault_or None s ≡ None) × (has_encoding s ≡ true)
 Judges (Err fault) s = fault_of s ≡ Some fault
 
 -- the number of a fault

@@ -1,12 +1,13 @@
 //! Which dictionaries the fields refer to, and that each has one value type.
 
-ghost use Rattle.std.specs.Prelude.{◌≡◌, ◌++◌, OnOk, IfOk};
+ghost use Rattle.std.specs.Prelude.{◌≡◌, ◌++◌, true, OnOk, IfOk, IfErr};
 ghost use Rattle.arrow_types.specs.Dictionaries.{encoded_views, GivesIds};
-ghost use Rattle.arrow_types.specs.Schema.{dictionary_fields, field_dictionaries};
+ghost use Rattle.arrow_types.specs.Schema.{has_encoding, dictionary_fields, field_dictionaries};
 ghost use Rattle.arrow_types.specs.View.{field_view, fields_view};
 
 use crate::data_type::DataType;
 use crate::field::Field;
+use crate::nesting::have_encoding;
 use std::alloc::{AllocError, Global};
 use std::collections::BTreeMap;
 
@@ -18,10 +19,15 @@ struct Encoded<'a> {
 }
 
 /// The ids of the dictionaries of the fields, each once in the order of their first fields, or None
-/// where two fields share an id and have unequal value types.
+/// where two fields share an id and have unequal value types. No memory is taken where no field is
+/// dictionary-encoded.
 pub(crate) fn ids_of(alloc: Global, fields: &[Field]) -> Result<Option<Vec<i64>>, AllocError>
-    ensures { IfOk result (λ ids. GivesIds ids (dictionary_fields (fields_view fields.now))) }
+    ensures gives { IfOk result (λ ids. GivesIds ids (dictionary_fields (fields_view fields.now))) }
+    ensures encoded { IfErr result (λ _. has_encoding (fields_view fields.now) ≡ true) }
 {
+    if !have_encoding(fields) {
+        return Ok(Some(Vec::new(alloc)));
+    }
     let mut found = Vec::new(alloc);
     add_fields(fields, &mut found)?;
     ids_of_one_type(alloc, &found)

@@ -9,6 +9,15 @@
 //! Contracts never compare the Rust values, which hold pointers and capacities, but what they say:
 //! a plain view, `type_view` of a type and `fields_view` of fields (`specs/View.antt`).
 //! `specs/Schema.antt` says what a schema is and which fault applies.
+//!
+//! | Notion | Definition |
+//! |---|---|
+//! | a type, a field, fields, as plain values | `specs/DataType.antt`: `Tag`; `specs/Field.antt`: `Fields` |
+//! | what those of the program say | `specs/View.antt`: `type_view`, `fields_view` |
+//! | a schema, and which fault applies | `specs/Schema.antt`: `IsSchema`, `fault_of`, `Judges` |
+//! | the dictionaries of fields | `specs/Schema.antt`: `dictionary_fields`, `dictionary_ids` |
+//! | levels and numbers of fields | `specs/Field.antt`: `levels`, `count`; `specs/Room.antt` |
+//! | limits | `specs/Limits.antt`: `LimitNumbers`, `AreWithinCeilings` |
 #![tactic(auto)]
 
 mod data_type;

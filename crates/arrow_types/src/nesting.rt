@@ -42,7 +42,7 @@ impl DataType {
 
 /// Whether one of the fields, on any level, is dictionary-encoded.
 #[cycle(encodings)]
-fn have_encoding(fields: &[Field]) -> bool
+pub(crate) fn have_encoding(fields: &[Field]) -> bool
     ensures { result ≡ has_encoding (fields_view fields.now) }
 {
     for field in fields {

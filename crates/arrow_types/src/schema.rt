@@ -26,7 +26,8 @@ pub enum SchemaFault {
     NestedDictionary,
     /// Two fields give one dictionary id and have unequal value types.
     SharedIdTypesDiffer,
-    /// A growth was refused. None of the faults before it applies.
+    /// A growth was refused. None of the faults before it applies, and a field, on some level, is
+    /// dictionary-encoded.
     Memory,
     /// Byte strings of a fixed size are to have more than 2,147,483,647 bytes each.
     ByteWidth,
@@ -114,9 +115,10 @@ impl Schema {
     /// The schema of these columns, or the fault with the least number of those that apply.
     ///
     /// Fields deeper than 32 levels are not looked at below that, and the time grows as n log n
-    /// with the number of fields. Memory is taken for the dictionary ids alone; where it is
-    /// refused, the types of shared ids are compared without any, in a time that grows with the
-    /// square of the number of dictionary-encoded fields.
+    /// with the number of fields. Memory is taken for the dictionary ids alone, so for fields none
+    /// of which is dictionary-encoded, on any level, there is no `Memory`. Where it is refused, the
+    /// types of shared ids are compared without any, in a time that grows with the square of the
+    /// number of dictionary-encoded fields.
     pub fn new(alloc: Global, fields: Vec<Field>) -> Result<Schema, SchemaFault>
         ensures { Judges result (fields_view fields.items) }
     {

@@ -8,4 +8,4 @@ use Rattle.arrow_types.proofs.schema.Schema.new.Goals as goal
 pub invariant_of-result : goal.invariant_of-result
 invariant_of-result c =
     let bounded : IsBounded (fields_view c.args.fields.items) = search rules in
-    schema_kept (fields_view c.args.fields.items) c.in-Ok-Some.dictionary_ids.items bounded (rw (c.in-Ok-Some.field-0-is, c.deref-4.ensures.value) at c.in-Ok-Some.ensures)
+    schema_kept (fields_view c.args.fields.items) c.in-Ok-Some.dictionary_ids.items bounded (rw (c.in-Ok-Some.field-0-is, c.deref-4.ensures.value) at c.in-Ok-Some.ensures.gives)
