@@ -1,16 +1,18 @@
--- Numbers of 32 or of 64 bits compared lane by lane.
-use Rattle.std.proofs.Common.{◌≡◌, ◌↔◌, ℕ, zero, suc, ◌+◌, ◌-◌, ◌*◌, ◌%◌, ◌^◌, ◌<◌, ◌≤◌, List, [], ◌∷◌, Bool, true, false, true≢false, cond, leb, nat_eq, length, map, take, drop, get_or, refl, sym, ap, ◌∙◌, IsTrue, arith, w8, Fits, eq-eqb}
+-- Numbers of a fixed width compared lane by lane.
+use Rattle.std.proofs.Common.{◌≡◌, ◌↔◌, ℕ, zero, suc, ◌+◌, ◌-◌, ◌*◌, ◌%◌, ◌^◌, ◌<◌, ◌≤◌, List, [], ◌∷◌, Bool, true, false, true≢false, cond, leb, nat_eq, length, map, take, drop, get_or, replicate, min, refl, sym, ap, ◌∙◌, IsTrue, arith, w8, Fits, eq-eqb}
 use mir.Syntax.{Width}
 use mir.Val.{bits, hbits}
-use Rattle.std.specs.Simd.Lanes.{zip2, mask_l, top, chunk, number_l, digits_l}
+use Rattle.std.specs.Simd.Lanes.{zip2, mask_l, top as sign, chunk, number_l, digits_l}
 use Rattle.std.proofs.Math.Nat.{pow-suc}
 use Rattle.std.proofs.lemmas.Nat.{pow_pos, column_fits}
 use Rattle.std.proofs.lemmas.Bool.{eqb-true, leb-true, le-leb}
+use Rattle.std.proofs.lemmas.List.{get_or-replicate, length-replicate}
 use Rattle.std.proofs.lemmas.Simd.{tops_compared, mask_l-mod, get_or-zip2, length-zip2, get_or_wider, chunk-fits, below_from_Fits}
 use Rattle.arrow_bits.specs.Numbers.{number_of, number_at}
 use Rattle.arrow_bits.specs.AtMost.{AreAtMost}
 use Rattle.arrow_bits.specs.Offsets.{NeverFall}
 use Rattle.arrow_bits.proofs.Places.{number_in_part}
+use Rattle.arrow_bits.proofs.Reading.{number_at-lt}
 
 -- std's word for the number of some bytes
 number_l-number_of : (bytes : List ℕ) → number_l 256 bytes ≡ number_of bytes
@@ -47,13 +49,13 @@ number_at_chunk width bytes k = number_l-number_of (take width (drop (width * k)
 
 -- so the mask of a comparison is full where it holds in each lane
 pub lanes_hold : (w : Width) (n : ℕ) (xs ys : List ℕ) → n ≤ 64 → length xs ≡ n → length ys ≡ n
-    → IsTrue (nat_eq (mask_l (map (top (hbits w)) (zip2 (λ a b. cond (leb a b) (2 ^ bits w - 1) 0) xs ys)) % 18446744073709551616) (2 ^ n - 1))
+    → IsTrue (nat_eq (mask_l (map (sign (hbits w)) (zip2 (λ a b. cond (leb a b) (2 ^ bits w - 1) 0) xs ys)) % 18446744073709551616) (2 ^ n - 1))
     ↔ ((k : ℕ) → k < n → get_or xs k 0 ≤ get_or ys k 0)
 lanes_hold w n xs ys few low high =
     let lanes = zip2 leb xs ys in
     let long : length lanes ≡ n = length-zip2 leb xs ys (low ∙ sym high) ∙ low in
     let whole = mask_full lanes in
-    let mask : mask_l (map (top (hbits w)) (zip2 (λ a b. cond (leb a b) (2 ^ bits w - 1) 0) xs ys)) % 18446744073709551616 ≡ mask_l lanes =
+    let mask : mask_l (map (sign (hbits w)) (zip2 (λ a b. cond (leb a b) (2 ^ bits w - 1) 0) xs ys)) % 18446744073709551616 ≡ mask_l lanes =
     ap (λ bs. mask_l bs % 18446744073709551616) (tops_compared w leb xs ys) ∙ mask_l-mod lanes 64 (omega (arith, few, long)) in
     let lane : (k : ℕ) → k < n → get_or lanes k false ≡ leb (get_or xs k 0) (get_or ys k 0) =
     λ k h. get_or-zip2 leb xs ys k 0 0 false (omega (arith, h, low)) (omega (arith, h, high)) in (
@@ -98,14 +100,33 @@ block_falls_not width bytes i n = (
       rw (low, high) (never (i + k) (omega arith) (omega (arith, h)))),
 )
 
--- n lanes hold the numbers from number i on
-pub block_at_most : (bytes : List ℕ) (i n top : ℕ) → ((k : ℕ) → k < n → number_at bytes (4 * i + 4 * k) 4 ≤ top) ↔ AreAtMost bytes i (i + n) top
-block_at_most bytes i n top = (
+-- n lanes hold the numbers of `width` bytes from number i on
+pub block_at_most : (width : ℕ) (bytes : List ℕ) (i n top : ℕ)
+    → ((k : ℕ) → k < n → number_at bytes (width * i + width * k) width ≤ top) ↔ AreAtMost width bytes i (i + n) top
+block_at_most width bytes i n top = (
   (λ lanes j from h.
       let k = j - i in
-      let low : 4 * j ≡ 4 * i + 4 * k = omega (arith, from) in
-      rw low (lanes k (omega (arith, from, h)))),
-  (λ all k h.
-      let low : 4 * i + 4 * k ≡ 4 * (i + k) = omega arith in
-      rw low (all (i + k) (omega arith) (omega (arith, h)))),
+      let here : i + k ≡ j = omega (arith, from) in
+      let low : width * i + width * k ≡ width * j = further width i k ∙ ap (λ m. width * m) here in
+      rw (sym low) (lanes k (omega (arith, from, h)))),
+  (λ all k h. rw (further width i k) (all (i + k) (omega arith) (omega (arith, h)))),
 )
+
+-- So their mask is full where none is above the top. Each stands beside the top, or beside the greatest number of the width
+-- where the top is above that.
+pub block_holds : (w : Width) (width n : ℕ) (bytes : List ℕ) (i place top clipped : ℕ) (xs : List ℕ) → ((j : ℕ) → get_or bytes j 0 < 256)
+    → place ≡ width * i → place + width * n ≤ length bytes → n ≤ 64 → clipped ≡ min top (256 ^ width - 1) → length xs ≡ n
+    → ((k : ℕ) → k < n → get_or xs k 0 ≡ number_at bytes (place + width * k) width)
+    → IsTrue (nat_eq (mask_l (map (sign (hbits w)) (zip2 (λ a b. cond (leb a b) (2 ^ bits w - 1) 0) xs (replicate n clipped))) % 18446744073709551616) (2 ^ n - 1))
+    ↔ AreAtMost width bytes i (i + n) top
+block_holds w width n bytes i place top clipped xs small here inside few least long lanes =
+    let beside : (k : ℕ) → k < n → get_or (replicate n clipped) k 0 ≡ clipped = λ k h. get_or-replicate n k clipped 0 h in
+    let there : (k : ℕ) → number_at bytes (place + width * k) width ≡ number_at bytes (width * i + width * k) width =
+    λ k. ap (λ p. number_at bytes (p + width * k) width) here in
+    let fits : (k : ℕ) → k < n → number_at bytes (place + width * k) width < 256 ^ width =
+    λ k h. number_at-lt (place + width * k) width bytes small (omega (arith, inside, column_fits width k width n h (omega arith))) in
+    let hold = lanes_hold w n xs (replicate n clipped) few long (length-replicate n clipped) in
+    let numbers = block_at_most width bytes i n top in (
+      (λ t. numbers.0 (λ k h. omega (arith, hold.0 t k h, beside k h, lanes k h, there k, least))),
+      (λ all. hold.1 (λ k h. omega (arith, numbers.1 all k h, beside k h, lanes k h, there k, fits k h, least))),
+    )

@@ -27,7 +27,7 @@ ones_low byte r =
     rw (e, parts, both, one) (omega arith)
 
 -- a bit of a byte
-bit_in_byte : (bytes : List ℕ) (i r : ℕ) → r < 8 → bit_of bytes (8 * i + r) ≡ (bit_at (get_or bytes i 0) r == 1)
+pub bit_in_byte : (bytes : List ℕ) (i r : ℕ) → r < 8 → bit_of bytes (8 * i + r) ≡ (bit_at (get_or bytes i 0) r == 1)
 unfolding bit_of
 bit_in_byte bytes i r h =
     let byte : (8 * i + r) / 8 ≡ i = omega arith in

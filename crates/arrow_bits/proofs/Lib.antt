@@ -5,5 +5,6 @@ pub mod Ranged
 pub mod Listed
 pub mod Packing
 pub mod Counting
+pub mod Runs
 pub mod Rising
 pub mod Compared

@@ -1,5 +1,5 @@
 -- Bits in a list of bytes.
-use Rattle.std.specs.Prelude.{ℕ, ◌/◌, ◌%◌, ◌==◌, ◌≡◌, ◌≤◌, Bool, false, List, length, map, slice_index, count_by}
+use Rattle.std.specs.Prelude.{ℕ, ◌/◌, ◌%◌, ◌==◌, ◌≡◌, ◌≤◌, ◌<◌, Bool, true, false, List, length, map, slice_index, count_by}
 use Rattle.std.specs.List.{range_with_len}
 use Rattle.std.specs.Int.{bit_at, div_ceil}
 
@@ -15,6 +15,13 @@ bits_of len bytes = map (bit_of bytes) (range_with_len 0 len)
 -- how many of the first `len` bits are set
 abbrev pub ones_of : ℕ → List ℕ → ℕ
 ones_of len bytes = count_by (λ b. b) (bits_of len bytes)
+
+-- bit i is the first one from `start` on that is not set, or it is `stop` and each one before it is set
+pub record IsFirstUnset (bytes : List ℕ) (start stop i : ℕ) : Type 0 where
+  pub low : start ≤ i
+  pub high : i ≤ stop
+  pub set : (j : ℕ) → start ≤ j → j < i → bit_of bytes j ≡ true
+  pub unset : i < stop → bit_of bytes i ≡ false
 
 -- the bytes hold these bits and nothing else: they are as few as can be, and the bits behind are 0
 pub record IsPacked (bits : List Bool) (bytes : List ℕ) : Type 0 where

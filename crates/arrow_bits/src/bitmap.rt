@@ -1,8 +1,8 @@
 //! Bits in bytes: one of them, and a list of the first.
 
-ghost use Rattle.std.specs.Prelude.{◌≡◌, ◌*◌, ◌^◌, ◌≤◌, ◌<◌, ◌↔◌, ◌==◌, length, slice_get};
-ghost use Rattle.std.specs.Prelude.{IfSome, IsSome, Some, count_by, not};
-ghost use Rattle.arrow_bits.specs.Bitmap.{bit_of, bits_of, ones_of};
+ghost use Rattle.std.specs.Prelude.{◌≡◌, ◌+◌, ◌*◌, ◌^◌, ◌≤◌, ◌<◌, ◌↔◌, ◌==◌, ℕ, length, slice_get};
+ghost use Rattle.std.specs.Prelude.{IfSome, IsSome, Some, count_by, not, true, false};
+ghost use Rattle.arrow_bits.specs.Bitmap.{bit_of, bits_of, ones_of, IsFirstUnset};
 
 use crate::numbers::u64_at;
 use std::marker::Model;
@@ -21,6 +21,49 @@ pub fn bit(bytes: &[u8], j: usize) -> bool
     ensures { result ≡ bit_of bytes.now j }
 {
     (bytes[j / 8] >> (j % 8)) % 2 == 1
+}
+
+/// The first of the bits from bit `start` on that is 0, or `stop` where each one before `stop` is 1.
+///
+/// Bits are numbered as by [`bit`]. In a validity bitmap it is the first null of some slots, and the
+/// end of a run of valid ones. The time grows with the number of bytes up to the answer, of which
+/// eight are looked at at once.
+///
+/// Condition: the range is one, and the bytes have its bits, as of a range of a slice. Where nothing
+/// was tested, [`Bits::new`] is the test.
+pub fn first_unset(bytes: &[u8], start: usize, stop: usize) -> usize
+    requires order { start ≤ stop }
+    requires inside { stop ≤ 8 * length bytes.now }
+    ensures { IsFirstUnset bytes.now start stop result }
+{
+    let mut i = start;
+    while i < stop {
+        let ones = ones_from(bytes, i);
+        if ones == 0 {
+            return i;
+        }
+        if ones >= stop - i {
+            return stop;
+        }
+        i += ones;
+    }
+    stop
+}
+
+// How many bits from bit `j` on are 1, one behind another: up to the end of the eight bytes that
+// begin with its own at most, or of its byte where eight are not there.
+fn ones_from(bytes: &[u8], j: usize) -> usize
+    requires { j < 8 * length bytes.now }
+    ensures set { (i : ℕ) → j ≤ i → i < j + result → bit_of bytes.now i ≡ true }
+    ensures none { result ≡ 0 → bit_of bytes.now j ≡ false }
+{
+    let byte = j / 8;
+    let ones = if bytes.len() - byte >= 8 {
+        (u64_at(bytes, byte) >> (j % 8)).trailing_ones()
+    } else {
+        (bytes[byte] >> (j % 8)).trailing_ones()
+    };
+    ones as usize
 }
 
 /// The first bits of a slice of bytes, as a list of truth values.

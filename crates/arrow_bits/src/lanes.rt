@@ -1,7 +1,6 @@
 //! Numbers of 32 bits, compared sixteen at a time.
 
 ghost use Rattle.std.specs.Prelude.{◌≡◌, ◌+◌, ◌*◌, ◌≤◌, ◌<◌, ◌↔◌, ℕ, length, slice_index, IsTrue};
-ghost use Rattle.arrow_bits.specs.AtMost.{AreAtMost};
 ghost use Rattle.arrow_bits.specs.Numbers.{number_at};
 ghost use Rattle.arrow_bits.specs.Offsets.{NeverFall};
 
@@ -52,54 +51,10 @@ fn sixteen_rise(bytes: &[u8], i: usize) -> bool
 }
 
 // The sixteen numbers at a place.
-fn sixteen_at(bytes: &[u8], at: usize) -> u32x16
+pub(crate) fn sixteen_at(bytes: &[u8], at: usize) -> u32x16
     requires { at + 64 ≤ length bytes.now }
     ensures long { length result ≡ 16 }
     ensures lanes { (k : ℕ) → k < 16 → slice_index result k ≡ number_at bytes.now (at + 4 * k) 4 }
 {
     u32x16::from_le_bytes(u8x64::from_slice(&bytes[at..]))
-}
-
-/// Whether none of the first `len` numbers of 32 bits, read without a sign, is above `top`: sixteen
-/// are compared at once, and the rest one at a time.
-///
-/// Condition: the bytes have room for the `len` numbers. The answer is of their size alone, so that
-/// it has one meaning; that a buffer is long enough for its slots is tested before, for columns of
-/// every type.
-pub fn are_at_most(bytes: &[u8], len: usize, top: u32) -> bool
-    requires { 4 * len ≤ length bytes.now }
-    ensures { IsTrue result ↔ AreAtMost bytes.now 0 len top }
-{
-    let mut i = 0;
-    while i + LANES <= len {
-        if !sixteen_are_at_most(bytes, i, top) {
-            return false;
-        }
-        i += LANES;
-    }
-    rest_is_at_most(bytes, i, len, top)
-}
-
-// The same of the numbers from number `from` on, one at a time.
-fn rest_is_at_most(bytes: &[u8], from: usize, len: usize, top: u32) -> bool
-    requires order { from ≤ len }
-    requires inside { 4 * len ≤ length bytes.now }
-    ensures { IsTrue result ↔ AreAtMost bytes.now from len top }
-{
-    for i in from..len {
-        if u32_at(bytes, 4 * i) > top {
-            return false;
-        }
-    }
-    true
-}
-
-// Whether none of the sixteen numbers from number `i` on is above `top`.
-fn sixteen_are_at_most(bytes: &[u8], i: usize, top: u32) -> bool
-    requires { 4 * (i + 16) ≤ length bytes.now }
-    ensures { IsTrue result ↔ AreAtMost bytes.now i (i + 16) top }
-{
-    let numbers = sixteen_at(bytes, 4 * i);
-    let tops = u32x16::splat(top);
-    numbers.simd_le(tops).all()
 }

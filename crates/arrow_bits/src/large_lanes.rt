@@ -51,7 +51,7 @@ fn eight_rise(bytes: &[u8], i: usize) -> bool
 }
 
 // The eight numbers at a place.
-fn eight_at(bytes: &[u8], at: usize) -> u64x8
+pub(crate) fn eight_at(bytes: &[u8], at: usize) -> u64x8
     requires { at + 64 ≤ length bytes.now }
     ensures long { length result ≡ 8 }
     ensures lanes { (k : ℕ) → k < 8 → slice_index result k ≡ number_at bytes.now (at + 8 * k) 8 }

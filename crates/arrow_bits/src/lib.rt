@@ -15,10 +15,20 @@
 //! buffers.
 //!
 //! `Offsets::check` compares sixteen neighbours at a time, `LargeOffsets::check` eight,
-//! `are_at_most` sixteen numbers with one, and `Bits::count_zero` counts 64 bits at a time. `plain`
-//! has the checks and the count once more as loops over the definitions, with the same contracts.
+//! `are_at_most` 64 bytes of numbers with one, `Bits::count_zero` counts 64 bits at a time, and
+//! `first_unset` passes over 64 bits that are set. `plain` has the checks and the count once more as
+//! loops over the definitions, with the same contracts.
+//!
+//! | Notion | Definition |
+//! |---|---|
+//! | bit, list of bits, their bytes | `specs/Bitmap.antt`: `bit_of`, `bits_of`, `IsPacked` |
+//! | the first bit that is 0 | `specs/Bitmap.antt`: `IsFirstUnset` |
+//! | number of a width, with a sign or without | `specs/Numbers.antt`: `number_at`, `int_of`, `int_bytes` |
+//! | offsets of a width | `specs/Offsets.antt`: `AreOffsetsOf`, `offsets_of`, `large_offsets_of` |
+//! | numbers that are not above one | `specs/AtMost.antt`: `AreAtMost` |
 #![tactic(auto)]
 
+mod at_most;
 mod bitmap;
 mod bitmap_builder;
 mod lanes;
@@ -28,9 +38,9 @@ mod numbers;
 mod offsets;
 pub mod plain;
 
-pub use bitmap::{Bits, bit};
+pub use at_most::are_at_most;
+pub use bitmap::{Bits, bit, first_unset};
 pub use bitmap_builder::BitsBuilder;
-pub use lanes::are_at_most;
 pub use large_offsets::LargeOffsets;
 pub use numbers::{int_at, put_int};
 pub use offsets::Offsets;

@@ -51,7 +51,7 @@ pub(crate) fn u64_at(bytes: &[u8], place: usize) -> u64
 }
 
 // The number of the `width` bytes at a place.
-fn read_unsigned(bytes: &[u8], width: usize, place: usize) -> u64
+pub(crate) fn read_unsigned(bytes: &[u8], width: usize, place: usize) -> u64
     requires width { IsWidth width }
     requires inside { place + width ≤ length bytes.now }
     ensures { result ≡ number_at bytes.now place width }

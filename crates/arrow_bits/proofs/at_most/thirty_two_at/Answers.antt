@@ -1,0 +1,7 @@
+use Rattle.std.proofs.Common.{refl}
+use Rattle.arrow_bits.proofs.Compared.{lane_number}
+use Rattle.arrow_bits.proofs.at_most.thirty_two_at.Goals as goal
+
+-- each lane is the number at its place
+pub returns-clause-lanes : goal.returns-clause-lanes
+returns-clause-lanes c = lane_number 2 65536 refl c.args.bytes.now c.args.at 32 c.type_inv.bytes
