@@ -1,8 +1,12 @@
 //! Sinks over writers.
 
-ghost use Rattle.std.specs.Prelude.{◌≡◌};
+ghost use Rattle.std.specs.Prelude.{◌≡◌, ◌<◌, ◌-◌, ◌^◌};
+ghost use Rattle.std.specs.Fn.{FnOnceReturnsAtMut};
+ghost use Rattle.arrow_sink.specs.Answers.{CountsError, TellsAnswer};
+ghost use Rattle.arrow_sink.specs.Sinks.{CountsPut};
 
 use crate::sink::{Sink, SinkFault};
+use std::io;
 use std::io::Write;
 
 /// A sink over any writer, which counts the failures.
@@ -30,6 +34,45 @@ impl<W: Write> Counted<W> {
         let Counted { writer, count: _ } = self;
         writer
     }
+
+    // Makes this call of the writer, and tells what it answered: its value, or an error, which counts.
+    fn ask<T, F: FnOnce(&mut W) -> io::Result<T>>(&mut self, call: F) -> Result<T, SinkFault>
+        requires callable { F.IsAlwaysCallable call }
+        requires room { self.old.count < 2 ^ 64 - 1 }
+        ensures told { (answer : _)
+            × FnOnceReturnsAtMut F.FnOnce call self.old.writer answer self.new.writer
+            × TellsAnswer answer result }
+        ensures count { CountsError self.old.count self.new.count result }
+    {
+        match call(&mut self.writer) {
+            Ok(value) => Ok(value),
+            Err(_) => {
+                self.count += 1;
+                Err(SinkFault)
+            }
+        }
+    }
+
+    // Offers a piece of this length by this call, and tells what the writer answered: how many bytes
+    // it took, or an error. No byte taken of a piece that has bytes counts too.
+    fn offer<F: FnOnce(&mut W) -> io::Result<usize>>(
+        &mut self,
+        call: F,
+        len: usize,
+    ) -> Result<usize, SinkFault>
+        requires callable { F.IsAlwaysCallable call }
+        requires room { self.old.count < 2 ^ 64 - 1 }
+        ensures told { (answer : _)
+            × FnOnceReturnsAtMut F.FnOnce call self.old.writer answer self.new.writer
+            × TellsAnswer answer result }
+        ensures count { CountsPut self.old.count self.new.count result len }
+    {
+        let taken = self.ask(call)?;
+        if taken == 0 && len != 0 {
+            self.count += 1;
+        }
+        Ok(taken)
+    }
 }
 
 impl<W: Write> Sink for Counted<W> {
@@ -38,28 +81,11 @@ impl<W: Write> Sink for Counted<W> {
     ghost failed = { λ s. s.count };
 
     fn put(&mut self, piece: &[u8]) -> Result<usize, SinkFault> {
-        match self.writer.write(piece) {
-            Ok(n) => {
-                if n == 0 && !piece.is_empty() {
-                    self.count += 1;
-                }
-                Ok(n)
-            }
-            Err(_) => {
-                self.count += 1;
-                Err(SinkFault)
-            }
-        }
+        self.offer(|writer| writer.write(piece), piece.len())
     }
 
     fn flush(&mut self) -> Result<(), SinkFault> {
-        match self.writer.flush() {
-            Ok(()) => Ok(()),
-            Err(_) => {
-                self.count += 1;
-                Err(SinkFault)
-            }
-        }
+        self.ask(|writer| writer.flush())
     }
 
     fn failures(&self) -> u64 {

@@ -8,6 +8,12 @@
 //!
 //! The count of failures lets a caller know exactly when a fault comes from the sink: it rises by
 //! one with each call that fails, and with no other.
+//!
+//! | Notion | Definition |
+//! |---|---|
+//! | bytes that are accepted | `specs/Sinks.antt`: `Puts`, `AcceptsBeginning` |
+//! | answers of a writer that are told | `specs/Answers.antt`: `TellsAnswer`, `CountsError` |
+//! | failures that are counted | `specs/Sinks.antt`: `CountsPut`, `CountsFlush` |
 #![tactic(auto)]
 
 mod counted;
