@@ -17,3 +17,5 @@ pub mod Values
 pub mod Cuts
 pub mod Indices
 pub mod Listing
+pub mod Lists
+mod Blocks

@@ -22,6 +22,11 @@ abbrev pub values_of : List PlainValue → PlainValues
 values_of [] = no_values
 values_of (value ∷ values) = more_values value (values_of values)
 
+-- and back
+abbrev pub list_of_values : PlainValues → List PlainValue
+list_of_values no_values = []
+list_of_values (more_values value others) = value ∷ list_of_values others
+
 -- the value of a slot, of those that there are
 abbrev pub value_at : List PlainValue → ℕ → PlainValue
 value_at values j = slice_index_or values j null_value

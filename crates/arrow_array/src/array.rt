@@ -133,6 +133,7 @@ pub enum SlotValue<'a> {
 
 impl<'a> Seen<'a> {
     // What slot `i` shows, as a value.
+    #[inline(always)]
     fn at(self, i: usize) -> SlotValue<'a>
         ensures { result ≡ value_shown i self.entry }
     {
@@ -457,6 +458,7 @@ impl Array {
 
     /// The value of slot `i`, whatever its type. In a dictionary-encoded column it is the
     /// dictionary's value, and null where the index or that value is. No memory is taken.
+    #[inline(always)]
     pub fn slot(&self, i: usize) -> SlotValue<'_>
         requires { i < length self.now.raw }
         ensures { HoldsValue self.now i result }
@@ -470,6 +472,7 @@ impl Array {
     }
 
     // The value of slot `i`, which holds no index.
+    #[inline(always)]
     fn own_slot(&self, i: usize) -> SlotValue<'_>
         requires inside { i < length self.now.raw }
         requires own { HasNoIndex self.now i }

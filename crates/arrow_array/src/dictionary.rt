@@ -1,12 +1,16 @@
 //! Dictionaries: values of one type that columns refer to by number.
 
 ghost use Rattle.std.specs.Prelude.{◌≡◌, ◌≤◌, ◌<◌, ◌+◌, ◌^◌, ◌++◌, ◌↔◌, length, IfOk, IsTrue, None};
-ghost use Rattle.std.specs.Prelude.{false, OnOk, OnErr, []};
+ghost use Rattle.std.specs.Prelude.{false, get_or, map, OnOk, OnErr, []};
+ghost use Rattle.std.specs.List.{AllByRecursion};
+ghost use Rattle.std.specs.Rc.{rc_value};
 ghost use Rattle.arrow_types.specs.Schema.{has_encoding};
 ghost use Rattle.arrow_types.specs.View.{type_view};
 ghost use Rattle.arrow_array.specs.Column.{HasValue, IsValueList};
 ghost use Rattle.arrow_array.specs.Same.{Begins};
-ghost use Rattle.arrow_array.specs.Segments.{columns_of, starts_of};
+ghost use Rattle.arrow_array.specs.Segments.{AreSame, Between, HaveStarts, IsBlock, IsPartWith};
+ghost use Rattle.arrow_array.specs.Segments.{block_segments, block_starts, columns_of};
+ghost use Rattle.arrow_array.specs.Segments.{joined, starts_of};
 
 use crate::array::Array;
 use crate::same::same_items;
@@ -14,6 +18,9 @@ use arrow_types::DataType;
 use std::alloc::{AllocError, Global};
 use std::marker::Model;
 use std::rc::Rc;
+
+// How many segments a block has.
+const BLOCK: usize = 64;
 
 // Values that came together, and the number of the first of them in the dictionary.
 #[cycle(arrays)]
@@ -23,15 +30,26 @@ pub(crate) struct Segment {
     pub(crate) array: Rc<Array>,
 }
 
+// Segments that no longer change, and the number of the first value of the first of them.
+#[cycle(arrays)]
+#[derive(Drop)]
+pub(crate) struct Block {
+    pub(crate) start: usize,
+    pub(crate) segments: Vec<Segment>,
+}
+
 /// A list of values of one type (Columnar Format, "Dictionary-encoded Layout"). A value may be
 /// null.
 ///
 /// It is kept as the arrays that brought its values, one after another. Copies share these arrays,
-/// so that a copy, and a dictionary that grows, cost nothing for the values that are there.
+/// so that a copy, and a dictionary that grows, cost nothing for the values that are there. They
+/// also share the lists of the arrays, 64 at a time: a copy takes a step for every 64 arrays, and
+/// one for each of the last ones.
 #[cycle(arrays)]
 #[derive(Drop)]
 pub struct Dictionary {
     pub(crate) data_type: DataType,
+    pub(crate) older: Vec<Rc<Block>>,
     pub(crate) segments: Vec<Segment>,
     pub(crate) len: usize,
 }
@@ -52,11 +70,12 @@ impl Model for Dictionary {
     ghost size = { value_list_size };
 
     ghost use Rattle.std.proofs.Common.{arith};
+    ghost use Rattle.std.specs.Rc.{rc_value};
     ghost use Rattle.arrow_types.specs.View.{type_view};
-    ghost use Rattle.arrow_array.specs.Falls.{most_segments};
+    ghost use Rattle.arrow_array.specs.Falls.{all_fall};
 
-    ghost size_decreases = { λ d h.
-        omega (arith, most_segments (type_view d.data_type) d.segments.items h.typed) };
+    ghost size_decreases = { λ d h. let fall = all_fall rc_value (type_view d.data_type)
+        d.older.items d.segments.items h.typed in omega (arith, fall.0, fall.1) };
 }
 
 #[tactic(auto, using(crate::proofs::Segments::segments))]
@@ -68,6 +87,7 @@ impl Dictionary {
     {
         Dictionary {
             data_type,
+            older: Vec::new(alloc),
             segments: Vec::new(alloc),
             len: 0,
         }
@@ -90,6 +110,7 @@ impl Dictionary {
         })?;
         Ok(Dictionary {
             data_type,
+            older: Vec::new(alloc),
             segments,
             len,
         })
@@ -123,17 +144,8 @@ impl Dictionary {
         requires { i < length self.now.values }
         ensures { HasValue self.now i result.0.now result.1 }
     {
-        let mut low = 0;
-        let mut high = self.segments.len();
-        while low + 1 < high {
-            let middle = low + (high - low) / 2;
-            if self.segments[middle].start <= i {
-                low = middle;
-            } else {
-                high = middle;
-            }
-        }
-        let segment = &self.segments[low];
+        let segments = part_with(&self.older, &self.segments, i);
+        let segment = &segments[segment_before(segments, i)];
         (&segment.array, i - segment.start)
     }
 
@@ -152,6 +164,7 @@ impl Dictionary {
             start: self.len,
             array: Rc::new(alloc, values)?,
         };
+        close_full(alloc, &mut self.older, &mut self.segments)?;
         self.segments.push(segment)?;
         self.len = len;
         Ok(())
@@ -186,6 +199,7 @@ impl Dictionary {
     {
         Ok(Dictionary {
             data_type: self.data_type.copy(alloc)?,
+            older: shared_blocks(alloc, &self.older)?,
             segments: shared(alloc, &self.segments)?,
             len: self.len,
         })
@@ -214,6 +228,129 @@ fn have_same_values(one: &Dictionary, other: &Dictionary) -> bool
     ensures { IsTrue result ↔ (one.now.values ≡ other.now.values) }
 {
     one.len() == other.len() && one.begins(other)
+}
+
+// Those segments of a block, or those last ones, among which value `i` stands.
+fn part_with<'a>(older: &'a [Rc<Block>], last: &'a [Segment], i: usize) -> &'a [Segment]
+    requires inside { i < length (joined (columns_of
+        (block_segments (map rc_value older.now) ++ last.now))) }
+    requires starts { HaveStarts (block_segments (map rc_value older.now) ++ last.now) }
+    requires blocks { AllByRecursion IsBlock (map rc_value older.now) }
+    ensures { IsPartWith (map rc_value older.now) last.now i result.now }
+{
+    if begin_before(last, i) {
+        return last;
+    }
+    let block = &older[block_before(older, i)];
+    &block.segments
+}
+
+// Whether there are segments, of which the first begins at value `i` or before it.
+fn begin_before(segments: &[Segment], i: usize) -> bool
+    ensures { IsTrue result ↔ ((0 < length segments.now)
+        × (get_or (starts_of segments.now) 0 0 ≤ i)) }
+{
+    match segments.first() {
+        Some(first) => first.start <= i,
+        None => false,
+    }
+}
+
+// The last segment that begins at value `i` or before it.
+fn segment_before(segments: &[Segment], i: usize) -> usize
+    requires { Between (starts_of segments.now) 0 (length segments.now) i }
+    ensures { Between (starts_of segments.now) result (result + 1) i }
+{
+    let mut low = 0;
+    let mut high = segments.len();
+    while low + 1 < high {
+        let middle = low + (high - low) / 2;
+        if segments[middle].start <= i {
+            low = middle;
+        } else {
+            high = middle;
+        }
+    }
+    low
+}
+
+// The last block that begins at value `i` or before it.
+fn block_before(blocks: &[Rc<Block>], i: usize) -> usize
+    requires { Between (block_starts (map rc_value blocks.now)) 0 (length blocks.now) i }
+    ensures { Between (block_starts (map rc_value blocks.now)) result (result + 1) i }
+{
+    let mut low = 0;
+    let mut high = blocks.len();
+    while low + 1 < high {
+        let middle = low + (high - low) / 2;
+        if blocks[middle].start <= i {
+            low = middle;
+        } else {
+            high = middle;
+        }
+    }
+    low
+}
+
+// Makes a block of the last segments where they are as many as one has. Where a growth is refused
+// nothing changes.
+fn close_full(
+    alloc: Global,
+    older: &mut Vec<Rc<Block>>,
+    segments: &mut Vec<Segment>,
+) -> Result<(), AllocError>
+    requires { AllByRecursion IsBlock (map rc_value older.old.items) }
+    ensures same { OnOk result (AreSame
+        (block_segments (map rc_value older.new.items) ++ segments.new.items)
+        (block_segments (map rc_value older.old.items) ++ segments.old.items)) }
+    ensures blocks { OnOk result (AllByRecursion IsBlock (map rc_value older.new.items)) }
+    ensures err { OnErr result ((older.new.items ≡ older.old.items)
+        × (segments.new.items ≡ segments.old.items)) }
+{
+    if segments.len() < BLOCK {
+        Ok(())
+    } else {
+        close(alloc, older, segments)
+    }
+}
+
+// Makes a block of the last segments, behind the older ones. Where a growth is refused nothing
+// changes.
+fn close(
+    alloc: Global,
+    older: &mut Vec<Rc<Block>>,
+    segments: &mut Vec<Segment>,
+) -> Result<(), AllocError>
+    requires some { 0 < length segments.old.items }
+    requires blocks { AllByRecursion IsBlock (map rc_value older.old.items) }
+    ensures last { OnOk result (segments.new.items ≡ []) }
+    ensures same { OnOk result (AreSame (block_segments (map rc_value older.new.items))
+        (block_segments (map rc_value older.old.items) ++ segments.old.items)) }
+    ensures blocks { OnOk result (AllByRecursion IsBlock (map rc_value older.new.items)) }
+    ensures err { OnErr result ((older.new.items ≡ older.old.items)
+        × (segments.new.items ≡ segments.old.items)) }
+{
+    let block = Rc::new(
+        alloc,
+        Block {
+            start: segments[0].start,
+            segments: shared(alloc, segments)?,
+        },
+    )?;
+    older.push(block)?;
+    segments.clear();
+    Ok(())
+}
+
+// The same blocks once more.
+fn shared_blocks(alloc: Global, blocks: &[Rc<Block>]) -> Result<Vec<Rc<Block>>, AllocError>
+    ensures { IfOk result (λ v. map rc_value v.items ≡ map rc_value blocks.now) }
+{
+    let mut copies = Vec::with_capacity(alloc, blocks.len())?;
+    for block in blocks {
+        copies.push(block.clone()?)?;
+    }
+    Ok(copies)
 }
 
 // The same arrays once more.

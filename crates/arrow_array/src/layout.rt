@@ -5,7 +5,7 @@
 //! offsets may be left out. Nothing here takes memory. The tests of offsets, texts and indices look
 //! at each slot, the others at the lengths.
 
-ghost use Rattle.std.specs.Prelude.{◌≡◌, ◌↔◌, ◌≤◌, ◌<◌, ◌*◌, ℕ, pos, [], length, map};
+ghost use Rattle.std.specs.Prelude.{◌≡◌, ◌↔◌, ◌≤◌, ◌<◌, ◌*◌, ◌^◌, ℕ, pos, [], length, map};
 ghost use Rattle.std.specs.Prelude.{if◌then◌else◌, IsTrue};
 ghost use Rattle.arrow_bits.specs.Numbers.{IsWidth, twos_complement};
 ghost use Rattle.arrow_bits.specs.Offsets.{AreOffsetsOf};
@@ -109,6 +109,10 @@ pub fn are_texts(
 
 /// Whether each valid slot of `len` has an index to one of `count` values, where the buffers hold
 /// as many slots (`has_fixed`).
+///
+/// All slots are looked at first, 64 bytes of indices at once, as if none were null: mostly null
+/// slots hold an index too, as 0. Only where that fails and there is a bitmap, the valid ones are
+/// looked at one after another.
 pub fn are_indices(
     len: usize,
     width: usize,
@@ -121,11 +125,9 @@ pub fn are_indices(
     requires laid { HasFixed len width validity.now indices.now }
     ensures { IsTrue result ↔ AreIndices len width signed validity.now indices.now count }
 {
-    if width == 4 && validity.is_empty() {
-        are_indices_at_once(len, signed, indices, count)
-    } else {
-        are_indices_one_by_one(len, width, signed, validity, indices, count)
-    }
+    are_all_indices(len, width, signed, indices, count)
+        || (!validity.is_empty()
+            && are_indices_one_by_one(len, width, signed, validity, indices, count))
 }
 
 // The same of `len` indices, one slot after another.
@@ -152,31 +154,36 @@ fn are_indices_one_by_one(
     true
 }
 
-// The same of `len` indices of 32 bits that all are valid, compared without a sign: a negative one
-// is then above the rest.
-fn are_indices_at_once(len: usize, signed: bool, indices: &[u8], count: usize) -> bool
-    requires { 4 * len ≤ length indices.now }
-    ensures { IsTrue result ↔ AreIndices len 4 signed [] indices.now count }
+// The same of `len` indices that all are looked at, also those of null slots. They are compared
+// without a sign: a negative one is then above the rest.
+fn are_all_indices(len: usize, width: usize, signed: bool, indices: &[u8], count: usize) -> bool
+    requires width { IsWidth width }
+    requires inside { width * len ≤ length indices.now }
+    ensures { IsTrue result ↔ AreIndices len width signed [] indices.now count }
 {
     if count == 0 {
         return len == 0;
     }
-    are_at_most(indices, len, last_index(signed, count))
+    are_at_most(indices, width, len, last_index(width, signed, count))
 }
 
-// The last index of 32 bits to one of `count` values. A number of 32 bits is an index, by its sign
-// or without one, where it is not above this one, both read without a sign.
-fn last_index(signed: bool, count: usize) -> u32
-    requires { 0 < count }
-    ensures { (n : ℕ) → n < 4294967296 → (n ≤ result)
-        ↔ IsIndex count (if signed then twos_complement 4 n else pos n) }
+// The last index of this width to one of `count` values. A number of the width is an index, by its
+// sign or without one, where it is not above this one, both read without a sign.
+fn last_index(width: usize, signed: bool, count: usize) -> u64
+    requires width { IsWidth width }
+    requires some { 0 < count }
+    ensures { (n : ℕ) → n < 256 ^ width → (n ≤ result)
+        ↔ IsIndex count (if signed then twos_complement width n else pos n) }
 {
-    let greatest = if signed {
-        i32::MAX as usize
-    } else {
-        u32::MAX as usize
+    let greatest = match width {
+        1 => u8::MAX as u64,
+        2 => u16::MAX as u64,
+        4 => u32::MAX as u64,
+        // 8, the width that is left
+        _ => u64::MAX,
     };
-    (count - 1).min(greatest) as u32
+    let top = if signed { greatest / 2 } else { greatest };
+    (count as u64 - 1).min(top)
 }
 
 /// How many buffers a node of this type and encoding has: a dictionary-encoded one has those of its

@@ -9,6 +9,22 @@
 //! value is said by index in `specs/Slots.antt`. That the ranges lie inside the body, that offsets
 //! never fall and end inside, and that texts are UTF-8, is known of every array (`IsArray` in
 //! `specs/Node.antt`): it is asked for where one is made, and tested nowhere again.
+//!
+//! | Notion | Definition |
+//! |---|---|
+//! | what an array and a dictionary are | `specs/Column.antt`: `Column`, `IsColumn`, `ValueList`, `IsValueList` |
+//! | a value, without where it lies | `specs/PlainValue.antt`: `PlainValue` |
+//! | which values a field takes | `specs/Fits.antt`: `Fits` |
+//! | the layout of a type, and of a node | `specs/Form.antt`: `form_of`, `node_form` |
+//! | what buffers hold at a slot | `specs/Slots.antt`: `int_slot`, `range_of` .. |
+//! | when buffers hold a node's slots | `specs/Layout.antt`: `IsLaid`, `IsText`, `IsIndexed` |
+//! | the column of a node | `specs/Parts.antt`: `node_column` |
+//! | what an index stands for | `specs/Resolve.antt`: `resolve`; `specs/Listed.antt`: `listed` |
+//! | the first null, slots without nulls | `specs/FullSlots.antt`: `IsFirstNull`, `AreFull` |
+//! | what a slot shows | `specs/Shown.antt`: `Shows`, `HoldsValue` |
+//! | equal slots, values that begin others | `specs/Same.antt`: `same_values`, `Begins` |
+//! | a batch, and why there is none | `specs/Batch.antt`: `IsTable`, `Judges` |
+//! | how they are kept | `specs/Node.antt`: `column_of`; `specs/Segments.antt`; `specs/Value.antt` |
 #![tactic(auto)]
 
 mod array;

@@ -11,7 +11,7 @@ ghost use Rattle.arrow_array.specs.Slots.{is_valid_at, place_of, range_of, HasBi
 ghost use Rattle.arrow_array.specs.Slots.{AreTexts, bool_slot, fixed_slot, int_slot};
 
 use crate::form::OffsetWidth;
-use arrow_bits::{LargeOffsets, Offsets, bit, int_at};
+use arrow_bits::{LargeOffsets, Offsets, bit, first_unset, int_at};
 
 // Whether slot `i` is valid.
 pub(crate) fn is_valid(validity: &[u8], i: usize) -> bool
@@ -28,13 +28,10 @@ pub(crate) fn first_invalid(validity: &[u8], start: usize, stop: usize) -> usize
     ensures { IsFirstInvalid validity.now start stop result }
 {
     if validity.is_empty() {
-        return stop;
+        stop
+    } else {
+        first_unset(validity, start, stop)
     }
-    let mut i = start;
-    while i < stop && bit(validity, i) {
-        i += 1;
-    }
-    i
 }
 
 // The truth value of slot `i`, where it is valid.

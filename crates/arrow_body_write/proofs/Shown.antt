@@ -1,10 +1,11 @@
 -- What the accessors of a slot give is what is stored of its value.
-use Rattle.std.proofs.Common.{◌≡◌, ◌-◌, ℕ, List, [], ◌∷◌, length, false, refl, ap, ◌∙◌}
+use Rattle.std.proofs.Common.{◌≡◌, ◌-◌, ℕ, List, [], length, false, refl, ap, ◌∙◌}
 use Rattle.std.specs.Prelude.{pos, unwrap_or, None, Some}
 use Rattle.arrow_array.specs.Column.{Column, HasItems, values_from}
-use Rattle.arrow_array.specs.PlainValue.{PlainValue, null_value, bool_value, int_value, binary_value, utf8_value, list_value, struct_value, values_of, value_at, bool_in, int_in, binary_in, utf8_in, items_in}
+use Rattle.arrow_array.specs.PlainValue.{PlainValue, null_value, bool_value, int_value, binary_value, utf8_value, list_value, struct_value, value_at, bool_in, int_in, binary_in, utf8_in, items_in}
 use Rattle.arrow_array.proofs.Sameness.{length-values_from}
-use Rattle.arrow_body_written.specs.Raws.{bytes_in_value, items_in_value, list_of_values, number_in, truth_in}
+use Rattle.arrow_array.proofs.Lists.{list_again}
+use Rattle.arrow_body_written.specs.Raws.{bytes_in_value, items_in_value, number_in, truth_in}
 
 -- the truth value of a slot, false where it has none
 pub truth_or : (v : PlainValue) → unwrap_or (bool_in v) false ≡ truth_in v
@@ -55,11 +56,6 @@ of_neither (binary_value b) e f = cc
 of_neither (utf8_value b) e f = cc
 of_neither (list_value b) e f = refl
 of_neither (struct_value b) e f = refl
-
--- a list has its values
-pub list_again : (vs : List PlainValue) → list_of_values (values_of vs) ≡ vs
-list_again [] = refl
-list_again (v ∷ vs) = ap (λ others. v ∷ others) (list_again vs)
 
 -- the items of a slot are the child's slots from the first up to the end
 pub items_are : (c : Column) (i start end : ℕ) (child : Column) → HasItems c i start end child → items_in_value (value_at c.raw i) ≡ values_from child.raw start end

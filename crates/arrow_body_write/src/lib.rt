@@ -11,6 +11,16 @@
 //! slots that a node is sent, below lists and structs too, and either counts them or writes one of
 //! the node's buffers (`pass`); so each node is walked once to be counted and once for each buffer,
 //! and nothing is kept of the slots.
+//!
+//! | Notion | Definition |
+//! |---|---|
+//! | the alignment | `specs/Align.antt`: `alignment_of` |
+//! | columns that can be stored, their size | `specs/Storable.antt`: `CanBeStored`, `columns_size` |
+//! | what is added to a body | `specs/Storing.antt`: `Stores` |
+//! | where values come from | `specs/Source.antt`: `rest_of`, `column_in` |
+//! | nodes by their numbers, and what each is sent | `specs/Sent.antt`: `IsNodeOf`, `sent_to` |
+//! | slots passed, and counted | `specs/Pass.antt`: `Takes`; `specs/Tally.antt`: `IsTally` |
+//! | a buffer on its way | `specs/Part.antt`: `IsWritten`; `specs/Packing.antt`; `specs/Runs.antt` |
 #![tactic(auto)]
 
 pub(crate) mod align;

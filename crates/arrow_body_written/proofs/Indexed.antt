@@ -17,8 +17,9 @@ use Rattle.arrow_array.specs.Parts.{values_in}
 use Rattle.arrow_array.specs.PlainValue.{PlainValue, null_value, bool_value, int_value, binary_value, utf8_value, list_value, struct_value, value_at, is_null_value}
 use Rattle.arrow_array.specs.Resolve.{entry_of, resolve}
 use Rattle.arrow_array.specs.Slots.{AreIndices, IsIndex, index_width}
+use Rattle.arrow_array.specs.Listed.{dictionary_for, values_by}
 use Rattle.arrow_array.specs.declared.form.Form.TheVariants as forms
-use Rattle.arrow_body.specs.Sound.{AreIndexed, IsNodeIndexed, dictionary_for, own_bytes, values_by}
+use Rattle.arrow_body.specs.Sound.{AreIndexed, IsNodeIndexed, own_bytes}
 use Rattle.arrow_body.specs.Taken.{AllNodes, IfFlattened, flattened, own_buffers, taken_buffers, taken_nodes}
 use Rattle.arrow_body_written.specs.Entries.{HaveEntries}
 use Rattle.arrow_body_written.specs.Raws.{AreRaws, IsOwn, number_in, raws_below}

@@ -13,7 +13,8 @@ use Rattle.arrow_array.specs.Slots.{HasOffsets, is_valid_at, or_null, slots}
 use Rattle.arrow_array.specs.declared.form.Form.{Form}
 use Rattle.arrow_array.specs.declared.form.Form.TheVariants as forms
 use Rattle.arrow_array.specs.declared.form.OffsetWidth.{OffsetWidth}
-use Rattle.arrow_body_written.specs.Raws.{bytes_in_value, items_in_value, list_of_values, raws_below}
+use Rattle.arrow_array.proofs.Lists.{list_again}
+use Rattle.arrow_body_written.specs.Raws.{bytes_in_value, items_in_value, raws_below}
 use Rattle.arrow_body_written.specs.Stored.{own_chunks, validity_bytes}
 use Rattle.arrow_body_written.specs.Tidy.{BelowNulls, IsSpare, IsTidyLayout, IsTidyOffsets, IsTidyValidity}
 use Rattle.arrow_body_written.proofs.Joined.{no_elements}
@@ -55,11 +56,6 @@ bitmap_kept : (form : Form) (c : Fields) (vs : List PlainValue) (b : List (List 
     → ((j : ℕ) → is_null_value (payload j) ≡ false) → AreShown vs (λ j. or_null (buffer b 0) j (payload j)) → buffer b 0 ≡ validity_bytes vs
 bitmap_kept form c vs b below payload k full shown = validity_again vs (buffer b 0) (are_valid vs (buffer b 0) payload full shown) (k.small 0) k.validity k.spare
 
--- items again
-listed_again : (xs : List PlainValue) → list_of_values (values_of xs) ≡ xs
-listed_again [] = refl
-listed_again (x ∷ xs) = ap (λ ys. x ∷ ys) (listed_again xs)
-
 -- the values below a list are those of its one child
 child_long : (below : List (List PlainValue)) → length below ≡ 1 → child_count (map length below) ≡ length (get_or below 0 [])
 child_long below long = get_or-map length below 0 [] 0 (omega (arith, long))
@@ -70,7 +66,7 @@ ranged_lists w c vs b below k =
     let count = child_long below k.long in
     record {
       shown = are_shown vs (value_slot (forms.Lists w) b below) k.read;
-      read = listed_again;
+      read = list_again;
       nothing = refl;
       small = k.small 1;
       tidy = subst (λ n. IsTidyOffsets w (length vs) (buffer b 0) (buffer b 1) n) count k.layout;

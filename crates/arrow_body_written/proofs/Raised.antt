@@ -8,7 +8,7 @@ use Rattle.arrow_types.specs.declared.field.Encoding.{Encoding}
 use Rattle.arrow_array.specs.Column.{Agree, Column, IsColumn, ValueList, listed_of}
 use Rattle.arrow_array.specs.Fits.{Fits, ItemsFit, PartsFit}
 use Rattle.arrow_array.specs.Form.{HasFieldsOf, form_of, node_form}
-use Rattle.arrow_array.specs.PlainValue.{PlainValue, PlainValues, null_value, bool_value, int_value, binary_value, utf8_value, list_value, struct_value, no_values, more_values, field_value}
+use Rattle.arrow_array.specs.PlainValue.{PlainValue, PlainValues, null_value, bool_value, int_value, binary_value, utf8_value, list_value, struct_value, no_values, more_values, field_value, list_of_values}
 use Rattle.arrow_array.specs.declared.form.Form.{Form}
 use Rattle.arrow_array.specs.declared.form.Form.TheVariants as forms
 use Rattle.arrow_array.specs.declared.form.OffsetWidth.{OffsetWidth}
@@ -16,7 +16,7 @@ use Rattle.arrow_body.specs.Taken.{IfFlattened}
 use Rattle.arrow_body_written.specs.Entries.{HaveEntries}
 use Rattle.arrow_body_written.specs.Formed.{AreFormed}
 use Rattle.arrow_body_written.specs.Laws.{ColumnsHoldRaws, raws_of}
-use Rattle.arrow_body_written.specs.Raws.{AreRaws, IsOwn, items_in_value, list_of_values, raws_below}
+use Rattle.arrow_body_written.specs.Raws.{AreRaws, IsOwn, items_in_value, raws_below}
 use Rattle.arrow_body_written.specs.Stored.{fields_of_columns}
 use Rattle.arrow_body_written.proofs.Below.{ColumnsHold, Condition, PartsHold, all_change, columns_hold, items_hold, none_hold, nulls_hold, shifted}
 use Rattle.arrow_body_written.proofs.Walk.{head_form, inner_raws}

@@ -13,8 +13,9 @@ use Rattle.arrow_array.specs.PlainValue.{PlainValue}
 use Rattle.arrow_array.specs.Slots.{slots}
 use Rattle.arrow_array.specs.Parts.{node_column, value_slot, index_slot, values_in}
 use Rattle.arrow_array.specs.declared.form.Form.{Form}
+use Rattle.arrow_array.specs.Listed.{dictionary_for}
 use Rattle.arrow_array.specs.declared.form.Form.TheVariants as forms
-use Rattle.arrow_body.specs.Sound.{columns_of, dictionary_for, if_flattened, own_bytes, slots_at}
+use Rattle.arrow_body.specs.Sound.{columns_of, if_flattened, own_bytes, slots_at}
 use Rattle.arrow_body.specs.Taken.{flattened, own_buffers, taken_buffers, taken_nodes}
 use Rattle.arrow_body_written.specs.Raws.{IsOwn, IsSmall, raws_below}
 use Rattle.arrow_body_written.specs.Stored.{own_chunks}

@@ -20,8 +20,9 @@ use Rattle.arrow_array.specs.Slots.{is_valid_at, or_null, slots}
 use Rattle.arrow_array.specs.declared.form.Form.{Form}
 use Rattle.arrow_array.specs.declared.form.Form.TheVariants as forms
 use Rattle.arrow_array.proofs.Shown.{at_slots, length_slots}
+use Rattle.arrow_array.specs.Listed.{dictionary_for}
 use Rattle.arrow_body.specs.Held.{bytes_in, count_of}
-use Rattle.arrow_body.specs.Sound.{IsNodeLaid, columns_of, dictionary_for, if_flattened, lengths_of, node_at, own_bytes, slots_at}
+use Rattle.arrow_body.specs.Sound.{IsNodeLaid, columns_of, if_flattened, lengths_of, node_at, own_bytes, slots_at}
 use Rattle.arrow_body.specs.Taken.{AllNodes, IfFlattened, below, flattened, own_buffers, taken_buffers, taken_nodes}
 use Rattle.arrow_body_written.specs.Laws.{OneBody}
 use Rattle.arrow_body_written.specs.Raws.{AreRaws, IsOwn, raws_below}

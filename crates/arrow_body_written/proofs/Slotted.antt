@@ -13,13 +13,14 @@ use Rattle.arrow_types.specs.Field.{Fields, width}
 use Rattle.arrow_types.specs.declared.data_type.BitWidth.{BitWidth}
 use Rattle.arrow_types.specs.declared.data_type.BitWidth.TheVariants as widths
 use Rattle.arrow_array.specs.Form.{number_width}
-use Rattle.arrow_array.specs.PlainValue.{PlainValue, PlainValues, null_value, bool_value, int_value, binary_value, utf8_value, list_value, struct_value, no_values, more_values, values_of, value_at, is_null_value, field_value, nth_value}
+use Rattle.arrow_array.specs.PlainValue.{PlainValue, PlainValues, null_value, bool_value, int_value, binary_value, utf8_value, list_value, struct_value, no_values, more_values, values_of, value_at, is_null_value, field_value, nth_value, list_of_values}
 use Rattle.arrow_array.specs.Slots.{is_valid_at, or_null, bool_slot, int_slot, fixed_slot, binary_slot, utf8_slot, list_slot, struct_slot, slots, place_of, range_of}
 use Rattle.arrow_array.specs.declared.form.Form.TheVariants as forms
 use Rattle.arrow_array.specs.declared.form.OffsetWidth.{OffsetWidth}
 use Rattle.arrow_array.proofs.Shown.{length_slots}
+use Rattle.arrow_array.proofs.Lists.{values_again}
 use Rattle.arrow_body_written.specs.Packed.{packed, offsets_bytes}
-use Rattle.arrow_body_written.specs.Raws.{IsOwn, bytes_in_value, fixed_in, greatest_offset, items_in_value, list_of_values, number_in, raws_below, truth_in}
+use Rattle.arrow_body_written.specs.Raws.{IsOwn, bytes_in_value, fixed_in, greatest_offset, items_in_value, number_in, raws_below, truth_in}
 use Rattle.arrow_body_written.specs.Stored.{nulls_in, number_buffer, validity_bytes}
 use Rattle.arrow_body_written.proofs.Bits.{packed_bit, packed_few}
 use Rattle.arrow_body_written.proofs.Pieces.{HaveWidth, cut, int_read, piece, place_read, sum_next}
@@ -232,17 +233,13 @@ read_texts w c vs own near =
     (λ full. ap utf8_value (read_range w bytes_in_value vs j h near) ∙ text_of w c (value_at vs j) (in_slot (IsOwn (forms.Texts w) c) vs j h own) full))
 
 -- lists
-again : (values : PlainValues) → values_of (list_of_values values) ≡ values
-again no_values = refl
-again (more_values v values) = ap (more_values v) (again values)
-
 list_of : (w : OffsetWidth) (c : Fields) (v : PlainValue) → IsOwn (forms.Lists w) c v → is_null_value v ≡ false → list_value (values_of (items_in_value v)) ≡ v
 list_of w c null_value own h = cc
 list_of w c (bool_value b) own h = cc
 list_of w c (int_value b) own h = absurd own
 list_of w c (binary_value b) own h = absurd own
 list_of w c (utf8_value b) own h = absurd own
-list_of w c (list_value b) own h = ap list_value (again b)
+list_of w c (list_value b) own h = ap list_value (values_again b)
 list_of w c (struct_value b) own h = let other = own.0 in cc
 
 pub read_lists : (w : OffsetWidth) (c : Fields) (vs : List PlainValue) → AllByRecursion (IsOwn (forms.Lists w) c) vs → sum_by (λ v. length (items_in_value v)) vs ≤ greatest_offset w
@@ -268,7 +265,7 @@ parts_again n b own =
     same_lists parts (list_of_values b) (omega (arith, long, own))
     (λ k d at. let here : k < n = omega (arith, at, long) in
     get_or-map-range_with_len (λ k. nth_value k b) 0 n k k d here (omega arith) ∙ nth_same b k ∙ any_default (list_of_values b) k null_value d (omega (arith, here, own))) in
-    ap (λ vs. struct_value (values_of vs)) same ∙ ap struct_value (again b)
+    ap (λ vs. struct_value (values_of vs)) same ∙ ap struct_value (values_again b)
 
 struct_of : (c : Fields) (v : PlainValue) → IsOwn forms.Structs c v → is_null_value v ≡ false → struct_value (values_of (map (λ k. field_value k v) (range_with_len 0 (width c)))) ≡ v
 struct_of c null_value own h = cc

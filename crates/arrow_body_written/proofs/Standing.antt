@@ -3,13 +3,13 @@ use Rattle.std.proofs.Common.{◌≡◌, ℤ, List, [], ◌∷◌, map, Option, 
 use Rattle.std.specs.Prelude.{option_map}
 use Rattle.std.specs.List.{AllByRecursion, flat_map}
 use Rattle.arrow_types.specs.Field.{Fields, Head, none, more}
-use Rattle.arrow_array.specs.PlainValue.{PlainValue, PlainValues, null_value, bool_value, int_value, binary_value, utf8_value, list_value, struct_value, no_values, more_values}
+use Rattle.arrow_array.specs.PlainValue.{PlainValue, PlainValues, null_value, bool_value, int_value, binary_value, utf8_value, list_value, struct_value, no_values, more_values, list_of_values}
 use Rattle.arrow_array.specs.Resolve.{before, resolve, resolve_items, resolve_parts}
 use Rattle.arrow_array.specs.declared.form.Form.{Form}
 use Rattle.arrow_array.specs.declared.form.Form.TheVariants as forms
 use Rattle.arrow_array.proofs.Resolving.{null_resolves}
 use Rattle.arrow_body_written.specs.Entries.{StandFor}
-use Rattle.arrow_body_written.specs.Raws.{AreRaws, items_in_value, list_of_values, raws_below}
+use Rattle.arrow_body_written.specs.Raws.{AreRaws, items_in_value, raws_below}
 use Rattle.arrow_body_written.proofs.Below.{ColumnsHold, Condition, PartsHold, all_change, columns_hold, items_hold, none_hold, nulls_hold, shifted}
 
 -- a value stands for something

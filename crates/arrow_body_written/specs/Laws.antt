@@ -5,7 +5,8 @@ use Rattle.arrow_types.specs.Field.{Fields}
 use Rattle.arrow_array.specs.Column.{Agree, AreOf, Column, IsColumn, ValueList, listed_of}
 use Rattle.arrow_array.specs.Node.{AreBytes}
 use Rattle.arrow_array.specs.PlainValue.{PlainValue}
-use Rattle.arrow_body.specs.Sound.{AreIndexed, AreLaid, AreText, columns_of, values_by}
+use Rattle.arrow_array.specs.Listed.{values_by}
+use Rattle.arrow_body.specs.Sound.{AreIndexed, AreLaid, AreText, columns_of}
 use Rattle.arrow_body.specs.Taken.{taken_buffers, taken_nodes}
 use Rattle.arrow_body_written.specs.Entries.{HaveEntries}
 use Rattle.arrow_body_written.specs.Formed.{AreFormed}

@@ -4,7 +4,7 @@ use Rattle.std.specs.List.{AllByRecursion, flat_map, range_with_len, sum_by}
 use Rattle.arrow_types.specs.Field.{Fields, none, more, width}
 use Rattle.arrow_array.specs.Fits.{HoldsBinary, HoldsInt, HoldsUtf8}
 use Rattle.arrow_array.specs.Form.{IsLists, node_form}
-use Rattle.arrow_array.specs.PlainValue.{PlainValue, PlainValues, null_value, bool_value, int_value, binary_value, utf8_value, list_value, struct_value, no_values, more_values, field_value}
+use Rattle.arrow_array.specs.PlainValue.{PlainValue, null_value, bool_value, int_value, binary_value, utf8_value, list_value, struct_value, field_value, list_of_values}
 use Rattle.arrow_array.specs.declared.form.Form.{Form}
 use Rattle.arrow_array.specs.declared.form.Form.TheVariants as forms
 use Rattle.arrow_array.specs.declared.form.OffsetWidth.{OffsetWidth}
@@ -50,11 +50,6 @@ fixed_in width (int_value z) = replicate width 0
 fixed_in width (utf8_value bytes) = replicate width 0
 fixed_in width (list_value items) = replicate width 0
 fixed_in width (struct_value parts) = replicate width 0
-
--- values one after another, as a list
-abbrev pub list_of_values : PlainValues → List PlainValue
-list_of_values no_values = []
-list_of_values (more_values value others) = value ∷ list_of_values others
 
 -- its items, none under a null
 abbrev pub items_in_value : PlainValue → List PlainValue

@@ -2,6 +2,17 @@
 //!
 //! `specs/Stored.antt` says which field nodes, buffers and bytes they are of raw values, on each
 //! level; `specs/Size.antt` how many bytes they have.
+//!
+//! | Notion | Definition |
+//! |---|---|
+//! | bits, numbers, offsets as bytes | `specs/Packed.antt`: `packed`, `ints_bytes`, `offsets_bytes` |
+//! | raw values of a node, and below it | `specs/Raws.antt`: `AreRaws`, `raws_below`, `AreSmall` |
+//! | the body that is sent | `specs/Stored.antt`: `stored` |
+//! | its size, and whether there is one | `specs/Size.antt`: `size_of`, `IsStorable` |
+//! | nothing that no value asks for | `specs/Tidy.antt`: `IsTidy` |
+//! | indices with their entries | `specs/Entries.antt`: `HaveEntries` |
+//! | types with their fields | `specs/Formed.antt`: `AreFormed` |
+//! | the laws | `specs/Laws.antt`: `StoredIsRead`, `StoredIsTidy`, `OneBody` .. |
 #![tactic(auto)]
 
 pub mod laws;

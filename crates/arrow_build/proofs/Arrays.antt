@@ -22,11 +22,12 @@ use Rattle.arrow_array.specs.declared.form.Form.{Form}
 use Rattle.arrow_array.specs.declared.form.Form.TheVariants as forms
 use Rattle.arrow_array.specs.declared.form.OffsetWidth.{OffsetWidth}
 use Rattle.arrow_array.proofs.Shown.{length_slots}
+use Rattle.arrow_array.specs.Listed.{dictionary_for, values_by}
 use Rattle.arrow_build.specs.Buffers.{buffers_in}
 use Rattle.arrow_build.specs.Built.{Built, AreBelow, HaveSlots, built_size, counts_in, cut_to, fields_in, raws_in}
 use Rattle.arrow_build.specs.Columns.{child_column}
 use Rattle.arrow_build.specs.Fields.{FitsField, field_form}
-use Rattle.arrow_build.specs.Finished.{AreArraysOf, AreTyped, IsArrayOf, IsIndexed, IsTyped, dictionary_by, dictionary_for, values_by}
+use Rattle.arrow_build.specs.Finished.{AreArraysOf, AreTyped, IsArrayOf, IsIndexed, IsTyped, dictionary_by}
 use Rattle.arrow_build.specs.Kept.{CountsItems, Keeps, KeepsParts}
 use Rattle.arrow_build.specs.Nodes.{IsNode, built_of, slot_in}
 use Rattle.arrow_build.specs.Puts.{StaySlots}

@@ -15,12 +15,13 @@ use Rattle.arrow_array.specs.Slots.{AreIndices, IsIndex, int_slot, is_valid_at, 
 use Rattle.arrow_array.specs.declared.form.Form.{Form}
 use Rattle.arrow_array.specs.declared.form.Form.TheVariants as forms
 use Rattle.arrow_array.specs.declared.form.OffsetWidth.{OffsetWidth}
+use Rattle.arrow_array.specs.Listed.{values_by}
 use Rattle.arrow_bits.specs.Numbers.{int_of}
 use Rattle.arrow_build.specs.Buffers.{buffers_in}
 use Rattle.arrow_build.specs.Built.{Built, AreBelow, HaveSlots, counts_in, cut_to, fields_in, raws_in}
 use Rattle.arrow_build.specs.Columns.{AllBelow, AllNodes, AreHeld, child_column}
 use Rattle.arrow_build.specs.Fields.{field_form}
-use Rattle.arrow_build.specs.Finished.{AreIndexed, HaveEntries, IsIndexed, RefersTo, values_by}
+use Rattle.arrow_build.specs.Finished.{AreIndexed, HaveEntries, IsIndexed, RefersTo}
 use Rattle.arrow_build.specs.Kept.{CountsItems, Keeps}
 use Rattle.arrow_build.specs.Nodes.{IsNode, built_of, slot_in}
 use Rattle.arrow_build.specs.declared.node.Node.TheInside.{Inside}

@@ -4,27 +4,23 @@ use Rattle.std.proofs.lemmas.Bool.{cases_lt}
 use Rattle.std.proofs.lemmas.List.{append_assoc, length-map, map-append, take-append-drop, take-append-le, take-take, take_all}
 use Rattle.std.proofs.Math.Seq.{take-append_seam}
 use Rattle.arrow_array.specs.Layout.{buffer}
-use Rattle.arrow_array.specs.PlainValue.{PlainValue, field_value, values_of}
+use Rattle.arrow_array.specs.PlainValue.{PlainValue, field_value, list_of_values, values_of}
 use Rattle.arrow_array.specs.Same.{Begins}
 use Rattle.arrow_array.specs.Slots.{place_of}
 use Rattle.arrow_array.specs.declared.form.Form.{Form}
 use Rattle.arrow_array.specs.declared.form.Form.TheVariants as forms
 use Rattle.arrow_array.specs.declared.form.OffsetWidth.{OffsetWidth}
+use Rattle.arrow_array.proofs.Lists.{list_again}
 use Rattle.arrow_build.specs.Buffers.{IsLeaf}
 use Rattle.arrow_build.specs.Built.{Built, cut_to, items_of, with_parts}
-use Rattle.arrow_build.specs.Columns.{AreHeld, all_items, child_column, list_of}
+use Rattle.arrow_build.specs.Columns.{AreHeld, all_items, child_column}
 use Rattle.arrow_build.specs.Kept.{CountsItems, Keeps}
 use Rattle.arrow_build.specs.Puts.{StayPlaces}
-
--- the values of a list are the list
-pub list_of_values : (values : List PlainValue) → list_of (values_of values) ≡ values
-list_of_values [] = refl
-list_of_values (value ∷ values) = ap (λ vs. value ∷ vs) (list_of_values values)
 
 -- the items of more lists
 pub all_items_append : (xs ys : List PlainValue) → all_items (xs ++ ys) ≡ all_items xs ++ all_items ys
 all_items_append [] ys = refl
-all_items_append (x ∷ xs) ys = ap (λ vs. list_of (items_of x) ++ vs) (all_items_append xs ys) ∙ sym (append_assoc (list_of (items_of x)) (all_items xs) (all_items ys))
+all_items_append (x ∷ xs) ys = ap (λ vs. list_of_values (items_of x) ++ vs) (all_items_append xs ys) ∙ sym (append_assoc (list_of_values (items_of x)) (all_items xs) (all_items ys))
 
 -- the column of a child by more values
 pub column_append : (form : Form) (k : ℕ) (xs ys : List PlainValue) → child_column form k (xs ++ ys) ≡ child_column form k xs ++ child_column form k ys
@@ -128,7 +124,7 @@ held_struct k at raw (b ∷ bs) v long h =
 pub items_grown : (start : ℕ) (raw child values : List PlainValue) (v : PlainValue) → start ≡ length (all_items raw) → Begins (all_items raw) child → values_of values ≡ items_of v
     → take start child ++ values ≡ all_items (raw ++ v ∷ [])
 items_grown start raw child values v count held items =
-    let added : list_of (items_of v) ++ [] ≡ values = grind (arith, append_nil (list_of (items_of v)), ap list_of items, list_of_values values) in
+    let added : list_of_values (items_of v) ++ [] ≡ values = grind (arith, append_nil (list_of_values (items_of v)), ap list_of_values items, list_again values) in
     (λ i. (ap (λ n. take n child) count ∙ held) i ++ sym added i) ∙ sym (all_items_append raw (v ∷ []))
   where
     append_nil : (xs : List PlainValue) → xs ++ [] ≡ xs

@@ -3,22 +3,17 @@
 use Rattle.std.specs.Prelude.{◌+◌, ℕ, List, [], ◌∷◌, ◌++◌, map, ⊤}
 use Rattle.arrow_types.specs.Field.{Fields, FieldShape, Head, none, more}
 use Rattle.arrow_array.specs.Form.{node_form}
-use Rattle.arrow_array.specs.PlainValue.{PlainValue, PlainValues, no_values, more_values, field_value}
+use Rattle.arrow_array.specs.PlainValue.{PlainValue, list_of_values, field_value}
 use Rattle.arrow_array.specs.Same.{Begins}
 use Rattle.arrow_array.specs.declared.form.Form.{Form}
 use Rattle.arrow_array.specs.declared.form.Form.TheVariants as forms
 use Rattle.arrow_build.specs.Built.{Built, items_of}
 use Rattle.arrow_build.specs.Fields.{field_form}
 
--- the values of a list, in their order
-abbrev pub list_of : PlainValues → List PlainValue
-list_of no_values = []
-list_of (more_values value others) = value ∷ list_of others
-
 -- the items of all lists, one list after another
 abbrev pub all_items : List PlainValue → List PlainValue
 all_items [] = []
-all_items (value ∷ values) = list_of (items_of value) ++ all_items values
+all_items (value ∷ values) = list_of_values (items_of value) ++ all_items values
 
 -- The column of child k of a node of the form: of lists all their items, of structs the values of field k, with a null for a
 -- struct that is null. Other forms have no children.

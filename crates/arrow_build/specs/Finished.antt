@@ -6,22 +6,12 @@ use Rattle.arrow_types.specs.Field.{FieldShape, Head}
 use Rattle.arrow_types.specs.Schema.{DictionaryField, field_dictionaries}
 use Rattle.arrow_types.specs.declared.field.Encoding.{Encoding}
 use Rattle.arrow_array.specs.Column.{Column, ValueList}
-use Rattle.arrow_array.specs.Listed.{listed}
-use Rattle.arrow_array.specs.Parts.{IsOfType, type_of, values_in}
+use Rattle.arrow_array.specs.Listed.{listed, values_by}
+use Rattle.arrow_array.specs.Parts.{IsOfType, type_of}
 use Rattle.arrow_array.specs.PlainValue.{PlainValue, null_value, bool_value, int_value, binary_value, utf8_value, list_value, struct_value}
-use Rattle.arrow_array.specs.Resolve.{resolve}
 use Rattle.arrow_array.specs.Slots.{IsIndex}
 use Rattle.arrow_build.specs.Built.{Built}
 use Rattle.arrow_build.specs.Columns.{AllNodes}
-
--- the values that are listed first for an id, none where none are
-abbrev pub values_by : List (ℤ × ValueList) → ℤ → List PlainValue
-values_by ds id = values_in (listed ds id)
-
--- the dictionary that is listed for a field with this encoding
-abbrev pub dictionary_for : List (ℤ × ValueList) → Option Encoding → Option ValueList
-dictionary_for ds None = None
-dictionary_for ds (Some e) = listed ds e.id
 
 -- the dictionary that is listed first for a field's id, if there is one, has the type of the field's values
 abbrev pub IsTyped : List (ℤ × ValueList) → DictionaryField → Type 0
@@ -71,7 +61,3 @@ AreArraysOf ds [] [] = ⊤
 AreArraysOf ds [] (c ∷ cs) = ⊥
 AreArraysOf ds (b ∷ bs) [] = ⊥
 AreArraysOf ds (b ∷ bs) (c ∷ cs) = IsArrayOf ds b c × AreArraysOf ds bs cs
-
--- the resolved values of an array are what its raw ones stand for by the listed dictionaries
-abbrev pub ResolvesBy : List (ℤ × ValueList) → Column → Type 0
-ResolvesBy ds c = map (resolve c.encoding c.data_type.children (values_by ds)) c.raw ≡ map Some c.resolved

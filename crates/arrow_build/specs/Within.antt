@@ -1,6 +1,6 @@
--- What a column can have at most: so many slots, and so many bytes of data (Columnar Format, "Array lengths" and "Variable-size
--- Binary Layout"). Every node has at most 2,147,483,647 slots; one whose offsets have 32 bits at most as many bytes, and one of
--- wider offsets or of byte strings of a fixed width at most 2^40.
+-- What a column can have at most: so many slots (Columnar Format, "Array lengths"), and so many bytes of data ("Variable-size Binary
+-- Layout"; the limit of 2^40 is this project's own). Every node has at most 2,147,483,647 slots; one whose offsets have 32 bits at
+-- most as many bytes, and one of wider offsets or of byte strings of a fixed width at most 2^40.
 use Rattle.std.specs.Prelude.{◌≤◌, ◌+◌, ◌^◌, ℕ, List, [], ◌∷◌, length}
 use Rattle.arrow_types.specs.Field.{Head}
 use Rattle.arrow_array.specs.Form.{node_form}

@@ -2,9 +2,10 @@
 
 ghost use Rattle.std.specs.Prelude.{◌≡◌, false, length, IfOk, OnErr, OnOk, MatchResult};
 ghost use Rattle.arrow_array.specs.Value.{value_view};
+ghost use Rattle.arrow_array.specs.Listed.{ResolvesBy};
 ghost use Rattle.arrow_build.specs.Built.{no_values_of, with_value};
 ghost use Rattle.arrow_build.specs.Faults.{ExplainsArray, ExplainsPush, TakesValue};
-ghost use Rattle.arrow_build.specs.Finished.{AreIndexed, AreTyped, IsArrayOf, ResolvesBy};
+ghost use Rattle.arrow_build.specs.Finished.{AreIndexed, AreTyped, IsArrayOf};
 ghost use Rattle.arrow_types.specs.Schema.{field_is_nested};
 ghost use Rattle.arrow_types.specs.View.{field_view};
 

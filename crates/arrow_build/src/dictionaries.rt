@@ -1,8 +1,7 @@
 //! Dictionaries by their ids.
 
 ghost use Rattle.std.specs.Prelude.{◌≡◌, IfOk, option_map};
-ghost use Rattle.arrow_array.specs.Listed.{listed};
-ghost use Rattle.arrow_build.specs.Finished.{dictionary_for};
+ghost use Rattle.arrow_array.specs.Listed.{listed, dictionary_for};
 
 use arrow_array::Dictionary;
 use arrow_types::Encoding;

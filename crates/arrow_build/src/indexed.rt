@@ -2,8 +2,9 @@
 
 ghost use Rattle.std.specs.Prelude.{◌≡◌, ◌≤◌, ◌↔◌, IsTrue, length, take};
 ghost use Rattle.std.specs.List.{AllByRecursion};
+ghost use Rattle.arrow_array.specs.Listed.{values_by};
 ghost use Rattle.arrow_build.specs.Built.{HaveSlots, cut_to};
-ghost use Rattle.arrow_build.specs.Finished.{AreIndexed, IsIndexed, values_by};
+ghost use Rattle.arrow_build.specs.Finished.{AreIndexed, IsIndexed};
 
 use crate::dictionaries::find;
 use crate::leaf::number_width;

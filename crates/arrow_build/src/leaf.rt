@@ -118,6 +118,7 @@ pub(crate) fn put_leaf(
 {
     let validity = &mut buffers.validity;
     let values = &mut buffers.values;
+    let bytes = &mut buffers.bytes;
     match form {
         Form::Nulls => Ok(()),
         Form::Bits => put_bool(validity, values, at, truth_in(value)),
@@ -127,26 +128,8 @@ pub(crate) fn put_leaf(
         Form::FixedBytes(width) => {
             put_fixed(validity, values, width as usize, at, binary_in(value))
         }
-        Form::Bytes(width) => {
-            put_bytes(
-                validity,
-                values,
-                &mut buffers.bytes,
-                width,
-                at,
-                binary_in(value),
-            )
-        }
-        Form::Texts(width) => {
-            put_bytes(
-                validity,
-                values,
-                &mut buffers.bytes,
-                width,
-                at,
-                text_in(value),
-            )
-        }
+        Form::Bytes(width) => put_bytes(validity, values, bytes, width, at, binary_in(value)),
+        Form::Texts(width) => put_bytes(validity, values, bytes, width, at, text_in(value)),
         Form::Lists(_) | Form::Structs => unreachable!(),
     }
 }

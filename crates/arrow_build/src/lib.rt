@@ -23,6 +23,16 @@
 //!
 //! `typed` and `indexed` look at dictionaries and indices, on every level and without memory,
 //! before `finish` copies the buffers into the bodies of arrays.
+//!
+//! | Notion | Definition |
+//! |---|---|
+//! | a column so far | `specs/Built.antt`: `Built` |
+//! | the columns of all its nodes | `specs/Columns.antt`: `child_column`, `AllNodes` |
+//! | a value that fits | `specs/Fields.antt`: `FitsField` |
+//! | how long columns may be | `specs/Within.antt`: `IsWithin`; `specs/Tally.antt`: `AreCounted` |
+//! | the array of a column | `specs/Finished.antt`: `IsArrayOf`, `AreTyped`, `AreIndexed` |
+//! | which fault applies | `specs/Faults.antt`: `TakesValue`, `ExplainsPush`, `ExplainsArray` |
+//! | what nodes and buffers keep | `specs/Nodes.antt`, `specs/Kept.antt`, `specs/Puts.antt`, `specs/Buffers.antt` |
 #![tactic(auto)]
 
 pub(crate) mod begin;

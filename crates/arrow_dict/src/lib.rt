@@ -18,6 +18,15 @@
 //! `choice` (`specs/Choice.antt`) is what is sent of a list of values after another.
 //! `Appends` (`specs/Appends.antt`) says when values are appended and which fault comes when,
 //! `value_type_of` (`specs/ValueTypes.antt`) which type a schema's fields name for an id.
+//!
+//! | Notion | Definition |
+//! |---|---|
+//! | dictionaries by rising ids | `specs/Dictionaries.antt`: `IsRising`, `placed`; `specs/Places.antt` |
+//! | values behind those of a dictionary | `specs/Appends.antt`: `Appends` |
+//! | the types that fields name for an id | `specs/ValueTypes.antt`: `value_type_of`; `specs/ValueFields.antt` |
+//! | what is sent of a dictionary | `specs/Choice.antt`: `choice` |
+//! | what was sent, what is staged | `specs/Tracking.antt`: `Tracked`, `IsTracker` |
+//! | the laws | `specs/Laws.antt` |
 #![tactic(auto)]
 
 mod entries;

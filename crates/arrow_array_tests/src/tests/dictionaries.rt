@@ -139,6 +139,48 @@ fn nulls_without_bytes(rt: HostRuntime) {
     }
 }
 
+// The letters of three segments, again and again, `count` segments in all.
+fn again(rt: &(impl Abort + AllocGlobal), parts: [&str; 3], count: usize) -> Dictionary {
+    let mut dictionary = spelled(rt, &parts[..1]);
+    for k in 1..count.min(1_000) {
+        append(rt, &mut dictionary, letters(rt, parts[k % 3]));
+    }
+    dictionary
+}
+
+// Values of 200 segments, of which each three are `ab`, none and `c`, and where they stand. Lists
+// of segments are shared 64 at a time, so the first 64 have the values 0 to 64, and the first 128
+// those up to 128.
+static LETTERS: [(usize, &str); 10] = [
+    (0, "at 0 of 2: text 'a' = 'a'"),
+    (1, "at 1 of 2: text 'b' = 'b'"),
+    (2, "at 0 of 1: text 'c' = 'c'"),
+    (63, "at 0 of 2: text 'a' = 'a'"),
+    (64, "at 1 of 2: text 'b' = 'b'"),
+    (65, "at 0 of 1: text 'c' = 'c'"),
+    (127, "at 1 of 2: text 'b' = 'b'"),
+    (128, "at 0 of 1: text 'c' = 'c'"),
+    (129, "at 0 of 2: text 'a' = 'a'"),
+    (199, "at 1 of 2: text 'b' = 'b'"),
+];
+
+// Also that a copy has the same values, and that what is appended to one is not in the other.
+#[test]
+fn values_of_many_segments(rt: HostRuntime) {
+    let mut many = again(&rt, ["ab", "", "c"], 200);
+    let copy = many.copy(rt.alloc()).expect(&rt, "memory");
+    append(&rt, &mut many, letters(&rt, "c"));
+    assert_eq!(rt; many.len(), 201);
+    assert_eq!(rt; copy.len(), 200);
+    for (i, want) in &LETTERS {
+        is_value_told(&rt, &copy, *i, want);
+        is_value_told(&rt, &many, *i, want);
+    }
+    are_equal(&rt, 0, &many, &again(&rt, ["abc", "", ""], 200), true);
+    are_equal(&rt, 1, &many, &again(&rt, ["a", "b", "c"], 201), true);
+    are_equal(&rt, 2, &copy, &many, false);
+}
+
 // What is appended to one of two copies is not in the other.
 #[test]
 fn a_copy_stays_as_it_was(rt: HostRuntime) {

@@ -126,10 +126,47 @@ fn leads(rt: &impl Abort, index: IndexType, bytes: &[u8], count: usize, want: bo
     }
 }
 
+// The index behind 129 that are 0.
+fn behind_zeros(rt: &(impl Abort + AllocGlobal), bytes: &[u8]) -> Vec<u8> {
+    let mut all = Vec::new(rt.alloc());
+    for _ in 0..bytes.len().wrapping_mul(129) {
+        assert!(rt; all.push(0).is_ok(), "memory");
+    }
+    assert!(rt; all.extend_from_slice(bytes).is_ok(), "memory");
+    all
+}
+
+// Bits of 130 slots that are valid but for the last.
+static LAST_NULL: [u8; 17] = [
+    255, 255, 255, 255, 255, 255, 255, 255, 255, 255, 255, 255, 255, 255, 255, 255, 1,
+];
+
+// The same of the last of 130 indices: those before lead to the first value, where there is one.
+fn last_leads(
+    rt: &(impl Abort + AllocGlobal),
+    index: IndexType,
+    bytes: &[u8],
+    count: usize,
+    want: bool,
+) {
+    let width = index_width(index);
+    let all = behind_zeros(rt, bytes);
+    for (validity, want) in [
+        (&[] as &[u8], want),
+        (&[255; 17], want),
+        (&LAST_NULL, count > 0),
+    ] {
+        assert!(rt; has_fixed(130, width, validity, &all));
+        let leads = are_indices(130, width, index.signed, validity, &all, count);
+        assert_eq!(rt; leads, want, "{index:?} {bytes:?} of {count}, the last");
+    }
+}
+
 #[test]
 fn an_index_by_its_width_and_sign(rt: HostRuntime) {
     for &(bits, signed, bytes, count, want) in &INDICES {
         leads(&rt, IndexType { bits, signed }, bytes, count, want);
+        last_leads(&rt, IndexType { bits, signed }, bytes, count, want);
     }
 }
 

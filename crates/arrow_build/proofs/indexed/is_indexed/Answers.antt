@@ -3,8 +3,9 @@ use Rattle.std.proofs.lemmas.Grind.{common_steps}
 use Rattle.arrow_types.specs.View.{field_view}
 use Rattle.arrow_array.specs.Form.{number_width}
 use Rattle.arrow_array.specs.Slots.{AreIndices}
+use Rattle.arrow_array.specs.Listed.{values_by}
 use Rattle.arrow_build.specs.Built.{Built}
-use Rattle.arrow_build.specs.Finished.{IsIndexed, values_by}
+use Rattle.arrow_build.specs.Finished.{IsIndexed}
 use Rattle.arrow_build.proofs.Arrays.{field_encoding}
 use Rattle.arrow_build.proofs.Below.{numbers_fixed, numbers_indexed}
 use Rattle.arrow_build.proofs.NodeSlots.{node_len}

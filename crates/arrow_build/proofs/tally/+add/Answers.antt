@@ -2,13 +2,14 @@ use Rattle.std.proofs.Common.{◌≡◌, ◌+◌, ◌<◌, suc, true, false, [],
 use denote.Param.Weighed.{at_most, most}
 use Rattle.std.proofs.lemmas.Grind.{common_steps}
 use Rattle.std.proofs.lemmas.List.{append-nil}
+use Rattle.arrow_array.specs.PlainValue.{list_of_values}
 use Rattle.arrow_array.specs.Value.{value_view, values_view}
+use Rattle.arrow_array.proofs.Lists.{list_again}
 use Rattle.arrow_build.specs.Built.{items_of}
-use Rattle.arrow_build.specs.Columns.{child_column, list_of}
+use Rattle.arrow_build.specs.Columns.{child_column}
 use Rattle.arrow_build.specs.Tally.{Adds}
 use Rattle.arrow_build.specs.declared.tally.Tally.{Tally, Tally-F, out-Tally, out-roll-Tally, size-Tally}
 use Rattle.arrow_build.proofs.Counting.{Gives, UpTo, adds_next, adds_stopped, all_given, one_past, tally_depth, up_to_more, up_to_next}
-use Rattle.arrow_build.proofs.Held.{list_of_values}
 use Rattle.arrow_build.proofs.tally.+add.Goals as goal
 
 pub add-add_below-requires : goal.add-add_below-requires
@@ -59,7 +60,7 @@ add_child-returns-in-Lists t c =
     let items = values_view c.items_in.result.now in
     let old = c.args.tally.now in
     let new = c.add_all.new.tally in
-    let same : items ≡ list_of (items_of v) ++ [] = sym (list_of_values items) ∙ ap list_of c.items_in.ensures ∙ sym (append-nil (list_of (items_of v))) in
+    let same : items ≡ list_of_values (items_of v) ++ [] = sym (list_again items) ∙ ap list_of_values c.items_in.ensures ∙ sym (append-nil (list_of_values (items_of v))) in
     subst (λ form. Adds (child_column form c.args.k (v ∷ [])) old new c.add_all.result) (sym c.in-Lists.is) (subst (λ vs. Adds vs old new c.add_all.result) same c.add_all.ensures)
 
 pub add_all-add-requires : goal.add_all-add-requires

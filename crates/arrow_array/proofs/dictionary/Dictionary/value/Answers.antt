@@ -1,20 +1,25 @@
-use Rattle.std.proofs.Common.{◌≡◌, ◌<◌, length, ap, sym, ◌∙◌, arith, rules}
+use Rattle.std.proofs.Common.{◌≡◌, ◌<◌, ◌+◌, ◌++◌, length, get_or, map, ap, sym, ◌∙◌, subst, arith}
+use Rattle.std.specs.Rc.{rc_value}
 use Rattle.arrow_array.specs.Column.{ValueList}
-use Rattle.arrow_array.specs.Segments.{columns_of, joined, starts_of}
-use Rattle.arrow_array.proofs.Segments.{segment_value, begins, length-starts_of}
+use Rattle.arrow_array.specs.Segments.{Between, all_segments, block_segments, starts_of}
+use Rattle.arrow_array.proofs.Blocks.{found_in_all, in_all}
+use Rattle.arrow_array.proofs.Segments.{length-starts_of, segment_value}
 use Rattle.arrow_array.proofs.dictionary.Dictionary.value.Goals as goal
-
-pub loop-low-init : goal.loop-low-init
-loop-low-init c =
-    let d = c.self.inside in
-    let within : c.args.i < length (joined (columns_of d.segments.items)) = omega (arith, ap (λ (l : ValueList). length l.values) c.self.view_is) in
-    let all : c.len-high.result ≡ length d.segments.items = search rules in
-    begins (columns_of d.segments.items) (starts_of d.segments.items) c.len-high.result c.args.i (all ∙ sym (length-starts_of d.segments.items)) c.self.invariant.starts within
 
 pub returns : goal.returns
 returns c =
     let d = c.self.inside in
     let values = sym (ap (λ (l : ValueList). l.values) c.self.view_is) in
-    let found = segment_value c.args.self.now d.segments.items c.loop-low.low c.loop-low.high c.args.i c.index-segment.result.now
-    c.self.invariant.starts (rw (ap (λ (l : ValueList). l.data_type) (sym c.self.view_is)) c.self.invariant.typed) values c.requires c.loop-low.invariant (omega arith) c.index-segment.ensures in
-    rw c.deref.ensures found
+    let p = c.part_with-segments.ensures in
+    let part = c.part_with-segments.result.now in
+    let r = c.segment_before.result in
+    let s = c.index-segments-segment_before.result in
+    let n = length p.before + r in
+    let all : all_segments d ≡ p.before ++ (part ++ p.after) =
+    ap (λ os. block_segments (map rc_value os) ++ d.segments.items) (sym c.deref.ensures.value) ∙ ap (λ ss. block_segments (map rc_value c.deref.result.now) ++ ss) (sym c.deref-2.ensures.value) ∙ p.whole in
+    let between : Between (starts_of (all_segments d)) n (n + 1) c.args.i =
+    subst (λ xs. Between (starts_of xs) n (n + 1) c.args.i) (sym all) (in_all p.before part p.after r c.args.i c.segment_before.ensures p.high) in
+    let inside : r < length part = omega (arith, c.segment_before.ensures.inside, length-starts_of part) in
+    let is : s ≡ get_or (all_segments d) n s = found_in_all p.before part p.after r s inside c.index-segments-segment_before.is ∙ ap (λ xs. get_or xs n s) (sym all) in
+    let found = segment_value c.args.self.now (all_segments d) n (n + 1) c.args.i s c.self.invariant.starts (rw (ap (λ (l : ValueList). l.data_type) (sym c.self.view_is)) c.self.invariant.typed) values c.requires between (omega arith) is in
+    rw c.deref-3.ensures found

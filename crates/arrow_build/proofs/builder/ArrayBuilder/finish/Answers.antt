@@ -2,8 +2,9 @@ use Rattle.std.proofs.Common.{◌≡◌, ap, sym, ◌∙◌, subst, arith}
 use Rattle.std.proofs.lemmas.List.{take_all}
 use Rattle.arrow_types.specs.Schema.{field_dictionaries}
 use Rattle.arrow_array.specs.Column.{Agree}
+use Rattle.arrow_array.specs.Listed.{values_by}
 use Rattle.arrow_build.specs.Built.{Built, cut_to}
-use Rattle.arrow_build.specs.Finished.{AreIndexed, AreTyped, IsArrayOf, values_by}
+use Rattle.arrow_build.specs.Finished.{AreIndexed, AreTyped, IsArrayOf}
 use Rattle.arrow_build.specs.declared.builder.ArrayBuilder.TheInside.{Inside}
 use Rattle.arrow_build.proofs.Arrays.{agrees}
 use Rattle.arrow_build.proofs.builder.ArrayBuilder.finish.Goals as goal
