@@ -12,7 +12,8 @@ use Rattle.arrow_array.specs.Form.{form_of}
 use Rattle.arrow_array.specs.Parts.{node_column, value_slot, index_slot, values_in, AreChildren}
 use Rattle.arrow_array.specs.PlainValue.{PlainValue}
 use Rattle.arrow_array.proofs.Shown.{length_slots}
-use Rattle.arrow_body.specs.Sound.{AreFit, IsNodeIndexed, IsNodeLaid, IsNodeText, IsSound, columns_of, dictionary_for, if_flattened, lengths_of, own_bytes, slots_at}
+use Rattle.arrow_array.specs.Listed.{dictionary_for}
+use Rattle.arrow_body.specs.Sound.{AreFit, IsNodeIndexed, IsNodeLaid, IsNodeText, IsSound, columns_of, if_flattened, lengths_of, own_bytes, slots_at}
 use Rattle.arrow_body.specs.Taken.{IfFlattened, below, flattened, own_buffers, taken_buffers, taken_nodes}
 use Rattle.arrow_body.proofs.Taking.{all_inside, all_next, buffer_after, node_after, there_after, there_parts}
 

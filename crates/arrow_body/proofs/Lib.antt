@@ -2,3 +2,4 @@ pub mod Taking
 pub mod Columns
 pub mod Readings
 pub mod Ids
+pub mod Inside

@@ -10,7 +10,7 @@ use Rattle.arrow_types.specs.declared.node.Buffer.{Buffer}
 use Rattle.arrow_array.specs.Column.{Column, ValueList, AreOf}
 use Rattle.arrow_array.specs.Form.{form_of}
 use Rattle.arrow_array.specs.Layout.{buffer, IsIndexed}
-use Rattle.arrow_array.specs.Listed.{listed}
+use Rattle.arrow_array.specs.Listed.{listed, ResolvesBy, dictionary_for, values_by}
 use Rattle.arrow_array.specs.Parts.{node_column, value_slot, index_slot, entry_of_slot, values_in}
 use Rattle.arrow_array.specs.PlainValue.{PlainValue, value_at, list_value, struct_value, values_of}
 use Rattle.arrow_array.specs.Resolve.{resolve, resolve_items, resolve_parts, before}
@@ -19,7 +19,7 @@ use Rattle.arrow_array.specs.declared.form.Form.{Form}
 use Rattle.arrow_array.specs.declared.form.Form.TheVariants as forms
 use Rattle.arrow_array.proofs.Resolving.{slots_resolve, null_resolves, shown_resolves, plain_resolves, items_resolve, range_resolves, at_resolves, index_resolves}
 use Rattle.arrow_body.proofs.Columns.{columns_typed}
-use Rattle.arrow_body.specs.Sound.{IsNodeIndexed, ResolvesBy, columns_of, dictionary_for, if_flattened, own_bytes, slots_at, values_by}
+use Rattle.arrow_body.specs.Sound.{IsNodeIndexed, columns_of, if_flattened, own_bytes, slots_at}
 use Rattle.arrow_body.specs.Taken.{AllNodes, IfFlattened, flattened, own_buffers, taken_buffers, taken_nodes}
 
 take_nothing : (n : ℕ) → take {A = PlainValue} n [] ≡ []

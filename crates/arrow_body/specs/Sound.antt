@@ -1,10 +1,9 @@
 -- When nodes, buffers and a body are columns of the fields (Columnar Format, "RecordBatch message").
-use Rattle.std.specs.Prelude.{◌≡◌, ◌+◌, ◌⊎◌, ℕ, ℤ, pos, negsuc, ◌≤ℤ◌, not, nat_eq, if◌then◌else◌, List, [], ◌∷◌, length, map, take, drop, get_or, ⊤, Option, None, Some, count_by, IsTrue, is_some, false, codes}
+use Rattle.std.specs.Prelude.{◌≡◌, ◌+◌, ◌⊎◌, ℕ, ℤ, pos, negsuc, ◌≤ℤ◌, not, nat_eq, if◌then◌else◌, List, [], ◌∷◌, length, map, take, drop, get_or, ⊤, Option, None, Some, count_by, codes}
 use Rattle.std.specs.List.{AllByRecursion}
 use Rattle.arrow_bits.specs.Bitmap.{bits_of}
 use Rattle.arrow_types.specs.DataType.{Tag}
 use Rattle.arrow_types.specs.Field.{Head, Fields, none, more}
-use Rattle.arrow_types.specs.Schema.{has_encoding}
 use Rattle.arrow_types.specs.declared.field.Encoding.{Encoding}
 use Rattle.arrow_types.specs.declared.node.FieldNode.{FieldNode}
 use Rattle.arrow_types.specs.declared.node.Buffer.{Buffer}
@@ -13,10 +12,8 @@ use Rattle.arrow_array.specs.Form.{node_form}
 use Rattle.arrow_array.specs.declared.form.Form.{Form}
 use Rattle.arrow_array.specs.declared.form.Form.TheVariants as forms
 use Rattle.arrow_array.specs.Layout.{IsLaid, IsText, IsIndexed, buffer}
-use Rattle.arrow_array.specs.Listed.{listed}
-use Rattle.arrow_array.specs.PlainValue.{PlainValue}
-use Rattle.arrow_array.specs.Resolve.{resolve}
-use Rattle.arrow_array.specs.Parts.{node_column, values_in, IsOfType}
+use Rattle.arrow_array.specs.Listed.{IsNodeFit, dictionary_for}
+use Rattle.arrow_array.specs.Parts.{node_column, values_in}
 use Rattle.arrow_body.specs.declared.body.BodyFault.{BodyFault}
 use Rattle.arrow_body.specs.declared.body.BodyFault.TheVariants.{Layout, Text, Index, Memory}
 use Rattle.arrow_body.specs.Held.{IsHeld, bytes_in, count_of}
@@ -87,11 +84,6 @@ IsNodeText body head children nodes buffers = IsText head.tag head.encoding (slo
 abbrev pub AreText : List ℕ → Fields → List FieldNode → List Buffer → Type 0
 AreText body fields nodes buffers = AllNodes (IsNodeText body) fields nodes buffers
 
--- the dictionary of a field with this encoding
-abbrev pub dictionary_for : List (ℤ × ValueList) → Option Encoding → Option ValueList
-dictionary_for ds None = None
-dictionary_for ds (Some e) = listed ds e.id
-
 -- the valid slots of the field's own node, if it is dictionary-encoded, have their values; without a dictionary there
 -- are none
 abbrev pub IsNodeIndexed : List ℕ → List (ℤ × ValueList) → Head → Fields → List FieldNode → List Buffer → Type 0
@@ -110,12 +102,7 @@ pub record IsSound (body : List ℕ) (ds : List (ℤ × ValueList)) (fields : Fi
   pub text : AreText body fields nodes buffers
   pub indexed : AreIndexed body ds fields nodes buffers
 
--- The listed dictionary of a dictionary-encoded field has the type of its values, on no level of which is an encoding.
-pub record IsNodeFit (ds : List (ℤ × ValueList)) (head : Head) (children : Fields) : Type 0 where
-  pub typed : IsOfType (record { tag = head.tag; children = children }) (dictionary_for ds head.encoding)
-  pub flat : IsTrue (is_some head.encoding) → has_encoding children ≡ false
-
--- so of all fields, on every level
+-- the dictionary of each dictionary-encoded field, on every level, has the type of its values, and no encoding below it
 abbrev pub AreFit : List (ℤ × ValueList) → Fields → Type 0
 AreFit ds none = ⊤
 AreFit ds (more head children rest) = IsNodeFit ds head children × IfFlattened head.encoding (AreFit ds children) × AreFit ds rest
@@ -128,21 +115,6 @@ columns_of body ds (more head children rest) nodes buffers =
     (if_flattened head.encoding (columns_of body ds children (drop 1 nodes) (drop (own_buffers head) buffers)))
     (values_in (dictionary_for ds head.encoding))
     ∷ columns_of body ds rest (drop (1 + flattened head.encoding (taken_nodes children)) nodes) (drop (own_buffers head + flattened head.encoding (taken_buffers children)) buffers)
-
--- the dictionaries by their ids: the values that are listed first for an id, none where none are
-abbrev pub values_by : List (ℤ × ValueList) → ℤ → List PlainValue
-values_by ds id = values_in (listed ds id)
-
--- every raw value of the column stands for something by these dictionaries, and these are the resolved values
-abbrev pub ResolvesBy : List (ℤ × ValueList) → Column → Type 0
-ResolvesBy ds c = map (resolve c.encoding c.data_type.children (values_by ds)) c.raw ≡ map Some c.resolved
-
--- The law `one_reading`: where all is sound, each raw value of the columns stands for something. That there is one list of
--- columns is plain, since `columns_of` is a function.
-abbrev pub OneReading : Type 0
-OneReading =
-    (body : List ℕ) (ds : List (ℤ × ValueList)) (fields : Fields) (nodes : List FieldNode) (buffers : List Buffer) → IsSound body ds fields nodes buffers
-    → AllByRecursion (ResolvesBy ds) (columns_of body ds fields nodes buffers)
 
 -- the fault is the first that applies; want of memory is told only where none does
 abbrev pub Explains : BodyFault → List ℕ → List (ℤ × ValueList) → Fields → List FieldNode → List Buffer → Type 0

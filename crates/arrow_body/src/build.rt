@@ -2,10 +2,11 @@
 
 ghost use Rattle.std.specs.Prelude.{◌≡◌, IfOk, drop, [], ◌∷◌};
 ghost use Rattle.arrow_array.specs.Parts.{node_column, values_in};
+ghost use Rattle.arrow_array.specs.Listed.{IsNodeFit, dictionary_for};
 ghost use Rattle.arrow_types.specs.Field.{fields_of};
 ghost use Rattle.arrow_types.specs.View.{field_view, fields_view, type_view};
-ghost use Rattle.arrow_body.specs.Sound.{AreFit, IsNodeFit, IsNodeIndexed, IsNodeLaid, IsNodeText};
-ghost use Rattle.arrow_body.specs.Sound.{IsSound, columns_of, dictionary_for, own_bytes, slots_at};
+ghost use Rattle.arrow_body.specs.Sound.{AreFit, IsNodeIndexed, IsNodeLaid, IsNodeText};
+ghost use Rattle.arrow_body.specs.Sound.{IsSound, columns_of, own_bytes, slots_at};
 ghost use Rattle.arrow_body.specs.Taken.{AreThere, below, own_buffers};
 
 use crate::held::own_ranges;

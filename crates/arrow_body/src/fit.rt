@@ -2,7 +2,8 @@
 
 ghost use Rattle.std.specs.Prelude.{◌↔◌, IsTrue};
 ghost use Rattle.arrow_types.specs.View.{field_view, fields_view};
-ghost use Rattle.arrow_body.specs.Sound.{AreFit, IsNodeFit};
+ghost use Rattle.arrow_array.specs.Listed.{IsNodeFit};
+ghost use Rattle.arrow_body.specs.Sound.{AreFit};
 
 use crate::listed::Listed;
 use crate::taken::below;

@@ -6,7 +6,7 @@ ghost use Rattle.arrow_array.specs.Layout.{HasFixed, buffer};
 ghost use Rattle.arrow_array.specs.Node.{bytes_of, IsInside};
 ghost use Rattle.arrow_array.specs.Parts.{values_in};
 ghost use Rattle.arrow_array.specs.Slots.{AreIndices, index_width};
-ghost use Rattle.arrow_body.specs.Sound.{dictionary_for};
+ghost use Rattle.arrow_array.specs.Listed.{dictionary_for};
 
 use crate::held::bytes_at;
 use crate::listed::Listed;

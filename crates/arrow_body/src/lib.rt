@@ -8,11 +8,21 @@
 //! `load_unchecked` with the copy.
 //!
 //! What fields take of nodes and buffers stands in `specs/Taken.antt`, where a buffer lies in
-//! `specs/Held.antt`, and when all is sound, and which columns it then is, in `specs/Sound.antt`.
+//! `specs/Held.antt`, when all is sound, and which columns it then is, in `specs/Sound.antt`, and
+//! where what their slots name lies, in `specs/Inside.antt`.
 //! The contract of `load` says both ways when it answers columns and when which fault; that of
 //! `check` says the same without memory. `nodes_of` and `have_length` answer what a reader asks of
 //! nodes before that: which of them the fields take, and whether all columns have as many slots as
 //! the batch has rows.
+//!
+//! | Notion | Definition |
+//! |---|---|
+//! | nodes and buffers that fields take | `specs/Taken.antt`: `taken_nodes`, `taken_buffers` |
+//! | where a buffer lies | `specs/Held.antt`: `IsHeld`, `bytes_in` |
+//! | a body that is sound, its columns | `specs/Sound.antt`: `IsSound`, `columns_of` |
+//! | its one reading | `specs/Inside.antt`: `IsReading` |
+//! | the first fault | `specs/Sound.antt`: `IsExplained` |
+//! | dictionaries by rising ids | `specs/Rising.antt`: `Rises` |
 #![tactic(auto)]
 
 mod body;

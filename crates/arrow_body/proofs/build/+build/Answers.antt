@@ -2,7 +2,8 @@ use Rattle.std.proofs.Common.{◌+◌, ◌++◌, [], ◌∷◌, drop, ap, sym, �
 use Rattle.arrow_types.specs.Field.{count}
 use Rattle.arrow_types.specs.View.{field_view, fields_view}
 use Rattle.arrow_array.specs.Parts.{node_column, values_in}
-use Rattle.arrow_body.specs.Sound.{AreFit, IsSound, columns_of, dictionary_for, own_bytes, slots_at}
+use Rattle.arrow_array.specs.Listed.{dictionary_for}
+use Rattle.arrow_body.specs.Sound.{AreFit, IsSound, columns_of, own_bytes, slots_at}
 use Rattle.arrow_body.proofs.Columns.{columns_step, field_encoding, field_type, fit_inside, sound_inside, sound_next}
 use Rattle.arrow_body.proofs.Taking.{fewer_taken}
 use Rattle.arrow_types.proofs.Fields.{fields_from}
