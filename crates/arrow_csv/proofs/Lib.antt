@@ -1,2 +1,3 @@
 pub mod Joining
 pub mod Written
+mod Digits

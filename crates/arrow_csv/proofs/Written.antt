@@ -1,21 +1,11 @@
 -- Rows that are written one by one.
-use Rattle.std.proofs.Common.{◌≡◌, ◌<◌, ◌≤◌, ◌+◌, ◌-◌, ◌++◌, ℕ, zero, suc, Bool, false, List, Option, None, Some, refl, sym, ap, ◌∙◌, subst, arith, append_assoc}
+use Rattle.std.proofs.Common.{◌≡◌, ◌==◌, ◌<◌, ◌+◌, ◌-◌, ◌^◌, ◌++◌, ◌∷◌, [], ℕ, zero, suc, Bool, true, false, List, length, if◌then◌else◌, refl, ap, ◌∙◌, arith, append_assoc, ne_eqb}
+use Rattle.std.specs.Fmt.{decimal}
 use Rattle.std.specs.List.{flat_map, range_with_len}
-use Rattle.std.specs.Io.KnownBytes.{Appends}
-use Rattle.csv.specs.Writing.{default_writer}
-use Rattle.csv.specs.declared.writer.WriterBuilder.{WriterBuilder}
+use Rattle.std.proofs.lemmas.Fmt.{decimal_nonempty}
+use Rattle.csv.specs.Writing.{default_writer, field_text, fields_text, is_blank, needs_quotes}
 use Rattle.arrow_array.specs.Batch.{Table}
-use Rattle.arrow_csv.specs.Records.{batch_rows, row_record}
-
--- a writer that wrote the rows before row i
-pub record HasWritten (written : Option (List ℕ)) (setup : WriterBuilder) (fields : ℕ) (wrote : Bool) (number : ℕ) (batch : Table) (start i end : ℕ) : Type 0 where
-  pub text : List ℕ
-  pub there : written ≡ Some text
-  pub whole : text ++ batch_rows number batch i end ≡ batch_rows number batch start end
-  pub within : i ≤ end
-  pub same : setup ≡ default_writer
-  pub ended : fields ≡ 0
-  pub clean : wrote ≡ false
+use Rattle.arrow_csv.specs.Records.{batch_rows, record_of, row_record}
 
 -- the rows from one on are that one and those behind it
 pub rows_next : (number : ℕ) (batch : Table) (i end : ℕ) → i < end → batch_rows number batch i end ≡ row_record number batch i ++ batch_rows number batch (i + 1) end
@@ -27,22 +17,18 @@ rows_next number batch i end h = by (end - i) refl
         let less : n ≡ end - (i + 1) = omega (arith, e) in
         ap (λ m. flat_map (row_record number batch) (range_with_len i m)) e ∙ ap (λ m. row_record number batch i ++ flat_map (row_record number batch) (range_with_len (i + 1) m)) less
 
--- one row more
-pub written_next : {written written' : Option (List ℕ)} {setup setup' : WriterBuilder} {fields fields' : ℕ} {wrote wrote' : Bool} {number : ℕ} {batch : Table} {start i end : ℕ}
-    → HasWritten written setup fields wrote number batch start i end → i < end → Appends written written' (row_record number batch i) → setup' ≡ setup → fields' ≡ 0 → wrote' ≡ false
-    → HasWritten written' setup' fields' wrote' number batch start (i + 1) end
-written_next {written} {written'} {number = number} {batch = batch} {i = i} {end = end} h l a s f w =
-    let text = h.text ++ row_record number batch i in
-    record {
-      text = text;
-      there = appended written' (subst (λ x. Appends x written' (row_record number batch i)) h.there a);
-      whole = append_assoc h.text (row_record number batch i) (batch_rows number batch (i + 1) end) ∙ ap (λ t. h.text ++ t) (sym (rows_next number batch i end l)) ∙ h.whole;
-      within = omega (arith, l);
-      same = s ∙ h.same;
-      ended = f;
-      clean = w;
-    }
-  where
-    appended : (new : Option (List ℕ)) → Appends (Some h.text) new (row_record number batch i) → new ≡ Some (h.text ++ row_record number batch i)
-    appended None b = absurd b
-    appended (Some xs) b = ap Some b
+some_if : (b : Bool) (q : ℕ) (qs f : List ℕ) → 0 < length f → (length (if b then q ∷ qs else f) == 0) ≡ false
+some_if true q qs f h = ne_eqb (suc (length qs)) 0 (λ z. cc z)
+some_if false q qs [] h = absurd (omega arith)
+some_if false q qs (x ∷ xs) h = ne_eqb (suc (length xs)) 0 (λ z. cc z)
+
+-- a record that begins with a field of some bytes is not blank
+not_blank : (f : List ℕ) (texts : List (List ℕ)) → 0 < length f → is_blank default_writer (f ∷ texts) ≡ false
+unfolding is_blank
+not_blank f [] h = some_if (needs_quotes default_writer f) 34 _ f h
+not_blank f (x ∷ xs) h = refl
+
+-- the record of a number and texts, in one piece
+pub row_plain : (number : ℕ) (texts : List (List ℕ)) → number < 2 ^ 64 → record_of (decimal number ∷ texts) ≡ field_text default_writer (decimal number) ++ (fields_text default_writer texts ++ (10 ∷ []))
+row_plain number texts h =
+    rw (not_blank (decimal number) texts (decimal_nonempty number h)) (append_assoc (field_text default_writer (decimal number)) (fields_text default_writer texts) (10 ∷ []))

@@ -4,15 +4,23 @@
 //! the number of its batch and the texts of its values, indices looked up. Fields are joined by
 //! commas and records end with a line feed. Quotes stand around a field only where a comma, a
 //! double quote or an end of line is in it, and its own double quotes are then written twice (RFC
-//! 4180). The crate `csv` writes them.
+//! 4180). That is the quoting of the crate `csv` by its definitions, which writes the first record;
+//! rows are appended to one text, without a record of their own before.
 //!
 //! What a value's text is, is said by `value_text` (`specs/Texts.antt`), over plain values:
-//! [`header`] and [`rows`] give the records of the definition for every schema and every batch. The
-//! standard gives no such text; this one is the project's own, and it is not claimed that it can be
-//! read back.
+//! [`header`], [`rows`] and [`push_rows`] give the records of the definition for every schema and
+//! every batch. The standard gives no such text; this one is the project's own, and it is not
+//! claimed that it can be read back.
+//!
+//! | Notion | Definition |
+//! |---|---|
+//! | the text of a value | `specs/Texts.antt`: `value_text` |
+//! | the record of a row, of a schema | `specs/Records.antt`: `row_record`, `header_record` |
+//! | the records of a batch, of a stream | `specs/Records.antt`: `batch_rows`, `stream_text` |
 #![tactic(auto)]
 
+mod fields;
 mod records;
 mod texts;
 
-pub use records::{header, rows};
+pub use records::{header, push_rows, rows};

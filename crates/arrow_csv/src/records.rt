@@ -1,12 +1,16 @@
 //! The records of a schema and of the rows of batches.
 
-ghost use Rattle.std.specs.Prelude.{◌≡◌, ◌≤◌, ◌<◌, ◌∷◌, IfOk, OnOk};
+ghost use Rattle.std.specs.Prelude.{◌≡◌, ◌≤◌, ◌<◌, ◌++◌, [], IfOk, OnOk, codes, length};
+ghost use Rattle.std.specs.Fmt.{decimal};
+ghost use Rattle.arrow_array.specs.PlainValue.{value_at};
 ghost use Rattle.arrow_array.specs.Same.{HaveSlot};
-ghost use Rattle.csv.specs.Records.{fields_of};
+ghost use Rattle.csv.specs.Writing.{default_writer, field_text, fields_text};
+ghost use Rattle.arrow_csv.specs.Texts.{value_text};
 ghost use Rattle.arrow_csv.specs.Records.{batch_rows, column_texts, header_record};
 
-use crate::texts::push_value;
-use arrow_array::{Array, Batch};
+use crate::fields::{push_field_text, quote_from};
+use crate::texts::{push_number, push_value};
+use arrow_array::{Array, Batch, SlotValue};
 use arrow_types::Schema;
 use csv::{ByteRecord, WriterBuilder};
 use itoa::Buffer;
@@ -43,40 +47,77 @@ pub fn rows(
     requires inside { end ≤ batch.now.rows }
     ensures { IfOk result (λ text. text.items ≡ batch_rows number batch.now start end) }
 {
-    let mut buffer = Buffer::new();
-    let number = buffer.format(number).as_bytes();
-    let mut record = ByteRecord::new(alloc);
-    let mut table = WriterBuilder::new().from_writer(Vec::new(alloc));
-    for i in start..end {
-        fill(alloc, &mut record, number, batch.columns(), i)?;
-        let Ok(()) = table.write_byte_record(&record) else {
-            return Err(AllocError);
-        };
-    }
-    match table.into_inner() {
-        Ok(text) => Ok(text),
-        Err(_) => Err(AllocError),
-    }
+    let mut out = Vec::new(alloc);
+    push_rows(alloc, &mut out, number, batch, start, end)?;
+    Ok(out)
 }
 
-/// Puts the number of a batch and the values of a row in place of a record's fields.
-fn fill(
+/// Appends the records of the rows from `start` up to `end` of the batch that has this number.
+pub fn push_rows(
     alloc: Global,
-    row: &mut ByteRecord,
-    number: &[u8],
+    out: &mut Vec<u8>,
+    number: u64,
+    batch: &Batch,
+    start: usize,
+    end: usize,
+) -> Result<(), AllocError>
+    requires order { start ≤ end }
+    requires inside { end ≤ batch.now.rows }
+    ensures { OnOk result (out.new.items ≡ out.old.items ++ batch_rows number batch.now start end) }
+{
+    let head = number_field(alloc, number)?;
+    for i in start..end {
+        push_row(alloc, out, &head, batch.columns(), i)?;
+    }
+    Ok(())
+}
+
+/// The number of a batch, as the first field of its rows.
+fn number_field(alloc: Global, number: u64) -> Result<Vec<u8>, AllocError>
+    ensures { IfOk result (λ field. field.items ≡ field_text default_writer (decimal number)) }
+{
+    let mut buffer = Buffer::new();
+    let mut field = Vec::new(alloc);
+    field.extend_from_slice(buffer.format(number).as_bytes())?;
+    quote_from(alloc, &mut field, 0)?;
+    Ok(field)
+}
+
+/// Appends a record: its first field, which has this text, and the values of a row.
+#[tactic(auto, unfolding(csv::specs::Writing::fields_text))]
+fn push_row(
+    alloc: Global,
+    out: &mut Vec<u8>,
+    head: &[u8],
     columns: &[Array],
     i: usize,
 ) -> Result<(), AllocError>
     requires { HaveSlot i columns.now }
-    ensures { OnOk result (fields_of row.new ≡ number.now ∷ column_texts columns.now i) }
+    ensures { OnOk result (out.new.items ≡ out.old.items ++ (head.now
+        ++ (fields_text default_writer (column_texts columns.now i) ++ codes "\n"))) }
 {
-    row.clear();
-    row.push_field(number)?;
-    let mut text = Vec::new(alloc);
+    out.extend_from_slice(head)?;
     for column in columns {
-        text.clear();
-        push_value(alloc, &mut text, column, i, b"")?;
-        row.push_field(&text)?;
+        out.push(b',')?;
+        push_field(alloc, out, column, i)?;
     }
+    out.push(b'\n')?;
     Ok(())
+}
+
+/// Appends the text of a value, between quotes where it calls for them, as no number does.
+fn push_field(alloc: Global, out: &mut Vec<u8>, column: &Array, i: usize) -> Result<(), AllocError>
+    requires { i < length column.now.raw }
+    ensures { OnOk result (out.new.items ≡ out.old.items ++ field_text default_writer
+        (value_text [] column.now.data_type.children (value_at column.now.resolved i))) }
+{
+    match column.slot(i) {
+        SlotValue::Int(number) => push_number(out, number),
+        SlotValue::Text(text) => push_field_text(out, text.as_bytes()),
+        _ => {
+            let place = out.len();
+            push_value(alloc, out, column, i, b"")?;
+            quote_from(alloc, out, place)
+        }
+    }
 }

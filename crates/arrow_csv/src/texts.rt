@@ -1,6 +1,8 @@
 //! The texts of values.
 
-ghost use Rattle.std.specs.Prelude.{◌≡◌, ◌≤◌, ◌<◌, ◌++◌, OnOk, codes, length, map};
+ghost use Rattle.std.specs.Prelude.{◌≡◌, ◌≤◌, ◌<◌, ◌++◌, OnOk, codes, false, length, map};
+ghost use Rattle.std.specs.Fmt.{signed_decimal};
+ghost use Rattle.csv.specs.Writing.{default_writer, needs_quotes};
 ghost use Rattle.arrow_array.specs.Column.{AreOf, resolved_row_of, values_from};
 ghost use Rattle.arrow_array.specs.PlainValue.{value_at, values_of};
 ghost use Rattle.arrow_array.specs.Same.{HaveSlot};
@@ -32,13 +34,25 @@ pub(crate) fn push_value(
         SlotValue::Null => out.extend_from_slice(null),
         SlotValue::Bool(true) => out.extend_from_slice(b"true"),
         SlotValue::Bool(false) => out.extend_from_slice(b"false"),
-        SlotValue::Int(number) => out.extend_from_slice(Buffer::new().format(number).as_bytes()),
+        SlotValue::Int(number) => push_number(out, number),
         SlotValue::Bytes(bytes) => out.extend_from_slice(hex::encode(alloc, bytes)?.as_bytes()),
         SlotValue::Text(text) => out.extend_from_slice(text.as_bytes()),
         SlotValue::List(start, end, items) => push_items(alloc, out, items, start, end),
         SlotValue::Struct(children, place) => {
             push_parts(alloc, out, column.data_type().children(), children, place)
         }
+    }
+}
+
+/// Appends a number. Those of 64 bits, which all but some unsigned ones are, are divided as such.
+pub(crate) fn push_number(out: &mut Vec<u8>, number: i128) -> Result<(), AllocError>
+    ensures text { OnOk result (out.new.items ≡ out.old.items ++ signed_decimal number) }
+    ensures plain { needs_quotes default_writer (signed_decimal number) ≡ false }
+{
+    let mut buffer = Buffer::new();
+    match i64::try_from(number) {
+        Ok(number) => out.extend_from_slice(buffer.format(number).as_bytes()),
+        Err(_) => out.extend_from_slice(buffer.format(number).as_bytes()),
     }
 }
 

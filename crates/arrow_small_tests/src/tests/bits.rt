@@ -1,6 +1,8 @@
 ghost use Rattle.arrow_bits.specs.Numbers.{FitsWidth, IsWidth};
 
-use arrow_bits::{Bits, BitsBuilder, LargeOffsets, Offsets, are_at_most, int_at, plain, put_int};
+use arrow_bits::{
+    Bits, BitsBuilder, LargeOffsets, Offsets, are_at_most, first_unset, int_at, plain, put_int,
+};
 use std::process::Abort;
 
 // Bits and how many of them are 0.
@@ -96,6 +98,81 @@ fn plain_zeros_of_each_length(rt: HostRuntime) {
             "of {len} bits"
         );
     }
+}
+
+// The first bit from `start` on that is 0, where the bytes have the bits up to `stop`.
+fn unset_in(bytes: &[u8], start: usize, stop: usize) -> Option<usize> {
+    if start <= stop && stop.div_ceil(8) <= bytes.len() {
+        Some(first_unset(bytes, start, stop))
+    } else {
+        None
+    }
+}
+
+// A beginning, an end, and the first bit of `A5`s between them that is 0.
+static UNSET: [(usize, usize, usize); 10] = [
+    (0, 0, 0),
+    (0, 1, 1),
+    (0, 1600, 1),
+    (1, 1600, 1),
+    (2, 1600, 3),
+    (4, 1600, 4),
+    (5, 1600, 6),
+    (7, 8, 8),
+    (7, 1600, 9),
+    (1599, 1600, 1600),
+];
+
+// Places of bits around those of bytes and of words, in 144 bits.
+static EDGES: [usize; 16] = [
+    0, 1, 7, 8, 9, 62, 63, 64, 65, 71, 72, 127, 128, 129, 143, 144,
+];
+
+// Eighteen bytes of ones, but for the bit at a place, where they have it.
+fn ones_but(zero: usize) -> [u8; 18] {
+    let mut bytes = [0xff; 18];
+    if let Some(byte) = bytes.get_mut(zero / 8) {
+        *byte = !(1 << (zero % 8));
+    }
+    bytes
+}
+
+// The answer is the zero where it lies in the range, else the end of the range.
+fn assert_zero_found(rt: &impl Abort, zero: usize, start: usize) {
+    let bytes = ones_but(zero);
+    for stop in EDGES.iter().filter(|stop| start <= **stop) {
+        let want = if start <= zero && zero < *stop {
+            zero
+        } else {
+            *stop
+        };
+        assert!(rt;
+            unset_in(&bytes, start, *stop) == Some(want),
+            "{zero} from {start} to {stop}"
+        );
+    }
+}
+
+fn assert_zero_found_from_each(rt: &impl Abort, zero: usize) {
+    for start in EDGES.iter() {
+        assert_zero_found(rt, zero, *start);
+    }
+}
+
+#[test]
+fn first_bit_that_is_0(rt: HostRuntime) {
+    for (start, stop, want) in UNSET.iter() {
+        assert!(rt;
+            unset_in(&BYTES, *start, *stop) == Some(*want),
+            "from {start} to {stop}"
+        );
+    }
+    for zero in EDGES.iter() {
+        assert_zero_found_from_each(&rt, *zero);
+    }
+    assert!(rt; unset_in(&[0x7f], 0, 8) == Some(7));
+    assert!(rt; unset_in(&[0xff; 8], 3, 64) == Some(64));
+    assert!(rt; unset_in(&[], 0, 0) == Some(0));
 }
 
 // Bits, the bytes that they are packed into, and how many are 0.
@@ -474,31 +551,66 @@ fn large_offsets_of_each_length(rt: HostRuntime) {
     }
 }
 
-// Another number, a top, and whether the number and sevens are at most the top.
-static TOPS: [(u32, u32, bool); 5] = [
-    (9, 9, true),
-    (10, 9, false),
-    (0x8000_0000, 0x7fff_ffff, false),
-    (u32::MAX, 0xffff_fffe, false),
-    (u32::MAX, u32::MAX, true),
+// A width, another number, a top, and whether the number and sevens are at most the top.
+type Top = (usize, u64, u64, bool);
+
+static TOPS: [Top; 25] = [
+    (1, 9, 9, true),
+    (1, 10, 9, false),
+    (1, 10, 0x109, true),
+    (1, 0x80, 0x7f, false),
+    (1, 0xff, 0xfe, false),
+    (1, 0xff, 0xff, true),
+    (1, 0xff, u64::MAX, true),
+    (2, 9, 9, true),
+    (2, 10, 9, false),
+    (2, 10, 0x1_0009, true),
+    (2, 0x8000, 0x7fff, false),
+    (2, 0xffff, 0xfffe, false),
+    (2, 0x100, 0xff, false),
+    (2, 0xffff, 0xffff, true),
+    (4, 9, 9, true),
+    (4, 10, 9, false),
+    (4, 10, 0x1_0000_0009, true),
+    (4, 0x8000_0000, 0x7fff_ffff, false),
+    (4, 0xffff_ffff, 0xffff_fffe, false),
+    (4, 0xffff_ffff, 0xffff_ffff, true),
+    (8, 9, 9, true),
+    (8, 10, 9, false),
+    (8, 0x8000_0000_0000_0000, 0x7fff_ffff_ffff_ffff, false),
+    (8, u64::MAX, 0xffff_ffff_ffff_fffe, false),
+    (8, u64::MAX, u64::MAX, true),
 ];
 
-// The bytes of `len` numbers of 32 bits that are seven, but for one of them.
-fn sevens_but_one(rt: &(impl Abort + AllocGlobal), len: u8, place: u8, other: u32) -> Vec<u8> {
+// The bytes of `len` numbers of a width that are seven, but for one of them.
+fn sevens_but_one(
+    rt: &(impl Abort + AllocGlobal),
+    width: usize,
+    len: u8,
+    place: u8,
+    other: u64,
+) -> Vec<u8> {
     let mut bytes = Vec::new(rt.alloc());
     for j in 0..len {
-        add(rt, &mut bytes, if j == place { other } else { 7 });
+        let number = if j == place { other } else { 7 };
+        let whole = number.to_le_bytes();
+        if let Some(part) = whole.get(..width) {
+            let added = bytes.extend_from_slice(part);
+            assert!(rt; added.is_ok(), "memory");
+        }
     }
     bytes
 }
 
 // Whether the first `len` numbers are at most `top`, where the bytes have so many.
-fn first_are_at_most(bytes: &[u8], len: u8, top: u32) -> Option<bool> {
+fn first_are_at_most(bytes: &[u8], width: usize, len: u8, top: u64) -> Option<bool> {
     let len = usize::from(len);
-    if len <= bytes.len() / 4 {
-        Some(are_at_most(bytes, len, top))
-    } else {
-        None
+    match width {
+        1 if len <= bytes.len() => Some(are_at_most(bytes, 1, len, top)),
+        2 if len <= bytes.len() / 2 => Some(are_at_most(bytes, 2, len, top)),
+        4 if len <= bytes.len() / 4 => Some(are_at_most(bytes, 4, len, top)),
+        8 if len <= bytes.len() / 8 => Some(are_at_most(bytes, 8, len, top)),
+        _ => None,
     }
 }
 
@@ -507,20 +619,28 @@ fn first_are_at_most(bytes: &[u8], len: u8, top: u32) -> Option<bool> {
 fn assert_at_most(
     rt: &(impl Abort + AllocGlobal),
     len: u8,
-    (other, top, answer): (u32, u32, bool),
+    (width, other, top, answer): (usize, u64, u64, bool),
 ) {
     for place in 0..len {
-        let bytes = sevens_but_one(rt, len, place, other);
-        let all = first_are_at_most(&bytes, len, top);
-        assert!(rt; all == Some(answer), "number {place} of {len}");
-        let before = first_are_at_most(&bytes, place, top);
-        assert!(rt; before == Some(true), "before {place}");
+        let bytes = sevens_but_one(rt, width, len, place, other);
+        let all = first_are_at_most(&bytes, width, len, top);
+        assert!(rt;
+            all == Some(answer),
+            "number {place} of {len}, width {width}"
+        );
+        let before = first_are_at_most(&bytes, width, place, top);
+        assert!(rt; before == Some(true), "before {place}, width {width}");
     }
 }
 
-fn assert_at_most_of_each_length(rt: &(impl Abort + AllocGlobal), row: (u32, u32, bool)) {
-    for len in 0..41u8 {
-        assert_at_most(rt, len, row);
+// Lengths around one and two times the 64 bytes that are compared at once.
+static LENGTHS: [u8; 18] = [
+    1, 2, 7, 8, 9, 15, 16, 17, 31, 32, 33, 40, 63, 64, 65, 127, 128, 129,
+];
+
+fn assert_at_most_of_each_length(rt: &(impl Abort + AllocGlobal), row: Top) {
+    for len in LENGTHS.iter() {
+        assert_at_most(rt, *len, row);
     }
 }
 
@@ -528,8 +648,8 @@ fn assert_at_most_of_each_length(rt: &(impl Abort + AllocGlobal), row: (u32, u32
 fn numbers_at_most_a_top(rt: HostRuntime) {
     for row in TOPS.iter() {
         assert_at_most_of_each_length(&rt, *row);
+        assert!(rt; first_are_at_most(&[], row.0, 0, 0) == Some(true));
     }
-    assert!(rt; first_are_at_most(&[], 0, 0) == Some(true));
 }
 
 // Eight bytes, whether they are read by their sign, and the integer that their first bytes are.

@@ -7,7 +7,7 @@ ghost use Rattle.arrow_array.specs.Layout.{IsText, buffer_count};
 
 use arrow_array::layout::is_laid;
 use arrow_array::{Array, Batch, ByteRange};
-use arrow_csv::{header, rows};
+use arrow_csv::{header, push_rows, rows};
 use arrow_types::{BitWidth, DataType, Field, Schema};
 use bytes::Bytes;
 use std::alloc::{AllocError, Global};
@@ -88,6 +88,21 @@ fn text_of(alloc: Global, batch: &Batch, start: usize, end: usize) -> Result<Vec
     rows(alloc, 7, batch, start, end)
 }
 
+// The same records, behind a text.
+fn text_behind(
+    alloc: Global,
+    text: &str,
+    batch: &Batch,
+    start: usize,
+    end: usize,
+) -> Result<Vec<u8>, AllocError> {
+    let mut out = Vec::from_slice(alloc, text.as_bytes())?;
+    if start <= end && end <= batch.rows() {
+        push_rows(alloc, &mut out, 7, batch, start, end)?;
+    }
+    Ok(out)
+}
+
 #[test]
 fn names_stand_in_the_header(rt: HostRuntime) -> Result<(), Fail> {
     let alloc = rt.alloc();
@@ -135,5 +150,10 @@ fn rows_of_two_columns(rt: HostRuntime) -> Result<(), Fail> {
     assert_eq!(rt; text_of(alloc, &batch, 0, 3)?.as_slice(), want);
     let want = b"7,,-128\n7,3,127\n".as_slice();
     assert_eq!(rt; text_of(alloc, &batch, 1, 3)?.as_slice(), want);
+    let want = b"batch,\"\n7,,-128\n".as_slice();
+    assert_eq!(rt;
+        text_behind(alloc, "batch,\"\n", &batch, 1, 2)?.as_slice(),
+        want
+    );
     Ok(())
 }

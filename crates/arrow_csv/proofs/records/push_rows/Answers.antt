@@ -1,0 +1,25 @@
+use Rattle.std.proofs.Common.{◌≡◌, ◌+◌, ◌++◌, codes, sym, ap, ◌∙◌, arith, append_assoc}
+use Rattle.std.specs.Fmt.{decimal}
+use Rattle.csv.specs.Writing.{default_writer, field_text, fields_text}
+use Rattle.arrow_csv.specs.Records.{batch_rows, column_texts, row_record}
+use Rattle.arrow_csv.proofs.Written.{row_plain, rows_next}
+use Rattle.arrow_csv.proofs.records.push_rows.Goals as goal
+
+-- one more row is written
+pub loop-i-preserved : goal.loop-i-preserved
+loop-i-preserved c =
+    let n = c.args.number in
+    let b = c.args.batch.now in
+    let i = c.loop-i.i in
+    let end = c.args.end in
+    let old = c.loop-i.out.items in
+    let less = c.loop-i-test.true in
+    let head : c.deref.result.now ≡ field_text default_writer (decimal n) = c.deref.ensures.value ∙ c.in_ok-head.ensures in
+    let row : c.deref.result.now ++ (fields_text default_writer (column_texts c.columns.result.now i) ++ codes "\n") ≡ row_record n b i =
+    ap (λ h. h ++ (fields_text default_writer (column_texts c.columns.result.now i) ++ codes "\n")) head
+    ∙ ap (λ cs. field_text default_writer (decimal n) ++ (fields_text default_writer (column_texts cs i) ++ codes "\n")) c.columns.ensures.same
+    ∙ sym (row_plain n (column_texts b.columns i) c.ranges.number.fits) in (
+      ap (λ t. t ++ batch_rows n b (i + 1) end) (c.in_ok-push_row.ensures ∙ ap (λ r. old ++ r) row) ∙ append_assoc old (row_record n b i) (batch_rows n b (i + 1) end)
+          ∙ ap (λ t. old ++ t) (sym (rows_next n b i end less)) ∙ c.loop-i.invariant.0,
+      omega (arith, less),
+    )
