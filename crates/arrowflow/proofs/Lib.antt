@@ -6,6 +6,7 @@ pub mod Feeding
 pub mod Schemas
 pub mod Growing
 pub mod Sent
+pub mod Lined
 pub mod Told
 pub mod Reading
 pub mod Reporting

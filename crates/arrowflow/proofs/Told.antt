@@ -1,5 +1,5 @@
 -- A stream that is told message by message.
-use Rattle.std.proofs.Common.{◌≡◌, ℕ, ◌+◌, Bool, true, false, List, [], ◌∷◌, ◌++◌, length, take, drop, Option, None, Some, Result, Ok, Err, ◌⊎◌, inl, inr, refl, sym, ap, ◌∙◌, subst, append_assoc, append-nil, take-append-drop}
+use Rattle.std.proofs.Common.{◌≡◌, ℕ, ◌+◌, Bool, true, false, List, [], ◌∷◌, ◌++◌, length, take, drop, Option, None, Some, Result, Ok, Err, ◌⊎◌, inl, inr, refl, sym, ap, ◌∙◌, subst, arith, append_assoc, append-nil, take-append-drop}
 use Rattle.std.specs.Io.KnownBytes.{Appends}
 use Rattle.std.proofs.KnownBytes.{Appends-trans}
 use Rattle.std.proofs.lemmas.Bool.{false≢true}
@@ -23,6 +23,7 @@ use Rattle.arrow_stream.proofs.Firsts.{whole_says}
 use Rattle.arrow_stream.proofs.Fronts.{more_bytes}
 use Rattle.arrow_stream.proofs.Streams.{ended_stands}
 use Rattle.arrowflow.specs.Faults.{told}
+use Rattle.arrowflow.specs.Lines.{IsLine}
 use Rattle.arrowflow.specs.Reports.{IsTextOf, IsAdded, SendsSome, IsTold, IsCutOff, PieceTold}
 use Rattle.arrow_stream.specs.Tables.{table_in, tables_of}
 use Rattle.arrowflow.specs.Shown.{text_in}
@@ -34,6 +35,7 @@ use Rattle.arrowflow.proofs.Feeding.{taken_all}
 use Rattle.arrowflow.proofs.First.{state_stays}
 use Rattle.arrowflow.proofs.Found.{told_refusal}
 use Rattle.arrowflow.proofs.Growing.{one_table, text_grows}
+use Rattle.arrowflow.proofs.Lined.{end_of, front_end, lines_kept, lines_more}
 use Rattle.arrowflow.proofs.Schemas.{front_behind, given_in}
 use Rattle.arrowflow.proofs.Sent.{begun_all, begun_behind}
 
@@ -114,18 +116,21 @@ end_is_done {p = p} (goes_on {n = n} {s' = s'} {g = h} {es = fs} f fr) [] x q g 
 
 text_more : (report : Report) {l : LimitNumbers} {b : List ℕ} (c : List ℕ) {es : List Entry} {e f : Standing} (x : Entry) (number : ℕ) (text added : List ℕ)
     → FrontOf l b es e → e.verdict ≡ Open → FrontOf l (b ++ c) (es ++ x ∷ []) f → number ≡ length (tables_of es)
-    → IsTextOf report e.state.schema (tables_of es) text → IsAdded report f.state.schema number x.given added → IsTextOf report f.state.schema (tables_of (es ++ x ∷ [])) (text ++ added)
-text_more Messages c x number text added old o new k is more = tt
+    → IsTextOf report e.state.schema es text → IsAdded report f.state.schema e.place number x.given added → IsTextOf report f.state.schema (es ++ x ∷ []) (text ++ added)
+text_more Messages c {es} {e} {f} x number text added old o new k is more =
+    let count : number ≡ 0 + length (tables_of es) = omega (arith, k) in
+    lines_more f.state.schema 0 0 es x text added (lines_kept c x text es old o new is)
+    (subst (λ m. IsLine f.state.schema (end_of 0 es) m x.given added) count (subst (λ p. IsLine f.state.schema p number x.given added) (front_end old) more))
 text_more Rows c {es} {e} {f} x number text added old o new k is more =
     ap (λ y. y ++ added) is ∙ ap (λ y. stream_text e.state.schema (tables_of es) ++ y) (more ∙ ap (λ m. text_in f.state.schema m x.given) k) ∙ sym (text_grows c x old o new)
 
 module _ (report : Report) (first held : Option (List ℕ)) (number : ℕ) (now new : Shows) (u rest : List ℕ) (es : List Entry) (n : ℕ) (item : Item) (is_open : now.at.verdict ≡ Open) (limits : new.limits ≡ now.limits)
-    (x : IsTold report first held number now u es) (gives : GivesNext rest n item new u es) (added : List ℕ) (is_added : IsAdded report new.at.state.schema number (given item) added) where
+    (x : IsTold report first held number now u es) (gives : GivesNext rest n item new u es) (added : List ℕ) (is_added : IsAdded report new.at.state.schema now.at.place number (given item) added) where
   -- the message that came
   abbrev pub entry : Entry
   entry = record { given = given item; end = length u + n }
 
-  new_text : IsTextOf report new.at.state.schema (tables_of (es ++ entry ∷ [])) (x.text ++ added)
+  new_text : IsTextOf report new.at.state.schema (es ++ entry ∷ []) (x.text ++ added)
   new_text =
       let standing : Standing = record { state = new.at.state; place = new.at.place; rest = gives.stands.rest; verdict = new.at.verdict } in
       text_more report (take n rest) entry number x.text added x.stands.front is_open (subst (λ l. FrontOf l (u ++ take n rest) (es ++ entry ∷ []) standing) limits gives.stands.front) x.counted x.is is_added
@@ -158,7 +163,7 @@ pub told_still : (report : Report) (first held : Option (List ℕ)) (number : �
 told_still report first held number now new u c es limits x at =
     let standing : Standing = record { state = new.at.state; place = new.at.place; rest = at.rest; verdict = new.at.verdict } in
     let same : new.at.state ≡ now.at.state = state_same c x.stands.front (subst (λ l. FrontOf l (u ++ c) es standing) limits at.front) in
-    record { text = x.text; stands = at; is = subst (λ (s : StreamState). IsTextOf report s.schema (tables_of es) x.text) (sym same) x.is; wrote = x.wrote; counted = x.counted }
+    record { text = x.text; stands = at; is = subst (λ (s : StreamState). IsTextOf report s.schema es x.text) (sym same) x.is; wrote = x.wrote; counted = x.counted }
 
 -- behind an end more bytes change nothing
 told_ended : (report : Report) (first held : Option (List ℕ)) (number : ℕ) (r : Shows) (u c : List ℕ) (es : List Entry) → r.at.verdict ≡ Done → IsTold report first held number r u es → IsTold report first held number r (u ++ c) es
@@ -188,12 +193,16 @@ telling_nothing report old before number piece = record {
 
 module _ (report : Report) (old : Shows) (before : Option (List ℕ)) (number : ℕ) (piece : List ℕ) (now : Shows) (held : Option (List ℕ)) (number' : ℕ) (rest : List ℕ)
     (i : IsTelling report old before number piece now held number' rest) (new : Shows) (limits : new.limits ≡ now.limits) where
-  module _ (n : ℕ) (item : Item) (is_open : now.at.verdict ≡ Open) (gives : (t : List ℕ) (es : List Entry) → Stands now t es → GivesNext rest n item new t es) where
+  module _ (n : ℕ) (item : Item) (is_open : now.at.verdict ≡ Open) (gives : (t : List ℕ) (es : List Entry) → Stands now t es → GivesNext rest n item new t es) (place : ℕ) (here : place ≡ now.at.place) where
+    -- what was sent is the text of the message at the place where it began
+    at_place : (text : List ℕ) → IsAdded report new.at.state.schema place number' (given item) text → IsAdded report new.at.state.schema now.at.place number' (given item) text
+    at_place text h = subst (λ p. IsAdded report new.at.state.schema p number' (given item) text) here h
+
     whole_next : i.taken ++ take n rest ++ drop n rest ≡ piece
     whole_next = append_assoc i.taken (take n rest) (drop n rest) ∙ ap (λ y. i.taken ++ y) (take-append-drop n rest) ∙ i.whole
 
     -- an item was told
-    pub telling_next : (held' : Option (List ℕ)) (number'' failed failed' : ℕ) → SendsSome (IsAdded report new.at.state.schema number' (given item)) held failed (Ok tt) held' failed'
+    pub telling_next : (held' : Option (List ℕ)) (number'' failed failed' : ℕ) → SendsSome (IsAdded report new.at.state.schema place number' (given item)) held failed (Ok tt) held' failed'
         → number'' ≡ number' + length (table_in (given item)) → IsTelling report old before number piece new held' number'' (drop n rest)
     telling_next held' number'' failed failed' sent count = record {
       taken = i.taken ++ take n rest;
@@ -203,7 +212,7 @@ module _ (report : Report) (old : Shows) (before : Option (List ℕ)) (number : 
           let u = t ++ i.taken in
           let entry : Entry = record { given = given item; end = length u + n } in
           let fs = y.0 ++ entry ∷ [] in
-          let next = told_next report first held number' now new u rest y.0 n item is_open limits y.1 (gives u y.0 y.1.stands) sent.0 sent.1 held' sent.2.0 in (
+          let next = told_next report first held number' now new u rest y.0 n item is_open limits y.1 (gives u y.0 y.1.stands) sent.0 (at_place sent.0 sent.1) held' sent.2.0 in (
             fs,
             told_at report first held' number'' new (u ++ take n rest) (t ++ (i.taken ++ take n rest)) fs (append_assoc t i.taken (take n rest))
                 (subst (λ m. IsTold report first held' m new (u ++ take n rest) fs) (sym count) next),
@@ -224,7 +233,7 @@ module _ (report : Report) (old : Shows) (before : Option (List ℕ)) (number : 
     }
 
     -- an item was not told to its end
-    pub telling_cut : (f : ToolFault) (held' : Option (List ℕ)) (number'' failed failed' : ℕ) → SendsSome (IsAdded report new.at.state.schema number' (given item)) held failed (Err f) held' failed'
+    pub telling_cut : (f : ToolFault) (held' : Option (List ℕ)) (number'' failed failed' : ℕ) → SendsSome (IsAdded report new.at.state.schema place number' (given item)) held failed (Err f) held' failed'
         → (first : Option (List ℕ)) (t : List ℕ) (es : List Entry) → IsTold report first before number old t es → PieceTold report first failed t piece (Err f) held' failed' number'' new
     telling_cut (Input k) held' number'' failed failed' sent first t es x = absurd sent.2
     telling_cut (Refused what kind) held' number'' failed failed' sent first t es x = absurd sent.2
@@ -232,11 +241,11 @@ module _ (report : Report) (old : Shows) (before : Option (List ℕ)) (number : 
     telling_cut Output held' number'' failed failed' sent first t es x =
         let y = i.told first t es x in
         let u = t ++ i.taken in
-        (cut_whole held' first t (cut_next report first held number' now new u rest y.0 n item is_open limits y.1 (gives u y.0 y.1.stands) sent.0 sent.1 held' sent.2.0), sent.2.1)
+        (cut_whole held' first t (cut_next report first held number' now new u rest y.0 n item is_open limits y.1 (gives u y.0 y.1.stands) sent.0 (at_place sent.0 sent.1) held' sent.2.0), sent.2.1)
     telling_cut Memory held' number'' failed failed' sent first t es x =
         let y = i.told first t es x in
         let u = t ++ i.taken in
-        (cut_whole held' first t (cut_next report first held number' now new u rest y.0 n item is_open limits y.1 (gives u y.0 y.1.stands) sent.0 sent.1 held' sent.2.0), sent.2.1)
+        (cut_whole held' first t (cut_next report first held number' now new u rest y.0 n item is_open limits y.1 (gives u y.0 y.1.stands) sent.0 (at_place sent.0 sent.1) held' sent.2.0), sent.2.1)
 
     is_done : given item ≡ ended → (first : Option (List ℕ)) (t : List ℕ) (es : List Entry) → IsTold report first before number old t es → new.at.verdict ≡ Done
     is_done e first t es x =
@@ -245,7 +254,7 @@ module _ (report : Report) (old : Shows) (before : Option (List ℕ)) (number : 
         end_is_done g.stands.front y.0 (record { given = given item; end = length (t ++ i.taken) + n }) refl e
 
     -- the end marker was told
-    pub telling_ended : (held' : Option (List ℕ)) (number'' failed failed' : ℕ) → SendsSome (IsAdded report new.at.state.schema number' (given item)) held failed (Ok tt) held' failed'
+    pub telling_ended : (held' : Option (List ℕ)) (number'' failed failed' : ℕ) → SendsSome (IsAdded report new.at.state.schema place number' (given item)) held failed (Ok tt) held' failed'
         → number'' ≡ number' + length (table_in (given item)) → given item ≡ ended
         → (first : Option (List ℕ)) (t : List ℕ) (es : List Entry) → IsTold report first before number old t es → PieceTold report first failed t piece (Ok true) held' failed' number'' new
     telling_ended held' number'' failed failed' sent count e first t es x =
@@ -281,7 +290,7 @@ module _ (report : Report) (old : Shows) (before : Option (List ℕ)) (number : 
             entries = y.0;
             text = y.1.text;
             stands = subst (λ r. Stands r u y.0) (sym m.same) y.1.stands;
-            is = subst (λ (r : Shows). IsTextOf report r.at.state.schema (tables_of y.0) y.1.text) (sym m.same) y.1.is;
+            is = subst (λ (r : Shows). IsTextOf report r.at.state.schema y.0 y.1.text) (sym m.same) y.1.is;
             wrote = begun_all first held y.1.text y.1.wrote;
           },
           refl,

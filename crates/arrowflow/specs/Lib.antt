@@ -5,6 +5,7 @@ pub mod SchemaText
 pub mod Session
 pub mod Pieces
 pub mod Reads
+pub mod Lines
 pub mod Reports
 pub mod TypeNames
 pub mod Shown

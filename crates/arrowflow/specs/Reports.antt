@@ -1,9 +1,8 @@
 -- What is written of a stream, and how that ends (Columnar Format, "IPC Streaming Format").
-use Rattle.std.specs.Prelude.{◌≡◌, ℕ, ◌+◌, ◌⊎◌, List, [], ◌++◌, length, Bool, IsTrue, Option, Result, Ok, Err, ⊤}
+use Rattle.std.specs.Prelude.{◌≡◌, ℕ, ◌+◌, ◌⊎◌, List, [], ◌++◌, length, Bool, IsTrue, Option, Result, Ok, Err}
 use Rattle.std.specs.Io.KnownBytes.{Appends, Consumes, IsAtEnd, Keeps}
 use Rattle.arrow_types.specs.Field.{Fields}
 use Rattle.arrow_types.specs.Limits.{LimitNumbers}
-use Rattle.arrow_array.specs.Batch.{Table}
 use Rattle.arrow_csv.specs.Records.{stream_text}
 use Rattle.arrow_sink.specs.Sinks.{AcceptsBeginning}
 use Rattle.arrow_stream.specs.declared.fault.Fault.{Fault}
@@ -16,22 +15,33 @@ use Rattle.arrow_stream.specs.State.{Given}
 use Rattle.arrow_stream.specs.Stream.{Shows, Stands, ended_so}
 use Rattle.arrowflow.specs.Reads.{IsReadWhile}
 use Rattle.arrow_stream.specs.Tables.{tables_of}
+use Rattle.arrowflow.specs.Lines.{AreLines, IsLine, end_line}
 use Rattle.arrowflow.specs.Shown.{text_in}
 use Rattle.arrowflow.specs.declared.report.Report.{Report}
 use Rattle.arrowflow.specs.declared.report.Report.TheVariants.{Messages, Rows}
 use Rattle.arrowflow.specs.declared.tool_fault.ToolFault.{ToolFault}
 use Rattle.arrowflow.specs.declared.tool_fault.ToolFault.TheVariants.{Input, Output, Stream, Refused, Memory}
 
--- The text of a stream of this schema and these batches. Of its rows it is their records; what the line of a message is,
--- is not said here.
-abbrev pub IsTextOf : Report → Option Fields → List Table → List ℕ → Type 0
-IsTextOf Messages schema tables text = ⊤
-IsTextOf Rows schema tables text = text ≡ stream_text schema tables
+-- the text of a stream's messages by the schema that they left: their lines, or the records of their rows
+abbrev pub IsTextOf : Report → Option Fields → List Entry → List ℕ → Type 0
+IsTextOf Messages schema entries text = AreLines schema 0 0 entries text
+IsTextOf Rows schema entries text = text ≡ stream_text schema (tables_of entries)
 
--- what one message adds to it behind so many batches
-abbrev pub IsAdded : Report → Option Fields → ℕ → Given → List ℕ → Type 0
-IsAdded Messages schema number given text = ⊤
-IsAdded Rows schema number given text = text ≡ text_in schema number given
+-- what one message adds to it that begins at this place, behind so many batches
+abbrev pub IsAdded : Report → Option Fields → ℕ → ℕ → Given → List ℕ → Type 0
+IsAdded Messages schema place number given text = IsLine schema place number given text
+IsAdded Rows schema place number given text = text ≡ text_in schema number given
+
+-- what stands behind the text of the messages where the input ends at this place: a line, nothing behind rows
+abbrev pub IsEnding : Report → ℕ → List ℕ → Type 0
+IsEnding Messages place text = text ≡ end_line place
+IsEnding Rows place text = text ≡ []
+
+-- what stands there at the end of a call that ends well: nothing behind an end marker
+abbrev pub IsLast : Report → Verdict → ℕ → List ℕ → Type 0
+IsLast report Done place text = text ≡ []
+IsLast report Open place text = IsEnding report place text
+IsLast report (Bad kind) place text = ⊥
 
 -- A text was sent to an output that had failed so many times: all of it, or a beginning, where the output failed once more
 -- or memory was wanting. No input and no stream is at fault then.
@@ -51,7 +61,7 @@ SendsSome P before failed answer after failed' = (text : List ℕ) × P text × 
 pub record IsTold (report : Report) (first held : Option (List ℕ)) (number : ℕ) (r : Shows) (t : List ℕ) (es : List Entry) : Type 0 where
   pub text : List ℕ
   pub stands : Stands r t es
-  pub is : IsTextOf report r.at.state.schema (tables_of es) text
+  pub is : IsTextOf report r.at.state.schema es text
   pub wrote : Appends first held text
   pub counted : number ≡ length (tables_of es)
 
@@ -63,7 +73,7 @@ pub record IsCutOff (report : Report) (first held : Option (List ℕ)) (r : Show
   pub entries : List Entry
   pub text : List ℕ
   pub stands : Stands r (t ++ taken) entries
-  pub is : IsTextOf report r.at.state.schema (tables_of entries) text
+  pub is : IsTextOf report r.at.state.schema entries text
   pub wrote : AcceptsBeginning first held text
 
 -- the verdict refuses the message at this place, and this is the fault that tells so
@@ -92,10 +102,21 @@ pub record IsWritten (report : Report) (limits : LimitNumbers) (bytes : List ℕ
   pub entries : List Entry
   pub front : FrontOf limits bytes entries e
   pub text : List ℕ
-  pub is : IsTextOf report e.state.schema (tables_of entries) text
+  pub is : IsTextOf report e.state.schema entries text
   pub wrote : Appends before after text
 
--- a beginning of the text of the messages at the front of a beginning of these bytes was written
+-- the same with what stands behind it at the end of a call that ends well
+pub record IsWrittenWhole (report : Report) (limits : LimitNumbers) (bytes : List ℕ) (e : Standing) (before after : Option (List ℕ)) : Type 0 where
+  pub entries : List Entry
+  pub front : FrontOf limits bytes entries e
+  pub text : List ℕ
+  pub is : IsTextOf report e.state.schema entries text
+  pub last : List ℕ
+  pub is_last : IsLast report e.verdict e.place last
+  pub wrote : Appends before after (text ++ last)
+
+-- a beginning was written of the text of the messages at the front of a beginning of these bytes, and of what may stand
+-- behind it
 pub record IsBegun (report : Report) (limits : LimitNumbers) (bytes : List ℕ) (before after : Option (List ℕ)) : Type 0 where
   pub taken : List ℕ
   pub rest : List ℕ
@@ -104,8 +125,10 @@ pub record IsBegun (report : Report) (limits : LimitNumbers) (bytes : List ℕ) 
   pub entries : List Entry
   pub front : FrontOf limits taken entries standing
   pub text : List ℕ
-  pub is : IsTextOf report standing.state.schema (tables_of entries) text
-  pub wrote : AcceptsBeginning before after text
+  pub is : IsTextOf report standing.state.schema entries text
+  pub last : List ℕ
+  pub is_last : (last ≡ []) ⊎ IsEnding report standing.place last
+  pub wrote : AcceptsBeginning before after (text ++ last)
 
 -- the stream ended well: with its end marker, or with the input at the end of a message
 abbrev pub EndsWell : Option (List ℕ) → Standing → Type 0
@@ -119,7 +142,7 @@ EndsBadly left e fault = IsBadBy e.verdict e.place fault ⊎ ((ended_so e ≡ Er
 -- answered exactly where the output failed, and then once.
 abbrev pub Reports : Report → LimitNumbers → List ℕ → Option (List ℕ) → Option (List ℕ) → ℕ → Result (Unit {0}) ToolFault → Option (List ℕ) → ℕ → Type 0
 Reports report limits bytes left before failed (Ok done) after failed' =
-    (e : Standing) × IsWritten report limits bytes e before after × EndsWell left e × (failed' ≡ failed)
+    (e : Standing) × IsWrittenWhole report limits bytes e before after × EndsWell left e × (failed' ≡ failed)
 Reports report limits bytes left before failed (Err (Stream fault)) after failed' =
     (e : Standing) × IsWritten report limits bytes e before after × EndsBadly left e fault × (failed' ≡ failed)
 Reports report limits bytes left before failed (Err (Input number)) after failed' =
@@ -144,16 +167,11 @@ ReportsInput report limits had left before failed answer after failed' =
     (bytes : List ℕ) × Consumes had left bytes × IsReadWhile (IsOpenAt limits) bytes
     × Reports report limits bytes left before failed answer after failed'
 
--- what stands behind the text of the messages where the input ends: nothing behind rows
-abbrev pub IsEnding : Report → List ℕ → Type 0
-IsEnding Messages text = ⊤
-IsEnding Rows text = text ≡ []
-
 -- how a stream ends with its input: at the end of a message, or by the fault that a reader tells of such an end
 abbrev pub EndTold : Report → Standing → Option (List ℕ) → ℕ → Result (Unit {0}) ToolFault → Option (List ℕ) → ℕ → Type 0
-EndTold report e before failed (Ok done) after failed' = (ended_so e ≡ Ok tt) × SendsSome (IsEnding report) before failed (Ok done) after failed'
-EndTold report e before failed (Err Output) after failed' = SendsSome (IsEnding report) before failed (Err Output) after failed'
-EndTold report e before failed (Err Memory) after failed' = SendsSome (IsEnding report) before failed (Err Memory) after failed'
+EndTold report e before failed (Ok done) after failed' = (ended_so e ≡ Ok tt) × SendsSome (IsEnding report e.place) before failed (Ok done) after failed'
+EndTold report e before failed (Err Output) after failed' = SendsSome (IsEnding report e.place) before failed (Err Output) after failed'
+EndTold report e before failed (Err Memory) after failed' = SendsSome (IsEnding report e.place) before failed (Err Memory) after failed'
 EndTold report e before failed (Err (Stream fault)) after failed' = (ended_so e ≡ Err fault) × Keeps before after × (failed' ≡ failed)
 EndTold report e before failed (Err (Input number)) after failed' = ⊥
 EndTold report e before failed (Err (Refused what kind)) after failed' = ⊥

@@ -15,6 +15,16 @@
 //! `ReportsInput` (`specs/Reports.antt`). How far both read their input is said by
 //! `specs/Reads.antt`. What each message adds to the text of a stream's rows is said by
 //! `specs/Shown.antt`, and that the text grows so by [`laws`].
+//!
+//! | Notion | Definition |
+//! |---|---|
+//! | what is received of bytes | `specs/Session.antt`: `Receives`; `specs/Pieces.antt`: `Feeds` |
+//! | the text of a schema | `specs/SchemaText.antt`: `schema_lines`; `specs/TypeNames.antt`; `specs/Escapes.antt` |
+//! | what an input answers with it | `specs/SchemaCall.antt`: `AnswersInput` |
+//! | what is written of a stream | `specs/Reports.antt`: `ReportsInput`; `specs/Shown.antt`: `text_at` |
+//! | the lines of messages | `specs/Lines.antt`: `message_line`, `AreLines` |
+//! | how far an input is read | `specs/Reads.antt`: `IsReadWhile` |
+//! | what is said of a fault | `specs/Faults.antt`: `fault_line`, `status_of` |
 #![tactic(auto)]
 
 mod escapes;

@@ -23,7 +23,9 @@ use std::io::Read;
 /// `at P: schema, K columns`, `at P: dictionary ID, now N values`, `at P: batch B, N rows`, and
 /// last `at P: end marker` or `at P: end of input`, where `P` is the place of the message's first
 /// byte and batches are counted from 0. Where the stream is refused, or ends too early, the lines
-/// of the whole messages stand there, and no last one. What the lines say is shown by tests.
+/// of the whole messages stand there, and no last one (`specs/Lines.antt`). Of how many values a
+/// line tells that a dictionary has, the contract of the whole says only that some dictionaries had
+/// as many; that of the line itself says that it is the dictionary of that id, as it stands then.
 ///
 /// The input is read, and the call ends, as [`show`] does.
 pub fn check<R: Read, S: Sink>(

@@ -6,7 +6,7 @@ ghost use Rattle.arrowflow.specs.Reports.{Sends};
 
 use crate::tool_fault::ToolFault;
 use arrow_array::Batch;
-use arrow_csv::rows;
+use arrow_csv::push_rows;
 use arrow_sink::{Sink, send};
 use std::alloc::Global;
 
@@ -37,10 +37,12 @@ pub(crate) fn send_rows<S: Sink>(
         (batch_rows number batch.now 0 batch.now.rows) result (S.contents output.new)
         (S.failed output.new) }
 {
+    let mut text = Vec::new(alloc);
     let mut start = 0;
     while start < batch.rows() {
         let end = start + ROWS.min(batch.rows() - start);
-        let Ok(text) = rows(alloc, number, batch, start, end) else {
+        text.clear();
+        let Ok(()) = push_rows(alloc, &mut text, number, batch, start, end) else {
             return Err(ToolFault::Memory);
         };
         match send_text(output, &text) {

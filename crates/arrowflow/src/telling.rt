@@ -1,8 +1,9 @@
 //! A stream told message by message.
 
-ghost use Rattle.std.specs.Prelude.{◌≡◌, ◌<◌, ◌+◌, ◌-◌, ◌^◌, Ok, OnOk, false, length, ⊤};
+ghost use Rattle.std.specs.Prelude.{◌≡◌, ◌<◌, ◌+◌, ◌-◌, ◌^◌, Ok, OnOk, false, length};
 ghost use Rattle.arrow_stream.specs.declared.reader.Verdict.TheVariants.{Open};
 ghost use Rattle.arrow_stream.specs.Views.{given};
+ghost use Rattle.arrowflow.specs.Lines.{IsLine};
 ghost use Rattle.arrowflow.specs.Reports.{EndTold, IsAdded, Sends, SendsSome, TellsPiece};
 ghost use Rattle.arrow_stream.specs.Tables.{table_in};
 ghost use Rattle.arrowflow.specs.Shown.{text_in};
@@ -63,8 +64,8 @@ fn tell_item<S: Sink>(
     output: &mut S,
 ) -> Result<(), ToolFault>
     requires { S.failed output.old < 2 ^ 64 - 1 }
-    ensures sent { SendsSome (IsAdded report reader.now.at.state.schema number.old (given item.now))
-        (S.contents output.old) (S.failed output.old) result (S.contents output.new)
+    ensures sent { SendsSome (IsAdded report reader.now.at.state.schema place number.old
+        (given item.now)) (S.contents output.old) (S.failed output.old) result (S.contents output.new)
         (S.failed output.new) }
     ensures counted { OnOk result (number.new ≡ number.old + length (table_in (given item.now))) }
 {
@@ -91,8 +92,9 @@ fn tell_message<S: Sink>(
     output: &mut S,
 ) -> Result<(), ToolFault>
     requires { S.failed output.old < 2 ^ 64 - 1 }
-    ensures { SendsSome (λ _. ⊤) (S.contents output.old) (S.failed output.old) result
-        (S.contents output.new) (S.failed output.new) }
+    ensures { SendsSome (IsLine reader.now.at.state.schema place number (given item.now))
+        (S.contents output.old) (S.failed output.old) result (S.contents output.new)
+        (S.failed output.new) }
 {
     match message_line(alloc, reader, place, number, item) {
         Ok(line) => send_text(output, line.as_bytes()),

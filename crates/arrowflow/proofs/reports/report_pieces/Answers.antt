@@ -36,7 +36,7 @@ returns-in-Ok-clause-written g c =
       subst (Consumes had left) none (Consumes-trans _ _ _ _ _ inv.1 c.in_ok-count.ensures.bytes.0),
       read_all (IsOpenAt c.args.reader.now.limits) inv.0 (open_at c.args.reader.now.limits inv.0 c.loop-count.reader inv.2.0 inv.2.1.stands inv.4 inv.5),
       end_flushed c.args.report c.args.reader.now.limits inv.0 left (g.S.Sink.contents c.args.output.now) (g.S.Sink.failed c.args.output.now) (g.S.Sink.contents c.loop-count.output) c.loop-count.number (g.S.Sink.failed c.loop-count.output) c.loop-count.reader inv.2.0
-          inv.4 inv.3 (c.in_ok-count.ensures.bytes.1 c.if-count-eq0.true room) inv.2.1 (g.S.Sink.contents c.tell_end.new.output) (g.S.Sink.contents c.flush.new.output) (g.S.Sink.failed c.tell_end.new.output) (g.S.Sink.failed c.flush.new.output)
+          inv.4 inv.3 (c.in_ok-count.ensures.bytes.1 c.if-count-eq0.true room) inv.2.1 inv.5 (g.S.Sink.contents c.tell_end.new.output) (g.S.Sink.contents c.flush.new.output) (g.S.Sink.failed c.tell_end.new.output) (g.S.Sink.failed c.flush.new.output)
           c.flush.result c.in-Ok.ensures c.flush.ensures.kept,
     )
 

@@ -21,7 +21,7 @@ returns-in-Err-tell_item-clause-told g c first t es x =
     let next : (t : List ℕ) (es : List Entry) → Stands l.reader t es → GivesNext rest some.taken some.item new t es = λ t es at. rw some.field-0-1-is at (some.ensures.reads t es at) in
     subst (λ m. PieceTold c.args.report first m t c.args.piece.now (Err c.in-Err-tell_item.fault) (g.S.Sink.contents c.tell_item.new.output) (g.S.Sink.failed c.tell_item.new.output) c.tell_item.new.number new) l.invariant.1
     (telling_cut c.args.report c.args.reader.now (g.S.Sink.contents c.args.output.now) c.args.number.now c.args.piece.now l.reader (g.S.Sink.contents l.output) l.number rest l.invariant.0 new some.ensures.limits
-    some.taken some.item is_open next c.in-Err-tell_item.fault _ _ (g.S.Sink.failed l.output) _ c.in-Err-tell_item.ensures.sent first t es x)
+    some.taken some.item is_open next c.place-place.result c.place-place.ensures.place c.in-Err-tell_item.fault _ _ (g.S.Sink.failed l.output) _ c.in-Err-tell_item.ensures.sent first t es x)
 
 pub returns-in-End-clause-told : goal.returns-in-End-clause-told
 returns-in-End-clause-told g c first t es x =
@@ -33,7 +33,7 @@ returns-in-End-clause-told g c first t es x =
     let next : (t : List ℕ) (es : List Entry) → Stands l.reader t es → GivesNext rest some.taken some.item new t es = λ t es at. rw some.field-0-1-is at (some.ensures.reads t es at) in
     let is : given some.item ≡ ended = ap given c.in-End.is in
     let y = telling_ended c.args.report c.args.reader.now (g.S.Sink.contents c.args.output.now) c.args.number.now c.args.piece.now l.reader (g.S.Sink.contents l.output) l.number rest l.invariant.0 new some.ensures.limits
-    some.taken some.item is_open next _ _ (g.S.Sink.failed l.output) _ c.in-Ok.ensures.sent c.in-Ok.ensures.counted is first t es x in
+    some.taken some.item is_open next c.place-place.result c.place-place.ensures.place _ _ (g.S.Sink.failed l.output) _ c.in-Ok.ensures.sent c.in-Ok.ensures.counted is first t es x in
     (y.0, y.1 ∙ l.invariant.1, y.2)
 
 pub loop-taken-preserved-in_default : goal.loop-taken-preserved-in_default
@@ -46,7 +46,7 @@ loop-taken-preserved-in_default g c =
     let next : (t : List ℕ) (es : List Entry) → Stands l.reader t es → GivesNext rest some.taken some.item new t es = λ t es at. rw some.field-0-1-is at (some.ensures.reads t es at) in (
       subst (IsTelling c.args.report c.args.reader.now (g.S.Sink.contents c.args.output.now) c.args.number.now c.args.piece.now new (g.S.Sink.contents c.tell_item.new.output) c.tell_item.new.number) (sym (take_rest rest some.taken))
           (telling_next c.args.report c.args.reader.now (g.S.Sink.contents c.args.output.now) c.args.number.now c.args.piece.now l.reader (g.S.Sink.contents l.output) l.number rest l.invariant.0 new some.ensures.limits
-          some.taken some.item is_open next _ _ (g.S.Sink.failed l.output) _ c.in-Ok.ensures.sent c.in-Ok.ensures.counted),
+          some.taken some.item is_open next c.place-place.result c.place-place.ensures.place _ _ (g.S.Sink.failed l.output) _ c.in-Ok.ensures.sent c.in-Ok.ensures.counted),
       c.in-Ok.ensures.sent.2.1 ∙ l.invariant.1,
       λ o. open_behind l.reader.at.verdict new.at.verdict some.field-0-1 some.item some.field-0-1-is some.ensures.goes_on c.in_default.not-End,
     )
@@ -61,7 +61,7 @@ loop-taken-preserved g c =
     let next : (t : List ℕ) (es : List Entry) → Stands l.reader t es → GivesNext rest some.taken some.item new t es = λ t es at. rw some.field-0-1-is at (some.ensures.reads t es at) in (
       subst (IsTelling c.args.report c.args.reader.now (g.S.Sink.contents c.args.output.now) c.args.number.now c.args.piece.now new (g.S.Sink.contents c.tell_item.new.output) c.tell_item.new.number) (sym (take_rest rest some.taken))
           (telling_next c.args.report c.args.reader.now (g.S.Sink.contents c.args.output.now) c.args.number.now c.args.piece.now l.reader (g.S.Sink.contents l.output) l.number rest l.invariant.0 new some.ensures.limits
-          some.taken some.item is_open next _ _ (g.S.Sink.failed l.output) _ c.in-Ok.ensures.sent c.in-Ok.ensures.counted),
+          some.taken some.item is_open next c.place-place.result c.place-place.ensures.place _ _ (g.S.Sink.failed l.output) _ c.in-Ok.ensures.sent c.in-Ok.ensures.counted),
       c.in-Ok.ensures.sent.2.1 ∙ l.invariant.1,
       λ o. open_behind l.reader.at.verdict new.at.verdict some.field-0-1 some.item some.field-0-1-is some.ensures.goes_on c.in_default.not-End,
     )
