@@ -3,6 +3,11 @@
 //!
 //! What a frame is is said by `IsFrameOf` of `arrow_written`; its metadata are those of
 //! `arrow_meta_write`, with zero bytes behind them up to the alignment.
+//!
+//! | Notion | Definition |
+//! |---|---|
+//! | a frame, the end marker, appended | `specs/Frame.antt`: `AppendsFrame`, `AppendsMarker` |
+//! | sizes that hang on fields alone | `specs/Sizes.antt`: `BatchesSized`, `DictionariesSized` |
 #![tactic(auto)]
 
 mod frame;

@@ -6,6 +6,13 @@
 //! `Reports` (`specs/Report.antt`), whose words for what is asked and which batches are admitted
 //! stand in `specs/Asked.antt`, and those for streams and what is sent in `arrow_stream` and
 //! `arrow_written`.
+//!
+//! | Notion | Definition |
+//! |---|---|
+//! | what is asked of a connection | `specs/Asked.antt`: `Asked` |
+//! | what comes of it by the definitions | `specs/Asked.antt`: `Outcome`, `outcome_of` |
+//! | what is reported | `specs/Report.antt`: `IsReport`, `Reports` |
+//! | how the writing goes on | `specs/Running.antt`: `SoFar`, `IsSent` |
 #![tactic(auto)]
 
 mod kept;

@@ -11,9 +11,9 @@ use Rattle.arrow_types.specs.Field.{Fields, none, more, fields_of, FieldShape, T
 use Rattle.arrow_types.specs.Schema.{DictionaryField, IsSchema, dictionary_fields, dictionary_of, has_encoding, is_nested}
 use Rattle.arrow_types.specs.declared.field.Encoding.{Encoding}
 use Rattle.arrow_array.specs.Column.{ValueList}
-use Rattle.arrow_array.specs.Listed.{listed}
+use Rattle.arrow_array.specs.Listed.{listed, dictionary_for}
 use Rattle.arrow_array.specs.Parts.{IsOfType}
-use Rattle.arrow_body.specs.Sound.{AreFit, dictionary_for}
+use Rattle.arrow_body.specs.Sound.{AreFit}
 use Rattle.arrow_body.specs.Taken.{IfFlattened}
 use Rattle.arrow_dict.specs.Dictionaries.{placed}
 use Rattle.arrow_dict.specs.ValueTypes.{value_field, value_type_of}

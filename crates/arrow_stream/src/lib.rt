@@ -14,6 +14,18 @@
 //! a batch says by its body stands in `specs/Batch.antt`. `Stands` (`specs/Stream.antt`) says at
 //! which bytes a reader stands. So a reader's answers hang on the bytes alone and on no cut between
 //! them: the functions of [`laws`] say so.
+//!
+//! | Notion | Definition |
+//! |---|---|
+//! | one message at the front of bytes | `specs/Frame.antt`: `First`, `judged`, `against` |
+//! | all messages, one behind the other | `specs/Front.antt`: `Front`, `Standing` |
+//! | what a metadata means and announces | `specs/Meaning.antt`: `Means`; `specs/Message.antt`: `Message` |
+//! | what a batch says by its body | `specs/Batch.antt`: `Holds`, `batch_left`, `dictionary_left` |
+//! | what a stream told so far | `specs/State.antt`: `StreamState`, `Given`; `specs/Tables.antt`: `tables_of` |
+//! | what a reader shows, what its calls answer | `specs/Stream.antt`: `Shows`, `Stands`, `Answers` |
+//! | the kinds of faults | `specs/Kind.antt`: `kind_of`, `number_of` |
+//! | a reader's work | `specs/Work.antt`, `specs/Views.antt`, `specs/Inside.antt` |
+//! | the laws | `specs/Laws.antt`: `OneFront`, `MoreBytes`, `SameStanding`, `LessWaits` |
 #![tactic(auto)]
 
 mod body;

@@ -14,6 +14,16 @@
 //! dictionaries. `frames.rt` builds frames of columns within the limits. `send_part` and `send_end`
 //! (`sending.rt`) send what was built: only where the sink took all of a part are the staged
 //! dictionaries sent ones.
+//!
+//! | Notion | Definition |
+//! |---|---|
+//! | what a writer over a sink shows | `specs/Shown.antt`: `shown` |
+//! | the part of a batch, built | `specs/Parts.antt`: `IsPartBuilt`, `BuildsPart` |
+//! | the frame of columns, within the limits | `specs/Framing.antt`: `Puts`; `specs/Terms.antt`: `Terms` |
+//! | the dictionaries of a batch | `specs/Lists.antt`: `AreListsOf`, `FindsLists` |
+//! | those that are to be sent | `specs/Updating.antt`: `AddsPlan` |
+//! | whether it takes more | `specs/Taking.antt`: `taking`; `specs/Marker.antt` |
+//! | what a reader has of it | `specs/Delivery.antt`: `DeliveredWhole` |
 #![tactic(auto)]
 
 pub(crate) mod frames;

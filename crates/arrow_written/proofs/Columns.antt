@@ -12,7 +12,8 @@ use Rattle.arrow_array.specs.Parts.{node_column, value_slot, values_in}
 use Rattle.arrow_array.specs.PlainValue.{PlainValue, PlainValues, null_value, bool_value, int_value, binary_value, utf8_value, list_value, struct_value, no_values, more_values}
 use Rattle.arrow_array.specs.Resolve.{resolve, resolve_items, resolve_parts, entry_of, before}
 use Rattle.arrow_array.specs.Slots.{slots}
-use Rattle.arrow_body.specs.Sound.{ResolvesBy, columns_of, dictionary_for, if_flattened, own_bytes, slots_at, values_by}
+use Rattle.arrow_array.specs.Listed.{ResolvesBy, dictionary_for, values_by}
+use Rattle.arrow_body.specs.Sound.{columns_of, if_flattened, own_bytes, slots_at}
 use Rattle.arrow_body.specs.Taken.{flattened, own_buffers, taken_buffers, taken_nodes}
 use Rattle.arrow_body_written.specs.Entries.{HaveEntries}
 use Rattle.arrow_body_written.specs.Laws.{raws_of}

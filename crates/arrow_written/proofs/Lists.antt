@@ -14,11 +14,10 @@ use Rattle.arrow_types.specs.Schema.{DictionaryField, dictionary_of, dictionary_
 use Rattle.arrow_types.specs.declared.field.Encoding.{Encoding}
 use Rattle.arrow_array.specs.Batch.{Table}
 use Rattle.arrow_array.specs.Column.{ValueList}
-use Rattle.arrow_array.specs.Listed.{listed}
+use Rattle.arrow_array.specs.Listed.{listed, values_by}
 use Rattle.arrow_array.specs.Parts.{values_in}
 use Rattle.arrow_array.specs.PlainValue.{PlainValue}
 use Rattle.arrow_array.specs.Stored.{value_code}
-use Rattle.arrow_body.specs.Sound.{values_by}
 use Rattle.arrow_dict.specs.ValueTypes.{value_type_of}
 use Rattle.arrow_dict.proofs.Placing.{listed_here, listed_elsewhere}
 use Rattle.arrow_stream.specs.Batch.{base_of}

@@ -18,11 +18,11 @@ use Rattle.arrow_types.specs.declared.node.Buffer.{Buffer}
 use Rattle.arrow_array.specs.Batch.{Table}
 use Rattle.arrow_array.specs.Column.{ValueList, Agree, listed_of}
 use Rattle.arrow_array.specs.Layout.{IsIndexed}
-use Rattle.arrow_array.specs.Listed.{listed}
+use Rattle.arrow_array.specs.Listed.{listed, dictionary_for}
 use Rattle.arrow_array.specs.PlainValue.{PlainValue}
 use Rattle.arrow_array.specs.Stored.{value_code}
 use Rattle.arrow_body.specs.Held.{count_of}
-use Rattle.arrow_body.specs.Sound.{AreIndexed, columns_of, own_bytes, slots_at, dictionary_for}
+use Rattle.arrow_body.specs.Sound.{AreIndexed, columns_of, own_bytes, slots_at}
 use Rattle.arrow_body.specs.Taken.{IfFlattened, flattened, own_buffers, taken_buffers, taken_nodes}
 use Rattle.arrow_array.specs.Parts.{values_in}
 use Rattle.arrow_dict.specs.Dictionaries.{placed}

@@ -8,8 +8,9 @@ use Rattle.arrow_types.specs.Limits.{LimitNumbers}
 use Rattle.arrow_types.specs.Schema.{IsSchema}
 use Rattle.arrow_array.specs.Batch.{Table}
 use Rattle.arrow_array.specs.Column.{ValueList, AreOf}
+use Rattle.arrow_array.specs.Listed.{values_by}
 use Rattle.arrow_body.specs.Held.{count_of}
-use Rattle.arrow_body.specs.Sound.{columns_of, values_by}
+use Rattle.arrow_body.specs.Sound.{columns_of}
 use Rattle.arrow_body.proofs.Columns.{columns_typed}
 use Rattle.arrow_body.proofs.Readings.{columns_resolve}
 use Rattle.arrow_meta.specs.Means.{schema, batch}

@@ -9,8 +9,8 @@ use Rattle.arrow_meta.specs.Means.{PlainBatch}
 use Rattle.arrow_stream.specs.Batch.{AreLong}
 use Rattle.arrow_written.specs.Sizes.{slots_in}
 
--- Its length is the number of rows, as many slots has each column, each field node has its own number, and the nodes, the buffers and the body are just
--- the columns of these raw values, and tidy.
+-- Its length is the number of rows, as many slots has each column, each field node has its own number, and the nodes, the
+-- buffers and the body are just the columns of these raw values, and tidy.
 pub record IsBuilt (align : ℕ) (fields : Fields) (raws : List (List PlainValue)) (rows : ℕ) (record_batch : PlainBatch) (body : List ℕ) : Type 0 where
   pub long : record_batch.length ≡ pos rows
   pub level : AreLong fields record_batch

@@ -4,8 +4,7 @@ use Rattle.std.specs.List.{AllByRecursion, list_all}
 use Rattle.arrow_types.specs.Field.{Fields}
 use Rattle.arrow_array.specs.Batch.{Table, IsTable}
 use Rattle.arrow_array.specs.Column.{Column, ValueList, IsColumn, listed_of}
-use Rattle.arrow_array.specs.Listed.{listed}
-use Rattle.arrow_array.specs.Parts.{values_in}
+use Rattle.arrow_array.specs.Listed.{values_by}
 use Rattle.arrow_array.specs.PlainValue.{PlainValue}
 use Rattle.arrow_body_written.specs.Laws.{raws_of}
 use Rattle.arrow_dict.specs.Choice.{same_list}
@@ -28,7 +27,7 @@ rows_of t = record { schema = t.schema; raw = raws_of t.columns; resolved = reso
 
 -- the values of the batch's dictionary of an id, the one that is listed first for it, none where no column refers to one
 abbrev pub list_of : Table → ℤ → List PlainValue
-list_of t id = values_in (listed (listed_of t.columns) id)
+list_of t = values_by (listed_of t.columns)
 
 -- whether all columns of the batch that refer to a dictionary of one id have equal values for it
 abbrev pub has_one_list : Table → Bool

@@ -30,6 +30,7 @@ pub record Shows : Type 0 where
   pub contents : Option (List ℕ)
   pub failures : ℕ
 
+-- what a writer is at that is not broken: closed, or not
 abbrev pub status_of : Bool → Status
 status_of false = statuses.Writing
 status_of true = statuses.Finished

@@ -17,6 +17,19 @@
 //!
 //! [`laws`] says of all this what holds for all arguments: what is sent is a stream, and what a
 //! reader has of the first bytes of it are the rows of the batches that came wholly.
+//!
+//! | Notion | Definition |
+//! |---|---|
+//! | a frame, a stream of frames | `specs/Frames.antt`: `IsFrameOf`, `IsStream` |
+//! | the text of a connection | `specs/Text.antt`: `Written`, `IsPart`, `whole_batches` |
+//! | the dictionary batches before a batch | `specs/Plan.antt`: `plan` |
+//! | the first refusal of a batch, of a schema | `specs/Admission.antt`: `admission`, `schema_admission` |
+//! | a body of raw values | `specs/Built.antt`: `IsBuilt` |
+//! | sizes | `specs/Sizes.antt`: `header_size` .. |
+//! | the rows of a batch | `specs/Rows.antt`: `rows_of`, `has_one_list` |
+//! | what a writer shows, what its calls answer | `specs/Writer.antt`: `Shows`, `Starts`, `Writes`, `Finishes` |
+//! | numbers and words of refusals | `specs/Refusals.antt` |
+//! | the laws | `specs/Laws.antt`: `TextIsAStream`, `DeliveredBeginning` ..; `specs/Standing.antt` |
 #![tactic(auto)]
 
 pub mod laws;

@@ -5,6 +5,11 @@
 //! layers that read and write streams; how far the input is read, in those of `arrowflow`. Where a
 //! copy stands between two messages, and what it makes of the next one, is said by
 //! `specs/Copying.antt`.
+//!
+//! | Notion | Definition |
+//! |---|---|
+//! | what is written, and how that ends | `specs/Copy.antt`: `CopiesInput` |
+//! | where a copy stands | `specs/Copying.antt`: `At`; `specs/Target.antt`: `at_of` |
 #![tactic(auto)]
 
 mod copier;

@@ -5,6 +5,12 @@
 //! What an input is read as, and how that ends, is said by `specs/Reading.antt`, and what is
 //! answered of all inputs by `Drills` (`specs/Drill.antt`), in the words of `arrow_stream` and
 //! `arrow_session`. What stands in the lines is shown by tests.
+//!
+//! | Notion | Definition |
+//! |---|---|
+//! | an input read as a connection | `specs/Reading.antt`: `IsConnectionOf`, `AreRead` |
+//! | what is answered of all inputs | `specs/Drill.antt`: `Drills`; `specs/Terms.antt` |
+//! | what is counted of a report | `specs/Counts.antt`: `bytes_in`, `rows_in` |
 #![tactic(auto)]
 
 mod drilling;

@@ -3,6 +3,10 @@
 //! [`plan`] takes the words of a line and gives a [`Plan`]: the command, the names that it was
 //! given and its options; or an [`ArgFault`], which prints itself. What the words of a line ask for
 //! is said by `AnswersLine` (`specs/CommandLine.antt`), in the words of clap.
+//!
+//! | Notion | Definition |
+//! |---|---|
+//! | what the words of a line ask for | `specs/CommandLine.antt`: `AnswersLine`, `IsAskedFor`, `program_app` |
 #![tactic(auto)]
 
 mod command_line;
