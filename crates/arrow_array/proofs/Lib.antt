@@ -19,3 +19,4 @@ pub mod Indices
 pub mod Listing
 pub mod Lists
 mod Blocks
+mod OnlyChild

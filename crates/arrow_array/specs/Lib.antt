@@ -16,3 +16,4 @@ pub mod Same
 pub mod Value
 pub mod Batch
 pub mod FullSlots
+pub mod Laws

@@ -24,6 +24,7 @@
 //! | what a slot shows | `specs/Shown.antt`: `Shows`, `HoldsValue` |
 //! | equal slots, values that begin others | `specs/Same.antt`: `same_values`, `Begins` |
 //! | a batch, and why there is none | `specs/Batch.antt`: `IsTable`, `Judges` |
+//! | that a column has one child for each field | `specs/Laws.antt`: `OneField`, `OneChild` |
 //! | how they are kept | `specs/Node.antt`: `column_of`; `specs/Segments.antt`; `specs/Value.antt` |
 #![tactic(auto)]
 
@@ -33,6 +34,7 @@ mod buffers;
 mod byte_range;
 mod dictionary;
 pub mod form;
+pub mod laws;
 pub mod layout;
 mod parts;
 mod same;
