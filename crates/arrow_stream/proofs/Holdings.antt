@@ -23,10 +23,10 @@ are_long fields outline ns n e f = (
 )
 
 -- what explains a fault of these nodes and these buffers
-pub explains_of : (k : BodyFault) (body : List ℕ) (ds : List (ℤ × ValueList)) (fields : Fields) (outline : PlainBatch) (ns : List FieldNode) (bs : List Buffer) →
-    ns ≡ outline.nodes → bs ≡ outline.buffers → Explains k body ds fields ns bs → Explains k body ds fields outline.nodes outline.buffers
-explains_of k body ds fields outline ns bs e f h =
-    subst (λ x. Explains k body ds fields outline.nodes x) f (subst (λ x. Explains k body ds fields x bs) e h)
+pub explains_of : (k : BodyFault) (body body' : List ℕ) (ds : List (ℤ × ValueList)) (fields : Fields) (outline : PlainBatch) (ns : List FieldNode) (bs : List Buffer) →
+    body ≡ body' → ns ≡ outline.nodes → bs ≡ outline.buffers → Explains k body ds fields ns bs → Explains k body' ds fields outline.nodes outline.buffers
+explains_of k body body' ds fields outline ns bs b e f h =
+    subst (λ x. Explains k x ds fields outline.nodes outline.buffers) b (subst (λ x. Explains k body ds fields outline.nodes x) f (subst (λ x. Explains k body ds fields x bs) e h))
 
 -- what is sound is so of an equal body, equal nodes and equal buffers
 pub sound_of : (body body' : List ℕ) (ds : List (ℤ × ValueList)) (fields : Fields) (ns ns' : List FieldNode) (bs bs' : List Buffer) →

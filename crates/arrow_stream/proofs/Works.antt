@@ -1,10 +1,8 @@
 -- What the steps of reading rest on: sizes that were judged are small, and what is held shows its parts.
-use Rattle.std.proofs.Common.{◌≡◌, ℕ, ◌+◌, ◌-◌, ◌^◌, ◌<◌, ◌≤◌, inl, inr, Bool, true, false, cond, ltb, eqb, List, ◌++◌, length, take, drop, refl, sym, ap, ◌∙◌, subst, arith, Option, Some, None, Result, Ok, Err, length-drop, length-take}
+use Rattle.std.proofs.Common.{◌≡◌, ℕ, ◌+◌, ◌-◌, ◌^◌, ◌<◌, ◌≤◌, inl, inr, Bool, true, false, cond, ltb, eqb, List, ◌++◌, length, take, drop, refl, sym, ap, ◌∙◌, subst, arith, Option, Some, None, Result, Ok, Err, length-append, length-drop, length-take}
 use Rattle.std.specs.Prelude.{is_some, not}
-use Rattle.std.specs.declared.vec.Vec.{Vec}
-use Rattle.std.specs.declared.alloc.Global.{Global}
 use Rattle.std.proofs.lemmas.Bool.{ltb-false}
-use Rattle.std.proofs.lemmas.List.{take_all}
+use Rattle.std.proofs.lemmas.List.{append_assoc, take_all}
 use Rattle.arrow_types.specs.Limits.{LimitNumbers}
 use Rattle.arrow_meta.specs.declared.fault.MetaFault.{MetaFault}
 use Rattle.arrow_stream.specs.declared.kind.Refusal.{Refusal}
@@ -14,7 +12,7 @@ use Rattle.arrow_stream.specs.declared.prefix.Prefix.TheVariants as prefixes
 use Rattle.arrow_stream.specs.Message.{Message}
 use Rattle.arrow_stream.specs.State.{StreamState, Given}
 use Rattle.arrow_stream.specs.Meaning.{Means}
-use Rattle.arrow_stream.specs.Frame.{prefix_says, judged, against, refused_first, is_out_of_order, MetadataSays, number_at, has_continuation, BodySays, bad_metadata, bad_body, HasPrefix, HasMetadata, HasBody}
+use Rattle.arrow_stream.specs.Frame.{prefix_says, judged, against, refused_first, is_out_of_order, MetadataSays, number_at, has_continuation, BodySays, bad_metadata, bad_body, message_comes, HasPrefix, HasMetadata, HasBody}
 use Rattle.arrow_stream.specs.declared.message.Content.{Content as HeldContent}
 use Rattle.arrow_stream.specs.declared.message.Message.{Message as HeldMessage}
 use Rattle.arrow_stream.specs.declared.state.State.{State}
@@ -24,8 +22,11 @@ use Rattle.arrow_stream.specs.declared.message.Stop.TheVariants.{Refused, Memory
 use Rattle.arrow_stream.specs.declared.work.Work.{Work}
 use Rattle.arrow_stream.specs.declared.work.Phase.{Phase}
 use Rattle.arrow_stream.specs.declared.work.Phase.TheVariants as phases
+use Rattle.arrow_stream.specs.declared.work.Step.{Step}
+use Rattle.arrow_stream.specs.declared.work.Step.TheVariants as steps
+use Rattle.arrow_stream.specs.Held.{HeldBytes}
 use Rattle.arrow_stream.specs.Work.{Filled, Finishes, NotApplied, Shown, Stopped, Works}
-use Rattle.arrow_stream.proofs.Firsts.{metadata_held, body_held}
+use Rattle.arrow_stream.proofs.Firsts.{HasMetadata-append, metadata_held, body_held}
 use Rattle.arrow_stream.proofs.Meanings.{meaning_small}
 
 -- where the tests of a prefix answer a size, both limits were kept
@@ -119,20 +120,12 @@ module _ {l : LimitNumbers} {s : StreamState} {p : ℕ} where
   pub is_ready : {b : List ℕ} {m : ℕ} {t : Message} → l.max_rows ≤ 2147483647 → HasMetadata l s p b m (Ok t) → Ready s t.content
   is_ready few h = let w = judged_at h in record { max_rows = l.max_rows; ceiling = few; in_order = w.in_order; none = w.none }
 
-  -- a body that was read from the bytes held
-  pub body_read : {h : List ℕ} {m : ℕ} {t : Message} {r : Result (StreamState × Given) Refusal} →
-      HasMetadata l s p h m (Ok t) → length h ≡ 8 + m + t.body_len →
-      BodySays s t.content (take t.body_len (drop (8 + m) h)) r → HasBody l s p h m t r
-  body_read {h} {m} {t} {r} g n says = record { metadata = g; within = omega arith; says = says }
-
-  -- a body that is all the bytes held behind the metadata
-  pub body_said : {h : List ℕ} {m : ℕ} {t : Message} {r : Result (StreamState × Given) Refusal} (d : List ℕ) → d ≡ h →
-      HasMetadata l s p h m (Ok t) → length h ≡ 8 + m + t.body_len →
-      BodySays s t.content (take (length d - (8 + m)) (drop (8 + m) d)) r → HasBody l s p h m t r
-  body_said {h} {m} {t} {r} d e g n says =
-      let says' = subst (λ x. BodySays s t.content (take (length x - (8 + m)) (drop (8 + m) x)) r) e says in
-      let rest : length h - (8 + m) ≡ t.body_len = omega arith in
-      body_read g n (subst (λ i. BodySays s t.content (take i (drop (8 + m) h)) r) rest says')
+  -- a body that is all the bytes behind the metadata
+  pub body_said : {b : List ℕ} {m : ℕ} {t : Message} {r : Result (StreamState × Given) Refusal} (body : List ℕ) → body ≡ drop (8 + m) b →
+      HasMetadata l s p b m (Ok t) → length b ≡ 8 + m + t.body_len → BodySays s t.content body r → HasBody l s p b m t r
+  body_said {b} {m} {t} {r} body e g n says =
+      let all : take t.body_len (drop (8 + m) b) ≡ body = take_all t.body_len (drop (8 + m) b) (omega (arith, length-drop (8 + m) b)) ∙ sym e in
+      record { metadata = g; within = omega arith; says = subst (λ x. BodySays s t.content x r) (sym all) says }
 
   -- a metadata that was read from the bytes held
   pub metadata_read : {h : List ℕ} {m : ℕ} {r : Result Message Refusal} (d : List ℕ) → d ≡ h →
@@ -192,9 +185,9 @@ handed_back old st m c n = record {
   phase = phases.Body m (record { content = c; body_len = n });
 }
 
-module _ (old : Work) (st : State) (m : ℕ) (t : HeldMessage) (c : HeldContent)
+module _ (old : Work) (st : State) (m : ℕ) (t : HeldMessage) (c : HeldContent) (rest : List ℕ)
     (known : HasMetadata old.limits (plain old.state) old.place old.held.items m (Ok (message_of t)))
-    (whole : length old.held.items ≡ 8 + m + t.body_len) where
+    (whole : length old.held.items + length rest ≡ 8 + m + t.body_len) where
   not_applied : old.limits.max_rows ≤ 2147483647 → IsFit (plain st) → plain st ≡ plain old.state → content_of c ≡ content_of t.content →
       NotApplied old (handed_back old st m c t.body_len)
   not_applied few fit e f = record {
@@ -213,14 +206,16 @@ module _ (old : Work) (st : State) (m : ℕ) (t : HeldMessage) (c : HeldContent)
   }
 
   -- a message that is not applied stops the work where it was
-  pub not_finished : (d : List ℕ) (stop : Stop) → d ≡ old.held.items → old.limits.max_rows ≤ 2147483647 → IsFit (plain st) →
-      Applies (plain old.state) (content_of t.content) (take (length d - (8 + m)) (drop (8 + m) d)) (Err (stop, c)) (plain st) →
-      Finishes old m (message_of t) (Err stop) (handed_back old st m c t.body_len)
-  not_finished d (Refused k) e few fit a = (not_applied few fit a.1 a.2, body_said d e known whole a.0)
-  not_finished d Memory e few fit a = (not_applied few fit a.1 a.2, (a.0.0, body_said d e known whole a.0.1))
+  pub not_finished : (body : List ℕ) (stop : Stop) → body ≡ drop (8 + m) (old.held.items ++ rest) → old.limits.max_rows ≤ 2147483647 → IsFit (plain st) →
+      Applies (plain old.state) (content_of t.content) body (Err (stop, c)) (plain st) →
+      Finishes old (old.held.items ++ rest) m (message_of t) (Err stop) (handed_back old st m c t.body_len)
+  not_finished body (Refused k) e few fit a =
+      (not_applied few fit a.1 a.2, body_said body e (HasMetadata-append rest known) (length-append old.held.items rest ∙ whole) a.0)
+  not_finished body Memory e few fit a =
+      (not_applied few fit a.1 a.2, (a.0.0, body_said body e (HasMetadata-append rest known) (length-append old.held.items rest ∙ whole) a.0.1))
 
--- so does the step to which it belongs
-module _ (old : Work) (h : Vec ℕ Global) (f : Phase) (new : Work) where
+-- what becomes of the message is what the step to which it belongs does
+module _ (old : Work) (h : HeldBytes) (f : Phase) (new : Work) where
   abbrev filled_up : Work
   filled_up = record { alloc = old.alloc; limits = old.limits; state = old.state; place = old.place; held = h; phase = f }
 
@@ -233,9 +228,22 @@ module _ (old : Work) (h : Vec ℕ Global) (f : Phase) (new : Work) where
     at = not.at;
   }
 
-  -- what stops the last step stops the work
-  pub finish_stops : (b rest : List ℕ) (m : ℕ) (t : Message) (stop : Stop) → h.items ++ rest ≡ b → length old.held.items ≤ length h.items →
-      Finishes filled_up m t (Err stop) new → Works old b (Err stop) new
-  finish_stops b rest m t (Refused k) e covers x =
-      record { stopped = stopped_at b rest e covers x.0; first = bad_body (body_held b rest e x.1) }
-  finish_stops b rest m t Memory e covers x = stopped_at b rest e covers x.0
+  -- b begins with the message, of which the first bytes are held
+  pub finish_works : (b rest more : List ℕ) (m : ℕ) (t : Message) (r : Result Step Stop) → (h.items ++ rest) ++ more ≡ b →
+      length old.held.items ≤ length h.items → length (h.items ++ rest) ≡ 8 + m + t.body_len →
+      Finishes filled_up (h.items ++ rest) m t r new → Works old b r new
+  finish_works b rest more m t (Ok steps.Short) e covers whole x = absurd x
+  finish_works b rest more m t (Ok steps.EndMarker) e covers whole x = absurd x
+  finish_works b rest more m t (Ok (steps.Whole item)) e covers whole x = record {
+    size = 8 + m + t.body_len;
+    limits = x.limits;
+    place = x.place ∙ ap (λ n. old.place + n) whole;
+    covers = omega (arith, length-append h.items rest);
+    held = x.held;
+    at = x.at;
+    first = message_comes (body_held b more e x.body);
+  }
+  finish_works b rest more m t (Err (Refused k)) e covers whole x =
+      record { stopped = stopped_at b (rest ++ more) (sym (append_assoc h.items rest more) ∙ e) covers x.0; first = bad_body (body_held b more e x.1) }
+  finish_works b rest more m t (Err Memory) e covers whole x =
+      stopped_at b (rest ++ more) (sym (append_assoc h.items rest more) ∙ e) covers x.0

@@ -6,6 +6,7 @@ pub mod Batch
 pub mod Frame
 pub mod Front
 pub mod Laws
+pub mod Held
 pub mod Views
 pub mod Work
 pub mod Stream

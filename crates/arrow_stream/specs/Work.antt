@@ -90,13 +90,13 @@ Works old b (Ok (steps.Whole item)) new = Gave old b item new
 Works old b (Err (Refused k)) new = Failed old b k new
 Works old b (Err Memory) new = Stopped old b new
 
--- A message was applied that all the bytes held were.
-pub record Applied (old : Work) (m : ℕ) (message : Message) (item : Item) (new : Work) : Type 0 where
+-- A message was applied that was all of the bytes b.
+pub record Applied (old : Work) (b : List ℕ) (m : ℕ) (message : Message) (item : Item) (new : Work) : Type 0 where
   pub limits : new.limits ≡ old.limits
-  pub place : new.place ≡ old.place + length old.held.items
+  pub place : new.place ≡ old.place + length b
   pub held : new.held.items ≡ []
   pub at : IsAt new
-  pub body : HasBody old.limits (plain old.state) old.place old.held.items m message (Ok (plain new.state, given item))
+  pub body : HasBody old.limits (plain old.state) old.place b m message (Ok (plain new.state, given item))
 
 -- it was not, and nothing but the phase changed
 pub record NotApplied (old new : Work) : Type 0 where
@@ -104,13 +104,16 @@ pub record NotApplied (old new : Work) : Type 0 where
   pub held : new.held.items ≡ old.held.items
   pub at : IsAt new
 
--- What becomes of a message of which all bytes are held. Memory may be wanting where its body is not refused.
-abbrev pub Finishes : Work → ℕ → Message → Result Item Stop → Work → Type 0
-Finishes old m message (Ok item) new = Applied old m message item new
-Finishes old m message (Err (Refused k)) new =
-    NotApplied old new × HasBody old.limits (plain old.state) old.place old.held.items m message (Err k)
-Finishes old m message (Err Memory) new =
-    NotApplied old new × ((left : StreamState × Given) × HasBody old.limits (plain old.state) old.place old.held.items m message (Ok left))
+-- What becomes of a message that is all of the bytes b, the first of them held. Memory may be wanting where its body is
+-- not refused.
+abbrev pub Finishes : Work → List ℕ → ℕ → Message → Result Step Stop → Work → Type 0
+Finishes old b m message (Ok steps.Short) new = ⊥
+Finishes old b m message (Ok steps.EndMarker) new = ⊥
+Finishes old b m message (Ok (steps.Whole item)) new = Applied old b m message item new
+Finishes old b m message (Err (Refused k)) new =
+    NotApplied old new × HasBody old.limits (plain old.state) old.place b m message (Err k)
+Finishes old b m message (Err Memory) new =
+    NotApplied old new × ((left : StreamState × Given) × HasBody old.limits (plain old.state) old.place b m message (Ok left))
 
 -- the first bytes held alone
 pub record Rewound (old : Work) (count : ℕ) (new : Work) : Type 0 where

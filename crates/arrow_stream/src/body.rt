@@ -1,6 +1,6 @@
-//! The columns that a body holds.
+//! The body of a message, and the columns that it holds.
 
-ghost use Rattle.std.specs.Prelude.{◌≡◌, ◌≤ℤ◌, pos, MatchResult, Ok};
+ghost use Rattle.std.specs.Prelude.{◌≡◌, ◌≤◌, ◌≤ℤ◌, pos, length, drop, IfOk, MatchResult, Ok};
 ghost use Rattle.arrow_types.specs.View.{fields_view};
 ghost use Rattle.arrow_body.specs.Held.{count_of};
 ghost use Rattle.arrow_body.specs.Sound.{AreFit};
@@ -15,7 +15,76 @@ use arrow_body::{BodyFault, check, have_length, load_unchecked};
 use arrow_meta::RecordBatch;
 use arrow_types::Field;
 use bytes::Bytes;
-use std::alloc::Global;
+use std::alloc::{AllocError, Global};
+use std::marker::Model;
+
+/// The body of a message. A clause sees its bytes.
+#[derive(Drop)]
+pub(crate) struct Body<'a> {
+    source: Source<'a>,
+}
+
+/// Where the bytes of a body lie.
+#[derive(Drop)]
+pub(crate) enum Source<'a> {
+    /// In memory that is lent: columns have a copy.
+    Lent(&'a [u8]),
+    /// In the memory of the whole message, from this place on: columns share it.
+    Shared(&'a Bytes, usize),
+}
+
+impl<'a> Model for Body<'a> {
+    ghost use Rattle.std.specs.Prelude.{ℕ, List};
+
+    ghost Value = { List ℕ };
+
+    ghost use Rattle.arrow_stream.specs.Held.{IsInside, body_bytes};
+
+    ghost view = { λ b. body_bytes b.source };
+
+    ghost invariant = { λ b. IsInside b.source };
+}
+
+impl<'a> Body<'a> {
+    /// Bytes of which columns have a copy.
+    pub(crate) fn lent(bytes: &'a [u8]) -> Body<'a>
+        ensures same { result ≡ bytes.now }
+    {
+        Body {
+            source: Source::Lent(bytes),
+        }
+    }
+
+    /// The bytes of a message from `start` on, which columns share.
+    pub(crate) fn shared(message: &'a Bytes, start: usize) -> Body<'a>
+        requires within { start ≤ length message.now }
+        ensures same { result ≡ drop start message.now }
+    {
+        Body {
+            source: Source::Shared(message, start),
+        }
+    }
+
+    /// The bytes.
+    pub(crate) fn as_slice(&self) -> &[u8]
+        ensures same { result.now ≡ self.now }
+    {
+        match &self.source {
+            Source::Lent(bytes) => bytes,
+            Source::Shared(message, start) => &message.as_slice()[*start..],
+        }
+    }
+
+    /// The bytes for columns: a copy of those that are lent, or the shared ones.
+    fn own(&self, alloc: Global) -> Result<Bytes, AllocError>
+        ensures same { IfOk result (λ b. b ≡ self.now) }
+    {
+        match &self.source {
+            Source::Lent(bytes) => Bytes::copy_from_slice(alloc, bytes),
+            Source::Shared(message, start) => message.slice(*start..),
+        }
+    }
+}
 
 /// How many rows a batch has whose length is not negative.
 pub(crate) fn row_count(outline: &RecordBatch) -> usize
@@ -26,7 +95,7 @@ pub(crate) fn row_count(outline: &RecordBatch) -> usize
 }
 
 /// The columns of the fields that a body holds, or the first of Layout, Text and Index that applies
-/// to any of them. They share one copy of the body, which is made where none applies.
+/// to any of them. They share one body: where none applies it is copied, or shared itself.
 ///
 /// The outline is what the metadata tell of the body: the number of its rows, its nodes and its
 /// buffers.
@@ -34,7 +103,7 @@ pub(crate) fn hold(
     alloc: Global,
     fields: &[Field],
     outline: &RecordBatch,
-    body: &[u8],
+    body: &Body,
     dictionaries: &[(i64, Dictionary)],
 ) -> Result<Vec<Array>, Stop>
     requires sign { pos 0 ≤ℤ outline.now.length }
@@ -48,14 +117,20 @@ pub(crate) fn hold(
     if !have_length(fields, &outline.nodes, row_count(outline)) {
         return Err(Stop::Refused(Refusal::Layout));
     }
-    match check(fields, &outline.nodes, &outline.buffers, body, dictionaries) {
+    match check(
+        fields,
+        &outline.nodes,
+        &outline.buffers,
+        body.as_slice(),
+        dictionaries,
+    ) {
         Ok(()) => {}
         Err(BodyFault::Layout) => return Err(Stop::Refused(Refusal::Layout)),
         Err(BodyFault::Text) => return Err(Stop::Refused(Refusal::Text)),
         Err(BodyFault::Index) => return Err(Stop::Refused(Refusal::Index)),
         Err(BodyFault::Memory) => unreachable!(),
     }
-    let Ok(body) = Bytes::copy_from_slice(alloc, body) else {
+    let Ok(body) = body.own(alloc) else {
         return Err(Stop::Memory);
     };
     match load_unchecked(

@@ -24,7 +24,7 @@
 //! | what a stream told so far | `specs/State.antt`: `StreamState`, `Given`; `specs/Tables.antt`: `tables_of` |
 //! | what a reader shows, what its calls answer | `specs/Stream.antt`: `Shows`, `Stands`, `Answers` |
 //! | the kinds of faults | `specs/Kind.antt`: `kind_of`, `number_of` |
-//! | a reader's work | `specs/Work.antt`, `specs/Views.antt`, `specs/Inside.antt` |
+//! | a reader's work, and the bytes that it holds | `specs/Work.antt`, `specs/Held.antt`, `specs/Views.antt`, `specs/Inside.antt` |
 //! | the laws | `specs/Laws.antt`: `OneFront`, `MoreBytes`, `SameStanding`, `LessWaits` |
 #![tactic(auto)]
 

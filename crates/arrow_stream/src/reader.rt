@@ -9,6 +9,7 @@ ghost use Rattle.arrow_stream.specs.Stream.{GoesOn, ReadsOn, Stands, Takes, Memo
 ghost use Rattle.arrow_stream.specs.Stream.{fresh};
 
 use crate::fault::Fault;
+use crate::held::Held;
 use crate::item::Item;
 use crate::kind::{Kind, Refusal};
 use crate::message::Stop;
@@ -73,7 +74,7 @@ impl StreamReader {
                 limits,
                 state: State::new(alloc),
                 place: 0,
-                held: Vec::new(alloc),
+                held: Held::new(alloc),
                 phase: Phase::Prefix,
             },
             verdict: Verdict::Open,
@@ -178,7 +179,7 @@ impl StreamReader {
             Verdict::Bad(refusal) => refusal.kind(),
             Verdict::Done => return Ok(()),
             Verdict::Open if self.work.state.schema.is_none() => Kind::NoSchema,
-            Verdict::Open if self.work.held.is_empty() => return Ok(()),
+            Verdict::Open if self.work.held.len() == 0 => return Ok(()),
             Verdict::Open => Kind::Truncated,
         };
         Err(Fault {

@@ -12,7 +12,7 @@ ghost use Rattle.arrow_stream.specs.State.{fields_in, nothing_yet};
 ghost use Rattle.arrow_stream.specs.Views.{Applies, Gives, HeldValues, IsFit, Ready, Updates};
 ghost use Rattle.arrow_stream.specs.Views.{content_of, plain};
 
-use crate::body::{hold, row_count};
+use crate::body::{Body, hold, row_count};
 use crate::item::Item;
 use crate::message::{Content, Stop};
 use crate::stream_schema::StreamSchema;
@@ -100,7 +100,7 @@ impl State {
     }
 
     /// The rows of a record batch with this body.
-    fn batch(&self, alloc: Global, outline: &RecordBatch, body: &[u8]) -> Result<Batch, Stop>
+    fn batch(&self, alloc: Global, outline: &RecordBatch, body: &Body) -> Result<Batch, Stop>
         requires ready { Ready (plain self.now) (batch (batch_view outline.now)) }
         requires fit { IsFit (plain self.now) }
         ensures gives { Gives (plain self.now) (batch_view outline.now) body.now result }
@@ -129,7 +129,7 @@ impl State {
         alloc: Global,
         id: i64,
         outline: &RecordBatch,
-        body: &[u8],
+        body: &Body,
     ) -> Result<Array, Stop>
         requires sign { pos 0 ≤ℤ outline.now.length }
         requires named { IsTrue
@@ -156,7 +156,7 @@ impl State {
         id: i64,
         is_delta: bool,
         outline: &RecordBatch,
-        body: &[u8],
+        body: &Body,
     ) -> Result<(), Stop>
         requires ready { Ready (plain self.old) (dictionary id is_delta (batch_view outline.now)) }
         requires fit { IsFit (plain self.old) }
@@ -192,7 +192,7 @@ pub(crate) fn apply(
     state: &mut State,
     alloc: Global,
     content: Content,
-    body: &[u8],
+    body: &Body,
 ) -> Result<Item, (Stop, Content)>
     requires ready { Ready (plain state.old) (content_of content) }
     requires fit { IsFit (plain state.old) }

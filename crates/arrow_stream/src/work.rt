@@ -1,13 +1,13 @@
 //! One message at a time, from bytes that come in pieces.
 
-ghost use Rattle.std.specs.Prelude.{◌≡◌, ◌+◌, ◌^◌, ◌<◌, ◌≤◌, [], ◌++◌, length, Ok};
+ghost use Rattle.std.specs.Prelude.{◌≡◌, ◌+◌, ◌^◌, ◌<◌, ◌≤◌, ◌⊎◌, [], ◌++◌, length, Ok};
 ghost use Rattle.arrow_stream.specs.declared.prefix.Prefix.TheVariants as prefixes;
 ghost use Rattle.arrow_stream.specs.Frame.{HasPrefix, HasMetadata};
 ghost use Rattle.arrow_stream.specs.State.{nothing_yet};
 ghost use Rattle.arrow_stream.specs.Views.{IsFit, plain, message_of};
 ghost use Rattle.arrow_stream.specs.Work.{Finishes, IsAt, Works, Rewound};
 
-use crate::held::fill;
+use crate::held::Held;
 use crate::item::Item;
 use crate::message::{Message, Stop, understand};
 use crate::prefix::{Prefix, read_prefix};
@@ -47,7 +47,7 @@ pub(crate) struct Work {
     /// Where the message in work begins.
     pub(crate) place: u64,
     /// The bytes of the message in work.
-    pub(crate) held: Vec<u8>,
+    pub(crate) held: Held,
     pub(crate) phase: Phase,
 }
 
@@ -72,14 +72,14 @@ impl Work {
         ensures works { Works self.old (self.old.held.items ++ piece.now) result self.new }
     {
         self.phase = Phase::Prefix;
-        let Ok(taken) = fill(&mut self.held, piece, 8) else {
+        let Ok(taken) = self.held.fill(piece, 8) else {
             return Err(Stop::Memory);
         };
         if self.held.len() < 8 {
             return Ok(Step::Short);
         }
         let has_schema = self.state.schema.is_some();
-        match read_prefix(&self.limits, has_schema, self.place, &self.held) {
+        match read_prefix(&self.limits, has_schema, self.place, self.held.as_slice()) {
             Ok(Prefix::Metadata(size)) => self.read_metadata(size, &piece[taken..]),
             Ok(Prefix::EndMarker) => Ok(Step::EndMarker),
             Err(refusal) => Err(Stop::Refused(refusal)),
@@ -96,7 +96,7 @@ impl Work {
     {
         self.phase = Phase::Metadata(size);
         let whole = 8 + size as usize;
-        let Ok(taken) = fill(&mut self.held, piece, whole) else {
+        let Ok(taken) = self.held.fill(piece, whole) else {
             return Err(Stop::Memory);
         };
         if self.held.len() < whole {
@@ -108,7 +108,7 @@ impl Work {
             &self.limits,
             &self.state,
             start,
-            &self.held[8..],
+            &self.held.as_slice()[8..],
         ) {
             Ok(message) => self.read_body(size, message, &piece[taken..]),
             Err(stop) => Err(stop),
@@ -124,8 +124,13 @@ impl Work {
         requires fit { IsFit (plain self.old.state) }
         ensures works { Works self.old (self.old.held.items ++ piece.now) result self.new }
     {
-        let whole = 8 + size as usize + message.body_len as usize;
-        let Ok(_) = fill(&mut self.held, piece, whole) else {
+        let start = 8 + size as usize;
+        let body_len = message.body_len as usize;
+        if self.held.len() == start && body_len <= piece.len() {
+            return self.finish(size, message, &piece[..body_len]);
+        }
+        let whole = start + body_len;
+        let Ok(_) = self.held.fill(piece, whole) else {
             self.phase = Phase::Body(size, message);
             return Err(Stop::Memory);
         };
@@ -133,29 +138,34 @@ impl Work {
             self.phase = Phase::Body(size, message);
             return Ok(Step::Short);
         }
-        match self.finish(size, message) {
-            Ok(item) => Ok(Step::Whole(item)),
-            Err(stop) => Err(stop),
-        }
+        let Ok(()) = self.held.share(start) else {
+            self.phase = Phase::Body(size, message);
+            return Err(Stop::Memory);
+        };
+        self.finish(size, message, &[])
     }
 
-    /// Applies a message of which all bytes are held, and no others.
-    fn finish(&mut self, size: u64, message: Message) -> Result<Item, Stop>
+    /// Applies a message of which all bytes are there, and no others: those held, and those of
+    /// `rest` after them. Either no byte of its body is held, or all are.
+    fn finish(&mut self, size: u64, message: Message, rest: &[u8]) -> Result<Step, Stop>
         requires known { HasMetadata self.old.limits (plain self.old.state) self.old.place
             self.old.held.items size (Ok (message_of message)) }
-        requires whole { length self.old.held.items ≡ 8 + size + message.body_len }
+        requires whole { length self.old.held.items + length rest.now
+            ≡ 8 + size + message.body_len }
+        requires apart { (length self.old.held.items ≡ 8 + size) ⊎ (rest.now ≡ []) }
         requires ceiling { self.old.limits.max_rows ≤ 2147483647 }
         requires fit { IsFit (plain self.old.state) }
-        ensures finishes { Finishes self.old size (message_of message) result self.new }
+        ensures finishes { Finishes self.old (self.old.held.items ++ rest.now) size
+            (message_of message) result self.new }
     {
         let body_len = message.body_len;
-        let body = &self.held[8 + size as usize..];
-        match apply(&mut self.state, self.alloc, message.content, body) {
+        let body = self.held.body(8 + size as usize, rest);
+        match apply(&mut self.state, self.alloc, message.content, &body) {
             Ok(item) => {
-                self.place += self.held.len() as u64;
+                self.place += self.held.len() as u64 + rest.len() as u64;
                 self.held.clear();
                 self.phase = Phase::Prefix;
-                Ok(item)
+                Ok(Step::Whole(item))
             }
             Err((stop, content)) => {
                 self.phase = Phase::Body(size, Message { content, body_len });

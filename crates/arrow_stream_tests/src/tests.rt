@@ -15,6 +15,7 @@ mod limits;
 mod order;
 mod refusals;
 mod schemas;
+mod sizes;
 mod telling;
 mod updates;
 mod values;

@@ -31,7 +31,7 @@ returns-in-Ok-Whole-clause-takes c =
     let piece = c.args.piece.now in
     let w = c.self.inside.work in
     let waiting = c.self.invariant.waiting open_now in
-    let taken : x.size - length w.held.items ≡ c.step.new.self.place - w.place - c.len-before.result = omega (arith, x.place, c.len-before.ensures, w.held.ok.0) in
+    let taken : x.size - length w.held.items ≡ c.step.new.self.place - w.place - c.len-before.result = omega (arith, x.place, c.len-before.ensures.count) in
     (rw (← taken) (whole_some w waiting piece c.in-Ok-Whole.item c.step.new.self x), rw (← taken) (taken_within w waiting piece x.size (First-within x.first)))
 
 pub returns-in-Ok-Whole-clause-reads : goal.returns-in-Ok-Whole-clause-reads
@@ -42,7 +42,7 @@ returns-in-Ok-Whole-clause-reads c = λ t es at.
     let piece = c.args.piece.now in
     let w = c.self.inside.work in
     let waiting = c.self.invariant.waiting open_now in
-    let taken : x.size - length w.held.items ≡ c.step.new.self.place - w.place - c.len-before.result = omega (arith, x.place, c.len-before.ensures, w.held.ok.0) in
+    let taken : x.size - length w.held.items ≡ c.step.new.self.place - w.place - c.len-before.result = omega (arith, x.place, c.len-before.ensures.count) in
     record {
       some = rw (← taken) (whole_some w waiting piece c.in-Ok-Whole.item c.step.new.self x);
       within = rw (← taken) (taken_within w waiting piece x.size (First-within x.first));
@@ -67,7 +67,7 @@ returns-in-Ok-EndMarker-clause-takes c =
     let piece = c.args.piece.now in
     let w = c.self.inside.work in
     let waiting = c.self.invariant.waiting open_now in
-    let taken : 8 - length w.held.items ≡ 8 - c.len-before.result = omega (arith, c.len-before.ensures, w.held.ok.0) in
+    let taken : 8 - length w.held.items ≡ 8 - c.len-before.result = omega (arith, c.len-before.ensures.count) in
     (rw (← taken) (marker_some w waiting piece c.step.new.self x), rw (← taken) (taken_within w waiting piece 8 (marker-within x.first)))
 
 pub returns-in-Ok-EndMarker-clause-reads : goal.returns-in-Ok-EndMarker-clause-reads
@@ -78,7 +78,7 @@ returns-in-Ok-EndMarker-clause-reads c = λ t es at.
     let piece = c.args.piece.now in
     let w = c.self.inside.work in
     let waiting = c.self.invariant.waiting open_now in
-    let taken : 8 - length w.held.items ≡ 8 - c.len-before.result = omega (arith, c.len-before.ensures, w.held.ok.0) in
+    let taken : 8 - length w.held.items ≡ 8 - c.len-before.result = omega (arith, c.len-before.ensures.count) in
     record {
       some = rw (← taken) (marker_some w waiting piece c.step.new.self x);
       within = rw (← taken) (taken_within w waiting piece 8 (marker-within x.first));
@@ -109,7 +109,7 @@ returns-in-Err-Memory-clause-reads c = λ t es at.
     let y = c.rewind.ensures.rewound in
     let w = c.self.inside.work in
     let v = c.rewind.new.self in
-    let held : v.held.items ≡ w.held.items = y.held ∙ beginning w.held.items c.args.piece.now c.step.new.self.held.items x.more c.len-before.result (c.len-before.ensures ∙ omega (arith, w.held.ok.0)) x.held x.covers in
+    let held : v.held.items ≡ w.held.items = y.held ∙ beginning w.held.items c.args.piece.now c.step.new.self.held.items x.more c.len-before.result c.len-before.ensures.count x.held x.covers in
     let same = same_shows v c.self.inside.verdict w.limits (plain w.state) w.place w.held.items c.self.inside.verdict (y.same.limits ∙ x.same.limits) (y.same.state ∙ x.same.state) (y.same.place ∙ x.same.place) held refl in
     inl (record {
       fault_is = ap (λ p. record { kind = Memory; place = p }) (ap (λ r. r.at.place) c.self.view_is);
@@ -122,7 +122,7 @@ returns-in-Err-Memory-clause-memory c = λ q.
     let y = c.rewind.ensures.rewound in
     let w = c.self.inside.work in
     let v = c.rewind.new.self in
-    let held : v.held.items ≡ w.held.items = y.held ∙ beginning w.held.items c.args.piece.now c.step.new.self.held.items x.more c.len-before.result (c.len-before.ensures ∙ omega (arith, w.held.ok.0)) x.held x.covers in
+    let held : v.held.items ≡ w.held.items = y.held ∙ beginning w.held.items c.args.piece.now c.step.new.self.held.items x.more c.len-before.result c.len-before.ensures.count x.held x.covers in
     let same = same_shows v c.self.inside.verdict w.limits (plain w.state) w.place w.held.items c.self.inside.verdict (y.same.limits ∙ x.same.limits) (y.same.state ∙ x.same.state) (y.same.place ∙ x.same.place) held refl in
     record {
       fault_is = ap (λ p. record { kind = Memory; place = p }) (ap (λ r. r.at.place) c.self.view_is);
@@ -136,7 +136,7 @@ invariant_of-self-in-Err-Memory c =
     let y = c.rewind.ensures.rewound in
     let w = c.self.inside.work in
     let v = c.rewind.new.self in
-    let held : v.held.items ≡ w.held.items = y.held ∙ beginning w.held.items c.args.piece.now c.step.new.self.held.items x.more c.len-before.result (c.len-before.ensures ∙ omega (arith, w.held.ok.0)) x.held x.covers in
+    let held : v.held.items ≡ w.held.items = y.held ∙ beginning w.held.items c.args.piece.now c.step.new.self.held.items x.more c.len-before.result c.len-before.ensures.count x.held x.covers in
     record {
       at = y.at;
       waiting = λ _. first_moved w v w.held.items v.held.items (y.same.limits ∙ x.same.limits) (y.same.state ∙ x.same.state) (y.same.place ∙ x.same.place) held (c.self.invariant.waiting open_now);

@@ -6,7 +6,7 @@ use Rattle.arrow_stream.proofs.reader.StreamReader.new.Goals as goal
 
 pub invariant_of-result : goal.invariant_of-result
 invariant_of-result c =
-    let none = ap length c.new-2.ensures.items in
+    let none = ap length c.new-2.ensures.none in
     record {
       at = record { shown = omega arith; near = omega arith; fit = c.new.ensures.fit };
       waiting = λ _. short_prefix (omega arith);
@@ -14,4 +14,4 @@ invariant_of-result c =
     }
 
 pub returns-clause-start : goal.returns-clause-start
-returns-clause-start c = anew_stands c.args.limits (plain c.new.result) 0 c.new-2.result.items c.new.ensures.nothing refl c.new-2.ensures.items
+returns-clause-start c = anew_stands c.args.limits (plain c.new.result) 0 c.new-2.result.items c.new.ensures.nothing refl c.new-2.ensures.none

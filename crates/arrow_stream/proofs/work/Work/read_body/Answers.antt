@@ -1,16 +1,28 @@
-use Rattle.std.proofs.Common.{◌≡◌, ◌+◌, ◌<◌, length, drop, refl, ap, ◌∙◌, arith}
-use Rattle.arrow_stream.specs.Frame.{short_body, message_comes}
+use Rattle.std.proofs.Common.{◌≡◌, ◌+◌, ◌<◌, ◌++◌, [], length, drop, take, refl, ap, sym, ◌∙◌, arith, append-nil, append_assoc, length-append, length-take-le, take-append-drop}
+use Rattle.arrow_stream.specs.Frame.{short_body}
 use Rattle.arrow_stream.specs.Views.{message_of}
-use Rattle.arrow_stream.proofs.Firsts.{HasMetadata-append, metadata_held, body_held}
-use Rattle.arrow_stream.proofs.Works.{frame_small, finish_stops, all_taken, filled}
+use Rattle.arrow_stream.proofs.Firsts.{HasMetadata-append, metadata_held}
+use Rattle.arrow_stream.proofs.Works.{frame_small, finish_works, all_taken, filled}
 use Rattle.arrow_stream.proofs.work.Work.read_body.Goals as goal
 
-pub overflow_add-whole-2 : goal.overflow_add-whole-2
-overflow_add-whole-2 c = let w = frame_small c.requires.known in omega arith
+pub returns-then-body_len-piece : goal.returns-then-body_len-piece
+returns-then-body_len-piece c =
+    let n = c.args.message.body_len in
+    let piece = c.args.piece.now in
+    let held = c.args.self.now.held.items in
+    let whole : length (held ++ take n piece) ≡ 8 + c.args.size + n =
+    omega (arith, length-append held (take n piece), length-take-le n piece c.if-body_len-piece.true, c.len.ensures.count, c.if-len-start.true) in
+    record {
+      works = finish_works c.args.self.now c.args.self.now.held c.args.self.now.phase c.finish.new.self (held ++ piece) (take n piece) (drop n piece) c.args.size (message_of c.args.message) c.finish.result
+          (append_assoc held (take n piece) (drop n piece) ∙ ap (λ x. held ++ x) (take-append-drop n piece)) (omega arith) whole c.finish.ensures.finishes;
+    }
+
+pub overflow_add-whole : goal.overflow_add-whole
+overflow_add-whole c = let w = frame_small c.requires.known in omega arith
 
 pub returns-then-len-whole : goal.returns-then-len-whole
 returns-then-len-whole c =
-    let short : length c.fill.new.held.items < 8 + c.args.size + c.args.message.body_len = omega (arith, c.fill.new.held.ok.0) in
+    let short : length c.fill.new.self.items < 8 + c.args.size + c.args.message.body_len = omega (arith, c.len-2.ensures.count) in
     let held = all_taken c.in-Ok.ensures.filled short in
     record {
       works = record {
@@ -21,29 +33,33 @@ returns-then-len-whole c =
       };
     }
 
-pub finish-requires-clause-known : goal.finish-requires-clause-known
-finish-requires-clause-known c = metadata_held _ _ c.in-Ok.ensures.filled.took c.requires.known
-
-pub returns-in-Ok-finish : goal.returns-in-Ok-finish
-returns-in-Ok-finish c =
-    let whole : length c.fill.new.held.items ≡ 8 + c.args.size + c.args.message.body_len = filled c.in-Ok.ensures.filled (omega (arith, c.fill.new.held.ok.0)) in
-    let x = c.in-Ok-finish.ensures.finishes in
+pub returns-in_default-share : goal.returns-in_default-share
+returns-in_default-share c =
+    let more = drop c.in-Ok.field-0 c.args.piece.now in
+    let same = c.share.ensures.same in
+    let whole : length c.fill.new.self.items ≡ 8 + c.args.size + c.args.message.body_len = filled c.in-Ok.ensures.filled (omega (arith, c.len-2.ensures.count)) in
+    let all : length c.share.new.self.items ≡ 8 + c.args.size + c.args.message.body_len = ap length same ∙ whole in
     record {
       works = record {
-        size = 8 + c.args.size + c.args.message.body_len;
-        limits = x.limits;
-        place = x.place ∙ ap (λ n. c.args.self.now.place + n) whole;
-        covers = omega arith;
-        held = x.held;
-        at = x.at;
-        first = message_comes (body_held _ (drop c.in-Ok.field-0 c.args.piece.now) c.in-Ok.ensures.filled.rest x.body);
+        same = record { limits = refl; state = refl; place = refl };
+        more = more;
+        held = sym c.in-Ok.ensures.filled.rest ∙ ap (λ x. x ++ more) (sym same);
+        covers = omega (arith, all, c.requires.within);
+        at = record { shown = (metadata_held _ _ (same ∙ c.in-Ok.ensures.filled.took) c.requires.known, omega (arith, all), c.requires.ceiling); near = omega (arith, (frame_small c.requires.known).2); fit = c.requires.fit };
       };
     }
 
-pub returns-in-Err : goal.returns-in-Err
-returns-in-Err c =
-    let whole : length c.fill.new.held.items ≡ 8 + c.args.size + c.args.message.body_len = filled c.in-Ok.ensures.filled (omega (arith, c.fill.new.held.ok.0)) in
+pub finish-requires-2-clause-known : goal.finish-requires-2-clause-known
+finish-requires-2-clause-known c = metadata_held _ _ (c.share.ensures.same ∙ c.in-Ok.ensures.filled.took) c.requires.known
+
+pub returns : goal.returns
+returns c =
+    let more = drop c.in-Ok.field-0 c.args.piece.now in
+    let same = c.share.ensures.same in
+    let items = c.share.new.self.items in
+    let whole : length c.fill.new.self.items ≡ 8 + c.args.size + c.args.message.body_len = filled c.in-Ok.ensures.filled (omega (arith, c.len-2.ensures.count)) in
+    let all : length items ≡ 8 + c.args.size + c.args.message.body_len = ap length same ∙ whole in
     record {
-      works = finish_stops c.args.self.now c.fill.new.held c.args.self.now.phase c.finish.new.self _ (drop c.in-Ok.field-0 c.args.piece.now) c.args.size (message_of c.args.message) c.in-Err.stop
-          c.in-Ok.ensures.filled.rest (omega (arith, c.requires.within)) c.in-Err.ensures.finishes;
+      works = finish_works c.args.self.now c.share.new.self c.args.self.now.phase c.finish-2.new.self (c.args.self.now.held.items ++ c.args.piece.now) [] more c.args.size (message_of c.args.message) c.finish-2.result
+          (ap (λ x. x ++ more) (append-nil items ∙ same) ∙ c.in-Ok.ensures.filled.rest) (omega (arith, all, c.requires.within)) (ap length (append-nil items) ∙ all) c.finish-2.ensures.finishes;
     }

@@ -6,7 +6,7 @@ use Rattle.arrow_stream.proofs.work.Work.read_metadata.Goals as goal
 
 pub returns-then-len-whole : goal.returns-then-len-whole
 returns-then-len-whole c =
-    let short : length c.fill.new.held.items < 8 + c.args.size = omega (arith, c.fill.new.held.ok.0) in
+    let short : length c.fill.new.self.items < 8 + c.args.size = omega (arith, c.len.ensures.count) in
     let held = all_taken c.in-Ok.ensures.filled short in
     record {
       works = record {
@@ -19,16 +19,16 @@ returns-then-len-whole c =
 
 pub read_body-requires-clause-known : goal.read_body-requires-clause-known
 read_body-requires-clause-known c =
-    let whole : length c.fill.new.held.items ≡ 8 + c.args.size = filled c.in-Ok.ensures.filled (omega (arith, c.fill.new.held.ok.0)) in
+    let whole : length c.fill.new.self.items ≡ 8 + c.args.size = filled c.in-Ok.ensures.filled (omega (arith, c.len.ensures.count)) in
     let known = prefix_held _ _ c.in-Ok.ensures.filled.took c.requires.known in
-    metadata_read c.deref.result.now c.deref.ensures.value known whole c.in-Ok-understand.ensures.says
+    metadata_read c.as_slice.result.now c.as_slice.ensures.same known whole c.in-Ok-understand.ensures.says
 
 pub returns-in-Err : goal.returns-in-Err
 returns-in-Err c =
-    let whole : length c.fill.new.held.items ≡ 8 + c.args.size = filled c.in-Ok.ensures.filled (omega (arith, c.fill.new.held.ok.0)) in
+    let whole : length c.fill.new.self.items ≡ 8 + c.args.size = filled c.in-Ok.ensures.filled (omega (arith, c.len.ensures.count)) in
     let known = prefix_held _ _ c.in-Ok.ensures.filled.took c.requires.known in
     record {
-      works = metadata_stops c.deref.result.now (drop c.in-Ok.taken c.args.piece.now) c.in-Err.stop c.deref.ensures.value known whole c.in-Ok.ensures.filled.rest c.in-Err.ensures.says
+      works = metadata_stops c.as_slice.result.now (drop c.in-Ok.taken c.args.piece.now) c.in-Err.stop c.as_slice.ensures.same known whole c.in-Ok.ensures.filled.rest c.in-Err.ensures.says
           (record {
             same = record { limits = refl; state = refl; place = refl };
             more = drop c.in-Ok.taken c.args.piece.now;

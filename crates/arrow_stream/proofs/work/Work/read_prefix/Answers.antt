@@ -6,7 +6,7 @@ use Rattle.arrow_stream.proofs.work.Work.read_prefix.Goals as goal
 
 pub returns-then-len-lt8 : goal.returns-then-len-lt8
 returns-then-len-lt8 c =
-    let short : length c.fill.new.held.items < 8 = omega (arith, c.fill.new.held.ok.0) in
+    let short : length c.fill.new.self.items < 8 = omega (arith, c.len.ensures.count) in
     let held = all_taken c.in-Ok.ensures.filled short in
     record {
       works = record {
@@ -19,8 +19,8 @@ returns-then-len-lt8 c =
 
 pub returns-in-Ok-EndMarker : goal.returns-in-Ok-EndMarker
 returns-in-Ok-EndMarker c =
-    let whole : length c.fill.new.held.items ≡ 8 = filled c.in-Ok.ensures.filled (omega (arith, c.fill.new.held.ok.0)) in
-    let known = prefix_read c.deref.result.now c.is_some-has_schema.result c.deref.ensures.value c.is_some-has_schema.ensures whole (ap Ok (sym c.in-Ok-EndMarker.field-0-is) ∙ c.in-Ok-EndMarker.ensures.says) in
+    let whole : length c.fill.new.self.items ≡ 8 = filled c.in-Ok.ensures.filled (omega (arith, c.len.ensures.count)) in
+    let known = prefix_read c.as_slice.result.now c.is_some-has_schema.result c.as_slice.ensures.same c.is_some-has_schema.ensures whole (ap Ok (sym c.in-Ok-EndMarker.field-0-is) ∙ c.in-Ok-EndMarker.ensures.says) in
     record {
       works = record {
         same = record { limits = refl; state = refl; place = refl };
@@ -32,8 +32,8 @@ returns-in-Ok-EndMarker c =
 
 pub returns-in-Err : goal.returns-in-Err
 returns-in-Err c =
-    let whole : length c.fill.new.held.items ≡ 8 = filled c.in-Ok.ensures.filled (omega (arith, c.fill.new.held.ok.0)) in
-    let known = prefix_read c.deref.result.now c.is_some-has_schema.result c.deref.ensures.value c.is_some-has_schema.ensures whole c.in-Err.ensures.says in
+    let whole : length c.fill.new.self.items ≡ 8 = filled c.in-Ok.ensures.filled (omega (arith, c.len.ensures.count)) in
+    let known = prefix_read c.as_slice.result.now c.is_some-has_schema.result c.as_slice.ensures.same c.is_some-has_schema.ensures whole c.in-Err.ensures.says in
     record {
       works = record {
         stopped = record {
