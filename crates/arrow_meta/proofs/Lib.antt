@@ -6,6 +6,9 @@ pub mod Pairs
 pub mod Roots
 pub mod TableFields
 pub mod FieldTables
+pub mod FirstFields
+pub mod OwnParts
+pub mod Places
 pub mod Misfits
 pub mod Narrow
 pub mod Shallow

@@ -13,5 +13,6 @@ pub mod SchemaMeaning
 pub mod Conditions
 pub mod Faults
 pub mod Means
+pub mod Sharing
 pub mod Builds
 pub mod Judges

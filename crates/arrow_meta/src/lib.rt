@@ -11,8 +11,10 @@
 //!
 //! [`decode`] is one after the other. Each answer is pinned in both directions: a fault comes
 //! exactly where its condition holds and no condition of a lower number does, and a message exactly
-//! where none holds. Of `Memory`, a refused growth, only this is said: reading asks for memory
-//! there, and of a tree none of the other faults holds but unequal types of one dictionary id.
+//! where none holds. Of a tree `Memory`, a refused growth, is answered only where no fault holds:
+//! every fault is told before the memory of a message is taken, and where a growth is refused to the
+//! test of shared dictionary ids, that goes on without memory. Of bytes it says only that reading
+//! them asks for memory, since their tree is kept in memory.
 //!
 //! | Notion | Definition |
 //! |---|---|
@@ -21,6 +23,7 @@
 //! | levels, visits, bytes of names | `specs/Within.antt`: `IsWithin` |
 //! | where reading asks for memory | `specs/Grows.antt`: `Grows`, `GrowsAtRoot` |
 //! | the conditions of faults | `specs/Conditions.antt`; `specs/Faults.antt`: `fault_of` |
+//! | what fields say of their dictionaries | `specs/Sharing.antt`: `type_of`, `encoded_view` |
 //! | the message that a tree means | `specs/SchemaMeaning.antt`, `specs/Means.antt`: `Means` |
 //! | what is answered | `specs/Judges.antt`: `Judges`, `Decodes` |
 //!
@@ -34,6 +37,7 @@ mod build;
 mod codes;
 mod conditions;
 mod fault;
+mod field_tables;
 mod fields;
 mod judging;
 mod kinds;
@@ -41,8 +45,10 @@ pub mod laws;
 mod message;
 mod message_tree;
 mod nesting;
+mod own_parts;
 mod parts;
 mod reader;
+mod sharing;
 
 pub use fault::{BatchKind, MetaFault};
 pub use judging::{decode, judge};

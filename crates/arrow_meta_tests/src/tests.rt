@@ -7,4 +7,5 @@ mod defaults;
 mod faults;
 mod meanings;
 mod reading;
+mod sharing;
 mod visits;
