@@ -1,23 +1,37 @@
--- Numbers call for no quotes.
-use Rattle.std.proofs.Common.{◌≡◌, ◌<◌, ◌+◌, ◌%◌, ◌^◌, ◌∷◌, [], ℕ, ℤ, pos, negsuc, suc, false, refl, arith}
-use Rattle.std.proofs.lemmas.Bool.{ne_eqb}
+-- Numbers and byte strings call for no quotes.
+use Rattle.std.proofs.Common.{◌≡◌, ◌<◌, ◌+◌, ◌/◌, ◌%◌, ◌^◌, ◌∷◌, [], ℕ, ℤ, zero, pos, negsuc, suc, false, List, get_or, refl, arith}
+use Rattle.std.proofs.lemmas.Bool.{ne_eqb, or_parts}
 use Rattle.std.proofs.lemmas.Fmt.{decimal_by_steps_wide}
 use Rattle.std.proofs.lemmas.List.Folds.{list_any-append}
 use Rattle.std.specs.Fmt.{decimal, signed_decimal}
 use Rattle.std.specs.Prelude.{FitsSigned}
 use Rattle.std.specs.Int.{w128}
+use Rattle.hex.specs.Hex.{encode_lower, encode_with, lower_digits}
 use Rattle.csv.specs.Writing.{default_writer, needs_byte, needs_quotes}
 
 -- a byte above the comma calls for none
 byte_plain : (b : ℕ) → 44 < b → needs_byte default_writer b ≡ false
 byte_plain b h = rw (ne_eqb b 44 (λ e. omega (arith, e, h)), ne_eqb b 34 (λ e. omega (arith, e, h)), ne_eqb b 13 (λ e. omega (arith, e, h)), ne_eqb b 10 (λ e. omega (arith, e, h))) refl
 
-digits_plain : (n : ℕ) → n < 10 ^ 64 → needs_quotes default_writer (decimal n) ≡ false
+-- no natural number calls for any
+pub digits_plain : (n : ℕ) → n < 10 ^ 64 → needs_quotes default_writer (decimal n) ≡ false
 digits_plain n h =
     decimal_by_steps_wide (λ k ds. needs_quotes default_writer ds ≡ false) (λ k l. rw (byte_plain (48 + k) (omega arith)) refl)
     (λ k ds l e. rw (list_any-append (needs_byte default_writer) ds ((48 + k % 10) ∷ []), e, byte_plain (48 + k % 10) (omega arith)) refl) n h
 
--- no number calls for any
+-- no number with a sign calls for any
 pub number_plain : (z : ℤ) → FitsSigned w128 z → needs_quotes default_writer (signed_decimal z) ≡ false
 number_plain (pos n) h = let fits = h.sfits in digits_plain n (omega arith)
 number_plain (negsuc n) h = let fits = h.sfits in rw (digits_plain (suc n) (omega arith)) refl
+
+-- where no byte calls for any, none at a place does
+plain_at : (bytes : List ℕ) (k : ℕ) → needs_quotes default_writer bytes ≡ false → needs_byte default_writer (get_or bytes k 0) ≡ false
+plain_at [] k h = refl
+plain_at (b ∷ bytes) zero h = (or_parts _ _ h).0
+plain_at (b ∷ bytes) (suc k) h = plain_at bytes k (or_parts (needs_byte default_writer b) _ h).1
+
+-- no byte string calls for any
+pub bytes_plain : (bytes : List ℕ) → needs_quotes default_writer (encode_lower bytes) ≡ false
+unfolding encode_with
+bytes_plain [] = refl
+bytes_plain (b ∷ bytes) = rw (plain_at lower_digits (b / 16) refl, plain_at lower_digits (b % 16) refl) (bytes_plain bytes)

@@ -1,3 +1,4 @@
 pub mod Joining
 pub mod Written
+mod Chunked
 mod Digits

@@ -1,27 +1,10 @@
 //! The fields of a record, with quotes where they call for them (RFC 4180).
 
 ghost use Rattle.std.specs.Prelude.{◌≡◌, ◌≤◌, ◌++◌, OnOk, drop, take, length};
-ghost use Rattle.csv.specs.Writing.{default_writer, field_text, needs_byte, needs_quotes, quoted};
+ghost use Rattle.csv.specs.Writing.{default_writer, field_text, quoted};
 
+use crate::chunks::{calls_for_quotes, quote_place};
 use std::alloc::{AllocError, Global};
-
-/// Whether a byte calls for quotes around its field.
-fn is_special(byte: u8) -> bool
-    ensures { result ≡ needs_byte default_writer byte }
-{
-    byte == b',' || byte == b'"' || byte == b'\r' || byte == b'\n'
-}
-
-/// Whether a byte of the field calls for quotes.
-fn calls_for_quotes(field: &[u8]) -> bool
-    ensures { result ≡ needs_quotes default_writer field.now }
-{
-    let mut found = false;
-    for byte in field {
-        found |= is_special(*byte);
-    }
-    found
-}
 
 /// Appends a field between quotes, with its own written twice.
 #[tactic(auto, unfolding(csv::specs::Writing::escaped))]
@@ -29,11 +12,15 @@ fn push_quoted(out: &mut Vec<u8>, field: &[u8]) -> Result<(), AllocError>
     ensures { OnOk result (out.new.items ≡ out.old.items ++ quoted default_writer field.now) }
 {
     out.push(b'"')?;
-    for byte in field {
-        if *byte == b'"' {
-            out.push(b'"')?;
+    let mut from = 0;
+    while from < field.len() {
+        let end = quote_place(field, from);
+        out.extend_from_slice(&field[from..end])?;
+        from = end;
+        if end < field.len() {
+            out.extend_from_slice(b"\"\"")?;
+            from = end + 1;
         }
-        out.push(*byte)?;
     }
     out.push(b'"')?;
     Ok(())

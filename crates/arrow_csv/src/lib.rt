@@ -5,7 +5,8 @@
 //! commas and records end with a line feed. Quotes stand around a field only where a comma, a
 //! double quote or an end of line is in it, and its own double quotes are then written twice (RFC
 //! 4180). That is the quoting of the crate `csv` by its definitions, which writes the first record;
-//! rows are appended to one text, without a record of their own before.
+//! rows are appended to one text, without a record of their own before. Bytes that call for quotes
+//! are looked for sixteen at a time (`src/chunks.rt`).
 //!
 //! What a value's text is, is said by `value_text` (`specs/Texts.antt`), over plain values:
 //! [`header`], [`rows`] and [`push_rows`] give the records of the definition for every schema and
@@ -17,8 +18,10 @@
 //! | the text of a value | `specs/Texts.antt`: `value_text` |
 //! | the record of a row, of a schema | `specs/Records.antt`: `row_record`, `header_record` |
 //! | the records of a batch, of a stream | `specs/Records.antt`: `batch_rows`, `stream_text` |
+//! | bytes that call for no quotes, seen by chunks | `specs/Chunks.antt`: `AreAllPlain`, `is_mark` |
 #![tactic(auto)]
 
+mod chunks;
 mod fields;
 mod records;
 mod texts;

@@ -1,7 +1,6 @@
 //! The records of a schema and of the rows of batches.
 
 ghost use Rattle.std.specs.Prelude.{◌≡◌, ◌≤◌, ◌<◌, ◌++◌, [], IfOk, OnOk, codes, length};
-ghost use Rattle.std.specs.Fmt.{decimal};
 ghost use Rattle.arrow_array.specs.PlainValue.{value_at};
 ghost use Rattle.arrow_array.specs.Same.{HaveSlot};
 ghost use Rattle.csv.specs.Writing.{default_writer, field_text, fields_text};
@@ -9,7 +8,7 @@ ghost use Rattle.arrow_csv.specs.Texts.{value_text};
 ghost use Rattle.arrow_csv.specs.Records.{batch_rows, column_texts, header_record};
 
 use crate::fields::{push_field_text, quote_from};
-use crate::texts::{push_number, push_value};
+use crate::texts::{push_bytes, push_number, push_value};
 use arrow_array::{Array, Batch, SlotValue};
 use arrow_types::Schema;
 use csv::{ByteRecord, WriterBuilder};
@@ -65,22 +64,12 @@ pub fn push_rows(
     requires inside { end ≤ batch.now.rows }
     ensures { OnOk result (out.new.items ≡ out.old.items ++ batch_rows number batch.now start end) }
 {
-    let head = number_field(alloc, number)?;
+    let mut buffer = Buffer::new();
+    let head = buffer.format(number);
     for i in start..end {
-        push_row(alloc, out, &head, batch.columns(), i)?;
+        push_row(alloc, out, head.as_bytes(), batch.columns(), i)?;
     }
     Ok(())
-}
-
-/// The number of a batch, as the first field of its rows.
-fn number_field(alloc: Global, number: u64) -> Result<Vec<u8>, AllocError>
-    ensures { IfOk result (λ field. field.items ≡ field_text default_writer (decimal number)) }
-{
-    let mut buffer = Buffer::new();
-    let mut field = Vec::new(alloc);
-    field.extend_from_slice(buffer.format(number).as_bytes())?;
-    quote_from(alloc, &mut field, 0)?;
-    Ok(field)
 }
 
 /// Appends a record: its first field, which has this text, and the values of a row.
@@ -105,16 +94,19 @@ fn push_row(
     Ok(())
 }
 
-/// Appends the text of a value, between quotes where it calls for them, as no number does.
+/// Appends the text of a value, between quotes where it calls for them, as no number does and no
+/// byte string.
 fn push_field(alloc: Global, out: &mut Vec<u8>, column: &Array, i: usize) -> Result<(), AllocError>
     requires { i < length column.now.raw }
     ensures { OnOk result (out.new.items ≡ out.old.items ++ field_text default_writer
         (value_text [] column.now.data_type.children (value_at column.now.resolved i))) }
 {
     match column.slot(i) {
+        SlotValue::Null => Ok(()),
         SlotValue::Int(number) => push_number(out, number),
+        SlotValue::Bytes(bytes) => push_bytes(out, bytes),
         SlotValue::Text(text) => push_field_text(out, text.as_bytes()),
-        _ => {
+        SlotValue::Bool(_) | SlotValue::List(_, _, _) | SlotValue::Struct(_, _) => {
             let place = out.len();
             push_value(alloc, out, column, i, b"")?;
             quote_from(alloc, out, place)

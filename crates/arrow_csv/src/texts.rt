@@ -1,7 +1,8 @@
 //! The texts of values.
 
-ghost use Rattle.std.specs.Prelude.{◌≡◌, ◌≤◌, ◌<◌, ◌++◌, OnOk, codes, false, length, map};
+ghost use Rattle.std.specs.Prelude.{◌≡◌, ◌≤◌, ◌<◌, ◌+◌, ◌*◌, ◌++◌, IfSome, OnOk, codes, false, length, map};
 ghost use Rattle.std.specs.Fmt.{signed_decimal};
+ghost use Rattle.hex.specs.Hex.{encode_lower};
 ghost use Rattle.csv.specs.Writing.{default_writer, needs_quotes};
 ghost use Rattle.arrow_array.specs.Column.{AreOf, resolved_row_of, values_from};
 ghost use Rattle.arrow_array.specs.PlainValue.{value_at, values_of};
@@ -35,7 +36,7 @@ pub(crate) fn push_value(
         SlotValue::Bool(true) => out.extend_from_slice(b"true"),
         SlotValue::Bool(false) => out.extend_from_slice(b"false"),
         SlotValue::Int(number) => push_number(out, number),
-        SlotValue::Bytes(bytes) => out.extend_from_slice(hex::encode(alloc, bytes)?.as_bytes()),
+        SlotValue::Bytes(bytes) => push_bytes(out, bytes),
         SlotValue::Text(text) => out.extend_from_slice(text.as_bytes()),
         SlotValue::List(start, end, items) => push_items(alloc, out, items, start, end),
         SlotValue::Struct(children, place) => {
@@ -54,6 +55,29 @@ pub(crate) fn push_number(out: &mut Vec<u8>, number: i128) -> Result<(), AllocEr
         Ok(number) => out.extend_from_slice(buffer.format(number).as_bytes()),
         Err(_) => out.extend_from_slice(buffer.format(number).as_bytes()),
     }
+}
+
+/// Appends the hexadecimal digits of bytes.
+pub(crate) fn push_bytes(out: &mut Vec<u8>, bytes: &[u8]) -> Result<(), AllocError>
+    ensures text { OnOk result (out.new.items ≡ out.old.items ++ encode_lower bytes.now) }
+    ensures plain { needs_quotes default_writer (encode_lower bytes.now) ≡ false }
+{
+    let place = out.len();
+    let Some(end) = end_of_digits(place, bytes.len()) else {
+        return Err(AllocError);
+    };
+    out.resize(end, 0)?;
+    match hex::encode_to_slice(bytes, &mut out[place..]) {
+        Ok(()) => Ok(()),
+        Err(_) => Err(AllocError),
+    }
+}
+
+/// Where the digits of so many bytes end that begin at this place; `None` where that passes 64 bits.
+fn end_of_digits(place: usize, count: usize) -> Option<usize>
+    ensures { IfSome result (λ end. end ≡ place + 2 * count) }
+{
+    place.checked_add(count.checked_mul(2)?)
 }
 
 /// Appends the text of a list whose items stand in a range of slots.

@@ -10,7 +10,7 @@ ghost use Rattle.arrowflow.specs.declared.report.Report.TheVariants.{Messages, R
 use crate::pieces::{ReadFailed, answer_of, read_piece, room_for_a_piece};
 use crate::report::Report;
 use crate::sending::flush;
-use crate::telling::{tell_end, tell_piece};
+use crate::telling::{Teller, tell_end, tell_piece};
 use crate::tool_fault::ToolFault;
 use arrow_sink::Sink;
 use arrow_stream::StreamReader;
@@ -89,9 +89,10 @@ fn report<R: Read, S: Sink>(
     ensures passed { OnOk result (S.is_passed_on output.new) }
 {
     let mut reader = StreamReader::new(alloc, *limits);
+    let mut teller = Teller::new(alloc);
     match room_for_a_piece(alloc) {
         Ok(mut room) => {
-            answer_of(report_pieces(alloc, report, &mut reader, input, output, &mut room))
+            answer_of(report_pieces(report, &mut reader, &mut teller, input, output, &mut room))
         }
         Err(_) => Err(ToolFault::Memory),
     }
@@ -100,9 +101,9 @@ fn report<R: Read, S: Sink>(
 /// Tells the pieces of a stream, one by one. No stream is longer than the last place allows, so
 /// that this ends.
 fn report_pieces<R: Read, S: Sink>(
-    alloc: Global,
     report: Report,
     reader: &mut StreamReader,
+    teller: &mut Teller,
     input: &mut R,
     output: &mut S,
     room: &mut [u8],
@@ -110,6 +111,7 @@ fn report_pieces<R: Read, S: Sink>(
     requires failed { S.failed output.old < 2 ^ 64 - 1 }
     requires start { Stands reader.old [] [] }
     requires open { reader.old.at.verdict ≡ Open }
+    requires none { teller.old.number ≡ 0 }
     requires room { length room.old ≡ 65536 }
     ensures written { ReportsInput report reader.old.limits (R.remaining input.old)
         (R.remaining input.new) (S.contents output.old) (S.failed output.old) (answer_by result)
@@ -117,16 +119,15 @@ fn report_pieces<R: Read, S: Sink>(
     ensures blameless { IfOk result BlamesNoInput }
     ensures passed { OnOk (answer_by result) (S.is_passed_on output.new) }
 {
-    let mut number = 0;
     loop {
         let count = read_piece(input, room)?;
         if count == 0 {
-            return Ok(match tell_end(alloc, report, reader, output) {
+            return Ok(match tell_end(report, reader, teller, output) {
                 Ok(()) => flush(output),
                 Err(fault) => Err(fault),
             });
         }
-        match tell_piece(alloc, report, reader, &mut number, output, &room[..count]) {
+        match tell_piece(report, reader, teller, output, &room[..count]) {
             Ok(true) => return Ok(flush(output)),
             Ok(false) => {}
             Err(fault) => return Ok(Err(fault)),

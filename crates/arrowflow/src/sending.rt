@@ -25,9 +25,11 @@ pub(crate) fn send_text<S: Sink>(output: &mut S, text: &[u8]) -> Result<(), Tool
     }
 }
 
-/// Sends the records of the rows of the batch that has this number, some of them at a time.
+/// Sends the records of the rows of the batch that has this number, some of them at a time, which
+/// are made in the room of a text.
 pub(crate) fn send_rows<S: Sink>(
     alloc: Global,
+    text: &mut Vec<u8>,
     number: u64,
     batch: &Batch,
     output: &mut S,
@@ -37,15 +39,14 @@ pub(crate) fn send_rows<S: Sink>(
         (batch_rows number batch.now 0 batch.now.rows) result (S.contents output.new)
         (S.failed output.new) }
 {
-    let mut text = Vec::new(alloc);
     let mut start = 0;
     while start < batch.rows() {
         let end = start + ROWS.min(batch.rows() - start);
         text.clear();
-        let Ok(()) = push_rows(alloc, &mut text, number, batch, start, end) else {
+        let Ok(()) = push_rows(alloc, text, number, batch, start, end) else {
             return Err(ToolFault::Memory);
         };
-        match send_text(output, &text) {
+        match send_text(output, text) {
             Ok(()) => start = end,
             Err(fault) => return Err(fault),
         }

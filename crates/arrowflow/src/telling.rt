@@ -17,20 +17,41 @@ use arrow_sink::Sink;
 use arrow_stream::{Item, StreamReader};
 use std::alloc::Global;
 
+/// How far a stream is told: how many of its batches came, and the room in which the texts of their
+/// rows are made, one after another.
+#[derive(Drop)]
+pub(crate) struct Teller {
+    alloc: Global,
+    number: u64,
+    text: Vec<u8>,
+}
+
+impl Teller {
+    /// One to whom no batch came. It takes no memory.
+    pub(crate) fn new(alloc: Global) -> Self
+        ensures { result.number ≡ 0 }
+    {
+        Teller {
+            alloc,
+            number: 0,
+            text: Vec::new(alloc),
+        }
+    }
+}
+
 /// Gives the reader a piece, and sends the text of its messages. The answer tells whether an end
 /// marker came: what stands behind it in the piece is not looked at.
 pub(crate) fn tell_piece<S: Sink>(
-    alloc: Global,
     report: Report,
     reader: &mut StreamReader,
-    number: &mut u64,
+    teller: &mut Teller,
     output: &mut S,
     piece: &[u8],
 ) -> Result<bool, ToolFault>
     requires { S.failed output.old < 2 ^ 64 - 1 }
     ensures told { TellsPiece report reader.old (S.contents output.old) (S.failed output.old)
-        number.old piece.now result reader.new (S.contents output.new) (S.failed output.new)
-        number.new }
+        teller.old.number piece.now result reader.new (S.contents output.new)
+        (S.failed output.new) teller.new.number }
     ensures limits { reader.new.limits ≡ reader.old.limits }
     ensures open { reader.old.at.verdict ≡ Open → result ≡ Ok false → reader.new.at.verdict ≡ Open }
 {
@@ -39,7 +60,7 @@ pub(crate) fn tell_piece<S: Sink>(
         let place = reader.place();
         match reader.read(rest) {
             Ok((taken, Some(item))) => {
-                match tell_item(alloc, report, reader, place, number, &item, output) {
+                match tell_item(report, reader, place, teller, &item, output) {
                     Ok(()) => rest = &rest[taken..],
                     Err(fault) => return Err(fault),
                 }
@@ -55,30 +76,30 @@ pub(crate) fn tell_piece<S: Sink>(
 
 /// Sends the text of a message that the reader has just read, and counts the batches.
 fn tell_item<S: Sink>(
-    alloc: Global,
     report: Report,
     reader: &StreamReader,
     place: u64,
-    number: &mut u64,
+    teller: &mut Teller,
     item: &Item,
     output: &mut S,
 ) -> Result<(), ToolFault>
     requires { S.failed output.old < 2 ^ 64 - 1 }
-    ensures sent { SendsSome (IsAdded report reader.now.at.state.schema place number.old
+    ensures sent { SendsSome (IsAdded report reader.now.at.state.schema place teller.old.number
         (given item.now)) (S.contents output.old) (S.failed output.old) result (S.contents output.new)
         (S.failed output.new) }
-    ensures counted { OnOk result (number.new ≡ number.old + length (table_in (given item.now))) }
+    ensures counted { OnOk result
+        (teller.new.number ≡ teller.old.number + length (table_in (given item.now))) }
 {
-    let before = *number;
+    let before = teller.number;
     if let Item::Batch(_) = item {
         let Some(next) = before.checked_add(1) else {
             return Err(ToolFault::Memory);
         };
-        *number = next;
+        teller.number = next;
     }
     match report {
-        Report::Messages => tell_message(alloc, reader, place, before, item, output),
-        Report::Rows => tell_rows(alloc, reader, before, item, output),
+        Report::Messages => tell_message(teller.alloc, reader, place, before, item, output),
+        Report::Rows => tell_rows(teller.alloc, reader, &mut teller.text, before, item, output),
     }
 }
 
@@ -102,10 +123,11 @@ fn tell_message<S: Sink>(
     }
 }
 
-/// Sends what a message adds to the text of the rows.
+/// Sends what a message adds to the text of the rows, which is made in the room of a text.
 fn tell_rows<S: Sink>(
     alloc: Global,
     reader: &StreamReader,
+    text: &mut Vec<u8>,
     number: u64,
     item: &Item,
     output: &mut S,
@@ -123,16 +145,16 @@ fn tell_rows<S: Sink>(
             },
             None => Ok(()),
         },
-        Item::Batch(batch) => send_rows(alloc, number, batch, output),
+        Item::Batch(batch) => send_rows(alloc, text, number, batch, output),
         Item::Dictionary(_) | Item::End => Ok(()),
     }
 }
 
 /// Tells the end of the input.
 pub(crate) fn tell_end<S: Sink>(
-    alloc: Global,
     report: Report,
     reader: &StreamReader,
+    teller: &Teller,
     output: &mut S,
 ) -> Result<(), ToolFault>
     requires { S.failed output.old < 2 ^ 64 - 1 }
@@ -143,7 +165,7 @@ pub(crate) fn tell_end<S: Sink>(
         return Err(ToolFault::from(fault));
     }
     match report {
-        Report::Messages => match end_line(alloc, reader.place()) {
+        Report::Messages => match end_line(teller.alloc, reader.place()) {
             Ok(line) => send_text(output, line.as_bytes()),
             Err(_) => Err(ToolFault::Memory),
         },

@@ -2,11 +2,15 @@
 
 mod command_line;
 mod copying;
+mod copying_ends;
 mod drilling;
+mod drilling_ends;
 mod edits;
 mod failures;
 mod growing;
+mod help_pages;
 mod reports;
+mod rooms;
 mod schema_call;
 mod schema_lines;
 mod session;

@@ -17,12 +17,12 @@ use std::alloc::Global;
 use std::io::{ErrorKind, Read};
 use std::process::Abort;
 
-const DELTA: Options = Options {
+pub(super) const DELTA: Options = Options {
     updates: Updates::Delta,
     align: Align::Eight,
 };
 
-const RESEND: Options = Options {
+pub(super) const RESEND: Options = Options {
     updates: Updates::Resend,
     align: Align::Eight,
 };
@@ -33,7 +33,7 @@ const WIDE: Options = Options {
 };
 
 /// What is written of an input, and behind it the status and the line of the fault, if one came.
-fn copied<R: Read>(
+pub(super) fn copied<R: Read>(
     rt: &impl Abort,
     alloc: Global,
     input: &mut R,

@@ -13,7 +13,7 @@ use std::alloc::Global;
 use std::io::{ErrorKind, Read};
 use std::process::Abort;
 
-const NARROW: Options = Options {
+pub(super) const NARROW: Options = Options {
     updates: Updates::Delta,
     align: Align::Eight,
 };
@@ -23,7 +23,7 @@ const RESEND: Options = Options {
     align: Align::Eight,
 };
 
-const WIDE: Options = Options {
+pub(super) const WIDE: Options = Options {
     updates: Updates::Delta,
     align: Align::SixtyFour,
 };
@@ -33,7 +33,7 @@ type Delivery = (u64, u64);
 
 /// What is told of inputs within limits, or the status and the line of the fault, with the number
 /// of the input for its name.
-fn drilled<R: Read>(
+pub(super) fn drilled<R: Read>(
     rt: &impl Abort,
     alloc: Global,
     inputs: &mut [R],

@@ -2,6 +2,7 @@ use Rattle.std.proofs.Common.{◌≡◌, ◌+◌, ◌++◌, codes, sym, ap, ◌�
 use Rattle.std.specs.Fmt.{decimal}
 use Rattle.csv.specs.Writing.{default_writer, field_text, fields_text}
 use Rattle.arrow_csv.specs.Records.{batch_rows, column_texts, row_record}
+use Rattle.arrow_csv.proofs.Digits.{digits_plain}
 use Rattle.arrow_csv.proofs.Written.{row_plain, rows_next}
 use Rattle.arrow_csv.proofs.records.push_rows.Goals as goal
 
@@ -14,8 +15,9 @@ loop-i-preserved c =
     let end = c.args.end in
     let old = c.loop-i.out.items in
     let less = c.loop-i-test.true in
-    let head : c.deref.result.now ≡ field_text default_writer (decimal n) = c.deref.ensures.value ∙ c.in_ok-head.ensures in
-    let row : c.deref.result.now ++ (fields_text default_writer (column_texts c.columns.result.now i) ++ codes "\n") ≡ row_record n b i =
+    let plain = digits_plain n (omega (arith, c.ranges.number.fits)) in
+    let head : c.as_bytes.result.now ≡ field_text default_writer (decimal n) = rw plain (c.as_bytes.ensures.value ∙ c.format-head.ensures.text) in
+    let row : c.as_bytes.result.now ++ (fields_text default_writer (column_texts c.columns.result.now i) ++ codes "\n") ≡ row_record n b i =
     ap (λ h. h ++ (fields_text default_writer (column_texts c.columns.result.now i) ++ codes "\n")) head
     ∙ ap (λ cs. field_text default_writer (decimal n) ++ (fields_text default_writer (column_texts cs i) ++ codes "\n")) c.columns.ensures.same
     ∙ sym (row_plain n (column_texts b.columns i) c.ranges.number.fits) in (

@@ -17,7 +17,7 @@ returns-in_err-count-clause-written g c =
     let held = g.S.Sink.contents c.loop-count.output in
     let failed = g.S.Sink.failed c.loop-count.output in
     let x = inv.2.1 in
-    let w = written c.args.report limits inv.0 left before start held c.loop-count.number r inv.2.0 inv.4 x in (
+    let w = written c.args.report limits inv.0 left before start held c.loop-count.teller.number r inv.2.0 inv.4 x in (
       inv.0,
       Consumes-kept _ _ _ _ inv.1 c.in_err-count.ensures.bytes,
       read_all (IsOpenAt limits) inv.0 (open_at limits inv.0 r inv.2.0 x.stands inv.4 inv.5),
@@ -35,7 +35,7 @@ returns-in-Ok-clause-written g c =
       inv.0,
       subst (Consumes had left) none (Consumes-trans _ _ _ _ _ inv.1 c.in_ok-count.ensures.bytes.0),
       read_all (IsOpenAt c.args.reader.now.limits) inv.0 (open_at c.args.reader.now.limits inv.0 c.loop-count.reader inv.2.0 inv.2.1.stands inv.4 inv.5),
-      end_flushed c.args.report c.args.reader.now.limits inv.0 left (g.S.Sink.contents c.args.output.now) (g.S.Sink.failed c.args.output.now) (g.S.Sink.contents c.loop-count.output) c.loop-count.number (g.S.Sink.failed c.loop-count.output) c.loop-count.reader inv.2.0
+      end_flushed c.args.report c.args.reader.now.limits inv.0 left (g.S.Sink.contents c.args.output.now) (g.S.Sink.failed c.args.output.now) (g.S.Sink.contents c.loop-count.output) c.loop-count.teller.number (g.S.Sink.failed c.loop-count.output) c.loop-count.reader inv.2.0
           inv.4 inv.3 (c.in_ok-count.ensures.bytes.1 c.if-count-eq0.true room) inv.2.1 inv.5 (g.S.Sink.contents c.tell_end.new.output) (g.S.Sink.contents c.flush.new.output) (g.S.Sink.failed c.tell_end.new.output) (g.S.Sink.failed c.flush.new.output)
           c.flush.result c.in-Ok.ensures c.flush.ensures.kept,
     )
@@ -51,7 +51,7 @@ returns-in-Err-clause-written g c =
       inv.0,
       subst (Consumes had left) none (Consumes-trans _ _ _ _ _ inv.1 c.in_ok-count.ensures.bytes.0),
       read_all (IsOpenAt c.args.reader.now.limits) inv.0 (open_at c.args.reader.now.limits inv.0 c.loop-count.reader inv.2.0 inv.2.1.stands inv.4 inv.5),
-      end_reported c.args.report c.args.reader.now.limits inv.0 left (g.S.Sink.contents c.args.output.now) (g.S.Sink.failed c.args.output.now) (g.S.Sink.contents c.loop-count.output) c.loop-count.number (g.S.Sink.failed c.loop-count.output) c.loop-count.reader inv.2.0
+      end_reported c.args.report c.args.reader.now.limits inv.0 left (g.S.Sink.contents c.args.output.now) (g.S.Sink.failed c.args.output.now) (g.S.Sink.contents c.loop-count.output) c.loop-count.teller.number (g.S.Sink.failed c.loop-count.output) c.loop-count.reader inv.2.0
           inv.4 inv.3 (c.in_ok-count.ensures.bytes.1 c.if-count-eq0.true room) inv.2.1 c.in-Err.fault (g.S.Sink.contents c.tell_end.new.output) (g.S.Sink.failed c.tell_end.new.output) c.in-Err.ensures,
     )
 
@@ -72,7 +72,7 @@ returns-in-Ok-true-clause-written g c =
       Consumes-trans _ _ _ _ _ inv.1 c.in_ok-count.ensures.bytes.0,
       read_last (IsOpenAt c.args.reader.now.limits) inv.0 c.in_ok-count.count c.read_piece.new.room (omega arith) c.in_ok-count.ensures.bound (open_at c.args.reader.now.limits inv.0 c.loop-count.reader inv.2.0 inv.2.1.stands inv.4 inv.5),
       marker_flushed c.args.report c.args.reader.now.limits inv.0 piece (g.R.Read.remaining c.read_piece.new.input) first (g.S.Sink.contents c.tell_piece.new.output) (g.S.Sink.failed c.args.output.now) (g.S.Sink.failed c.loop-count.output) (g.S.Sink.failed c.tell_piece.new.output)
-          c.tell_piece.new.number c.tell_piece.new.reader (c.in-Ok-true.ensures.limits ∙ inv.4) inv.3 (g.S.Sink.contents c.flush-in-Ok-true.new.output) (g.S.Sink.failed c.flush-in-Ok-true.new.output) c.flush-in-Ok-true.result told c.flush-in-Ok-true.ensures.kept,
+          c.tell_piece.new.teller.number c.tell_piece.new.reader (c.in-Ok-true.ensures.limits ∙ inv.4) inv.3 (g.S.Sink.contents c.flush-in-Ok-true.new.output) (g.S.Sink.failed c.flush-in-Ok-true.new.output) c.flush-in-Ok-true.result told c.flush-in-Ok-true.ensures.kept,
     )
 
 pub returns-in-Err-tell_piece-clause-written : goal.returns-in-Err-tell_piece-clause-written
@@ -85,7 +85,7 @@ returns-in-Err-tell_piece-clause-written g c =
       Consumes-trans _ _ _ _ _ inv.1 c.in_ok-count.ensures.bytes.0,
       read_last (IsOpenAt c.args.reader.now.limits) inv.0 c.in_ok-count.count c.read_piece.new.room (omega arith) c.in_ok-count.ensures.bound (open_at c.args.reader.now.limits inv.0 c.loop-count.reader inv.2.0 inv.2.1.stands inv.4 inv.5),
       piece_reported c.args.report c.args.reader.now.limits inv.0 piece (g.R.Read.remaining c.read_piece.new.input) first (g.S.Sink.contents c.tell_piece.new.output) (g.S.Sink.failed c.args.output.now) (g.S.Sink.failed c.loop-count.output) (g.S.Sink.failed c.tell_piece.new.output)
-          c.tell_piece.new.number c.tell_piece.new.reader (c.in-Err-tell_piece.ensures.limits ∙ inv.4) inv.3 c.in-Err-tell_piece.fault told,
+          c.tell_piece.new.teller.number c.tell_piece.new.reader (c.in-Err-tell_piece.ensures.limits ∙ inv.4) inv.3 c.in-Err-tell_piece.fault told,
     )
 
 pub loop-count-preserved : goal.loop-count-preserved
@@ -101,7 +101,7 @@ returns-in-Err-tell_piece-clause-blameless g c =
     let first = g.S.Sink.contents c.args.output.now in
     let told = c.in-Err-tell_piece.ensures.told first inv.0 inv.2.0 inv.2.1 in
     piece_blameless c.args.report c.args.reader.now.limits inv.0 piece (g.R.Read.remaining c.read_piece.new.input) first (g.S.Sink.contents c.tell_piece.new.output) (g.S.Sink.failed c.args.output.now) (g.S.Sink.failed c.loop-count.output) (g.S.Sink.failed c.tell_piece.new.output)
-    c.tell_piece.new.number c.tell_piece.new.reader (c.in-Err-tell_piece.ensures.limits ∙ inv.4) inv.3 c.in-Err-tell_piece.fault told
+    c.tell_piece.new.teller.number c.tell_piece.new.reader (c.in-Err-tell_piece.ensures.limits ∙ inv.4) inv.3 c.in-Err-tell_piece.fault told
 
 pub loop-count-smaller : goal.loop-count-smaller
 loop-count-smaller g c =

@@ -10,7 +10,7 @@ use Rattle.arrowflow.proofs.reports.report_pieces.Given as goal
 abbrev pub invariant-loop-count : goal.invariant-loop-count
 invariant-loop-count g l = (bytes : List ℕ)
     × Consumes (g.R.Read.remaining l.initial.input) (g.R.Read.remaining l.input) bytes
-    × ((es : List Entry) × IsTold l.report (g.S.Sink.contents l.initial.output) (g.S.Sink.contents l.output) l.number l.reader bytes es)
+    × ((es : List Entry) × IsTold l.report (g.S.Sink.contents l.initial.output) (g.S.Sink.contents l.output) l.teller.number l.reader bytes es)
     × (g.S.Sink.failed l.output ≡ g.S.Sink.failed l.initial.output)
     × (l.reader.limits ≡ l.initial.reader.limits)
     × (l.reader.at.verdict ≡ Open)

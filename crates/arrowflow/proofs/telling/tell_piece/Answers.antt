@@ -9,7 +9,7 @@ use Rattle.arrowflow.proofs.Told.{IsTelling, open_behind, open_by_item, telling_
 use Rattle.arrowflow.proofs.telling.tell_piece.Goals as goal
 
 pub loop-taken-init : goal.loop-taken-init
-loop-taken-init g c = (telling_nothing c.args.report c.args.reader.now (g.S.Sink.contents c.args.output.now) c.args.number.now c.args.piece.now, refl, λ o. o)
+loop-taken-init g c = (telling_nothing c.args.report c.args.reader.now (g.S.Sink.contents c.args.output.now) c.args.teller.now.number c.args.piece.now, refl, λ o. o)
 
 pub returns-in-Err-tell_item-clause-told : goal.returns-in-Err-tell_item-clause-told
 returns-in-Err-tell_item-clause-told g c first t es x =
@@ -19,8 +19,8 @@ returns-in-Err-tell_item-clause-told g c first t es x =
     let new = c.read.new.self in
     let is_open = open_by_item l.reader.at.verdict some.taken some.field-0-1 some.item some.field-0-1-is (λ d. (some.ensures.done d).0) (λ k b. (_, (some.ensures.failed k b).0)) in
     let next : (t : List ℕ) (es : List Entry) → Stands l.reader t es → GivesNext rest some.taken some.item new t es = λ t es at. rw some.field-0-1-is at (some.ensures.reads t es at) in
-    subst (λ m. PieceTold c.args.report first m t c.args.piece.now (Err c.in-Err-tell_item.fault) (g.S.Sink.contents c.tell_item.new.output) (g.S.Sink.failed c.tell_item.new.output) c.tell_item.new.number new) l.invariant.1
-    (telling_cut c.args.report c.args.reader.now (g.S.Sink.contents c.args.output.now) c.args.number.now c.args.piece.now l.reader (g.S.Sink.contents l.output) l.number rest l.invariant.0 new some.ensures.limits
+    subst (λ m. PieceTold c.args.report first m t c.args.piece.now (Err c.in-Err-tell_item.fault) (g.S.Sink.contents c.tell_item.new.output) (g.S.Sink.failed c.tell_item.new.output) c.tell_item.new.teller.number new) l.invariant.1
+    (telling_cut c.args.report c.args.reader.now (g.S.Sink.contents c.args.output.now) c.args.teller.now.number c.args.piece.now l.reader (g.S.Sink.contents l.output) l.teller.number rest l.invariant.0 new some.ensures.limits
     some.taken some.item is_open next c.place-place.result c.place-place.ensures.place c.in-Err-tell_item.fault _ _ (g.S.Sink.failed l.output) _ c.in-Err-tell_item.ensures.sent first t es x)
 
 pub returns-in-End-clause-told : goal.returns-in-End-clause-told
@@ -32,7 +32,7 @@ returns-in-End-clause-told g c first t es x =
     let is_open = open_by_item l.reader.at.verdict some.taken some.field-0-1 some.item some.field-0-1-is (λ d. (some.ensures.done d).0) (λ k b. (_, (some.ensures.failed k b).0)) in
     let next : (t : List ℕ) (es : List Entry) → Stands l.reader t es → GivesNext rest some.taken some.item new t es = λ t es at. rw some.field-0-1-is at (some.ensures.reads t es at) in
     let is : given some.item ≡ ended = ap given c.in-End.is in
-    let y = telling_ended c.args.report c.args.reader.now (g.S.Sink.contents c.args.output.now) c.args.number.now c.args.piece.now l.reader (g.S.Sink.contents l.output) l.number rest l.invariant.0 new some.ensures.limits
+    let y = telling_ended c.args.report c.args.reader.now (g.S.Sink.contents c.args.output.now) c.args.teller.now.number c.args.piece.now l.reader (g.S.Sink.contents l.output) l.teller.number rest l.invariant.0 new some.ensures.limits
     some.taken some.item is_open next c.place-place.result c.place-place.ensures.place _ _ (g.S.Sink.failed l.output) _ c.in-Ok.ensures.sent c.in-Ok.ensures.counted is first t es x in
     (y.0, y.1 ∙ l.invariant.1, y.2)
 
@@ -44,8 +44,8 @@ loop-taken-preserved-in_default g c =
     let new = c.read.new.self in
     let is_open = open_by_item l.reader.at.verdict some.taken some.field-0-1 some.item some.field-0-1-is (λ d. (some.ensures.done d).0) (λ k b. (_, (some.ensures.failed k b).0)) in
     let next : (t : List ℕ) (es : List Entry) → Stands l.reader t es → GivesNext rest some.taken some.item new t es = λ t es at. rw some.field-0-1-is at (some.ensures.reads t es at) in (
-      subst (IsTelling c.args.report c.args.reader.now (g.S.Sink.contents c.args.output.now) c.args.number.now c.args.piece.now new (g.S.Sink.contents c.tell_item.new.output) c.tell_item.new.number) (sym (take_rest rest some.taken))
-          (telling_next c.args.report c.args.reader.now (g.S.Sink.contents c.args.output.now) c.args.number.now c.args.piece.now l.reader (g.S.Sink.contents l.output) l.number rest l.invariant.0 new some.ensures.limits
+      subst (IsTelling c.args.report c.args.reader.now (g.S.Sink.contents c.args.output.now) c.args.teller.now.number c.args.piece.now new (g.S.Sink.contents c.tell_item.new.output) c.tell_item.new.teller.number) (sym (take_rest rest some.taken))
+          (telling_next c.args.report c.args.reader.now (g.S.Sink.contents c.args.output.now) c.args.teller.now.number c.args.piece.now l.reader (g.S.Sink.contents l.output) l.teller.number rest l.invariant.0 new some.ensures.limits
           some.taken some.item is_open next c.place-place.result c.place-place.ensures.place _ _ (g.S.Sink.failed l.output) _ c.in-Ok.ensures.sent c.in-Ok.ensures.counted),
       c.in-Ok.ensures.sent.2.1 ∙ l.invariant.1,
       λ o. open_behind l.reader.at.verdict new.at.verdict some.field-0-1 some.item some.field-0-1-is some.ensures.goes_on c.in_default.not-End,
@@ -59,8 +59,8 @@ loop-taken-preserved g c =
     let new = c.read.new.self in
     let is_open = open_by_item l.reader.at.verdict some.taken some.field-0-1 some.item some.field-0-1-is (λ d. (some.ensures.done d).0) (λ k b. (_, (some.ensures.failed k b).0)) in
     let next : (t : List ℕ) (es : List Entry) → Stands l.reader t es → GivesNext rest some.taken some.item new t es = λ t es at. rw some.field-0-1-is at (some.ensures.reads t es at) in (
-      subst (IsTelling c.args.report c.args.reader.now (g.S.Sink.contents c.args.output.now) c.args.number.now c.args.piece.now new (g.S.Sink.contents c.tell_item.new.output) c.tell_item.new.number) (sym (take_rest rest some.taken))
-          (telling_next c.args.report c.args.reader.now (g.S.Sink.contents c.args.output.now) c.args.number.now c.args.piece.now l.reader (g.S.Sink.contents l.output) l.number rest l.invariant.0 new some.ensures.limits
+      subst (IsTelling c.args.report c.args.reader.now (g.S.Sink.contents c.args.output.now) c.args.teller.now.number c.args.piece.now new (g.S.Sink.contents c.tell_item.new.output) c.tell_item.new.teller.number) (sym (take_rest rest some.taken))
+          (telling_next c.args.report c.args.reader.now (g.S.Sink.contents c.args.output.now) c.args.teller.now.number c.args.piece.now l.reader (g.S.Sink.contents l.output) l.teller.number rest l.invariant.0 new some.ensures.limits
           some.taken some.item is_open next c.place-place.result c.place-place.ensures.place _ _ (g.S.Sink.failed l.output) _ c.in-Ok.ensures.sent c.in-Ok.ensures.counted),
       c.in-Ok.ensures.sent.2.1 ∙ l.invariant.1,
       λ o. open_behind l.reader.at.verdict new.at.verdict some.field-0-1 some.item some.field-0-1-is some.ensures.goes_on c.in_default.not-End,
@@ -73,7 +73,7 @@ returns-in-Ok-default-None-clause-told g c first t es x =
     let rest = l.rest.now in
     let new = c.read.new.self in
     let last : (t : List ℕ) (es : List Entry) → Stands l.reader t es → TakesOn l.reader rest none.field-0-0 new t es = λ t es at. rw none.field-0-1-is at (none.ensures.reads t es at) in
-    let y = telling_all c.args.report c.args.reader.now (g.S.Sink.contents c.args.output.now) c.args.number.now c.args.piece.now l.reader (g.S.Sink.contents l.output) l.number rest l.invariant.0 new none.ensures.limits
+    let y = telling_all c.args.report c.args.reader.now (g.S.Sink.contents c.args.output.now) c.args.teller.now.number c.args.piece.now l.reader (g.S.Sink.contents l.output) l.teller.number rest l.invariant.0 new none.ensures.limits
     none.field-0-0 (g.S.Sink.failed l.output) last first t es x in
     (y.0, y.1 ∙ l.invariant.1, y.2)
 
@@ -84,7 +84,7 @@ returns-in-Err-clause-told g c first t es x =
     let new = c.read.new.self in
     let fault = c.in-Err.fault in
     let last : (t : List ℕ) (es : List Entry) → Stands l.reader t es → WantsMemory l.reader fault new ⊎ Refuses rest fault new t es = λ t es at. c.in-Err.ensures.reads t es at in
-    let y = telling_refused c.args.report c.args.reader.now (g.S.Sink.contents c.args.output.now) c.args.number.now c.args.piece.now l.reader (g.S.Sink.contents l.output) l.number rest l.invariant.0 new c.in-Err.ensures.limits
+    let y = telling_refused c.args.report c.args.reader.now (g.S.Sink.contents c.args.output.now) c.args.teller.now.number c.args.piece.now l.reader (g.S.Sink.contents l.output) l.teller.number rest l.invariant.0 new c.in-Err.ensures.limits
     fault (g.S.Sink.failed l.output) last first t es x in
-    subst (λ m. PieceTold c.args.report first m t c.args.piece.now (Err c.from.result) (g.S.Sink.contents l.output) (g.S.Sink.failed l.output) l.number new) l.invariant.1
-    (subst (λ f. PieceTold c.args.report first (g.S.Sink.failed l.output) t c.args.piece.now (Err f) (g.S.Sink.contents l.output) (g.S.Sink.failed l.output) l.number new) (sym c.from.ensures) y)
+    subst (λ m. PieceTold c.args.report first m t c.args.piece.now (Err c.from.result) (g.S.Sink.contents l.output) (g.S.Sink.failed l.output) l.teller.number new) l.invariant.1
+    (subst (λ f. PieceTold c.args.report first (g.S.Sink.failed l.output) t c.args.piece.now (Err f) (g.S.Sink.contents l.output) (g.S.Sink.failed l.output) l.teller.number new) (sym c.from.ensures) y)

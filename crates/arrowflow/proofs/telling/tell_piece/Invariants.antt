@@ -5,7 +5,7 @@ use Rattle.arrowflow.proofs.telling.tell_piece.Given as goal
 
 -- the text of all of the piece but the rest was told, and a stream that was open goes on
 abbrev pub invariant-loop-taken : goal.invariant-loop-taken
-invariant-loop-taken g l = IsTelling l.report l.initial.reader (g.S.Sink.contents l.initial.output) l.initial.number l.piece l.reader (g.S.Sink.contents l.output) l.number l.rest
+invariant-loop-taken g l = IsTelling l.report l.initial.reader (g.S.Sink.contents l.initial.output) l.initial.teller.number l.piece l.reader (g.S.Sink.contents l.output) l.teller.number l.rest
     × (g.S.Sink.failed l.output ≡ g.S.Sink.failed l.initial.output)
     × (l.initial.reader.at.verdict ≡ Open → l.reader.at.verdict ≡ Open)
 

@@ -1,0 +1,137 @@
+//! Bytes of a field that call for quotes, looked for sixteen at a time.
+
+ghost use Rattle.std.specs.Prelude.{◌≡◌, ◌+◌, ◌-◌, ◌≤◌, length, drop, map};
+ghost use Rattle.std.specs.Bool.{OnTrue};
+ghost use Rattle.std.specs.List.{position_or_len};
+ghost use Rattle.std.specs.Simd.Lanes.{mask_l};
+ghost use Rattle.csv.specs.Writing.{default_writer, needs_byte, needs_quotes};
+ghost use Rattle.arrow_csv.specs.Chunks.{AreAllPlain, is_mark};
+
+use std::simd::prelude::*;
+
+/// Whether a byte of the field calls for quotes.
+pub(crate) fn calls_for_quotes(field: &[u8]) -> bool
+    ensures { result ≡ needs_quotes default_writer field.now }
+{
+    if has_plain_chunks(field) {
+        return false;
+    }
+    has_special(field)
+}
+
+/// Whether chunks of eight or sixteen bytes show that no byte calls for quotes. Of a field of less
+/// than eight bytes they show nothing. The last chunk may begin inside of the one before it.
+#[inline(always)]
+fn has_plain_chunks(field: &[u8]) -> bool
+    ensures { OnTrue result (AreAllPlain field.now 0 (length field.now)) }
+{
+    let len = field.len();
+    if len < 8 {
+        false
+    } else if len < 16 {
+        are_eight_plain(field, 0) && are_eight_plain(field, len - 8)
+    } else {
+        has_plain_sixteens(field) && are_sixteen_plain(field, len - 16)
+    }
+}
+
+/// The same of all chunks of sixteen bytes that lie one behind the other.
+#[inline(always)]
+fn has_plain_sixteens(field: &[u8]) -> bool
+    requires { 16 ≤ length field.now }
+    ensures { OnTrue result (AreAllPlain field.now 0 (length field.now - 16)) }
+{
+    let mut place = 0;
+    while field.len() - place >= 16 {
+        if !are_sixteen_plain(field, place) {
+            return false;
+        }
+        place += 16;
+    }
+    true
+}
+
+/// Whether none of the sixteen bytes at a place calls for quotes.
+#[inline(always)]
+fn are_sixteen_plain(field: &[u8], place: usize) -> bool
+    requires { place + 16 ≤ length field.now }
+    ensures { OnTrue result (AreAllPlain field.now place (place + 16)) }
+{
+    let chunk = u8x16::from_slice(&field[place..]);
+    let commas = chunk.simd_eq(u8x16::splat(b',')).to_bitmask();
+    let quotes = chunk.simd_eq(u8x16::splat(b'"')).to_bitmask();
+    let returns = chunk.simd_eq(u8x16::splat(b'\r')).to_bitmask();
+    let feeds = chunk.simd_eq(u8x16::splat(b'\n')).to_bitmask();
+    (commas == 0) & (quotes == 0) & (returns == 0) & (feeds == 0)
+}
+
+/// Whether none of the eight bytes at a place calls for quotes.
+#[inline(always)]
+fn are_eight_plain(field: &[u8], place: usize) -> bool
+    requires { place + 8 ≤ length field.now }
+    ensures { OnTrue result (AreAllPlain field.now place (place + 8)) }
+{
+    let chunk = u8x8::from_slice(&field[place..]);
+    let commas = chunk.simd_eq(u8x8::splat(b',')).to_bitmask();
+    let quotes = chunk.simd_eq(u8x8::splat(b'"')).to_bitmask();
+    let returns = chunk.simd_eq(u8x8::splat(b'\r')).to_bitmask();
+    let feeds = chunk.simd_eq(u8x8::splat(b'\n')).to_bitmask();
+    (commas == 0) & (quotes == 0) & (returns == 0) & (feeds == 0)
+}
+
+/// Whether a byte calls for quotes around its field.
+fn is_special(byte: u8) -> bool
+    ensures { result ≡ needs_byte default_writer byte }
+{
+    byte == b',' || byte == b'"' || byte == b'\r' || byte == b'\n'
+}
+
+/// Whether a byte of the field calls for quotes, one after another.
+fn has_special(field: &[u8]) -> bool
+    ensures { result ≡ needs_quotes default_writer field.now }
+{
+    for byte in field {
+        if is_special(*byte) {
+            return true;
+        }
+    }
+    false
+}
+
+/// The place of the first double quote from a place on, or the end of the field.
+pub(crate) fn quote_place(field: &[u8], from: usize) -> usize
+    requires { from ≤ length field.now }
+    ensures value { result ≡ from + position_or_len is_mark (drop from field.now) }
+    ensures inside { result ≤ length field.now }
+{
+    let mut place = from;
+    while field.len() - place >= 16 {
+        let marks = marks_of_sixteen(u8x16::from_slice(&field[place..]));
+        if marks != 0 {
+            return place + marks.trailing_zeros() as usize;
+        }
+        place += 16;
+    }
+    quote_place_by_bytes(field, place)
+}
+
+/// The same byte by byte.
+fn quote_place_by_bytes(field: &[u8], from: usize) -> usize
+    requires { from ≤ length field.now }
+    ensures value { result ≡ from + position_or_len is_mark (drop from field.now) }
+    ensures inside { result ≤ length field.now }
+{
+    let mut place = from;
+    while place < field.len() && field[place] != b'"' {
+        place += 1;
+    }
+    place
+}
+
+/// The bits of the lanes that are double quotes.
+#[inline(always)]
+fn marks_of_sixteen(chunk: u8x16) -> u64
+    ensures { result ≡ mask_l (map is_mark chunk) }
+{
+    chunk.simd_eq(u8x16::splat(b'"')).to_bitmask()
+}
