@@ -1,6 +1,7 @@
 //! Columns that are built value by value, against answers that are written out.
 
 mod arrays;
+mod greatest;
 mod kinds;
 mod lengths;
 mod limits;

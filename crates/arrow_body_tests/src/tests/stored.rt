@@ -21,7 +21,7 @@ pub(super) struct Case {
     pub(super) size: usize,
 }
 
-static CASES: [Case; 4] = [
+static CASES: [Case; 5] = [
     // 1, null, 3, with a 9 under the null.
     Case {
         of: &[Kind::Number],
@@ -63,6 +63,22 @@ static CASES: [Case; 4] = [
         ],
         size: 40,
     },
+    // No lists, without an offset.
+    Case {
+        of: &[Kind::List, Kind::Number],
+        nodes: &[(0, 0), (0, 0)],
+        held: &[
+            Held::Bytes(&[]),
+            Held::Bytes(&[]),
+            Held::Bytes(&[]),
+            Held::Bytes(&[]),
+        ],
+        align: Align::Eight,
+        stored_nodes: &[(0, 0), (0, 0)],
+        stored_buffers: &[(0, 0), (0, 4), (8, 0), (8, 0)],
+        bytes: &[],
+        size: 8,
+    },
     // {"a"}, null, with a text "b" under the null.
     Case {
         of: &[Kind::Struct(1), Kind::Text],
@@ -85,7 +101,7 @@ static CASES: [Case; 4] = [
 ];
 
 // Whether the columns are stored as the case says.
-fn is_stored(alloc: Global, columns: &[Array], case: &Case) -> bool {
+pub(super) fn is_stored(alloc: Global, columns: &[Array], case: &Case) -> bool {
     if body_size(case.align, columns) != Some(case.size) {
         return false;
     }

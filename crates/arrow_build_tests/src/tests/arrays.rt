@@ -5,7 +5,7 @@ use super::told::told;
 use super::values::Step::{self, Int, List, Null, Struct, Text};
 use super::values::value;
 use arrow_array::{Array, Dictionary};
-use arrow_build::{ArrayBuilder, ArrayFault};
+use arrow_build::{ArrayBuilder, ArrayFault, PushFault};
 use arrow_types::BitWidth::Eight;
 use std::process::Abort;
 
@@ -17,7 +17,7 @@ type Listed = (i64, Kind, &'static [&'static [Step]]);
 // The dictionaries that are listed, the number of the fault or 0, and what the array shows.
 type Finish = (&'static [Listed], u8, &'static str);
 
-static FINISHES: [(Kind, &[&[Step]], &[Finish]); 6] = [
+static FINISHES: [(Kind, &[&[Step]], &[Finish]); 7] = [
     (
         Kind::Indices,
         &[&[Int(0)], &[Null], &[Int(2)]],
@@ -42,6 +42,15 @@ static FINISHES: [(Kind, &[&[Step]], &[Finish]); 6] = [
                 &[(8, Kind::Utf8, &[&[Text("a")], &[Text("b")], &[Text("c")]])],
                 2,
                 "",
+            ),
+            (
+                &[
+                    (-7, Kind::Bool, &[]),
+                    (4_294_967_303, Kind::Bool, &[]),
+                    (7, Kind::Utf8, &[&[Text("a")], &[Text("b")], &[Text("c")]]),
+                ],
+                0,
+                "0='a', null, 2='c'",
             ),
             (
                 &[(
@@ -82,6 +91,7 @@ static FINISHES: [(Kind, &[&[Step]], &[Finish]); 6] = [
             (&[(7, Kind::Binary, &[])], 1, ""),
         ],
     ),
+    (Kind::Indices, &[&[Int(0)]], &[(&[], 2, "")]),
     (
         Kind::SignedIndices,
         &[&[Int(-1)]],
@@ -142,6 +152,17 @@ fn dictionary(rt: &(impl Abort + AllocGlobal), values: Array) -> Dictionary {
 
 fn one_listed(rt: &(impl Abort + AllocGlobal), kind: Kind, values: &[&[Step]]) -> Dictionary {
     let array = pushed(rt, kind, values).finish(rt.alloc(), &[]);
+    dictionary(rt, array.expect(rt, "an array without dictionaries"))
+}
+
+// So many texts "a".
+fn letters(rt: &(impl Abort + AllocGlobal), count: usize) -> Dictionary {
+    let letter = value(rt, &[Text("a")]);
+    let mut column = builder(rt, Kind::Utf8);
+    for _ in 0..count {
+        column.push(&letter).expect(rt, "a value that fits");
+    }
+    let array = column.finish(rt.alloc(), &[]);
     dictionary(rt, array.expect(rt, "an array without dictionaries"))
 }
 
@@ -219,13 +240,60 @@ fn grown_after_an_array_was_made(rt: HostRuntime) {
     assert_eq!(&rt; grown.as_str(), "[1;2;], null, [3;]");
 }
 
+// An index, how many values there are, and the number of the fault or 0.
+static AMONG_MANY: [(Kind, i128, usize, u8); 6] = [
+    (Kind::Indices, 255, 256, 0),
+    (Kind::Indices, 255, 255, 2),
+    (Kind::Indices, 128, 129, 0),
+    (Kind::SignedIndices, 127, 128, 0),
+    (Kind::SignedIndices, -1, 256, 2),
+    (Kind::SignedIndices, -128, 300, 2),
+];
+
 #[test]
-fn faults_have_their_numbers(rt: HostRuntime) {
-    use arrow_build::PushFault;
-    assert!(&rt; PushFault::DoesNotFit.number() == 1);
-    assert!(&rt; PushFault::TooLong.number() == 2);
-    assert!(&rt; PushFault::Memory.number() == 3);
-    assert!(&rt; ArrayFault::DictionaryType.number() == 1);
-    assert!(&rt; ArrayFault::IndexRange.number() == 2);
-    assert!(&rt; ArrayFault::Memory.number() == 3);
+fn indices_of_8_bits_with_and_without_a_sign(rt: HostRuntime) {
+    for (row, (kind, index, count, fault)) in AMONG_MANY.iter().enumerate() {
+        let column = pushed(&rt, *kind, &[&[Int(*index)]]);
+        let mut listed = Vec::new(rt.alloc());
+        listed.push((7, letters(&rt, *count))).expect(&rt, MEMORY);
+        let told = match column.finish(rt.alloc(), &listed) {
+            Ok(_) => 0,
+            Err(other) => other.number(),
+        };
+        assert!(&rt; told == *fault, "row {row}");
+    }
+}
+
+// The faults with their numbers and their words.
+const PUSH_FAULTS: [(PushFault, &str); 3] = [
+    (
+        PushFault::DoesNotFit,
+        "1 a value that does not fit the field",
+    ),
+    (
+        PushFault::TooLong,
+        "2 more slots or bytes than a column can have",
+    ),
+    (PushFault::Memory, "3 out of memory"),
+];
+
+const ARRAY_FAULTS: [(ArrayFault, &str); 3] = [
+    (
+        ArrayFault::DictionaryType,
+        "1 a dictionary of another type than the field's values",
+    ),
+    (ArrayFault::IndexRange, "2 an index without a value"),
+    (ArrayFault::Memory, "3 out of memory"),
+];
+
+#[test]
+fn faults_are_told(rt: HostRuntime) {
+    for &(fault, want) in &PUSH_FAULTS {
+        let got = format!(in rt.alloc(); "{} {fault}", fault.number()).expect(&rt, MEMORY);
+        assert_eq!(&rt; got.as_str(), want);
+    }
+    for &(fault, want) in &ARRAY_FAULTS {
+        let got = format!(in rt.alloc(); "{} {fault}", fault.number()).expect(&rt, MEMORY);
+        assert_eq!(&rt; got.as_str(), want);
+    }
 }

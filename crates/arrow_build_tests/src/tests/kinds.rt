@@ -11,6 +11,8 @@ pub(super) enum Kind {
     Null,
     Bool,
     Int(BitWidth, bool),
+    // Numbers of 8 bits that are said not to be null.
+    Required,
     Binary,
     LargeBinary,
     Utf8,
@@ -26,6 +28,8 @@ pub(super) enum Kind {
     LargeList,
     // Structs of a number of 8 bits and a text.
     Struct,
+    // Structs of nothing.
+    Empty,
     // Lists of these structs.
     ListOfStructs,
     // Structs of a number of 8 bits and a list of them.
@@ -59,6 +63,13 @@ fn plain(rt: &(impl Abort + AllocGlobal), data_type: DataType) -> Field {
         nullable: true,
         data_type,
         dictionary: None,
+    }
+}
+
+fn required(rt: &(impl Abort + AllocGlobal)) -> Field {
+    Field {
+        nullable: false,
+        ..plain(rt, int8())
     }
 }
 
@@ -103,6 +114,7 @@ fn field(rt: &(impl Abort + AllocGlobal), kind: Kind) -> Field {
         Kind::Null => plain(rt, DataType::Null),
         Kind::Bool => plain(rt, DataType::Bool),
         Kind::Int(bits, signed) => plain(rt, DataType::Int { bits, signed }),
+        Kind::Required => required(rt),
         Kind::Binary => plain(rt, DataType::Binary),
         Kind::LargeBinary => plain(rt, DataType::LargeBinary),
         Kind::Utf8 => plain(rt, DataType::Utf8),
@@ -117,6 +129,7 @@ fn field(rt: &(impl Abort + AllocGlobal), kind: Kind) -> Field {
         Kind::List => list(rt, plain(rt, int8())),
         Kind::LargeList => plain(rt, DataType::LargeList(boxed(rt, plain(rt, int8())))),
         Kind::Struct => pair(rt, plain(rt, DataType::Utf8)),
+        Kind::Empty => plain(rt, DataType::Struct(Vec::new(rt.alloc()))),
         Kind::ListOfStructs => list(rt, pair(rt, plain(rt, DataType::Utf8))),
         Kind::StructOfLists => pair(rt, list(rt, plain(rt, int8()))),
         Kind::ListOfIndices => list(rt, encoded(rt, false)),

@@ -166,7 +166,9 @@ fn value(rt: &(impl Abort + AllocGlobal), kind: Kind, slot: usize) -> Value {
         Kind::List | Kind::LargeList => items(rt, slot),
         Kind::Struct => pair(rt, slot),
         Kind::ListOfStructs => pairs(rt, slot),
-        Kind::StructOfLists
+        Kind::Required
+        | Kind::Empty
+        | Kind::StructOfLists
         | Kind::Indices
         | Kind::SignedIndices
         | Kind::ListOfIndices

@@ -104,3 +104,16 @@ fn refused_values_leave_no_count(rt: HostRuntime) {
     let text = told(&rt, &array);
     assert_eq!(&rt; text.as_str(), "[], null");
 }
+
+// 2^18 * 2^22 is 2^40: all items but the last are counted before the list is refused. What is taken
+// next would be too much behind them.
+#[test]
+fn refused_items_leave_no_count(rt: HostRuntime) {
+    let mut column = builder(&rt, Kind::WideList(1 << 22));
+    let answer = column.push(&items(&rt, &(1 << 18, &[Null])));
+    assert!(&rt; answer == Err(PushFault::TooLong));
+    column
+        .push(&value(&rt, &[Null, List(1)]))
+        .expect(&rt, "a list of one item");
+    assert!(&rt; column.len() == 1);
+}

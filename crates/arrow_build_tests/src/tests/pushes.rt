@@ -12,14 +12,32 @@ use std::process::Abort;
 // A value, and whether it fits.
 type Push = (&'static [Step], bool);
 
-static PUSHES: [(Kind, &[Push], &str); 24] = [
-    (Kind::Null, &[(&[Null], true), (&[Int(0)], false)], "null"),
+static PUSHES: [(Kind, &[Push], &str); 26] = [
+    (
+        Kind::Null,
+        &[
+            (&[Null], true),
+            (&[Int(0)], false),
+            (&[Bool(false)], false),
+            (&[Bytes(&[])], false),
+            (&[Text("")], false),
+            (&[List(0)], false),
+            (&[Struct(0)], false),
+        ],
+        "null",
+    ),
+    (
+        Kind::Required,
+        &[(&[Int(1)], true), (&[Null], true), (&[Text("")], false)],
+        "1, null",
+    ),
     (
         Kind::Bool,
         &[
             (&[Bool(true)], true),
             (&[Null], true),
             (&[Int(1)], false),
+            (&[List(0)], false),
             (&[Bool(false)], true),
         ],
         "true, null, false",
@@ -32,6 +50,8 @@ static PUSHES: [(Kind, &[Push], &str); 24] = [
             (&[Int(-128)], true),
             (&[Int(-129)], false),
             (&[Text("1")], false),
+            (&[Bool(true)], false),
+            (&[List(0)], false),
         ],
         "127, -128",
     ),
@@ -57,8 +77,13 @@ static PUSHES: [(Kind, &[Push], &str); 24] = [
     ),
     (
         Kind::Int(Sixteen, false),
-        &[(&[Int(65535)], true), (&[Int(65536)], false)],
-        "65535",
+        &[
+            (&[Int(65535)], true),
+            (&[Int(65536)], false),
+            (&[Int(0)], true),
+            (&[Int(-1)], false),
+        ],
+        "65535, 0",
     ),
     (
         Kind::Int(ThirtyTwo, true),
@@ -73,8 +98,13 @@ static PUSHES: [(Kind, &[Push], &str); 24] = [
     ),
     (
         Kind::Int(ThirtyTwo, false),
-        &[(&[Int(4294967295)], true), (&[Int(4294967296)], false)],
-        "4294967295",
+        &[
+            (&[Int(4294967295)], true),
+            (&[Int(4294967296)], false),
+            (&[Int(0)], true),
+            (&[Int(-1)], false),
+        ],
+        "4294967295, 0",
     ),
     (
         Kind::Int(SixtyFour, true),
@@ -91,8 +121,10 @@ static PUSHES: [(Kind, &[Push], &str); 24] = [
         &[
             (&[Int(18446744073709551615)], true),
             (&[Int(18446744073709551616)], false),
+            (&[Int(0)], true),
+            (&[Int(-1)], false),
         ],
-        "18446744073709551615",
+        "18446744073709551615, 0",
     ),
     (
         Kind::Duration,
@@ -104,6 +136,7 @@ static PUSHES: [(Kind, &[Push], &str); 24] = [
         &[
             (&[Bytes(&[0, 255])], true),
             (&[Text("a")], false),
+            (&[List(0)], false),
             (&[Null], true),
             (&[Bytes(&[])], true),
             (&[Bytes(&[7])], true),
@@ -121,6 +154,7 @@ static PUSHES: [(Kind, &[Push], &str); 24] = [
             (&[Bytes(&[0, 1, 255])], true),
             (&[Bytes(&[0, 1])], false),
             (&[Bytes(&[0, 1, 2, 3])], false),
+            (&[Text("abc")], false),
             (&[Null], true),
             (&[Bytes(&[3, 2, 1])], true),
         ],
@@ -132,6 +166,7 @@ static PUSHES: [(Kind, &[Push], &str); 24] = [
             (&[Text("a")], true),
             (&[Null], true),
             (&[Bytes(&[97])], false),
+            (&[List(0)], false),
             (&[Text("")], true),
             (&[Text("ä€")], true),
         ],
@@ -152,6 +187,9 @@ static PUSHES: [(Kind, &[Push], &str); 24] = [
             (&[List(0)], true),
             (&[Null, Int(5), List(2)], true),
             (&[Int(6)], false),
+            (&[Int(6), Struct(1)], false),
+            (&[Struct(0)], false),
+            (&[Text("")], false),
         ],
         "[1;2;], null, [], [null;5;]",
     ),
@@ -172,6 +210,9 @@ static PUSHES: [(Kind, &[Push], &str); 24] = [
             (&[Int(2), Text("b"), Null, Struct(3)], false),
             (&[Int(2), Int(3), Struct(2)], false),
             (&[Int(2), Text("b"), List(2)], false),
+            (&[Int(2)], false),
+            (&[Bool(true)], false),
+            (&[Bytes(&[])], false),
             (&[Null], true),
             (&[Null, Null, Struct(2)], true),
         ],
@@ -200,6 +241,12 @@ static PUSHES: [(Kind, &[Push], &str); 24] = [
             (&[Null, Int(5), List(1), Struct(2)], true),
         ],
         " 1 [2;3;], null null null,  4 null,  null [5;]",
+    ),
+    // A field without fields has structs without parts.
+    (
+        Kind::Empty,
+        &[(&[Struct(0)], true), (&[Null], true), (&[List(0)], false)],
+        ", null",
     ),
     (Kind::Utf8, &[], ""),
     (Kind::ListOfStructs, &[(&[Int(1)], false)], ""),

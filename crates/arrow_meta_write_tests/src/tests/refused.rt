@@ -2,7 +2,7 @@
 
 use arrow_meta::{Header, Message, RecordBatch};
 use arrow_meta_write::encoded_size;
-use arrow_types::FieldNode;
+use arrow_types::{BitWidth, DataType, Field, FieldNode, Schema};
 use std::alloc::Global;
 
 // The message of an empty batch.
@@ -64,4 +64,63 @@ fn size_of_nodes(alloc: Global, count: usize) -> Option<u64> {
 fn no_metadata_are_longer_than_a_gibibyte(rt: HostRuntime) {
     assert_eq!(rt; size_of_nodes(rt.alloc(), 67_108_858), Some(1 << 30));
     assert_eq!(rt; size_of_nodes(rt.alloc(), 67_108_859), None);
+}
+
+// 2^20 letters.
+fn piece(alloc: Global) -> Option<String> {
+    let mut text = String::from_str(alloc, "n").ok()?;
+    for _ in 0..20 {
+        let half = String::from_str(alloc, &text).ok()?;
+        text.push_str(&half).ok()?;
+    }
+    Some(text)
+}
+
+// So many letters.
+fn letters(alloc: Global, count: usize) -> Option<String> {
+    let piece = piece(alloc)?;
+    let mut text = String::with_capacity(alloc, count).ok()?;
+    for _ in 0..count / piece.len().max(1) {
+        text.push_str(&piece).ok()?;
+    }
+    fill(&mut text, count)?;
+    Some(text)
+}
+
+// Puts letters behind the others until there are so many.
+fn fill(text: &mut String, count: usize) -> Option<()> {
+    for _ in text.len()..count {
+        text.push_str("n").ok()?;
+    }
+    Some(())
+}
+
+// The size of the message of a column of numbers whose name has so many letters.
+fn size_of_name(alloc: Global, count: usize) -> Option<u64> {
+    let mut fields = Vec::new(alloc);
+    let column = Field {
+        name: letters(alloc, count)?,
+        nullable: true,
+        data_type: DataType::Int {
+            bits: BitWidth::ThirtyTwo,
+            signed: true,
+        },
+        dictionary: None,
+    };
+    fields.push(column).ok()?;
+    encoded_size(&Message {
+        version: 4,
+        header: Header::Schema(Schema::new(alloc, fields).ok()?),
+        body_len: 0,
+    })
+}
+
+// The name, which begins at place 112, and a 0 byte; the vtable of the type at the next even place,
+// 8 bytes; its table, 12 bytes with the zero bytes behind it, at the next multiple of 8, and the
+// count of its children: 144 bytes with one letter, 2^30 with 2^30 - 137, and 8 more with one more.
+#[test]
+fn names_are_as_long_as_metadata_let_them(rt: HostRuntime) {
+    assert_eq!(rt; size_of_name(rt.alloc(), 1), Some(144));
+    assert_eq!(rt; size_of_name(rt.alloc(), 1_073_741_687), Some(1 << 30));
+    assert_eq!(rt; size_of_name(rt.alloc(), 1_073_741_688), None);
 }

@@ -42,6 +42,38 @@ fn messages_are_written_byte_for_byte(rt: HostRuntime) {
     }
 }
 
+const LESS: [u8; 8] = [255; 8];
+
+// Metadata with another number at a place: the length of a batch, the nulls of its node, the offset
+// and the length of its first buffer, and the id of a dictionary.
+static NUMBERS: [(&[u8], usize, [u8; 8]); 7] = [
+    (&ONE_BATCH, 64, [0; 8]),
+    (&ONE_BATCH, 64, LESS),
+    (&ONE_BATCH, 96, LESS),
+    (&ONE_BATCH, 112, LESS),
+    (&ONE_BATCH, 120, LESS),
+    (&ABC, 64, LESS),
+    (&ABC, 64, [0xfe, 0xff, 0xff, 0xff, 0, 0, 0, 0]),
+];
+
+// The bytes with these in their place.
+fn changed(alloc: Global, bytes: &[u8], place: usize, number: &[u8]) -> Option<Vec<u8>> {
+    let mut changed = Vec::from_slice(alloc, &bytes[..place.min(bytes.len())]).ok()?;
+    changed.extend_from_slice(number).ok()?;
+    let end = changed.len().min(bytes.len());
+    changed.extend_from_slice(&bytes[end..]).ok()?;
+    Some(changed)
+}
+
+#[test]
+fn other_numbers_are_written_byte_for_byte(rt: HostRuntime) {
+    for (bytes, place, number) in &NUMBERS {
+        let other = changed(rt.alloc(), bytes, *place, number).expect(&rt, "memory");
+        assert_eq!(rt; other.len(), bytes.len());
+        assert!(rt; is_written(rt.alloc(), &other), "at {place}");
+    }
+}
+
 // Places in the metadata of a schema and of a dictionary batch, with what stands there: of a
 // vtable its size and that of its table, of a table the way back to its vtable, of a vector its
 // count.

@@ -8,7 +8,7 @@ use arrow_types::{DataType, Field, Schema};
 use std::process::Abort;
 use std::rc::Rc;
 
-const MEMORY: &str = "memory";
+pub(super) const MEMORY: &str = "memory";
 
 /// A schema of one column of texts.
 fn texts(rt: &(impl Abort + AllocGlobal)) -> Schema {
@@ -36,7 +36,7 @@ fn push_text(rt: &(impl Abort + AllocGlobal), column: &mut ArrayBuilder, text: &
 }
 
 /// The dictionary of these texts.
-fn dictionary(rt: &(impl Abort + AllocGlobal), words: &[&str]) -> Dictionary {
+pub(super) fn dictionary(rt: &(impl Abort + AllocGlobal), words: &[&str]) -> Dictionary {
     let mut column = builder(rt, &texts(rt));
     for word in words {
         push_text(rt, &mut column, word);
@@ -66,7 +66,8 @@ fn column(
         .expect(rt, "an array")
 }
 
-fn batch(
+/// A batch of these columns.
+pub(super) fn batch(
     rt: &(impl Abort + AllocGlobal),
     schema: Schema,
     columns: Vec<Array>,

@@ -7,9 +7,11 @@ use super::stream::Stream::{
     self, FromNoValues, Gap, Growing, Hiding, NoColumns, Numbers, Numbers64, OnlyX, Other, Renamed,
     Resent, SecondLeftOut, Shared, Tidy, TwiceX,
 };
-use super::writers::{DELTA, DELTA_64, RESEND, assert_shown, finished, limits_of, written};
+use super::writers::{
+    DELTA, DELTA_64, RESEND, assert_shown, finished, limits_of, roomy, writer_of, written,
+};
 use arrow_sink::Sink;
-use arrow_sink::probe::{Failing, Narrow};
+use arrow_sink::probe::Narrow;
 use arrow_writer::{Options, StreamWriter};
 use arrow_written::WriteFault::{self, DictionariesDiffer, Finished, SchemaDiffers, TooLarge};
 use std::process::Abort;
@@ -229,7 +231,7 @@ static REFUSED: [Calls; 4] = [
 
 // A limit is passed by the rows of a dictionary after its update, by the rows of a batch, by the
 // body of a dictionary or of a batch, and by the metadata of a batch.
-static LIMITED: [Calls; 9] = [
+static LIMITED: [Calls; 10] = [
     Calls {
         schema: Growing,
         options: DELTA,
@@ -309,6 +311,13 @@ static LIMITED: [Calls; 9] = [
     Calls {
         schema: NoColumns,
         options: DELTA,
+        limits: (96, 0, 2),
+        calls: &[(Read(NoColumns, 0), (Some(TooLarge), 72, ""))],
+        written: NoColumns,
+    },
+    Calls {
+        schema: NoColumns,
+        options: DELTA,
         limits: (95, 0, 3),
         calls: &[
             (Read(NoColumns, 0), (Some(TooLarge), 72, "")),
@@ -318,20 +327,9 @@ static LIMITED: [Calls; 9] = [
     },
 ];
 
-/// A sink that takes all.
-fn roomy(rt: &(impl Abort + AllocGlobal)) -> Narrow {
-    Narrow::new(rt.alloc(), usize::MAX, usize::MAX, Failing::ByError)
-}
-
 fn started(rt: &(impl Abort + AllocGlobal), row: &Calls) -> StreamWriter<Narrow> {
-    let sink = roomy(rt);
-    assert!(rt; sink.failures() < u64::MAX);
-    let schema = schema_of(rt, row.schema);
     let limits = limits_of(rt, row.limits);
-    match StreamWriter::start(rt.alloc(), sink, &schema, row.options, limits) {
-        Ok(writer) => writer,
-        Err(_) => panic!(rt; "refused schema"),
-    }
+    writer_of(rt, &schema_of(rt, row.schema), row.options, limits)
 }
 
 fn called(
@@ -406,5 +404,6 @@ fn assert_schema(rt: &(impl Abort + AllocGlobal), stream: Stream, options: Optio
 fn schemas_that_are_refused(rt: HostRuntime) {
     assert_schema(&rt, Growing, DELTA, 191);
     assert_schema(&rt, Numbers, RESEND, 143);
+    assert_schema(&rt, Numbers, DELTA_64, 183);
     assert_schema(&rt, NoColumns, DELTA, 63);
 }

@@ -4,7 +4,7 @@ use super::beginnings::{self, Frame, beginning};
 use super::building::pair;
 use super::reading::{batch_of, batches_of, schema_of};
 use super::stream::Stream::{
-    self, ClosedGap, Empty, Gap, Growing, NoColumns, Other, Resent, SecondLeftOut, TwiceX,
+    self, ClosedGap, Empty, Gap, Growing, NoColumns, Other, Resent, SecondLeftOut, Shared, TwiceX,
 };
 use super::telling::{push_dictionaries, push_received};
 use super::writers::{DELTA, RESEND, limits_of};
@@ -293,6 +293,19 @@ fn batches_of_two_dictionaries_are_left_out(rt: HostRuntime) {
         Limits::standard(),
         &connections,
         &[(text, TwiceX.bytes())],
+        0,
+    );
+}
+
+#[test]
+fn dictionaries_by_rising_id(rt: HostRuntime) {
+    let connections = [connection(&rt, Shared, DELTA)];
+    let text = "448 728 8 -2:red 5:catdog | dogcatred__dog -2:red 5:catdog Clean";
+    assert_reports(
+        &rt,
+        Limits::standard(),
+        &connections,
+        &[(text, Shared.bytes())],
         0,
     );
 }

@@ -25,6 +25,7 @@ pub(super) enum Stream {
     Shared,
     Nested,
     ManyTypes,
+    LongLists,
 }
 
 impl Stream {
@@ -51,6 +52,7 @@ impl Stream {
             Stream::Shared => &written::SHARED,
             Stream::Nested => &written::NESTED,
             Stream::ManyTypes => &written::MANY_TYPES,
+            Stream::LongLists => &written::LONG_LISTS,
         }
     }
 }

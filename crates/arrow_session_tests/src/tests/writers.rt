@@ -7,8 +7,8 @@ use arrow_array::Batch;
 use arrow_body_write::Align;
 use arrow_dict::Updates;
 use arrow_sink::Sink;
-use arrow_sink::probe::Narrow;
-use arrow_types::Limits;
+use arrow_sink::probe::{Failing, Narrow};
+use arrow_types::{Limits, Schema};
 use arrow_writer::{Options, StreamWriter};
 use arrow_written::WriteFault;
 use std::process::Abort;
@@ -31,6 +31,26 @@ pub(super) const DELTA_64: Options = Options {
 /// Limits on the bytes of metadata, on those of a body, and on rows.
 pub(super) fn limits_of(rt: &impl Abort, limits: (u64, u64, u64)) -> Limits {
     Limits::new(limits.0, limits.1, limits.2).expect(rt, "limits")
+}
+
+/// A sink that takes all.
+pub(super) fn roomy(rt: &(impl Abort + AllocGlobal)) -> Narrow {
+    Narrow::new(rt.alloc(), usize::MAX, usize::MAX, Failing::ByError)
+}
+
+/// A writer of batches of this schema, into a sink that takes all.
+pub(super) fn writer_of(
+    rt: &(impl Abort + AllocGlobal),
+    schema: &Schema,
+    options: Options,
+    limits: Limits,
+) -> StreamWriter<Narrow> {
+    let sink = roomy(rt);
+    assert!(rt; sink.failures() < u64::MAX);
+    match StreamWriter::start(rt.alloc(), sink, schema, options, limits) {
+        Ok(writer) => writer,
+        Err(_) => panic!(rt; "refused schema"),
+    }
 }
 
 /// What a batch is refused with.

@@ -1,0 +1,97 @@
+//! Batches of a schema that differs from the writer's in one thing.
+
+use super::building::{MEMORY, batch};
+use super::writers::{DELTA, writer_of, written};
+use arrow_array::Batch;
+use arrow_build::ArrayBuilder;
+use arrow_types::{BitWidth, DataType, Encoding, Field, IndexType, Limits, Schema};
+use arrow_written::WriteFault;
+use std::process::Abort;
+
+/// The id of a dictionary, the width of the indices into it, whether they have a sign, and whether
+/// it is ordered.
+type Indices = (i64, BitWidth, bool, bool);
+
+/// The name of a column, whether it may have nulls, whether it has texts or byte strings, and its
+/// indices.
+type Column = (&'static str, bool, bool, Option<Indices>);
+
+const INDICES: Indices = (0, BitWidth::ThirtyTwo, true, false);
+
+const LETTERS: Column = ("k", true, true, Some(INDICES));
+
+// The columns that differ from it in one thing each.
+static OTHERS: [Column; 8] = [
+    ("K", true, true, Some(INDICES)),
+    ("k", false, true, Some(INDICES)),
+    ("k", true, false, Some(INDICES)),
+    ("k", true, true, None),
+    ("k", true, true, Some((1, BitWidth::ThirtyTwo, true, false))),
+    ("k", true, true, Some((0, BitWidth::SixtyFour, true, false))),
+    (
+        "k",
+        true,
+        true,
+        Some((0, BitWidth::ThirtyTwo, false, false)),
+    ),
+    ("k", true, true, Some((0, BitWidth::ThirtyTwo, true, true))),
+];
+
+fn encoding(indices: Indices) -> Encoding {
+    let (id, bits, signed, ordered) = indices;
+    Encoding {
+        id,
+        index: IndexType { bits, signed },
+        ordered,
+    }
+}
+
+fn field_of(rt: &(impl Abort + AllocGlobal), column: Column) -> Field {
+    let (name, nullable, is_text, indices) = column;
+    let data_type = if is_text {
+        DataType::Utf8
+    } else {
+        DataType::Binary
+    };
+    Field {
+        name: String::from_str(rt.alloc(), name).expect(rt, MEMORY),
+        nullable,
+        data_type,
+        dictionary: match indices {
+            Some(indices) => Some(encoding(indices)),
+            None => None,
+        },
+    }
+}
+
+/// A batch of this column, without rows.
+fn batch_of(rt: &(impl Abort + AllocGlobal), column: Column) -> Batch {
+    let mut fields = Vec::new(rt.alloc());
+    fields.push(field_of(rt, column)).expect(rt, MEMORY);
+    let schema = Schema::new(rt.alloc(), fields).expect(rt, "a schema");
+    let fields = schema.fields();
+    assert!(rt; !fields.is_empty());
+    let array = ArrayBuilder::new(rt.alloc(), &fields[0]).expect(rt, MEMORY);
+    let array = array.finish(rt.alloc(), &[]).expect(rt, "an array");
+    let mut arrays = Vec::new(rt.alloc());
+    arrays.push(array).expect(rt, MEMORY);
+    batch(rt, schema, arrays, 0)
+}
+
+/// What a writer of the first column answers to a batch of the second one.
+fn answer(rt: &(impl Abort + AllocGlobal), one: Column, other: Column) -> Option<WriteFault> {
+    let of_one = batch_of(rt, one);
+    let mut writer = writer_of(rt, of_one.schema(), DELTA, Limits::standard());
+    written(rt, &mut writer, &batch_of(rt, other))
+}
+
+#[test]
+fn schemas_that_differ_in_one_thing(rt: HostRuntime) {
+    assert!(rt; answer(&rt, LETTERS, LETTERS).is_none());
+    for (number, other) in OTHERS.iter().enumerate() {
+        let answers = [answer(&rt, LETTERS, *other), answer(&rt, *other, LETTERS)];
+        let refused = Some(WriteFault::SchemaDiffers);
+        assert!(rt; answers == [refused, refused], "{number}: {answers:?}");
+        assert!(rt; answer(&rt, *other, *other).is_none(), "{number}");
+    }
+}
