@@ -248,6 +248,15 @@ def closed_gap():
     return [list_after_a_gap()[0], batch(lists([[8]], numbers)), END_MARKER]
 
 
+def long_lists():
+    """Lists of nulls by a dictionary of two, whose items are 2^31 in all: the first list has as many as 32 bits count, and the
+    second one comes with the second batch."""
+    def one_list(count):
+        return dictionary_batch(0, frames.Column([(1, 0), (count, count)], [b"", struct.pack("<2i", 0, count)]), count == 1)
+    return [schema(field("k", LIST, [field("item", NULL)], encoding=dictionary(0))), one_list(2 ** 31 - 1), batch(numbers([0])),
+            one_list(1), batch(numbers([1])), END_MARKER]
+
+
 def written():
     """The streams that the tests of arrow_writer and arrow_session hold, with what each is: what is read, and what is to be
     written of it."""
@@ -290,6 +299,8 @@ def written():
         "NESTED": ("Lists and structs of letters by one dictionary.", encoded("BELOW ABC BELOW_ROWS END")),
         "MANY_TYPES": ("One batch of nulls, integers, byte strings, dates, times and timestamps.",
                        joined(COLUMNS, "MANY MANY_ROWS END")),
+        "LONG_LISTS": ("Two batches of lists of nulls by a dictionary with 2^31 items, the last of which comes by a delta.",
+                       b"".join(long_lists())),
     }
 
 
