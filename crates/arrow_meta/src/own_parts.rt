@@ -39,6 +39,7 @@ pub(crate) fn same_tag(one: &[Tree], other: &[Tree]) -> bool
     same_code(code, code_in(other)) && same_part(code, table_of(one), table_of(other))
 }
 
+/// Whether two codes are the same.
 fn same_code(one: TypeCode, other: TypeCode) -> bool
     ensures same { IsTrue result ↔ (one ≡ other) }
 {
@@ -94,7 +95,8 @@ fn same_part(code: TypeCode, one: &[Tree], other: &[Tree]) -> bool
 
 /// Whether two time zones are the same, or both are absent.
 fn same_zone(one: Option<&str>, other: Option<&str>) -> bool
-    ensures same { IsTrue result ↔ (option_map lent_bytes one.entry ≡ option_map lent_bytes other.entry) }
+    ensures same { IsTrue result
+        ↔ (option_map lent_bytes one.entry ≡ option_map lent_bytes other.entry) }
 {
     match (one, other) {
         (None, None) => true,

@@ -20,7 +20,7 @@ const SHARED: usize = 65_536;
 pub(crate) struct Held {
     alloc: Global,
     storage: Storage,
-    /// For how many bytes there was room where most were held.
+    /// For how many bytes there was room in memory that was shared, where it was most.
     room: usize,
 }
 
@@ -112,7 +112,7 @@ impl Held {
         match Bytes::from_vec(mem::replace(bytes, Vec::new(self.alloc))) {
             Ok(message) => {
                 self.storage = Storage::Whole(message);
-                self.room = room;
+                self.room = room.max(self.room);
                 Ok(())
             }
             Err(AllocFailed { value }) => {

@@ -1,4 +1,4 @@
-use Rattle.std.proofs.Common.{◌≡◌, ◌+◌, ◌++◌, length, refl, ap, sym, ◌∙◌, arith, length-append}
+use Rattle.std.proofs.Common.{◌≡◌, ◌+◌, ◌++◌, length, refl, ap, ◌∙◌, arith, length-append}
 use Rattle.arrow_stream.proofs.Firsts.{HasMetadata-append}
 use Rattle.arrow_stream.proofs.Works.{frame_small, is_ready, body_said, not_finished}
 use Rattle.arrow_stream.proofs.work.Work.finish.Goals as goal
