@@ -1,10 +1,12 @@
 //! A stream copied piece by piece.
 
-ghost use Rattle.std.specs.Prelude.{◌≡◌, ◌<◌, ◌-◌, ◌^◌, [], IfOk, Ok, OnOk, false, length};
+ghost use Rattle.std.specs.Prelude.{◌≡◌, ◌<◌, ◌-◌, ◌^◌, [], Err, IfOk, Ok, OnOk, false, length};
 ghost use Rattle.arrow_stream.specs.declared.reader.Verdict.TheVariants.{Open};
-ghost use Rattle.arrow_stream.specs.Stream.{Stands};
+ghost use Rattle.arrow_stream.specs.Stream.{Stands, ended_so};
 ghost use Rattle.arrow_writer.specs.Shown.{options_view};
+ghost use Rattle.arrowflow.specs.Faults.{told_end};
 ghost use Rattle.arrowflow.specs.Reads.{BlamesNoInput, answer_by};
+ghost use Rattle.arrowflow.specs.declared.tool_fault.ToolFault.{ToolFault};
 ghost use Rattle.arrowflow_copy.specs.Copy.{CopiesInput};
 ghost use Rattle.arrowflow_copy.specs.Copying.{CopiesPiece, EndsCopy, IsGoing, failures_at};
 ghost use Rattle.arrowflow_copy.specs.Copying.{held_at};
@@ -151,6 +153,8 @@ fn end<S: Sink>(reader: &StreamReader, target: Target<S>) -> (Target<S>, Result<
     requires failed { failures_at (at_of S.contents S.failed target) < 2 ^ 64 - 1 }
     ensures ended { EndsCopy reader.now (at_of S.contents S.failed target) result.1
         (at_of S.contents S.failed result.0) }
+    ensures told { (fault : ToolFault) → told_end (ended_so reader.now.at) ≡ Err fault
+        → result.1 ≡ Err fault }
     ensures passed { OnOk result.1 (IsPassedOn S.is_passed_on result.0) }
 {
     match reader.end() {
