@@ -1,5 +1,5 @@
 -- Where a text may be cut.
-use Rattle.std.proofs.Common.{◌≡◌, ◌↔◌, ℕ, ◌+◌, ◌-◌, ◌<◌, ◌≤◌, Bool, IsTrue, List, length, take, drop, get_or, ap, sym, ◌∙◌, subst, arith}
+use Rattle.std.proofs.Common.{◌≡◌, ◌↔◌, ℕ, zero, suc, refl, ◌+◌, ◌-◌, ◌<◌, ◌≤◌, Bool, IsTrue, List, length, take, drop, get_or, ap, sym, ◌∙◌, subst, arith}
 use Rattle.std.specs.Prelude.{slice_range, IsUtf8, IsCharBoundary}
 use Rattle.std.specs.List.Sorted.{IsNonDecreasing}
 use Rattle.std.proofs.Math.Seq.{take-add}
@@ -8,7 +8,7 @@ use Rattle.std.proofs.lemmas.Str.{IsCharBoundary-from_take, IsCharBoundary-start
 use Rattle.arrow_bits.specs.Offsets.{plain_list}
 use Rattle.arrow_bits.proofs.Rising.{length_offsets, length_large_offsets, offset_found, large_offset_found}
 use Rattle.arrow_array.specs.Form.{offset_bytes}
-use Rattle.arrow_array.specs.Slots.{place_of, range_of}
+use Rattle.arrow_array.specs.Slots.{place_of, range_of, AreCuts, AreTexts}
 use Rattle.arrow_array.specs.declared.form.OffsetWidth.{OffsetWidth}
 use Rattle.arrow_array.specs.declared.form.OffsetWidth.TheVariants.{Small, Large}
 
@@ -39,6 +39,9 @@ part_of_range xs first last i j below order above =
     ap (λ n. drop (i - first) (take n (drop first xs))) (sym long) ∙ drop-take (i - first) (last - i) (drop first xs) ∙ ap (take (last - i)) (drop-drop (i - first) first xs ∙ ap (λ n. drop n xs) back) in
     ap (λ n. take n (drop (i - first) (take (last - first) (drop first xs)))) width ∙ ap (take (j - i)) cut ∙ take-take (j - i) (last - i) (drop i xs) (omega (arith, order, above))
 
+none_taken : (n : ℕ) → 0 ≡ n - n
+none_taken n = omega arith
+
 -- offsets in their order
 pub places_order : (width : OffsetWidth) (offsets : List ℕ) (len i k : ℕ) → IsNonDecreasing (plain_list (offset_bytes width) len offsets) → i ≤ k → k ≤ len → place_of width offsets i ≤ place_of width offsets k
 places_order Small offsets len i k rises order inside =
@@ -66,3 +69,25 @@ part_decides bs i j r whole order inside cuts = (
   λ t. let both = cuts.0 t in IsUtf8-between bs i j whole (omega (arith, order)) both.0 both.1,
   λ part. cuts.1 (part_begins bs i j order inside part, part_ends bs i j whole order inside part),
 )
+
+-- a text may be cut before a slot where it may be cut behind each
+cut_before : (width : OffsetWidth) (offsets text : List ℕ) (len j : ℕ) → IsUtf8 text → AreCuts width len offsets text → j < len
+    → IsCharBoundary text (place_of width offsets j - place_of width offsets 0)
+cut_before width offsets text len zero utf8 cuts below =
+    subst (IsCharBoundary text) (none_taken (place_of width offsets 0)) (IsCharBoundary-start text utf8)
+cut_before width offsets text len (suc k) utf8 cuts below =
+    let next : k + 1 ≡ suc k = omega arith in
+    subst (λ n. IsCharBoundary text (place_of width offsets n - place_of width offsets 0)) next (cuts k (omega (arith, below)))
+
+-- then each slot is a text, valid or not
+pub cuts_texts : (width : OffsetWidth) (len : ℕ) (validity offsets bytes text : List ℕ) → IsNonDecreasing (plain_list (offset_bytes width) len offsets)
+    → text ≡ slice_range bytes (place_of width offsets 0) (place_of width offsets len) → IsUtf8 text → AreCuts width len offsets text
+    → AreTexts width len validity offsets bytes
+cuts_texts width len validity offsets bytes text rises whole utf8 cuts j below valid =
+    let before = places_order width offsets len 0 j rises (omega arith) (omega (arith, below)) in
+    let order = places_order width offsets len j (j + 1) rises (omega arith) (omega (arith, below)) in
+    let after = places_order width offsets len (j + 1) len rises (omega (arith, below)) (omega arith) in
+    let start = place_of width offsets j - place_of width offsets 0 in
+    let stop = place_of width offsets (j + 1) - place_of width offsets 0 in
+    let part = slot_in width offsets bytes text len j start stop whole before order after refl refl in
+    subst IsUtf8 part (IsUtf8-between text start stop utf8 (omega (arith, order)) (cut_before width offsets text len j utf8 cuts below) (cuts j below))

@@ -1,13 +1,18 @@
 //! Whether slots hold texts.
 //!
 //! The bytes of all slots are looked at together. Where they are a text, a slot of them is one
-//! exactly where it begins and ends between characters. Where they are not, as null slots may hide
-//! any bytes, each slot is looked at by itself.
+//! exactly where it begins and ends between characters: mostly all slots do, which is looked at
+//! first, null or not. Where the bytes are no text, as null slots may hide any bytes, each slot is
+//! looked at by itself.
 
 ghost use Rattle.std.specs.Prelude.{◌≡◌, ◌↔◌, ◌-◌, ◌+◌, ◌≤◌, ◌<◌, length, slice_range, true};
 ghost use Rattle.std.specs.Prelude.{IsTrue, IsUtf8, IsCharBoundary};
+ghost use Rattle.std.specs.List.Sorted.{IsNonDecreasing};
+ghost use Rattle.arrow_bits.specs.Offsets.{plain_list};
+ghost use Rattle.arrow_array.specs.Form.{offset_bytes};
 ghost use Rattle.arrow_array.specs.Layout.{HasStrings};
-ghost use Rattle.arrow_array.specs.Slots.{place_of, range_of, is_valid_at, AreTexts, HasOffsets};
+ghost use Rattle.arrow_array.specs.Slots.{place_of, range_of, is_valid_at, AreCuts, AreTexts};
+ghost use Rattle.arrow_array.specs.Slots.{HasOffsets};
 
 use crate::form::OffsetWidth;
 use crate::slot::{binary_at, is_valid, places_at};
@@ -27,7 +32,10 @@ pub(crate) fn are_slots_utf8(
         return true;
     }
     match simdutf8::basic::from_utf8(all_slots(width, len, offsets, bytes)) {
-        Ok(text) => are_parts(width, len, validity, offsets, bytes, text),
+        Ok(text) => {
+            are_cuts(width, len, offsets, bytes.len(), text)
+                || are_parts(width, len, validity, offsets, bytes, text)
+        }
         Err(_) => are_utf8_one_by_one(width, len, validity, offsets, bytes),
     }
 }
@@ -40,9 +48,26 @@ fn all_slots<'a>(width: OffsetWidth, len: usize, offsets: &[u8], bytes: &'a [u8]
     ensures same { result.now
         ≡ slice_range bytes.now (place_of width offsets.now 0) (place_of width offsets.now len) }
     ensures inside { place_of width offsets.now len ≤ length bytes.now }
+    ensures rising { IsNonDecreasing (plain_list (offset_bytes width) len offsets.now) }
 {
     let (start, end) = places_at(width, offsets, len, bytes.len(), 0, len);
     &bytes[start..end]
+}
+
+// Whether the text, which is the bytes of all slots, may be cut where each slot of `len` ends. (A
+// slot begins where the one before ends.)
+fn are_cuts(width: OffsetWidth, len: usize, offsets: &[u8], top: usize, text: &str) -> bool
+    requires slots { 0 < len }
+    requires rising { HasOffsets width len top offsets.now }
+    ensures { IsTrue result ↔ AreCuts width len offsets.now text.now }
+{
+    for j in 0..len {
+        let (first, end) = places_at(width, offsets, len, top, 0, j + 1);
+        if !text.is_char_boundary(end - first) {
+            return false;
+        }
+    }
+    true
 }
 
 // Whether each valid slot of `len` is UTF-8, where the bytes of all slots are the text.
