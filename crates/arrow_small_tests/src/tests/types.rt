@@ -207,6 +207,8 @@ static TIMES: [(TimeUnit, u8); 4] = [
 #[test]
 fn units_have_their_widths(rt: HostRuntime) {
     assert!(rt; BitWidth::Eight.bits() == 8);
+    assert!(rt; BitWidth::Sixteen.bits() == 16);
+    assert!(rt; BitWidth::ThirtyTwo.bits() == 32);
     assert!(rt; BitWidth::SixtyFour.bits() == 64);
     assert!(rt; DateUnit::Day.width().bits() == 32);
     assert!(rt; DateUnit::Millisecond.width().bits() == 64);
@@ -334,12 +336,35 @@ fn many_fields_come_before_a_width(rt: HostRuntime) {
     assert!(rt; fault(&rt, &steps, 0, 33) == 1);
 }
 
+// Each fault with its number and what it says.
+static WORDS: [(SchemaFault, u8, &str); 6] = [
+    (SchemaFault::TooDeep, 1, "more than 32 levels of fields"),
+    (SchemaFault::TooManyFields, 2, "more than 65,536 fields"),
+    (
+        SchemaFault::NestedDictionary,
+        3,
+        "a dictionary below a dictionary",
+    ),
+    (
+        SchemaFault::SharedIdTypesDiffer,
+        4,
+        "two value types for one dictionary id",
+    ),
+    (SchemaFault::Memory, 5, "out of memory"),
+    (
+        SchemaFault::ByteWidth,
+        6,
+        "byte strings of more than 2,147,483,647 bytes",
+    ),
+];
+
 #[test]
-fn a_fault_in_words(rt: HostRuntime) {
-    assert!(rt; SchemaFault::Memory.number() == 5);
-    assert!(rt; SchemaFault::ByteWidth.number() == 6);
-    let words = format!(in rt.alloc(); "{}", SchemaFault::NestedDictionary).expect(&rt, "memory");
-    assert!(rt; words.as_str() == "a dictionary below a dictionary");
+fn faults_in_words(rt: HostRuntime) {
+    for (fault, number, want) in &WORDS {
+        let words = format!(in rt.alloc(); "{}", fault).expect(&rt, "memory");
+        assert!(rt; fault.number() == *number, "number {number}");
+        assert!(rt; words.as_str() == *want, "number {number}");
+    }
 }
 
 // Columns, the ids of their dictionaries and how many columns there are.
