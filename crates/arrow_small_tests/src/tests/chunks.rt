@@ -1,10 +1,11 @@
 // Texts about as long as the chunks in which they are looked at, with each byte that calls for quotes
-// at each place, and byte strings of each length up to that of two chunks and one byte.
+// at each place, and byte strings of each length up to that of two chunks and one byte; and values
+// inside of structs.
 
 use arrow_array::{Batch, Value};
 use arrow_build::ArrayBuilder;
 use arrow_csv::rows;
-use arrow_types::{DataType, Field, Schema};
+use arrow_types::{BitWidth, DataType, Field, Schema};
 use std::process::Abort;
 use std::rc::Rc;
 
@@ -66,17 +67,20 @@ static BYTES: [u8; 33] = [
 
 static DIGITS: &str = "f0153a5f84a9cef3183d6287acd1f61b40658aafd4f91e43688db2d7fc21466b90";
 
+// A nullable field of this name.
+fn field(rt: &(impl Abort + AllocGlobal), name: &str, data_type: DataType) -> Field {
+    Field {
+        name: String::from_str(rt.alloc(), name).expect(rt, MEMORY),
+        nullable: true,
+        data_type,
+        dictionary: None,
+    }
+}
+
 // The schema of one nullable column without a name.
 fn schema(rt: &(impl Abort + AllocGlobal), data_type: DataType) -> Rc<Schema> {
     let mut fields = Vec::new(rt.alloc());
-    fields
-        .push(Field {
-            name: String::new(rt.alloc()),
-            nullable: true,
-            data_type,
-            dictionary: None,
-        })
-        .expect(rt, MEMORY);
+    fields.push(field(rt, "", data_type)).expect(rt, MEMORY);
     let schema = Schema::new(rt.alloc(), fields).expect(rt, "the field of a schema");
     Rc::new(rt.alloc(), schema).expect(rt, MEMORY)
 }
@@ -206,4 +210,38 @@ fn byte_strings_of_each_length(rt: HostRuntime) {
     }
     let found = records(&rt, schema, &column);
     assert_eq!(rt; found.as_slice(), want.as_slice());
+}
+
+// A struct of a number and of bytes.
+fn pair(rt: &(impl Abort + AllocGlobal), number: Value, bytes: Value) -> Value {
+    let mut values = Vec::new(rt.alloc());
+    values.push(number).expect(rt, MEMORY);
+    values.push(bytes).expect(rt, MEMORY);
+    Value::Struct(values)
+}
+
+#[test]
+fn structs_name_their_fields(rt: HostRuntime) {
+    let mut fields = Vec::new(rt.alloc());
+    let number = DataType::Int {
+        bits: BitWidth::Sixteen,
+        signed: true,
+    };
+    fields.push(field(&rt, "n", number)).expect(&rt, MEMORY);
+    fields
+        .push(field(&rt, "long name", DataType::Binary))
+        .expect(&rt, MEMORY);
+    let schema = schema(&rt, DataType::Struct(fields));
+    let mut column = builder(&rt, &schema);
+    let bytes = Value::Bytes(Vec::from_slice(rt.alloc(), &[0xab, 0x0c]).expect(&rt, MEMORY));
+    for value in [
+        pair(&rt, Value::Int(-300), bytes),
+        pair(&rt, Value::Null, Value::Null),
+        Value::Null,
+    ] {
+        column.push(&value).expect(&rt, "a value of the column");
+    }
+    let found = records(&rt, schema, &column);
+    let want = b"7,{n=-300;long name=ab0c}\n7,{n=null;long name=null}\n7,\n".as_slice();
+    assert_eq!(rt; found.as_slice(), want);
 }
