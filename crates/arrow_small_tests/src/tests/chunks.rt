@@ -1,6 +1,6 @@
 // Texts about as long as the chunks in which they are looked at, with each byte that calls for quotes
-// at each place, and byte strings of each length up to that of two chunks and one byte; and values
-// inside of structs.
+// at each place, and byte strings of each length up to that of two chunks and one byte; and truth
+// values, lists and structs.
 
 use arrow_array::{Batch, Value};
 use arrow_build::ArrayBuilder;
@@ -66,6 +66,12 @@ static BYTES: [u8; 33] = [
 ];
 
 static DIGITS: &str = "f0153a5f84a9cef3183d6287acd1f61b40658aafd4f91e43688db2d7fc21466b90";
+
+// Numbers of 16 bits.
+const NUMBER: DataType = DataType::Int {
+    bits: BitWidth::Sixteen,
+    signed: true,
+};
 
 // A nullable field of this name.
 fn field(rt: &(impl Abort + AllocGlobal), name: &str, data_type: DataType) -> Field {
@@ -223,11 +229,7 @@ fn pair(rt: &(impl Abort + AllocGlobal), number: Value, bytes: Value) -> Value {
 #[test]
 fn structs_name_their_fields(rt: HostRuntime) {
     let mut fields = Vec::new(rt.alloc());
-    let number = DataType::Int {
-        bits: BitWidth::Sixteen,
-        signed: true,
-    };
-    fields.push(field(&rt, "n", number)).expect(&rt, MEMORY);
+    fields.push(field(&rt, "n", NUMBER)).expect(&rt, MEMORY);
     fields
         .push(field(&rt, "long name", DataType::Binary))
         .expect(&rt, MEMORY);
@@ -244,4 +246,35 @@ fn structs_name_their_fields(rt: HostRuntime) {
     let found = records(&rt, schema, &column);
     let want = b"7,{n=-300;long name=ab0c}\n7,{n=null;long name=null}\n7,\n".as_slice();
     assert_eq!(rt; found.as_slice(), want);
+}
+
+#[test]
+fn truth_values_are_words(rt: HostRuntime) {
+    let schema = schema(&rt, DataType::Bool);
+    let mut column = builder(&rt, &schema);
+    for value in [Value::Bool(true), Value::Bool(false), Value::Null] {
+        column.push(&value).expect(&rt, "a value of the column");
+    }
+    let found = records(&rt, schema, &column);
+    assert_eq!(rt; found.as_slice(), b"7,true\n7,false\n7,\n".as_slice());
+}
+
+#[test]
+fn lists_part_their_items(rt: HostRuntime) {
+    let item = Box::new(rt.alloc(), field(&rt, "item", NUMBER)).expect(&rt, MEMORY);
+    let schema = schema(&rt, DataType::List(item));
+    let mut column = builder(&rt, &schema);
+    let mut values = Vec::new(rt.alloc());
+    for value in [Value::Int(1), Value::Null, Value::Int(-3)] {
+        values.push(value).expect(&rt, MEMORY);
+    }
+    for value in [
+        Value::List(values),
+        Value::List(Vec::new(rt.alloc())),
+        Value::Null,
+    ] {
+        column.push(&value).expect(&rt, "a value of the column");
+    }
+    let found = records(&rt, schema, &column);
+    assert_eq!(rt; found.as_slice(), b"7,[1;null;-3]\n7,[]\n7,\n".as_slice());
 }
