@@ -19,5 +19,6 @@ mod reading;
 mod rests;
 mod shown;
 mod stored;
+mod whole;
 mod wide;
 mod written;

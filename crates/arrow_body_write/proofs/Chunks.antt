@@ -143,11 +143,26 @@ chunks_first c cs =
     let others = stored_chunks (fields_of_columns cs) (raws_of cs) in
     sym (append_assoc own below others) ∙ ap (λ b. own ++ b ++ others) (sym (append-nil below))
 
--- what comes of a body to which these columns are added
+-- what holds of each body to which these columns are added
+abbrev pub Leads : ℕ → List Column → (Body → Type 0) → Body → Type 0
+Leads align rest P b = (z : Body) → Stores align (stored_nodes (fields_of_columns rest) (raws_of rest)) (stored_chunks (fields_of_columns rest) (raws_of rest)) b z → P z
+
+-- with one column more
+pub leads_more : (align : ℕ) (c : Column) (cs : List Column) (P : Body → Type 0) (b d : Body) → 0 < align → Leads align (c ∷ cs) P b
+    → Stores align (stored_nodes (fields_of_columns (c ∷ [])) (raws_of (c ∷ []))) (stored_chunks (fields_of_columns (c ∷ [])) (raws_of (c ∷ []))) b d → Leads align cs P d
+leads_more align c cs P b d some leads one = λ z others.
+    let both = stores_more align (stored_nodes (fields_of_columns (c ∷ [])) (raws_of (c ∷ []))) (stored_nodes (fields_of_columns cs) (raws_of cs))
+    (stored_chunks (fields_of_columns (c ∷ [])) (raws_of (c ∷ []))) (stored_chunks (fields_of_columns cs) (raws_of cs)) b d z some one others in
+    leads z (subst (λ ns. Stores align ns (stored_chunks (fields_of_columns (c ∷ cs)) (raws_of (c ∷ cs))) b z) (sym (nodes_first c cs))
+    (subst (λ xs. Stores align (stored_nodes (fields_of_columns (c ∷ [])) (raws_of (c ∷ [])) ++ stored_nodes (fields_of_columns cs) (raws_of cs)) xs b z) (sym (chunks_first c cs)) both))
+
+-- after the last
+pub leads_out : (align : ℕ) (P : Body → Type 0) (b : Body) → Leads align [] P b → P b
+leads_out align P b leads = leads b (stores_none align b)
+
+-- what comes of a body to which these columns are added: the stored body of all
 abbrev pub LeadsTo : ℕ → List Column → List Column → Body → Type 0
-LeadsTo align rest all b =
-    (z : Body) → Stores align (stored_nodes (fields_of_columns rest) (raws_of rest)) (stored_chunks (fields_of_columns rest) (raws_of rest)) b z
-    → body_view z ≡ stored align (fields_of_columns all) (raws_of all)
+LeadsTo align rest all b = Leads align rest (λ z. body_view z ≡ stored align (fields_of_columns all) (raws_of all)) b
 
 -- at the start
 pub leads_start : (align : ℕ) (cs : List Column) (b : Body) → b.nodes.items ≡ [] → b.buffers.items ≡ [] → b.bytes.items ≡ [] → LeadsTo align cs cs b
@@ -160,11 +175,7 @@ leads_start align cs b no_nodes no_buffers no_bytes = λ z all.
 -- with one column more
 pub leads_next : (align : ℕ) (c : Column) (cs all : List Column) (b d : Body) → 0 < align → LeadsTo align (c ∷ cs) all b
     → Stores align (stored_nodes (fields_of_columns (c ∷ [])) (raws_of (c ∷ []))) (stored_chunks (fields_of_columns (c ∷ [])) (raws_of (c ∷ []))) b d → LeadsTo align cs all d
-leads_next align c cs all b d some leads one = λ z others.
-    let both = stores_more align (stored_nodes (fields_of_columns (c ∷ [])) (raws_of (c ∷ []))) (stored_nodes (fields_of_columns cs) (raws_of cs))
-    (stored_chunks (fields_of_columns (c ∷ [])) (raws_of (c ∷ []))) (stored_chunks (fields_of_columns cs) (raws_of cs)) b d z some one others in
-    leads z (subst (λ ns. Stores align ns (stored_chunks (fields_of_columns (c ∷ cs)) (raws_of (c ∷ cs))) b z) (sym (nodes_first c cs))
-    (subst (λ xs. Stores align (stored_nodes (fields_of_columns (c ∷ [])) (raws_of (c ∷ [])) ++ stored_nodes (fields_of_columns cs) (raws_of cs)) xs b z) (sym (chunks_first c cs)) both))
+leads_next align c cs all b d some leads one = leads_more align c cs (λ z. body_view z ≡ stored align (fields_of_columns all) (raws_of all)) b d some leads one
 
 -- after the last
 pub leads_end : (align : ℕ) (all : List Column) (b : Body) → LeadsTo align [] all b → body_view b ≡ stored align (fields_of_columns all) (raws_of all)

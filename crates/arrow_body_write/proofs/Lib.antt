@@ -14,3 +14,4 @@ pub mod Levels
 pub mod Measures
 pub mod Chunks
 pub mod Rooms
+pub mod Wholes

@@ -133,6 +133,12 @@ told_none = record { counted = tt; small = tt }
 pub raws_both : (c : Column) (cs : List Column) → AreRaws (fields_of_columns (c ∷ [])) (raws_of (c ∷ [])) → AreRaws (fields_of_columns cs) (raws_of cs) → AreRaws (fields_of_columns (c ∷ cs)) (raws_of (c ∷ cs))
 raws_both c cs one others = (one.0, one.1, others)
 
+pub raws_one : (c : Column) (cs : List Column) → AreRaws (fields_of_columns (c ∷ cs)) (raws_of (c ∷ cs)) → AreRaws (fields_of_columns (c ∷ [])) (raws_of (c ∷ []))
+raws_one c cs all = (all.0, all.1, tt)
+
+pub raws_others : (c : Column) (cs : List Column) → AreRaws (fields_of_columns (c ∷ cs)) (raws_of (c ∷ cs)) → AreRaws (fields_of_columns cs) (raws_of cs)
+raws_others c cs all = all.2
+
 -- a size that may be
 pub allowed_size : (align : ℕ) (cs : List Column) (allowed : Option ℕ) (size : ℕ) → AreTold cs → size ≡ capped (columns_size align cs)
     → MatchOption allowed (2 ^ 62 < size) (λ len. (len ≡ size) × (len ≤ 2 ^ 62))

@@ -1,5 +1,5 @@
 -- What slots one after another of which none is null send to the nodes below them, and what a pass takes of them.
-use Rattle.std.proofs.Common.{◌≡◌, ◌≤◌, ◌<◌, ℕ, suc, ◌+◌, ◌-◌, List, [], ◌∷◌, ◌++◌, length, map, min, refl, sym, ap, ◌∙◌, subst, arith, Option, None, true, false, inl, inr}
+use Rattle.std.proofs.Common.{◌≡◌, ◌≤◌, ◌<◌, ℕ, suc, ◌+◌, ◌-◌, List, [], ◌∷◌, ◌++◌, length, map, min, refl, sym, ap, ◌∙◌, subst, arith, Option, true, inl, inr}
 use Rattle.std.specs.List.{AllByRecursion, flat_map}
 use Rattle.std.proofs.lemmas.Bool.{cases_lt}
 use Rattle.std.proofs.lemmas.List.{ext_get_or, get_or-map, length-map}
@@ -12,12 +12,12 @@ use Rattle.arrow_array.specs.PlainValue.{PlainValue, null_value, field_value, is
 use Rattle.arrow_array.proofs.Sameness.{at_values_from, length-values_from}
 use Rattle.arrow_body.specs.Taken.{flattened, taken_nodes}
 use Rattle.arrow_body_written.specs.Raws.{items_in_value, raws_below}
-use Rattle.arrow_body_write.proofs.Passing.{all_first, all_last, child_there, child_typed, no_list_sent, none_sent, takes_more, takes_next, takes_none}
+use Rattle.arrow_body_write.proofs.Passing.{all_first, all_last, child_typed, no_list_sent, none_sent, takes_more, takes_next, takes_none}
 use Rattle.arrow_body_write.proofs.Ranges.{from_both, null_of}
 use Rattle.arrow_body_write.proofs.Sending.{lists_of, only_child, sent_below, sent_more, sent_part}
 use Rattle.arrow_body_write.specs.Pass.{Takes}
 use Rattle.arrow_body_write.specs.Runs.{HasRun}
-use Rattle.arrow_body_write.specs.Sent.{IsNodeOf, nodes_of_type, sent_by, sent_in}
+use Rattle.arrow_body_write.specs.Sent.{IsNodeOf, sent_by, sent_in}
 use Rattle.arrow_body_write.specs.declared.pass.Pass.{Pass}
 
 -- what lists send to a node below them: what their items send there
@@ -40,7 +40,7 @@ pub no_run_sent : (c : Column) (start stop n : ℕ) → IsList c → flat_map it
 no_run_sent c start stop n lists none inside = lists_sent c (values_from c.raw start stop) [] n lists none inside ∙ none_sent c.data_type.children n
 
 -- the values of a field in structs of which none is null are those of its child
-fields_are : (c child : Column) (start stop k : ℕ) → HasField c k child → start ≤ stop → stop ≤ length c.raw → AreFull c start stop → map (field_value k) (values_from c.raw start stop) ≡ values_from child.raw start stop
+pub fields_are : (c child : Column) (start stop k : ℕ) → HasField c k child → start ≤ stop → stop ≤ length c.raw → AreFull c start stop → map (field_value k) (values_from c.raw start stop) ≡ values_from child.raw start stop
 fields_are c child start stop k field order inside full =
     let here = length-values_from c.raw start stop inside in
     let there = length-values_from child.raw start stop (omega (arith, inside, field.longer)) in

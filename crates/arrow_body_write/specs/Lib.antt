@@ -8,3 +8,4 @@ pub mod Storable
 pub mod Storing
 pub mod Source
 pub mod Runs
+pub mod Whole

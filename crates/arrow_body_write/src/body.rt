@@ -23,6 +23,7 @@ use crate::measured::{body_size, rest_size};
 use crate::part::{Part, part_of};
 use crate::source::Source;
 use crate::tally::Tally;
+use crate::whole::whole_below;
 use arrow_array::{Array, Dictionary};
 use arrow_types::{Buffer, FieldNode};
 use std::alloc::{AllocError, Global};
@@ -103,8 +104,8 @@ fn put_node(body: Body, align: Align, source: &Source, node: usize) -> Result<Bo
     Ok(written)
 }
 
-// Appends all nodes of the column, and their buffers.
-fn put_column(body: Body, align: Align, source: &Source) -> Result<Body, AllocError>
+// Appends all nodes of the column, and their buffers, node by node.
+fn put_by_number(body: Body, align: Align, source: &Source) -> Result<Body, AllocError>
     requires { AreTold (column_in source.now ∷ []) }
     ensures { IfOk result (Stores (alignment_of align)
         (stored_nodes (fields_of_columns (column_in source.now ∷ [])) (raws_of (column_in source.now ∷ [])))
@@ -114,6 +115,27 @@ fn put_column(body: Body, align: Align, source: &Source) -> Result<Body, AllocEr
     let mut written = body;
     for node in 0..count {
         written = put_node(written, align, source, node)?;
+    }
+    Ok(written)
+}
+
+// Appends all nodes of the array's column, and their buffers. Children that are sent whole are
+// columns by themselves after the array's own node (Columnar Format, "RecordBatch message").
+#[cycle(put)]
+fn put_column(body: Body, align: Align, array: &Array) -> Result<Body, AllocError>
+    requires told { AreTold (array.now ∷ []) }
+    requires raws { AreRaws (fields_of_columns (array.now ∷ [])) (raws_of (array.now ∷ [])) }
+    ensures { IfOk result (Stores (alignment_of align)
+        (stored_nodes (fields_of_columns (array.now ∷ [])) (raws_of (array.now ∷ [])))
+        (stored_chunks (fields_of_columns (array.now ∷ [])) (raws_of (array.now ∷ []))) body) }
+{
+    let source = Source::Slots(array);
+    let Some(children) = whole_below(array) else {
+        return put_by_number(body, align, &source);
+    };
+    let mut written = put_node(body, align, &source, 0)?;
+    for child in children {
+        written = put_column(written, align, child)?;
     }
     Ok(written)
 }
@@ -152,7 +174,7 @@ pub fn store(alloc: Global, align: Align, arrays: &[Array]) -> Result<Option<Bod
     let empty = begun(alloc, nodes_in_all(arrays), size)?;
     let mut body = empty;
     for array in arrays {
-        body = put_column(body, align, &Source::Slots(array))?;
+        body = put_column(body, align, array)?;
     }
     Ok(Some(body))
 }
@@ -187,6 +209,6 @@ pub fn store_rest(
     };
     let source = Source::Rest(dictionary, from);
     let empty = begun(alloc, nodes_in(&source), size)?;
-    let rest = put_column(empty, align, &source)?;
+    let rest = put_by_number(empty, align, &source)?;
     Ok(Some(rest))
 }

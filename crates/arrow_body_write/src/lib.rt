@@ -10,7 +10,10 @@
 //! copied that stood under a null. A node is known by its number in pre-order. One walk finds the
 //! slots that a node is sent, below lists and structs too, and either counts them or writes one of
 //! the node's buffers (`pass`); so each node is walked once to be counted and once for each buffer,
-//! and nothing is kept of the slots.
+//! and nothing is kept of the slots. Where a struct or a list is sent all slots of its children
+//! (`whole`), these are laid out as columns by themselves after its own node, level by level: so
+//! the work grows with the nodes, and not with their square. A column with nulls above others, or
+//! with slots that it does not send, is walked from its own node to each one below it.
 //!
 //! | Notion | Definition |
 //! |---|---|
@@ -20,6 +23,7 @@
 //! | where values come from | `specs/Source.antt`: `rest_of`, `column_in` |
 //! | nodes by their numbers, and what each is sent | `specs/Sent.antt`: `IsNodeOf`, `sent_to` |
 //! | slots passed, and counted | `specs/Pass.antt`: `Takes`; `specs/Tally.antt`: `IsTally` |
+//! | children that are sent whole | `specs/Whole.antt`: `AreSentWhole` |
 //! | a buffer on its way | `specs/Part.antt`: `IsWritten`; `specs/Packing.antt`; `specs/Runs.antt` |
 #![tactic(auto)]
 
@@ -37,6 +41,7 @@ pub(crate) mod sizes;
 pub(crate) mod slots;
 pub(crate) mod source;
 pub(crate) mod tally;
+pub(crate) mod whole;
 pub(crate) mod writing;
 
 pub use align::Align;

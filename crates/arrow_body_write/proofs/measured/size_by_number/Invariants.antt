@@ -5,7 +5,7 @@ use Rattle.arrow_body_write.specs.Align.{alignment_of}
 use Rattle.arrow_body_write.specs.Sent.{form_by, sent_by}
 use Rattle.arrow_body_write.specs.Tally.{capped}
 use Rattle.arrow_body_write.specs.Source.{column_in}
-use Rattle.arrow_body_write.proofs.measured.column_size.Given as goal
+use Rattle.arrow_body_write.proofs.measured.size_by_number.Given as goal
 
 -- the nodes so far are small, and their sizes added up
 abbrev pub invariant-loop-node : goal.invariant-loop-node

@@ -9,7 +9,7 @@ use Rattle.arrow_body_write.specs.Align.{alignment_of}
 use Rattle.arrow_body_write.specs.Sent.{form_by, nodes_of_type, sent_by}
 use Rattle.arrow_body_write.specs.Storing.{Stores}
 use Rattle.arrow_body_write.specs.Source.{column_in}
-use Rattle.arrow_body_write.proofs.body.put_column.Goals as goal
+use Rattle.arrow_body_write.proofs.body.put_by_number.Goals as goal
 
 -- each node can be told
 pub put_node-requires-clause-small : goal.put_node-requires-clause-small

@@ -5,7 +5,7 @@ use Rattle.arrow_body_write.proofs.Levels.{by_number}
 use Rattle.arrow_body_write.specs.Align.{alignment_of}
 use Rattle.arrow_body_write.specs.Storing.{Stores}
 use Rattle.arrow_body_write.specs.Source.{column_in}
-use Rattle.arrow_body_write.proofs.body.put_column.Given as goal
+use Rattle.arrow_body_write.proofs.body.put_by_number.Given as goal
 
 -- the nodes so far are added
 abbrev pub invariant-loop-node : goal.invariant-loop-node
