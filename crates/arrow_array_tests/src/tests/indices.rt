@@ -3,6 +3,7 @@
 use super::forms::{Form, leaf};
 use super::making::{NO_COLUMN, column, dictionary, index_width, one, range};
 use arrow_array::ByteRange;
+use arrow_array::form::{Form as NodeForm, node_form};
 use arrow_array::layout::{are_indices, has_fixed};
 use arrow_types::{BitWidth, DataType, Encoding, Field, IndexType};
 use bytes::Bytes;
@@ -200,5 +201,25 @@ fn shown(rt: &(impl Abort + AllocGlobal), signed: bool, byte: u8) -> Option<i128
 fn an_index_is_shown_with_its_sign(rt: HostRuntime) {
     for (signed, byte) in [(false, 200), (false, 100), (true, 100)] {
         assert_eq!(rt; shown(&rt, signed, byte), Some(i128::from(byte)));
+    }
+}
+
+#[test]
+fn a_node_of_indices_has_their_form(rt: HostRuntime) {
+    for bits in [
+        BitWidth::Eight,
+        BitWidth::Sixteen,
+        BitWidth::ThirtyTwo,
+        BitWidth::SixtyFour,
+    ] {
+        for signed in [false, true] {
+            let encoding = Encoding {
+                id: 0,
+                index: IndexType { bits, signed },
+                ordered: false,
+            };
+            let form = node_form(&DataType::Utf8, Some(encoding));
+            assert_eq!(rt; form, NodeForm::Numbers { bits, signed });
+        }
     }
 }
