@@ -10,7 +10,7 @@ use arrow_types::BitWidth;
 use std::process::Abort;
 
 // 2, null and 1, with a 9 under the null.
-static CASES: [Case; 6] = [
+static CASES: [Case; 8] = [
     Case {
         of: &[Kind::Index(0, BitWidth::Eight), Kind::List, Kind::Number],
         nodes: &[(3, 1)],
@@ -106,6 +106,56 @@ static CASES: [Case; 6] = [
             5, 0, 0, 0, 0, 0, 0, 0, 2, 0, 1, 0, 0, 0, 0, 0, 4, 0, 0, 0, 5, 0, 0, 0, 6,
         ],
         size: 32,
+    },
+    // No list, and one list of them.
+    Case {
+        of: &[
+            Kind::List,
+            Kind::Index(0, BitWidth::Eight),
+            Kind::List,
+            Kind::Number,
+        ],
+        nodes: &[(2, 1), (3, 1)],
+        held: &[
+            Held::Bytes(&[2]),
+            Held::Numbers(&[0, 0, 3]),
+            Held::Bytes(&[5]),
+            Held::Bytes(&[2, 9, 1]),
+        ],
+        align: Align::Eight,
+        stored_nodes: &[(2, 1), (3, 1)],
+        stored_buffers: &[(0, 1), (8, 12), (24, 1), (32, 3)],
+        bytes: &[
+            2, 0, 0, 0, 0, 0, 0, 0, 0, 0, 0, 0, 0, 0, 0, 0, 3, 0, 0, 0, 0, 0, 0, 0, 5, 0, 0, 0, 0,
+            0, 0, 0, 2, 0, 1,
+        ],
+        size: 40,
+    },
+    // Structs of one and of a number, the second null.
+    Case {
+        of: &[
+            Kind::Struct(2),
+            Kind::Index(0, BitWidth::Eight),
+            Kind::List,
+            Kind::Number,
+            Kind::Number,
+        ],
+        nodes: &[(3, 1), (3, 1), (3, 0)],
+        held: &[
+            Held::Bytes(&[5]),
+            Held::Bytes(&[5]),
+            Held::Bytes(&[2, 9, 1]),
+            Held::Bytes(&[]),
+            Held::Numbers(&[4, 5, 6]),
+        ],
+        align: Align::Eight,
+        stored_nodes: &[(3, 1), (3, 1), (3, 1)],
+        stored_buffers: &[(0, 1), (8, 1), (16, 3), (24, 1), (32, 12)],
+        bytes: &[
+            5, 0, 0, 0, 0, 0, 0, 0, 5, 0, 0, 0, 0, 0, 0, 0, 2, 0, 1, 0, 0, 0, 0, 0, 5, 0, 0, 0, 0,
+            0, 0, 0, 4, 0, 0, 0, 0, 0, 0, 0, 6,
+        ],
+        size: 48,
     },
 ];
 
