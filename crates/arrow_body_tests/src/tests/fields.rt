@@ -15,6 +15,9 @@ pub(super) enum Kind {
     Text,
     // Texts behind offsets of 64 bits.
     LargeText,
+    Bytes,
+    // Byte strings behind offsets of 64 bits.
+    LargeBytes,
     // Byte strings of so many bytes each.
     Fixed(u32),
     // Lists of one type.
@@ -57,6 +60,8 @@ fn field_of(rt: &(impl Abort + AllocGlobal), kind: Kind, behind: &mut Vec<Field>
         Kind::Duration => field(rt, DataType::Duration(TimeUnit::Second)),
         Kind::Text => field(rt, DataType::Utf8),
         Kind::LargeText => field(rt, DataType::LargeUtf8),
+        Kind::Bytes => field(rt, DataType::Binary),
+        Kind::LargeBytes => field(rt, DataType::LargeBinary),
         Kind::Fixed(width) => field(rt, DataType::FixedSizeBinary(width)),
         Kind::List => field(rt, DataType::List(item(rt, behind))),
         Kind::LargeList => field(rt, DataType::LargeList(item(rt, behind))),

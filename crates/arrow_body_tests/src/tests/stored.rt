@@ -21,7 +21,7 @@ pub(super) struct Case {
     pub(super) size: usize,
 }
 
-static CASES: [Case; 5] = [
+static CASES: [Case; 7] = [
     // 1, null, 3, with a 9 under the null.
     Case {
         of: &[Kind::Number],
@@ -95,6 +95,42 @@ static CASES: [Case; 5] = [
         bytes: &[
             1, 0, 0, 0, 0, 0, 0, 0, 1, 0, 0, 0, 0, 0, 0, 0, 0, 0, 0, 0, 1, 0, 0, 0, 1, 0, 0, 0, 0,
             0, 0, 0, 0x61,
+        ],
+        size: 40,
+    },
+    // The bytes ff 00, null, none, 80, with a byte 9 under the null.
+    Case {
+        of: &[Kind::Bytes],
+        nodes: &[(4, 1)],
+        held: &[
+            Held::Bytes(&[13]),
+            Held::Numbers(&[0, 2, 3, 3, 4]),
+            Held::Bytes(&[0xff, 0, 9, 0x80]),
+        ],
+        align: Align::Eight,
+        stored_nodes: &[(4, 1)],
+        stored_buffers: &[(0, 1), (8, 20), (32, 3)],
+        bytes: &[
+            13, 0, 0, 0, 0, 0, 0, 0, 0, 0, 0, 0, 2, 0, 0, 0, 2, 0, 0, 0, 2, 0, 0, 0, 3, 0, 0, 0, 0,
+            0, 0, 0, 0xff, 0, 0x80,
+        ],
+        size: 40,
+    },
+    // The bytes fe, null, behind offsets of 64 bits, with a byte 9 under the null.
+    Case {
+        of: &[Kind::LargeBytes],
+        nodes: &[(2, 1)],
+        held: &[
+            Held::Bytes(&[1]),
+            Held::Numbers(&[0, 0, 1, 0, 2, 0]),
+            Held::Bytes(&[0xfe, 9]),
+        ],
+        align: Align::Eight,
+        stored_nodes: &[(2, 1)],
+        stored_buffers: &[(0, 1), (8, 24), (32, 1)],
+        bytes: &[
+            1, 0, 0, 0, 0, 0, 0, 0, 0, 0, 0, 0, 0, 0, 0, 0, 1, 0, 0, 0, 0, 0, 0, 0, 1, 0, 0, 0, 0,
+            0, 0, 0, 0xfe,
         ],
         size: 40,
     },
