@@ -1,7 +1,7 @@
 -- Numbers and byte strings call for no quotes.
-use Rattle.std.proofs.Common.{◌≡◌, ◌<◌, ◌+◌, ◌/◌, ◌%◌, ◌^◌, ◌∷◌, [], ℕ, ℤ, zero, pos, negsuc, suc, false, List, get_or, refl, arith}
-use Rattle.std.proofs.lemmas.Bool.{ne_eqb, or_parts}
-use Rattle.std.proofs.lemmas.Fmt.{decimal_by_steps_wide}
+use Rattle.std.proofs.Common.{◌≡◌, ◌<◌, ◌+◌, ◌/◌, ◌%◌, ◌^◌, ◌∷◌, [], ℕ, ℤ, zero, pos, negsuc, suc, false, List, get_or, nat_abs, int_le, int_lt, true, refl, sym, arith}
+use Rattle.std.proofs.lemmas.Bool.{ltb-true, ne_eqb, or_parts}
+use Rattle.std.proofs.lemmas.Fmt.{decimal_by_steps_wide, decimal_digit}
 use Rattle.std.proofs.lemmas.List.Folds.{list_any-append}
 use Rattle.std.specs.Fmt.{decimal, signed_decimal}
 use Rattle.std.specs.Prelude.{FitsSigned}
@@ -23,6 +23,11 @@ digits_plain n h =
 pub number_plain : (z : ℤ) → FitsSigned w128 z → needs_quotes default_writer (signed_decimal z) ≡ false
 number_plain (pos n) h = let fits = h.sfits in digits_plain n (omega arith)
 number_plain (negsuc n) h = let fits = h.sfits in rw (digits_plain (suc n) (omega arith)) refl
+
+-- the text of a number of one digit is that digit
+pub one_digit : (z : ℤ) → int_le (pos 0) z ≡ true → int_lt z (pos 10) ≡ true → (48 + nat_abs z) ∷ [] ≡ signed_decimal z
+one_digit (pos n) low high = sym (decimal_digit n (ltb-true n 10 high))
+one_digit (negsuc n) low high = absurd (cc low)
 
 -- where no byte calls for any, none at a place does
 plain_at : (bytes : List ℕ) (k : ℕ) → needs_quotes default_writer bytes ≡ false → needs_byte default_writer (get_or bytes k 0) ≡ false

@@ -1,7 +1,8 @@
 -- Rows that are written one by one.
-use Rattle.std.proofs.Common.{◌≡◌, ◌==◌, ◌<◌, ◌+◌, ◌-◌, ◌^◌, ◌++◌, ◌∷◌, [], ℕ, zero, suc, Bool, true, false, List, length, if◌then◌else◌, refl, ap, ◌∙◌, arith, append_assoc, ne_eqb}
+use Rattle.std.proofs.Common.{◌≡◌, ◌==◌, ◌<◌, ◌+◌, ◌-◌, ◌^◌, ◌++◌, ◌∷◌, [], ℕ, zero, suc, Bool, true, false, List, length, take, drop, if◌then◌else◌, refl, ap, ap₂, ◌∙◌, arith, append_assoc, ne_eqb}
 use Rattle.std.specs.Fmt.{decimal}
 use Rattle.std.specs.List.{flat_map, range_with_len}
+use Rattle.std.proofs.Math.Seq.{take-append_seam, drop-append_seam}
 use Rattle.std.proofs.lemmas.Fmt.{decimal_nonempty}
 use Rattle.csv.specs.Writing.{default_writer, field_text, fields_text, is_blank, needs_quotes}
 use Rattle.arrow_array.specs.Batch.{Table}
@@ -32,3 +33,10 @@ not_blank f (x ∷ xs) h = refl
 pub row_plain : (number : ℕ) (texts : List (List ℕ)) → number < 2 ^ 64 → record_of (decimal number ∷ texts) ≡ field_text default_writer (decimal number) ++ (fields_text default_writer texts ++ (10 ∷ []))
 row_plain number texts h =
     rw (not_blank (decimal number) texts (decimal_nonempty number h)) (append_assoc (field_text default_writer (decimal number)) (fields_text default_writer texts) (10 ∷ []))
+
+-- the field that a text behind another one is
+pub field_behind : (old text whole : List ℕ) (place : ℕ) → place ≡ length old → whole ≡ old ++ text → take place whole ++ field_text default_writer (drop place whole) ≡ old ++ field_text default_writer text
+field_behind old text whole place long is =
+    let before = ap₂ take long is ∙ take-append_seam old text in
+    let behind = ap₂ drop long is ∙ drop-append_seam old text in
+    ap₂ (λ a b. a ++ field_text default_writer b) before behind

@@ -1,4 +1,4 @@
-//! Bytes of a field that call for quotes, looked for sixteen at a time.
+//! Bytes of a field that call for quotes, looked for sixteen at a time, sixty-four in long fields.
 
 ghost use Rattle.std.specs.Prelude.{◌≡◌, ◌+◌, ◌-◌, ◌≤◌, length, drop, map};
 ghost use Rattle.std.specs.Bool.{OnTrue};
@@ -35,20 +35,46 @@ fn has_plain_chunks(field: &[u8]) -> bool
     }
 }
 
-/// The same of all chunks of sixteen bytes that lie one behind the other.
+/// The same of all chunks of sixteen bytes that lie one behind the other, up to the last one.
 #[inline(always)]
 fn has_plain_sixteens(field: &[u8]) -> bool
     requires { 16 ≤ length field.now }
     ensures { OnTrue result (AreAllPlain field.now 0 (length field.now - 16)) }
 {
-    let mut place = 0;
-    while field.len() - place >= 16 {
+    let mut place = end_of_plain_blocks(field);
+    while field.len() - place > 16 {
         if !are_sixteen_plain(field, place) {
             return false;
         }
         place += 16;
     }
     true
+}
+
+/// The end of the blocks of sixty-four bytes, from the first one on, in which no byte calls for
+/// quotes.
+#[inline(always)]
+fn end_of_plain_blocks(field: &[u8]) -> usize
+    ensures plain { AreAllPlain field.now 0 result }
+    ensures inside { result ≤ length field.now }
+{
+    let mut place = 0;
+    while field.len() - place >= 64 && are_sixty_four_plain(field, place) {
+        place += 64;
+    }
+    place
+}
+
+/// Whether none of the sixty-four bytes at a place calls for quotes.
+#[inline(always)]
+fn are_sixty_four_plain(field: &[u8], place: usize) -> bool
+    requires { place + 64 ≤ length field.now }
+    ensures { OnTrue result (AreAllPlain field.now place (place + 64)) }
+{
+    are_sixteen_plain(field, place)
+        & are_sixteen_plain(field, place + 16)
+        & are_sixteen_plain(field, place + 32)
+        & are_sixteen_plain(field, place + 48)
 }
 
 /// Whether none of the sixteen bytes at a place calls for quotes.

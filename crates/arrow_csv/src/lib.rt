@@ -6,7 +6,7 @@
 //! double quote or an end of line is in it, and its own double quotes are then written twice (RFC
 //! 4180). That is the quoting of the crate `csv` by its definitions, which writes the first record;
 //! rows are appended to one text, without a record of their own before. Bytes that call for quotes
-//! are looked for sixteen at a time (`src/chunks.rt`).
+//! are looked for sixteen at a time, sixty-four in long fields (`src/chunks.rt`).
 //!
 //! What a value's text is, is said by `value_text` (`specs/Texts.antt`), over plain values:
 //! [`header`], [`rows`] and [`push_rows`] give the records of the definition for every schema and

@@ -8,7 +8,7 @@ ghost use Rattle.arrow_csv.specs.Texts.{value_text};
 ghost use Rattle.arrow_csv.specs.Records.{batch_rows, column_texts, header_record};
 
 use crate::fields::{push_field_text, quote_from};
-use crate::texts::{push_bytes, push_number, push_value};
+use crate::texts::{push_bytes, push_items, push_number, push_parts};
 use arrow_array::{Array, Batch, SlotValue};
 use arrow_types::Schema;
 use csv::{ByteRecord, WriterBuilder};
@@ -94,8 +94,8 @@ fn push_row(
     Ok(())
 }
 
-/// Appends the text of a value, between quotes where it calls for them, as no number does and no
-/// byte string.
+/// Appends the text of a value, between quotes where it calls for them, as no truth value does, no
+/// number and no byte string.
 fn push_field(alloc: Global, out: &mut Vec<u8>, column: &Array, i: usize) -> Result<(), AllocError>
     requires { i < length column.now.raw }
     ensures { OnOk result (out.new.items ≡ out.old.items ++ field_text default_writer
@@ -103,13 +103,20 @@ fn push_field(alloc: Global, out: &mut Vec<u8>, column: &Array, i: usize) -> Res
 {
     match column.slot(i) {
         SlotValue::Null => Ok(()),
+        SlotValue::Bool(true) => out.extend_from_slice(b"true"),
+        SlotValue::Bool(false) => out.extend_from_slice(b"false"),
         SlotValue::Int(number) => push_number(out, number),
         SlotValue::Bytes(bytes) => push_bytes(out, bytes),
         SlotValue::Text(text) => push_field_text(out, text.as_bytes()),
-        SlotValue::Bool(_) | SlotValue::List(_, _, _) | SlotValue::Struct(_, _) => {
+        SlotValue::List(start, end, items) => {
             let place = out.len();
-            push_value(alloc, out, column, i, b"")?;
+            push_items(alloc, out, items, start, end)?;
             quote_from(alloc, out, place)
+        }
+        SlotValue::Struct(children, place) => {
+            let from = out.len();
+            push_parts(alloc, out, column.data_type().children(), children, place)?;
+            quote_from(alloc, out, from)
         }
     }
 }

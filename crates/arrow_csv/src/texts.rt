@@ -8,31 +8,23 @@ ghost use Rattle.arrow_array.specs.Column.{AreOf, resolved_row_of, values_from};
 ghost use Rattle.arrow_array.specs.PlainValue.{value_at, values_of};
 ghost use Rattle.arrow_array.specs.Same.{HaveSlot};
 ghost use Rattle.arrow_types.specs.View.{fields_view};
-ghost use Rattle.arrow_csv.specs.Texts.{item_text, joined, part_texts, value_text};
+ghost use Rattle.arrow_csv.specs.Texts.{item_text, joined, part_texts};
 
 use arrow_array::{Array, SlotValue};
 use arrow_types::Field;
-use itoa::Buffer;
+use itoa::{Buffer, Integer};
 use std::alloc::{AllocError, Global};
 
-/// How a null shows inside of a list or a struct.
-const NULL: &[u8] = b"null";
-
-/// Appends the text of the value in slot `i`; of a null the text that is given for it.
+/// Appends the text of the value in slot `i`, as it shows inside of a list or a struct.
 #[cycle(text)]
-pub(crate) fn push_value(
-    alloc: Global,
-    out: &mut Vec<u8>,
-    column: &Array,
-    i: usize,
-    null: &[u8],
-) -> Result<(), AllocError>
+#[inline(always)]
+fn push_value(alloc: Global, out: &mut Vec<u8>, column: &Array, i: usize) -> Result<(), AllocError>
     requires { i < length column.now.raw }
     ensures { OnOk result (out.new.items ≡ out.old.items
-        ++ value_text null.now column.now.data_type.children (value_at column.now.resolved i)) }
+        ++ item_text column.now.data_type.children (value_at column.now.resolved i)) }
 {
     match column.slot(i) {
-        SlotValue::Null => out.extend_from_slice(null),
+        SlotValue::Null => out.extend_from_slice(b"null"),
         SlotValue::Bool(true) => out.extend_from_slice(b"true"),
         SlotValue::Bool(false) => out.extend_from_slice(b"false"),
         SlotValue::Int(number) => push_number(out, number),
@@ -45,16 +37,31 @@ pub(crate) fn push_value(
     }
 }
 
-/// Appends a number. Those of 64 bits, which all but some unsigned ones are, are divided as such.
+/// Appends a number. One of a single digit is a single byte; those of 64 bits, which all but some
+/// unsigned ones are, are divided as such.
+#[inline(always)]
+#[tactic(auto, using(crate::proofs::Digits::number_plain))]
 pub(crate) fn push_number(out: &mut Vec<u8>, number: i128) -> Result<(), AllocError>
     ensures text { OnOk result (out.new.items ≡ out.old.items ++ signed_decimal number) }
     ensures plain { needs_quotes default_writer (signed_decimal number) ≡ false }
 {
-    let mut buffer = Buffer::new();
     match i64::try_from(number) {
-        Ok(number) => out.extend_from_slice(buffer.format(number).as_bytes()),
-        Err(_) => out.extend_from_slice(buffer.format(number).as_bytes()),
+        Ok(digit) if 0 <= digit && digit < 10 => {
+            out.push(b'0' + digit as u8)?;
+            Ok(())
+        }
+        Ok(number) => push_digits(out, number),
+        Err(_) => push_digits(out, number),
     }
+}
+
+/// Appends a number of whatever type.
+#[inline(never)]
+fn push_digits<I: Integer>(out: &mut Vec<u8>, number: I) -> Result<(), AllocError>
+    ensures { OnOk result (out.new.items ≡ out.old.items ++ I.text number) }
+{
+    let mut buffer = Buffer::new();
+    out.extend_from_slice(buffer.format(number).as_bytes())
 }
 
 /// Appends the hexadecimal digits of bytes.
@@ -82,7 +89,8 @@ fn end_of_digits(place: usize, count: usize) -> Option<usize>
 
 /// Appends the text of a list whose items stand in a range of slots.
 #[cycle(text)]
-fn push_items(
+#[inline(never)]
+pub(crate) fn push_items(
     alloc: Global,
     out: &mut Vec<u8>,
     items: &Array,
@@ -101,7 +109,7 @@ fn push_items(
         if k > start {
             out.push(b';')?;
         }
-        push_value(alloc, out, items, k, NULL)?;
+        push_value(alloc, out, items, k)?;
     }
     out.push(b']')?;
     Ok(())
@@ -109,7 +117,8 @@ fn push_items(
 
 /// Appends the text of a struct whose fields have their values in one slot of their arrays.
 #[cycle(text)]
-fn push_parts(
+#[inline(never)]
+pub(crate) fn push_parts(
     alloc: Global,
     out: &mut Vec<u8>,
     fields: &[Field],
@@ -129,7 +138,7 @@ fn push_parts(
         }
         out.extend_from_slice(fields[k].name.as_bytes())?;
         out.push(b'=')?;
-        push_value(alloc, out, &children[k], place, NULL)?;
+        push_value(alloc, out, &children[k], place)?;
     }
     out.push(b'}')?;
     Ok(())

@@ -29,7 +29,7 @@ push_value-push_parts-requires t c =
 -- what the items make is the text of the list
 pub push_value-returns-in-List : goal.push_value-returns-in-List
 push_value-returns-in-List t c =
-    on_ok_weaker c.push_items.result (λ e. e ∙ list_shown c.args.column.now c.in-List.items.now c.args.i c.in-List.start c.in-List.end c.args.null.now c.args.out.now.items c.in-List.ensures) c.push_items.ensures
+    on_ok_weaker c.push_items.result (λ e. e ∙ list_shown c.args.column.now c.in-List.items.now c.args.i c.in-List.start c.in-List.end (codes "null") c.args.out.now.items c.in-List.ensures) c.push_items.ensures
 
 -- one more item is written
 pub push_items-loop-k-preserved : goal.push_items-loop-k-preserved
