@@ -1,6 +1,6 @@
 //! Children that are sent whole: all slots that they have, and no others.
 
-ghost use Rattle.std.specs.Prelude.{◌≡◌, [], ◌∷◌, IfSome, IsTrue, length};
+ghost use Rattle.std.specs.Prelude.{◌≡◌, ◌↔◌, [], ◌∷◌, IfSome, IsTrue, length};
 ghost use Rattle.std.specs.List.{AllByRecursion};
 ghost use Rattle.arrow_array.specs.Column.{Column};
 ghost use Rattle.arrow_array.specs.FullSlots.{AreFull};
@@ -11,14 +11,14 @@ use arrow_array::Array;
 
 // Whether no slot is null.
 fn is_full(array: &Array) -> bool
-    ensures { IsTrue result → AreFull array.now 0 (length array.now.raw) }
+    ensures { IsTrue result ↔ AreFull array.now 0 (length array.now.raw) }
 {
     array.first_null(0, array.len()) == array.len()
 }
 
 // Whether each of the arrays has just so many slots.
 fn are_as_long(arrays: &[Array], len: usize) -> bool
-    ensures { IsTrue result → AllByRecursion (λ (c : Column). length c.raw ≡ len) arrays.now }
+    ensures { IsTrue result ↔ AllByRecursion (λ (c : Column). length c.raw ≡ len) arrays.now }
 {
     for array in arrays {
         if array.len() != len {
