@@ -8,7 +8,8 @@ use Rattle.std.proofs.lemmas.Str.{IsCharBoundary-from_take, IsCharBoundary-start
 use Rattle.arrow_bits.specs.Offsets.{plain_list}
 use Rattle.arrow_bits.proofs.Rising.{length_offsets, length_large_offsets, offset_found, large_offset_found}
 use Rattle.arrow_array.specs.Form.{offset_bytes}
-use Rattle.arrow_array.specs.Slots.{place_of, range_of, AreCuts, AreTexts}
+use Rattle.arrow_array.specs.Cuts.{AreCuts}
+use Rattle.arrow_array.specs.Slots.{place_of, range_of, AreTexts}
 use Rattle.arrow_array.specs.declared.form.OffsetWidth.{OffsetWidth}
 use Rattle.arrow_array.specs.declared.form.OffsetWidth.TheVariants.{Small, Large}
 

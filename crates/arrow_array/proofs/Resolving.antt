@@ -191,4 +191,4 @@ ranges_known len t (Some e) body (ranges.Indices n d) few small has h = let inde
 
 -- what is known of every array
 pub array_known : (a : Inside) (c : Column) → column_of a ≡ c → IsArray a → IsColumn c
-array_known a c view ok = subst IsColumn view (ranges_known a.len (type_view a.data_type) a.encoding a.body a.ranges ok.0 ok.2 ok.3 ok.1)
+array_known a c view ok = subst IsColumn view (ranges_known a.len (type_view a.data_type.value) a.encoding a.body a.ranges ok.0 ok.2 ok.3 ok.1)

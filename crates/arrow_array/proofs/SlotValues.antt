@@ -56,7 +56,7 @@ of_inside : (a : Inside) (i : ℕ) (v : PlainValue) → IsArray a → i < length
 of_inside a i v ok within own is alone =
     let inside : i < a.len = omega (arith, length_slots a.len (raw_slot a.body a.ranges)) in
     let raw = at_slots a.len (raw_slot a.body a.ranges) i inside in
-    let same = own_slot_same a.len (type_view a.data_type) a.encoding a.body a.ranges i ok.1 (λ some. sym raw ∙ own some) (ap is_alone (sym raw ∙ is) ∙ alone) in
+    let same = own_slot_same a.len (type_view a.data_type.value) a.encoding a.body a.ranges i ok.1 (λ some. sym raw ∙ own some) (ap is_alone (sym raw ∙ is) ∙ alone) in
     at_slots a.len (resolved_slot a.body a.ranges) i inside ∙ same ∙ sym raw ∙ is
 
 -- what a slot shows that holds no index is its value

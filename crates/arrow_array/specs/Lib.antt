@@ -6,7 +6,9 @@ pub mod Fits
 pub mod Column
 pub mod Listed
 pub mod Slots
+pub mod Cuts
 pub mod Layout
+pub mod Shared
 pub mod Parts
 pub mod Node
 pub mod Segments

@@ -223,7 +223,7 @@ column_by t e len body r = record {
 
 -- what an array stands for
 abbrev pub column_of : Inside → Column
-column_of a = column_by (type_view a.data_type) a.encoding a.len a.body a.ranges
+column_of a = column_by (type_view a.data_type.value) a.encoding a.len a.body a.ranges
 
 -- each of the numbers is a byte
 abbrev pub AreBytes : List ℕ → Type 0
@@ -236,4 +236,4 @@ HasOwnFields t = HasFieldsOf (form_of t.tag) t.children
 -- what is known of every array: its slots can be counted by a signed 32-bit number, and its ranges, of a body of bytes, are
 -- of its type
 abbrev pub IsArray : Inside → Type 0
-IsArray a = (a.len ≤ 2147483647) × AreRanges a.len (type_view a.data_type) a.encoding a.body a.ranges × AreBytes a.body × HasOwnFields (type_view a.data_type)
+IsArray a = (a.len ≤ 2147483647) × AreRanges a.len (type_view a.data_type.value) a.encoding a.body a.ranges × AreBytes a.body × HasOwnFields (type_view a.data_type.value)

@@ -1,6 +1,6 @@
 -- What the buffers of a node hold at each slot, by index (Columnar Format, "Physical Memory Layout"). A buffer is given by
 -- its bytes.
-use Rattle.std.specs.Prelude.{◌≡◌, ◌≤◌, ◌<◌, ◌+◌, ◌-◌, ◌*◌, ◌||◌, ℕ, ℤ, pos, negsuc, Bool, true, nat_eq, List, length, map, slice_range, if◌then◌else◌, IsCharBoundary, IsUtf8}
+use Rattle.std.specs.Prelude.{◌≡◌, ◌≤◌, ◌<◌, ◌+◌, ◌*◌, ◌||◌, ℕ, ℤ, pos, negsuc, Bool, true, nat_eq, List, length, map, slice_range, if◌then◌else◌, IsUtf8}
 use Rattle.std.specs.List.{range_with_len}
 use Rattle.arrow_bits.specs.Bitmap.{bit_of}
 use Rattle.arrow_bits.specs.Numbers.{number_at, int_of}
@@ -79,10 +79,6 @@ HasOffsets width len top offsets = 0 < len + length offsets → AreOffsetsOf (of
 -- each valid slot is a text in UTF-8
 abbrev pub AreTexts : OffsetWidth → ℕ → List ℕ → List ℕ → List ℕ → Type 0
 AreTexts width len validity offsets bytes = (j : ℕ) → j < len → is_valid_at validity j ≡ true → IsUtf8 (range_of width offsets bytes j)
-
--- each slot ends between two characters of the text, which is the bytes of all slots
-abbrev pub AreCuts : OffsetWidth → ℕ → List ℕ → List ℕ → Type 0
-AreCuts width len offsets text = (j : ℕ) → j < len → IsCharBoundary text (place_of width offsets (j + 1) - place_of width offsets 0)
 
 -- the index refers to one of `count` values
 abbrev pub IsIndex : ℕ → ℤ → Type 0

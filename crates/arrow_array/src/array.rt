@@ -22,6 +22,7 @@ use crate::slot::{first_invalid, is_valid, range_at};
 use arrow_types::{DataType, Encoding};
 use bytes::Bytes;
 use std::marker::Model;
+use std::rc::Rc;
 
 // Where the buffers of a node lie in the body, and the arrays of its children or its dictionary.
 #[cycle(arrays)]
@@ -70,7 +71,7 @@ impl Ranges {
 #[cycle(arrays)]
 #[derive(Drop)]
 pub struct Array {
-    pub(crate) data_type: DataType,
+    pub(crate) data_type: Rc<DataType>,
     pub(crate) encoding: Option<Encoding>,
     pub(crate) len: usize,
     pub(crate) body: Bytes,
@@ -96,7 +97,7 @@ impl Model for Array {
     ghost use Rattle.arrow_array.specs.Falls.{depth_le-levels};
 
     ghost size_decreases = { λ a h.
-        depth_le-levels a.len (type_view a.data_type) a.encoding a.body a.ranges h.1 };
+        depth_le-levels a.len (type_view a.data_type.value) a.encoding a.body a.ranges h.1 };
 }
 
 // What stands in a slot: the one place that looks at the ranges.

@@ -17,8 +17,10 @@
 //! | which values a field takes | `specs/Fits.antt`: `Fits` |
 //! | the layout of a type, and of a node | `specs/Form.antt`: `form_of`, `node_form` |
 //! | what buffers hold at a slot | `specs/Slots.antt`: `int_slot`, `range_of` .. |
+//! | where the bytes of all texts may be cut | `specs/Cuts.antt`: `AreCuts` |
 //! | when buffers hold a node's slots | `specs/Layout.antt`: `IsLaid`, `IsText`, `IsIndexed` |
 //! | the column of a node | `specs/Parts.antt`: `node_column` |
+//! | the type that columns share | `specs/Shared.antt`: `NodeType`, `node_types` |
 //! | what an index stands for | `specs/Resolve.antt`: `resolve`; `specs/Listed.antt`: `listed` |
 //! | the first null, slots without nulls | `specs/FullSlots.antt`: `IsFirstNull`, `AreFull` |
 //! | what a slot shows | `specs/Shown.antt`: `Shows`, `HoldsValue` |
@@ -38,6 +40,7 @@ pub mod laws;
 pub mod layout;
 mod parts;
 mod same;
+mod shared_type;
 mod slot;
 mod texts;
 mod value;
@@ -46,4 +49,5 @@ pub use array::{Array, SlotValue};
 pub use batch::{Batch, BatchFault};
 pub use byte_range::ByteRange;
 pub use dictionary::Dictionary;
+pub use shared_type::{SharedType, shared_types};
 pub use value::Value;

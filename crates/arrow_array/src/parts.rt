@@ -17,9 +17,11 @@ use crate::buffers::{Bools, Fixed, Ints, Strings};
 use crate::byte_range::ByteRange;
 use crate::dictionary::Dictionary;
 use crate::form::{Form, OffsetWidth, form_of, number_width};
+use crate::shared_type::SharedType;
 use arrow_types::{BitWidth, DataType, Encoding, Field};
 use bytes::Bytes;
 use std::alloc::{AllocError, Global};
+use std::rc::Rc;
 
 impl Array {
     /// The array of one node: `len` slots of the field's type, out of its buffers, in the order of
@@ -56,18 +58,49 @@ impl Array {
             (λ a. a ≡ node_column (type_view field.now.data_type) field.now.dictionary
             len (map (bytes_of body.now) buffers.now) children.items (values_in dictionary)) }
     {
-        let data_type = &field.data_type;
-        match field.dictionary {
+        let shared = SharedType::of(alloc, field)?;
+        Array::from_shared_parts(alloc, &shared, len, body, buffers, children, dictionary)
+    }
+
+    /// As `from_parts`, of a type of which no copy is made: the array shares it.
+    pub fn from_shared_parts(
+        alloc: Global,
+        shared: &SharedType,
+        len: usize,
+        body: &Bytes,
+        buffers: &[ByteRange],
+        children: Vec<Array>,
+        dictionary: Option<Dictionary>,
+    ) -> Result<Array, AllocError>
+        requires few { len ≤ 2147483647 }
+        requires children { AreChildren shared.now.data_type shared.now.encoding children.items }
+        requires dictionary { IsOfType shared.now.data_type dictionary }
+        requires count { buffer_count shared.now.data_type.tag shared.now.encoding
+            ≤ length buffers.now }
+        requires inside { AllByRecursion (IsInside body.now) buffers.now }
+        requires layout { IsLaid shared.now.data_type.tag shared.now.encoding
+            len (map (bytes_of body.now) buffers.now) (counts_of children.items) }
+        requires text { IsText shared.now.data_type.tag shared.now.encoding
+            len (map (bytes_of body.now) buffers.now) }
+        requires index { IsIndexed shared.now.encoding
+            len (map (bytes_of body.now) buffers.now) (values_in dictionary) }
+        ensures { IfOk result (λ a. a ≡ node_column shared.now.data_type shared.now.encoding
+            len (map (bytes_of body.now) buffers.now) children.items (values_in dictionary)) }
+    {
+        let encoding = shared.encoding();
+        let shared = shared.data_type();
+        let data_type: &DataType = shared;
+        match encoding {
             Some(encoding) => {
                 let dictionary = Box::new(alloc, or_empty(alloc, data_type, dictionary)?)?;
                 let index = encoding.index;
                 let indices = numbers(index.bits, index.signed, buffers);
                 let ranges = Ranges::Indices(indices, dictionary);
-                of_ranges(alloc, data_type, Some(encoding), len, body, ranges)
+                of_ranges(shared, Some(encoding), len, body, ranges)
             }
             None => {
                 let ranges = value_ranges(alloc, data_type, len, body, buffers, children)?;
-                of_ranges(alloc, data_type, None, len, body, ranges)
+                of_ranges(shared, None, len, body, ranges)
             }
         }
     }
@@ -75,23 +108,22 @@ impl Array {
 
 // The array of these ranges.
 fn of_ranges(
-    alloc: Global,
-    data_type: &DataType,
+    data_type: &Rc<DataType>,
     encoding: Option<Encoding>,
     len: usize,
     body: &Bytes,
     ranges: Ranges,
 ) -> Result<Array, AllocError>
     requires few { len ≤ 2147483647 }
-    requires lies { AreRanges len (type_view data_type.now) encoding body.now ranges }
+    requires lies { AreRanges len (type_view data_type.now.value) encoding body.now ranges }
     ensures { IfOk result
-        (λ a. a ≡ column_by (type_view data_type.now) encoding len body.now ranges) }
+        (λ a. a ≡ column_by (type_view data_type.now.value) encoding len body.now ranges) }
 {
     // Called for what they say of every slice of bytes and of every type.
     hold_bytes(body.as_slice());
     form_of(data_type);
     Ok(Array {
-        data_type: data_type.copy(alloc)?,
+        data_type: data_type.clone()?,
         encoding,
         len,
         body: body.clone()?,

@@ -11,8 +11,8 @@ ghost use Rattle.std.specs.List.Sorted.{IsNonDecreasing};
 ghost use Rattle.arrow_bits.specs.Offsets.{plain_list};
 ghost use Rattle.arrow_array.specs.Form.{offset_bytes};
 ghost use Rattle.arrow_array.specs.Layout.{HasStrings};
-ghost use Rattle.arrow_array.specs.Slots.{place_of, range_of, is_valid_at, AreCuts, AreTexts};
-ghost use Rattle.arrow_array.specs.Slots.{HasOffsets};
+ghost use Rattle.arrow_array.specs.Cuts.{AreCuts};
+ghost use Rattle.arrow_array.specs.Slots.{place_of, range_of, is_valid_at, AreTexts, HasOffsets};
 
 use crate::form::OffsetWidth;
 use crate::slot::{binary_at, is_valid, places_at};

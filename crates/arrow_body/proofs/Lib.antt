@@ -1,4 +1,5 @@
 pub mod Taking
+pub mod Types
 pub mod Columns
 pub mod Readings
 pub mod Ids

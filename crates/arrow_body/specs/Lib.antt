@@ -1,4 +1,5 @@
 pub mod Taken
+pub mod Types
 pub mod Held
 pub mod Sound
 pub mod Rising

@@ -4,12 +4,13 @@ ghost use Rattle.std.specs.Prelude.{◌≡◌, IfOk, MatchResult};
 ghost use Rattle.arrow_types.specs.View.{fields_view};
 ghost use Rattle.arrow_body.specs.Sound.{AreFit, Explains, IsExplained, IsSound, columns_of};
 ghost use Rattle.arrow_body.specs.Sound.{number_of};
+ghost use Rattle.arrow_array.specs.Shared.{node_types};
 
 use crate::build::build;
 use crate::listed::Listed;
 use crate::look::look;
 use crate::taken::Left;
-use arrow_array::{Array, Dictionary};
+use arrow_array::{Array, Dictionary, SharedType, shared_types};
 use arrow_types::{Buffer, Field, FieldNode};
 use bytes::Bytes;
 use std::alloc::{AllocError, Global};
@@ -120,16 +121,21 @@ pub fn load(
         (fields_view fields.now) nodes.now buffers.now) }
 {
     check(fields, nodes, buffers, body.as_slice(), dictionaries)?;
-    match load_unchecked(alloc, fields, nodes, buffers, body, dictionaries) {
+    let Ok(types) = shared_types(alloc, fields) else {
+        return Err(BodyFault::Memory);
+    };
+    match load_unchecked(alloc, fields, &types, nodes, buffers, body, dictionaries) {
         Ok(arrays) => Ok(arrays),
         Err(_) => Err(BodyFault::Memory),
     }
 }
 
-/// As `load`, of a body that `check` was seen to pass.
+/// As `load`, of a body that `check` was seen to pass, and with the types of the nodes, which
+/// `shared_types` makes once for all batches of the fields: the columns share them.
 pub fn load_unchecked(
     alloc: Global,
     fields: &[Field],
+    types: &[SharedType],
     nodes: &[FieldNode],
     buffers: &[Buffer],
     body: &Bytes,
@@ -137,15 +143,12 @@ pub fn load_unchecked(
 ) -> Result<Vec<Array>, AllocError>
     requires sound { IsSound body.now dictionaries.now
         (fields_view fields.now) nodes.now buffers.now }
+    requires typed { types.now ≡ node_types (fields_view fields.now) }
     requires fit { AreFit dictionaries.now (fields_view fields.now) }
     ensures { IfOk result (λ arrays. arrays.items
         ≡ columns_of body.now dictionaries.now (fields_view fields.now) nodes.now buffers.now) }
 {
-    build(
-        alloc,
-        fields,
-        Left { nodes, buffers },
-        body,
-        Listed::new(dictionaries),
-    )
+    let left = Left { nodes, buffers };
+    let listed = Listed::new(dictionaries);
+    Ok(build(alloc, fields, types, left, body, listed)?.arrays)
 }

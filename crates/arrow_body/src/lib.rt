@@ -18,6 +18,7 @@
 //! | Notion | Definition |
 //! |---|---|
 //! | nodes and buffers that fields take | `specs/Taken.antt`: `taken_nodes`, `taken_buffers` |
+//! | that nodes have these types | `specs/Types.antt`: `HaveTypes` |
 //! | where a buffer lies | `specs/Held.antt`: `IsHeld`, `bytes_in` |
 //! | a body that is sound, its columns | `specs/Sound.antt`: `IsSound`, `columns_of` |
 //! | its one reading | `specs/Inside.antt`: `IsReading` |

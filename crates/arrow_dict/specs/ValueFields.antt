@@ -2,23 +2,22 @@
 use Rattle.std.specs.Prelude.{◌≡◌, ℤ, List, map}
 use Rattle.std.specs.List.{AllByRecursion}
 use Rattle.arrow_array.specs.Parts.{type_of}
+use Rattle.arrow_types.specs.Field.{FieldShape}
 use Rattle.arrow_types.specs.Schema.{DictionaryField}
-use Rattle.arrow_types.specs.View.{field_view}
-use Rattle.arrow_types.specs.declared.field.Field.{Field}
 use Rattle.arrow_dict.specs.ValueTypes.{value_field}
 use Rattle.arrow_dict.specs.declared.value_fields.ValueFields.TheInside.{Inside}
 
 -- what a kept field says of its id
-abbrev pub named : ℤ × Field → DictionaryField
-named e = record { id = e.0; value_type = type_of (field_view e.1) }
+abbrev pub named : ℤ × FieldShape → DictionaryField
+named e = record { id = e.0; value_type = type_of e.1 }
 
 -- what all of them say, by rising id
 abbrev pub named_types : Inside → List DictionaryField
 named_types v = map named v.fields.entries
 
 -- a kept field is one of values
-abbrev pub IsValueField : ℤ × Field → Type 0
-IsValueField e = field_view e.1 ≡ value_field (type_of (field_view e.1))
+abbrev pub IsValueField : ℤ × FieldShape → Type 0
+IsValueField e = e.1 ≡ value_field (type_of e.1)
 
 -- all of them are
 abbrev pub AreValueFields : Inside → Type 0

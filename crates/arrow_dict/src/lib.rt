@@ -5,7 +5,7 @@
 //! for themselves, and then take the place of what the id had, or they are a delta and go behind
 //! it. [`Store`] takes both, as a `Dictionary` or as an `Array` to append, and gives the dictionary
 //! of an id, or all of them by rising id, as a record batch is loaded over. [`ValueFields`] takes a
-//! schema, and gives for an id the field that a dictionary batch of that id has.
+//! schema, and gives for an id the [`ValueField`] that a dictionary batch of that id has.
 //!
 //! A writer keeps a [`Tracker`]: asked what has to be sent of a dictionary, it answers with an
 //! [`Update`]; the dictionaries of a batch are staged, and are the sent ones once the batch is sent
@@ -34,9 +34,11 @@ pub mod laws;
 mod store;
 mod tracker;
 mod update;
+mod value_field;
 mod value_fields;
 
 pub use store::{Store, StoreFault};
 pub use tracker::Tracker;
 pub use update::{Update, Updates};
+pub use value_field::ValueField;
 pub use value_fields::ValueFields;

@@ -5,6 +5,7 @@ ghost use Rattle.arrow_types.specs.Schema.{IsSchema, dictionary_fields, dictiona
 ghost use Rattle.arrow_types.specs.View.{field_view, fields_view, type_view};
 ghost use Rattle.arrow_dict.specs.ValueTypes.{NameSame, value_field, value_type_of};
 
+use crate::value_field::ValueField;
 use arrow_types::{DataType, Field, Schema};
 use std::alloc::{AllocError, Global};
 use std::collections::BTreeMap;
@@ -14,7 +15,7 @@ use std::marker::Model;
 /// values, as the message of a dictionary has one (Message.fbs, table `DictionaryBatch`).
 #[derive(Drop)]
 pub struct ValueFields {
-    fields: BTreeMap<i64, Field>,
+    fields: BTreeMap<i64, ValueField>,
 }
 
 impl Model for ValueFields {
@@ -51,8 +52,8 @@ impl ValueFields {
 
     /// The field of the values of the id's dictionary: of their type, without a name or an
     /// encoding, and nullable. None where no field of the schema gives the id. Takes no memory.
-    pub fn get(&self, id: i64) -> Option<&Field>
-        ensures { option_map (λ f. field_view f.now) result
+    pub fn get(&self, id: i64) -> Option<&ValueField>
+        ensures { option_map (λ f. f.now) result
             ≡ option_map value_field (value_type_of self.now id) }
     {
         self.fields.get(&id)
@@ -66,21 +67,9 @@ impl ValueFields {
         if self.fields.contains_key(&id) {
             return Ok(());
         }
-        self.fields.insert(id, values_of(alloc, data_type)?)?;
+        self.fields.insert(id, ValueField::of(alloc, data_type)?)?;
         Ok(())
     }
-}
-
-// The field of values of the type.
-fn values_of(alloc: Global, data_type: &DataType) -> Result<Field, AllocError>
-    ensures { IfOk result (λ f. field_view f ≡ value_field (type_view data_type.now)) }
-{
-    Ok(Field {
-        name: String::new(alloc),
-        nullable: true,
-        data_type: data_type.copy(alloc)?,
-        dictionary: None,
-    })
 }
 
 // Adds what the field says itself, if it is dictionary-encoded.

@@ -1,6 +1,7 @@
 //! The body of a message, and the columns that it holds.
 
 ghost use Rattle.std.specs.Prelude.{◌≡◌, ◌≤◌, ◌≤ℤ◌, pos, length, drop, IfOk, MatchResult, Ok};
+ghost use Rattle.arrow_array.specs.Shared.{node_types};
 ghost use Rattle.arrow_types.specs.View.{fields_view};
 ghost use Rattle.arrow_body.specs.Held.{count_of};
 ghost use Rattle.arrow_body.specs.Sound.{AreFit};
@@ -10,7 +11,7 @@ ghost use Rattle.arrow_stream.specs.Views.{HasNoColumns};
 
 use crate::kind::Refusal;
 use crate::message::Stop;
-use arrow_array::{Array, Dictionary};
+use arrow_array::{Array, Dictionary, SharedType};
 use arrow_body::{BodyFault, check, have_length, load_unchecked};
 use arrow_meta::RecordBatch;
 use arrow_types::Field;
@@ -95,18 +96,21 @@ pub(crate) fn row_count(outline: &RecordBatch) -> usize
 }
 
 /// The columns of the fields that a body holds, or the first of Layout, Text and Index that applies
-/// to any of them. They share one body: where none applies it is copied, or shared itself.
+/// to any of them. They share one body: where none applies it is copied, or shared itself. They also
+/// share the types of the nodes.
 ///
 /// The outline is what the metadata tell of the body: the number of its rows, its nodes and its
 /// buffers.
 pub(crate) fn hold(
     alloc: Global,
     fields: &[Field],
+    types: &[SharedType],
     outline: &RecordBatch,
     body: &Body,
     dictionaries: &[(i64, Dictionary)],
 ) -> Result<Vec<Array>, Stop>
     requires sign { pos 0 ≤ℤ outline.now.length }
+    requires typed { types.now ≡ node_types (fields_view fields.now) }
     requires fit { AreFit dictionaries.now (fields_view fields.now) }
     ensures held { MatchResult result
         (λ columns. Holds body.now dictionaries.now (fields_view fields.now)
@@ -136,6 +140,7 @@ pub(crate) fn hold(
     match load_unchecked(
         alloc,
         fields,
+        types,
         &outline.nodes,
         &outline.buffers,
         &body,

@@ -14,7 +14,6 @@ use crate::state::State;
 use arrow_body::nodes_of;
 use arrow_meta::{Header, RecordBatch};
 use arrow_types::{Field, FieldNode, Limits};
-use std::slice;
 
 /// The kind that the place of a message decides, if one does: a body that would end past the last
 /// place, or the order of messages.
@@ -80,7 +79,7 @@ fn against_dictionary(
     if is_delta && base.is_none() {
         return Some(Refusal::NoBase);
     }
-    if has_bad_length(max_rows, slice::from_ref(field), outline) {
+    if has_bad_length(max_rows, field.fields(), outline) {
         return Some(Refusal::Rows);
     }
     let found = if is_delta { base.unwrap_or(0) } else { 0 };

@@ -4,7 +4,7 @@ ghost use Rattle.std.specs.Prelude.{◌≡◌, ◌≤ℤ◌, pos, [], false, Som
 ghost use Rattle.std.specs.Prelude.{length, IsTrue};
 ghost use Rattle.arrow_types.specs.Schema.{dictionary_fields, has_encoding};
 ghost use Rattle.arrow_types.specs.Field.{TypeShape};
-ghost use Rattle.arrow_types.specs.View.{field_view, fields_view};
+ghost use Rattle.arrow_types.specs.View.{fields_view};
 ghost use Rattle.arrow_array.specs.Listed.{listed};
 ghost use Rattle.arrow_dict.specs.ValueTypes.{value_field, value_type_of};
 ghost use Rattle.arrow_meta.specs.Means.{batch_view, dictionary, batch};
@@ -17,11 +17,10 @@ use crate::item::Item;
 use crate::message::{Content, Stop};
 use crate::stream_schema::StreamSchema;
 use arrow_array::{Array, Batch, Dictionary};
-use arrow_dict::{Store, StoreFault};
+use arrow_dict::{Store, StoreFault, ValueField};
 use arrow_meta::RecordBatch;
 use arrow_types::Field;
 use std::alloc::Global;
-use std::slice;
 
 /// What the whole messages have left.
 #[derive(Drop)]
@@ -56,8 +55,8 @@ impl State {
 
     /// The field of the values of the dictionary with this id, if a field of the schema gives the
     /// id.
-    pub(crate) fn value_field(&self, id: i64) -> Option<&Field>
-        ensures field { option_map (λ f. field_view f.now) result
+    pub(crate) fn value_field(&self, id: i64) -> Option<&ValueField>
+        ensures field { option_map (λ f. f.now) result
             ≡ option_map value_field
             (value_type_of (dictionary_fields (fields_in (plain self.now).schema)) id) }
         ensures flat { (t : TypeShape)
@@ -108,9 +107,10 @@ impl State {
         let Some(schema) = &self.schema else {
             unreachable!();
         };
+        let types = schema.types();
         let schema = schema.shared();
         let dictionaries = self.dictionaries.entries();
-        let arrays = match hold(alloc, schema.fields(), outline, body, dictionaries) {
+        let arrays = match hold(alloc, schema.fields(), types, outline, body, dictionaries) {
             Ok(arrays) => arrays,
             Err(stop) => return Err(stop),
         };
@@ -139,7 +139,7 @@ impl State {
         let Some(field) = self.value_field(id) else {
             unreachable!();
         };
-        match hold(alloc, slice::from_ref(field), outline, body, &[]) {
+        match hold(alloc, field.fields(), field.types(), outline, body, &[]) {
             Ok(mut arrays) => match arrays.pop() {
                 Some(values) => Ok(values),
                 None => unreachable!(),

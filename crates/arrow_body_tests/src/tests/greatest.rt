@@ -4,7 +4,7 @@
 use super::forms::{Form, fields_of};
 use super::reading::{Pairs, nodes_of_pairs};
 use super::written::dictionary;
-use arrow_array::{Array, Dictionary};
+use arrow_array::{Array, Dictionary, shared_types};
 use arrow_body::{BodyFault, are_fit, check, load_unchecked};
 use arrow_body_write::{Align, rest_size};
 use arrow_types::Buffer;
@@ -140,10 +140,11 @@ fn again_and_again(rt: &(impl Abort + AllocGlobal), case: &Case) -> Result<Dicti
     let body = body_of(rt, case.front);
     assert!(rt; are_fit(&fields, &[]));
     check(&fields, &nodes, &buffers, &body, &[])?;
-    let columns = load_unchecked(rt.alloc(), &fields, &nodes, &buffers, &body, &[]);
+    let types = shared_types(rt.alloc(), &fields).expect(rt, "memory");
+    let columns = load_unchecked(rt.alloc(), &fields, &types, &nodes, &buffers, &body, &[]);
     let mut whole = dictionary(rt, Ok(columns.expect(rt, "memory")));
     for _ in 1..case.times {
-        let columns = load_unchecked(rt.alloc(), &fields, &nodes, &buffers, &body, &[]);
+        let columns = load_unchecked(rt.alloc(), &fields, &types, &nodes, &buffers, &body, &[]);
         append(rt, &mut whole, columns.expect(rt, "memory"));
     }
     Ok(whole)

@@ -2,11 +2,12 @@
 
 use super::fields::{Kind, fields_of};
 use super::shown::shown;
-use arrow_array::{Array, Dictionary};
+use arrow_array::{Array, Dictionary, shared_types};
 use arrow_body::{BodyFault, are_fit, check, load, load_unchecked};
 use arrow_types::{Buffer, Field, FieldNode};
 use bytes::Bytes;
 use std::process::Abort;
+use std::slice;
 
 // Nodes as pairs of a length and a number of nulls, buffers as pairs of an offset and a length.
 pub(super) type Pairs<'a> = &'a [(i64, i64)];
@@ -58,8 +59,43 @@ fn loaded_in_two(
     assert!(rt; are_fit(fields, &[]));
     check(fields, &nodes, &buffers, body, &[])?;
     let body = Bytes::copy_from_slice(rt.alloc(), body).expect(rt, "memory");
-    let columns = load_unchecked(rt.alloc(), fields, &nodes, &buffers, &body, &[]);
-    Ok(columns.expect(rt, "memory"))
+    let types = shared_types(rt.alloc(), fields).expect(rt, "memory");
+    let columns = load_unchecked(rt.alloc(), fields, &types, &nodes, &buffers, &body, &[]);
+    let columns = columns.expect(rt, "memory");
+    assert!(rt; are_typed(fields, &columns) && are_children_typed(fields, &columns));
+    Ok(columns)
+}
+
+// Whether the columns are of the fields' types.
+fn are_typed(fields: &[Field], columns: &[Array]) -> bool {
+    if fields.len() != columns.len() {
+        return false;
+    }
+    for k in 0..fields.len() {
+        if !columns[k].data_type().same(&fields[k].data_type) {
+            return false;
+        }
+    }
+    true
+}
+
+// Whether the children of the columns are of the types of the fields below.
+fn are_children_typed(fields: &[Field], columns: &[Array]) -> bool {
+    if fields.len() != columns.len() {
+        return false;
+    }
+    for k in 0..fields.len() {
+        let below = fields[k].children();
+        let is_typed = match (columns[k].items(), columns[k].fields()) {
+            (Some(items), _) => are_typed(below, slice::from_ref(items)),
+            (None, Some(children)) => are_typed(below, children),
+            (None, None) => below.is_empty(),
+        };
+        if !is_typed {
+            return false;
+        }
+    }
+    true
 }
 
 // What the columns show, or the name of the fault.

@@ -58,32 +58,39 @@ fn value_fields(rt: &(impl Abort + AllocGlobal), columns: Vec<Field>) -> ValueFi
     ValueFields::of(rt.alloc(), &schema).expect(rt, "memory")
 }
 
-// The ids and the fields of their values, which have no name and no encoding.
+// The ids, how many nodes their values take, and the fields of these, which have no name and no
+// encoding.
 static NAMED: [(i64, &str); 8] = [
     (
         5,
-        "Some(Field { name: \"\", nullable: true, data_type: Utf8, dictionary: None })",
+        "1: [Field { name: \"\", nullable: true, data_type: Utf8, dictionary: None }]",
     ),
     (
         -2,
-        "Some(Field { name: \"\", nullable: true, data_type: \
-         Int { bits: Eight, signed: true }, dictionary: None })",
+        "1: [Field { name: \"\", nullable: true, data_type: \
+         Int { bits: Eight, signed: true }, dictionary: None }]",
     ),
     (
         9,
-        "Some(Field { name: \"\", nullable: true, data_type: List(Field { \
+        "2: [Field { name: \"\", nullable: true, data_type: List(Field { \
          name: \"\", nullable: true, data_type: Int { bits: Eight, signed: true }, \
-         dictionary: None }), dictionary: None })",
+         dictionary: None }), dictionary: None }]",
     ),
-    (0, "None"),
-    (2, "None"),
-    (-5, "None"),
-    (i64::MIN, "None"),
-    (i64::MAX, "None"),
+    (0, "none"),
+    (2, "none"),
+    (-5, "none"),
+    (i64::MIN, "none"),
+    (i64::MAX, "none"),
 ];
 
 fn told(rt: &(impl Abort + AllocGlobal), fields: &ValueFields, id: i64) -> String {
-    format!(in rt.alloc(); "{:?}", fields.get(id)).expect(rt, "memory")
+    match fields.get(id) {
+        Some(field) => {
+            let nodes = field.types().len();
+            format!(in rt.alloc(); "{nodes}: {:?}", field.fields()).expect(rt, "memory")
+        }
+        None => String::from_str(rt.alloc(), "none").expect(rt, "memory"),
+    }
 }
 
 #[test]

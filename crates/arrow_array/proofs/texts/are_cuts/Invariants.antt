@@ -1,4 +1,4 @@
-use Rattle.arrow_array.specs.Slots.{AreCuts}
+use Rattle.arrow_array.specs.Cuts.{AreCuts}
 use Rattle.arrow_array.proofs.texts.are_cuts.Given as goal
 
 -- the slots so far end between characters

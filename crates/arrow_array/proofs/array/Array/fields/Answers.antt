@@ -11,7 +11,7 @@ use Rattle.arrow_array.proofs.array.Array.fields.Goals as goal
 pub returns-in-Structs : goal.returns-in-Structs
 returns-in-Structs c =
     let a = c.self.inside in
-    let t = type_view a.data_type in
+    let t = type_view a.data_type.value in
     let v = c.in-Structs.validity in
     let cs = c.in-Structs.children.items in
     let ok = subst (AreRanges a.len t a.encoding a.body) c.in-Structs.is c.self.invariant.1 in

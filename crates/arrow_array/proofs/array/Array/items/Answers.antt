@@ -10,7 +10,7 @@ use Rattle.arrow_array.proofs.array.Array.items.Goals as goal
 pub returns-in-Lists : goal.returns-in-Lists
 returns-in-Lists c =
     let a = c.self.inside in
-    let t = type_view a.data_type in
+    let t = type_view a.data_type.value in
     let w = c.in-Lists.width in
     let v = c.in-Lists.validity in
     let o = c.in-Lists.offsets in

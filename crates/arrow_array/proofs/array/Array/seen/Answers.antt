@@ -13,7 +13,7 @@ returns-in-Structs c =
     let a = c.self.inside in
     let cs = c.in-Structs.children.items in
     let slot = struct_slot (bytes_of a.body c.in-Structs.validity) (map (λ (x : Column). x.raw) cs) in
-    let ok = subst (AreRanges a.len (type_view a.data_type) a.encoding a.body) c.in-Structs.is c.self.invariant.1 in
+    let ok = subst (AreRanges a.len (type_view a.data_type.value) a.encoding a.body) c.in-Structs.is c.self.invariant.1 in
     let raw : c.args.self.now.raw ≡ slots a.len (λ j. slot j) =
     ap (λ (x : Column). x.raw) (sym c.self.view_is) ∙ ap (λ r. slots a.len (raw_slot a.body r)) c.in-Structs.is in
     let resolved : c.args.self.now.resolved ≡ slots a.len (λ j. struct_slot (bytes_of a.body c.in-Structs.validity) (map (λ (x : Column). x.resolved) cs) j) =
@@ -21,12 +21,12 @@ returns-in-Structs c =
     let shape = ap (λ (x : Column). x.data_type) (sym c.self.view_is) in
     let within : c.args.i < a.len = omega (arith, ap length raw, length_slots a.len (λ j. slot j)) in
     let valid : is_valid_at (bytes_of a.body c.in-Structs.validity) c.args.i ≡ true = search rules in
-    rw c.deref-in-Structs.ensures.value (parts_shown c.args.self.now a.len c.args.i (type_view a.data_type) a.body c.in-Structs.validity cs raw resolved shape ok.2 within valid)
+    rw c.deref-in-Structs.ensures.value (parts_shown c.args.self.now a.len c.args.i (type_view a.data_type.value) a.body c.in-Structs.validity cs raw resolved shape ok.2 within valid)
 
 pub returns-in-Some-range_at : goal.returns-in-Some-range_at
 returns-in-Some-range_at c =
     let a = c.self.inside in
-    let t = type_view a.data_type in
+    let t = type_view a.data_type.value in
     let w = c.in-Lists.width in
     let v = bytes_of a.body c.in-Lists.validity in
     let o = bytes_of a.body c.in-Lists.offsets in

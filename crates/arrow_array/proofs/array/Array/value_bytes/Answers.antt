@@ -21,7 +21,7 @@ returns-then-start-stop c = empty_part _ c.args.self.now.raw c.args.start c.args
 pub returns-in-Nulls : goal.returns-in-Nulls
 returns-in-Nulls c =
     let a = c.self.inside in
-    let t = type_view a.data_type in
+    let t = type_view a.data_type.value in
     let me = c.args.self.now in
     let r = c.in-Nulls.is in
     let raw = ap (λ (x : Column). x.raw) (sym c.self.view_is) ∙ ap (λ ranges. slots a.len (raw_slot a.body ranges)) r in
@@ -35,7 +35,7 @@ returns-in-Nulls c =
 pub returns-in-Bools : goal.returns-in-Bools
 returns-in-Bools c =
     let a = c.self.inside in
-    let t = type_view a.data_type in
+    let t = type_view a.data_type.value in
     let me = c.args.self.now in
     let r = c.in-Bools.is in
     let raw = ap (λ (x : Column). x.raw) (sym c.self.view_is) ∙ ap (λ ranges. slots a.len (raw_slot a.body ranges)) r in
@@ -50,7 +50,7 @@ returns-in-Bools c =
 pub returns-in-Ints : goal.returns-in-Ints
 returns-in-Ints c =
     let a = c.self.inside in
-    let t = type_view a.data_type in
+    let t = type_view a.data_type.value in
     let me = c.args.self.now in
     let r = c.in-Ints.is in
     let raw = ap (λ (x : Column). x.raw) (sym c.self.view_is) ∙ ap (λ ranges. slots a.len (raw_slot a.body ranges)) r in
@@ -67,7 +67,7 @@ returns-in-Ints c =
 pub returns-in-Binaries : goal.returns-in-Binaries
 returns-in-Binaries c =
     let a = c.self.inside in
-    let t = type_view a.data_type in
+    let t = type_view a.data_type.value in
     let me = c.args.self.now in
     let r = c.in-Binaries.is in
     let raw = ap (λ (x : Column). x.raw) (sym c.self.view_is) ∙ ap (λ ranges. slots a.len (raw_slot a.body ranges)) r in
@@ -85,7 +85,7 @@ returns-in-Binaries c =
 pub returns-in-Texts : goal.returns-in-Texts
 returns-in-Texts c =
     let a = c.self.inside in
-    let t = type_view a.data_type in
+    let t = type_view a.data_type.value in
     let me = c.args.self.now in
     let r = c.in-Texts.is in
     let raw = ap (λ (x : Column). x.raw) (sym c.self.view_is) ∙ ap (λ ranges. slots a.len (raw_slot a.body ranges)) r in
@@ -103,7 +103,7 @@ returns-in-Texts c =
 pub returns-in-FixedBytes : goal.returns-in-FixedBytes
 returns-in-FixedBytes c =
     let a = c.self.inside in
-    let t = type_view a.data_type in
+    let t = type_view a.data_type.value in
     let me = c.args.self.now in
     let r = c.in-FixedBytes.is in
     let raw = ap (λ (x : Column). x.raw) (sym c.self.view_is) ∙ ap (λ ranges. slots a.len (raw_slot a.body ranges)) r in
@@ -119,7 +119,7 @@ returns-in-FixedBytes c =
 pub returns-in-Lists : goal.returns-in-Lists
 returns-in-Lists c =
     let a = c.self.inside in
-    let t = type_view a.data_type in
+    let t = type_view a.data_type.value in
     let me = c.args.self.now in
     let r = c.in-Lists.is in
     let raw = ap (λ (x : Column). x.raw) (sym c.self.view_is) ∙ ap (λ ranges. slots a.len (raw_slot a.body ranges)) r in
@@ -134,7 +134,7 @@ returns-in-Lists c =
 pub returns-in-Structs : goal.returns-in-Structs
 returns-in-Structs c =
     let a = c.self.inside in
-    let t = type_view a.data_type in
+    let t = type_view a.data_type.value in
     let me = c.args.self.now in
     let r = c.in-Structs.is in
     let raw = ap (λ (x : Column). x.raw) (sym c.self.view_is) ∙ ap (λ ranges. slots a.len (raw_slot a.body ranges)) r in
@@ -149,7 +149,7 @@ returns-in-Structs c =
 pub returns-in-Indices : goal.returns-in-Indices
 returns-in-Indices c =
     let a = c.self.inside in
-    let t = type_view a.data_type in
+    let t = type_view a.data_type.value in
     let me = c.args.self.now in
     let r = c.in-Indices.is in
     let raw = ap (λ (x : Column). x.raw) (sym c.self.view_is) ∙ ap (λ ranges. slots a.len (raw_slot a.body ranges)) r in

@@ -19,12 +19,12 @@ returns-then-contains_key c =
 pub invariant_of-self-2 : goal.invariant_of-self-2
 invariant_of-self-2 c =
     subst (λ es. AllByRecursion IsValueField es) (sym c.in_ok-insert.ensures.entries)
-    (all_kept c.self.inside.fields.entries _ c.in_ok-values_of.field-0 c.self.invariant (made_shown c.args.id c.in_ok-values_of.field-0 (type_view c.args.data_type.now) c.in_ok-values_of.ensures))
+    (all_kept c.self.inside.fields.entries _ c.in_ok-of.field-0 c.self.invariant (made_shown c.args.id c.in_ok-of.field-0 (type_view c.args.data_type.now) c.in_ok-of.ensures))
 
 -- the id has none yet
 pub returns : goal.returns
 returns c =
     let d : DictionaryField = record { id = c.args.id; value_type = type_view c.args.data_type.now } in
     rw (← c.self.view_is)
-    (kept_new c.self.inside.fields.entries c.insert.new.self.entries d _ c.in_ok-values_of.field-0 (to_z-of_z w64 c.args.id c.ranges.id)
-    (made_typed c.in_ok-values_of.field-0 (type_view c.args.data_type.now) c.in_ok-values_of.ensures) c.if-contains_key.ensures c.in_ok-insert.ensures.updates.0)
+    (kept_new c.self.inside.fields.entries c.insert.new.self.entries d _ c.in_ok-of.field-0 (to_z-of_z w64 c.args.id c.ranges.id)
+    (made_typed c.in_ok-of.field-0 (type_view c.args.data_type.now) c.in_ok-of.ensures) c.if-contains_key.ensures c.in_ok-insert.ensures.updates.0)
