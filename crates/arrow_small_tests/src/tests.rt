@@ -1,8 +1,11 @@
-//! A file for each library; `records` and `chunks` are of `arrow_csv`, `refusals` of `arrow_written`.
+//! A file for each library; `records`, `chunks` and `nested` are of `arrow_csv`, `refusals` of
+//! `arrow_written`, and `columns` builds what these show.
 
 mod bits;
 mod chunks;
+mod columns;
 mod flatbuf;
+mod nested;
 mod records;
 mod refusals;
 mod sinks;

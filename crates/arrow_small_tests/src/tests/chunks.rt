@@ -1,18 +1,16 @@
 // Texts about as long as the chunks in which they are looked at, with each byte that calls for quotes
-// at each place, and byte strings of each length up to that of two chunks and one byte; and truth
-// values, lists and structs.
+// at each place, and byte strings of each length up to that of two chunks and one byte.
 
-use arrow_array::{Batch, Value};
+use super::columns::{MEMORY, builder, records, schema};
+use arrow_array::Value;
 use arrow_build::ArrayBuilder;
-use arrow_csv::rows;
-use arrow_types::{BitWidth, DataType, Field, Schema};
+use arrow_types::DataType;
 use std::process::Abort;
-use std::rc::Rc;
-
-const MEMORY: &str = "memory";
 
 // So many bytes have the texts.
-static LENGTHS: [usize; 14] = [0, 1, 7, 8, 9, 15, 16, 17, 23, 24, 31, 32, 33, 64];
+static LENGTHS: [usize; 18] = [
+    0, 1, 7, 8, 9, 15, 16, 17, 23, 24, 31, 32, 33, 64, 65, 80, 128, 145,
+];
 
 // A byte, what stands for it in a field, and what stands around that.
 static MARKS: [(&str, &str, &str); 12] = [
@@ -66,48 +64,6 @@ static BYTES: [u8; 33] = [
 ];
 
 static DIGITS: &str = "f0153a5f84a9cef3183d6287acd1f61b40658aafd4f91e43688db2d7fc21466b90";
-
-// Numbers of 16 bits.
-const NUMBER: DataType = DataType::Int {
-    bits: BitWidth::Sixteen,
-    signed: true,
-};
-
-// A nullable field of this name.
-fn field(rt: &(impl Abort + AllocGlobal), name: &str, data_type: DataType) -> Field {
-    Field {
-        name: String::from_str(rt.alloc(), name).expect(rt, MEMORY),
-        nullable: true,
-        data_type,
-        dictionary: None,
-    }
-}
-
-// The schema of one nullable column without a name.
-fn schema(rt: &(impl Abort + AllocGlobal), data_type: DataType) -> Rc<Schema> {
-    let mut fields = Vec::new(rt.alloc());
-    fields.push(field(rt, "", data_type)).expect(rt, MEMORY);
-    let schema = Schema::new(rt.alloc(), fields).expect(rt, "the field of a schema");
-    Rc::new(rt.alloc(), schema).expect(rt, MEMORY)
-}
-
-// A builder of its column.
-fn builder(rt: &(impl Abort + AllocGlobal), schema: &Schema) -> ArrayBuilder {
-    let fields = schema.fields();
-    assert!(rt; !fields.is_empty());
-    ArrayBuilder::new(rt.alloc(), &fields[0]).expect(rt, MEMORY)
-}
-
-// The records of a column, of the batch that has number 7.
-fn records(rt: &(impl Abort + AllocGlobal), schema: Rc<Schema>, column: &ArrayBuilder) -> Vec<u8> {
-    let array = column
-        .finish(rt.alloc(), &[])
-        .expect(rt, "no dictionary is asked for");
-    let mut columns = Vec::new(rt.alloc());
-    columns.push(array).expect(rt, MEMORY);
-    let batch = Batch::new(schema, columns, column.len()).expect(rt, "one column as asked");
-    rows(rt.alloc(), 7, &batch, 0, batch.rows()).expect(rt, MEMORY)
-}
 
 // A text of so many letters, with a mark in the place of one of them, and something around it all.
 fn marked(
@@ -216,65 +172,4 @@ fn byte_strings_of_each_length(rt: HostRuntime) {
     }
     let found = records(&rt, schema, &column);
     assert_eq!(rt; found.as_slice(), want.as_slice());
-}
-
-// A struct of a number and of bytes.
-fn pair(rt: &(impl Abort + AllocGlobal), number: Value, bytes: Value) -> Value {
-    let mut values = Vec::new(rt.alloc());
-    values.push(number).expect(rt, MEMORY);
-    values.push(bytes).expect(rt, MEMORY);
-    Value::Struct(values)
-}
-
-#[test]
-fn structs_name_their_fields(rt: HostRuntime) {
-    let mut fields = Vec::new(rt.alloc());
-    fields.push(field(&rt, "n", NUMBER)).expect(&rt, MEMORY);
-    fields
-        .push(field(&rt, "long name", DataType::Binary))
-        .expect(&rt, MEMORY);
-    let schema = schema(&rt, DataType::Struct(fields));
-    let mut column = builder(&rt, &schema);
-    let bytes = Value::Bytes(Vec::from_slice(rt.alloc(), &[0xab, 0x0c]).expect(&rt, MEMORY));
-    for value in [
-        pair(&rt, Value::Int(-300), bytes),
-        pair(&rt, Value::Null, Value::Null),
-        Value::Null,
-    ] {
-        column.push(&value).expect(&rt, "a value of the column");
-    }
-    let found = records(&rt, schema, &column);
-    let want = b"7,{n=-300;long name=ab0c}\n7,{n=null;long name=null}\n7,\n".as_slice();
-    assert_eq!(rt; found.as_slice(), want);
-}
-
-#[test]
-fn truth_values_are_words(rt: HostRuntime) {
-    let schema = schema(&rt, DataType::Bool);
-    let mut column = builder(&rt, &schema);
-    for value in [Value::Bool(true), Value::Bool(false), Value::Null] {
-        column.push(&value).expect(&rt, "a value of the column");
-    }
-    let found = records(&rt, schema, &column);
-    assert_eq!(rt; found.as_slice(), b"7,true\n7,false\n7,\n".as_slice());
-}
-
-#[test]
-fn lists_part_their_items(rt: HostRuntime) {
-    let item = Box::new(rt.alloc(), field(&rt, "item", NUMBER)).expect(&rt, MEMORY);
-    let schema = schema(&rt, DataType::List(item));
-    let mut column = builder(&rt, &schema);
-    let mut values = Vec::new(rt.alloc());
-    for value in [Value::Int(1), Value::Null, Value::Int(-3)] {
-        values.push(value).expect(&rt, MEMORY);
-    }
-    for value in [
-        Value::List(values),
-        Value::List(Vec::new(rt.alloc())),
-        Value::Null,
-    ] {
-        column.push(&value).expect(&rt, "a value of the column");
-    }
-    let found = records(&rt, schema, &column);
-    assert_eq!(rt; found.as_slice(), b"7,[1;null;-3]\n7,[]\n7,\n".as_slice());
 }

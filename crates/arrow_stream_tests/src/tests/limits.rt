@@ -23,8 +23,16 @@ const THREE_VALUES: Told<'static> = Told {
     ..A_TO_C
 };
 
+// Its values were replaced by four others.
+const FOUR_VALUES: Told<'static> = Told {
+    items: "schema dictionary:0 dictionary:0",
+    dictionaries: "0: 'a' 'c' 'd' 'e'",
+    place: 656,
+    ..A_TO_C
+};
+
 // The most bytes of metadata and of body and the most rows, and streams under these limits.
-static LIMITED: [([u64; 3], &[Streams]); 8] = [
+static LIMITED: [([u64; 3], &[Streams]); 10] = [
     (
         [144, 0, 0],
         &[Streams {
@@ -39,6 +47,30 @@ static LIMITED: [([u64; 3], &[Streams]); 8] = [
             frames: &[&SCHEMA],
             read: NOTHING,
             rows: &[("metadata over the limit", &[], Refused(Kind::MetadataSize))],
+        }],
+    ),
+    (
+        [399, 0, 0],
+        &[Streams {
+            frames: &[&SCHEMA],
+            read: NOTHING,
+            rows: &[
+                (
+                    "a second byte of the size",
+                    &[(5, &[1])],
+                    Refused(Kind::MetadataSize),
+                ),
+                (
+                    "a third byte of the size",
+                    &[(6, &[1])],
+                    Refused(Kind::MetadataSize),
+                ),
+                (
+                    "a fourth byte of the size",
+                    &[(7, &[1])],
+                    Refused(Kind::MetadataSize),
+                ),
+            ],
         }],
     ),
     (
@@ -125,6 +157,15 @@ static LIMITED: [([u64; 3], &[Streams]); 8] = [
             ],
             read: THREE_VALUES,
             rows: &[("five values of four", &[], Refused(Kind::Rows))],
+        }],
+    ),
+    // Four values in the place of three are not seven.
+    (
+        [67_108_864, 68_719_476_736, 4],
+        &[Streams {
+            frames: &[&letters::SCHEMA, &ABC, &ACDE],
+            read: FOUR_VALUES,
+            rows: &[("four values of four", &[], Whole)],
         }],
     ),
 ];

@@ -248,10 +248,16 @@ fn a_text_is_refused(rt: HostRuntime) {
 
 #[test]
 fn kinds_have_their_numbers(rt: HostRuntime) {
-    static NUMBERED: [(Kind, u8); 13] = [
+    static NUMBERED: [(Kind, u8); 19] = [
         (Kind::Continuation, 1),
         (Kind::MetadataSize, 2),
+        (Kind::Metadata, 3),
+        (Kind::Version, 4),
         (Kind::Header, 5),
+        (Kind::BodyLength, 6),
+        (Kind::Order, 7),
+        (Kind::Unsupported, 8),
+        (Kind::Schema, 9),
         (Kind::Compressed, 10),
         (Kind::UnknownId, 11),
         (Kind::NoBase, 12),

@@ -81,7 +81,22 @@ static REFUSED: [Streams; 6] = [
         read: NOTHING,
         rows: &[
             (
-                "a byte of the continuation",
+                "the first byte of the continuation",
+                &[(0, &[0xfe])],
+                Refused(Kind::Continuation),
+            ),
+            (
+                "the second byte of the continuation",
+                &[(1, &[0xfe])],
+                Refused(Kind::Continuation),
+            ),
+            (
+                "the third byte of the continuation",
+                &[(2, &[0xfe])],
+                Refused(Kind::Continuation),
+            ),
+            (
+                "the last byte of the continuation",
                 &[(3, &[0xfe])],
                 Refused(Kind::Continuation),
             ),

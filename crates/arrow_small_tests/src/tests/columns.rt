@@ -1,0 +1,50 @@
+// Columns that are built value by value, and their records.
+
+use arrow_array::Batch;
+use arrow_build::ArrayBuilder;
+use arrow_csv::rows;
+use arrow_types::{DataType, Field, Schema};
+use std::process::Abort;
+use std::rc::Rc;
+
+pub(super) const MEMORY: &str = "memory";
+
+// A nullable field of this name.
+pub(super) fn field(rt: &(impl Abort + AllocGlobal), name: &str, data_type: DataType) -> Field {
+    Field {
+        name: String::from_str(rt.alloc(), name).expect(rt, MEMORY),
+        nullable: true,
+        data_type,
+        dictionary: None,
+    }
+}
+
+// The schema of one nullable column without a name.
+pub(super) fn schema(rt: &(impl Abort + AllocGlobal), data_type: DataType) -> Rc<Schema> {
+    let mut fields = Vec::new(rt.alloc());
+    fields.push(field(rt, "", data_type)).expect(rt, MEMORY);
+    let schema = Schema::new(rt.alloc(), fields).expect(rt, "the field of a schema");
+    Rc::new(rt.alloc(), schema).expect(rt, MEMORY)
+}
+
+// A builder of its column.
+pub(super) fn builder(rt: &(impl Abort + AllocGlobal), schema: &Schema) -> ArrayBuilder {
+    let fields = schema.fields();
+    assert!(rt; !fields.is_empty());
+    ArrayBuilder::new(rt.alloc(), &fields[0]).expect(rt, MEMORY)
+}
+
+// The records of a column, of the batch that has number 7.
+pub(super) fn records(
+    rt: &(impl Abort + AllocGlobal),
+    schema: Rc<Schema>,
+    column: &ArrayBuilder,
+) -> Vec<u8> {
+    let array = column
+        .finish(rt.alloc(), &[])
+        .expect(rt, "no dictionary is asked for");
+    let mut columns = Vec::new(rt.alloc());
+    columns.push(array).expect(rt, MEMORY);
+    let batch = Batch::new(schema, columns, column.len()).expect(rt, "one column as asked");
+    rows(rt.alloc(), 7, &batch, 0, batch.rows()).expect(rt, MEMORY)
+}
