@@ -7,6 +7,7 @@ mod drilling;
 mod drilling_ends;
 mod edits;
 mod failures;
+mod fault_lines;
 mod growing;
 mod help_pages;
 mod reports;

@@ -2,10 +2,8 @@
 //! out.
 
 use super::edits::{Edit, Part, edited, joined};
-use super::told::{Call, assert_told, told, written};
-use arrow_stream::{Fault, Kind};
+use super::told::{Call, assert_told, told};
 use arrow_types::Limits;
-use arrowflow::ToolFault;
 use std::alloc::Global;
 use std::process::Abort;
 
@@ -153,33 +151,4 @@ fn assert_limited(rt: &impl Abort, alloc: Global, max_metadata: u64, expected: &
 fn limits_are_kept(rt: HostRuntime) {
     assert_limited(&rt, rt.alloc(), 144, "n: int32\n");
     assert_limited(&rt, rt.alloc(), 143, "1 fault at byte 0: MetadataSize");
-}
-
-fn assert_line(rt: &impl Abort, alloc: Global, fault: ToolFault, expected: &str) {
-    let text = written(rt, alloc, &[], &Err(fault));
-    assert_eq!(rt; text.as_str(), expected);
-}
-
-#[test]
-fn faults_have_their_lines(rt: HostRuntime) {
-    let alloc = rt.alloc();
-    let late = ToolFault::Stream(Fault {
-        kind: Kind::Truncated,
-        place: u64::MAX,
-    });
-    assert_line(
-        &rt,
-        alloc,
-        late,
-        "1 fault at byte 18446744073709551615: Truncated",
-    );
-    assert_line(&rt, alloc, ToolFault::Memory, "2 out of memory");
-    assert_line(&rt, alloc, ToolFault::Input(3), "2 cannot read in");
-    let wanting = ToolFault::from(Fault {
-        kind: Kind::Memory,
-        place: 8,
-    });
-    assert_line(&rt, alloc, wanting, "2 out of memory");
-    let shown = format!(in alloc; "{}", ToolFault::Input(3)).expect(&rt, "memory");
-    assert_eq!(rt; shown.as_str(), "cannot read input 3");
 }
