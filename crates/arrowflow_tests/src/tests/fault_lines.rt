@@ -8,7 +8,7 @@ use std::alloc::Global;
 use std::process::Abort;
 
 // The kinds of a stream's faults, and the lines of faults at byte 7.
-static KINDS: [(Kind, &str); 18] = [
+static KINDS: [(Kind, &str); 19] = [
     (Kind::Continuation, "1 fault at byte 7: Continuation"),
     (Kind::MetadataSize, "1 fault at byte 7: MetadataSize"),
     (Kind::Metadata, "1 fault at byte 7: Metadata"),
@@ -27,6 +27,7 @@ static KINDS: [(Kind, &str); 18] = [
     (Kind::Index, "1 fault at byte 7: Index"),
     (Kind::NoSchema, "1 fault at byte 7: NoSchema"),
     (Kind::Truncated, "1 fault at byte 7: Truncated"),
+    (Kind::Memory, "1 fault at byte 7: Memory"),
 ];
 
 // A writer's refusals, and their lines.
