@@ -1,4 +1,4 @@
-// Truth values, lists and structs as records.
+// Truth values, lists and structs as records, and numbers of few digits.
 
 use super::columns::{MEMORY, builder, field, records, schema};
 use arrow_array::Value;
@@ -70,4 +70,34 @@ fn lists_part_their_items(rt: HostRuntime) {
     }
     let found = records(&rt, schema, &column);
     assert_eq!(rt; found.as_slice(), b"7,[1;null;-3]\n7,[]\n7,\n".as_slice());
+}
+
+#[test]
+fn lists_of_truth_values(rt: HostRuntime) {
+    let item = Box::new(rt.alloc(), field(&rt, "item", DataType::Bool)).expect(&rt, MEMORY);
+    let schema = schema(&rt, DataType::List(item));
+    let mut column = builder(&rt, &schema);
+    let mut values = Vec::new(rt.alloc());
+    for value in [Value::Bool(true), Value::Null, Value::Bool(false)] {
+        values.push(value).expect(&rt, MEMORY);
+    }
+    column
+        .push(&Value::List(values))
+        .expect(&rt, "a value of the column");
+    let found = records(&rt, schema, &column);
+    assert_eq!(rt; found.as_slice(), b"7,[true;null;false]\n".as_slice());
+}
+
+#[test]
+fn numbers_of_few_digits(rt: HostRuntime) {
+    let schema = schema(&rt, NUMBER);
+    let mut column = builder(&rt, &schema);
+    for number in [0, 1, 9, 10, 11, 99, 100, -1, -9, -10] {
+        column
+            .push(&Value::Int(number))
+            .expect(&rt, "a value of the column");
+    }
+    let found = records(&rt, schema, &column);
+    let want = b"7,0\n7,1\n7,9\n7,10\n7,11\n7,99\n7,100\n7,-1\n7,-9\n7,-10\n".as_slice();
+    assert_eq!(rt; found.as_slice(), want);
 }
