@@ -11,6 +11,7 @@ pub mod Again
 pub mod FullSlots
 pub mod Runs
 pub mod SlotValues
+pub mod Viewing
 pub mod NodeParts
 pub mod Batches
 pub mod Values

@@ -14,6 +14,7 @@ pub mod Node
 pub mod Segments
 pub mod Falls
 pub mod Shown
+pub mod View
 pub mod Same
 pub mod Value
 pub mod Batch

@@ -24,6 +24,7 @@
 //! | what an index stands for | `specs/Resolve.antt`: `resolve`; `specs/Listed.antt`: `listed` |
 //! | the first null, slots without nulls | `specs/FullSlots.antt`: `IsFirstNull`, `AreFull` |
 //! | what a slot shows | `specs/Shown.antt`: `Shows`, `HoldsValue` |
+//! | the buffers of a column, found once | `specs/View.antt`: `AreCellsOf`, `RefersTo` |
 //! | equal slots, values that begin others | `specs/Same.antt`: `same_values`, `Begins` |
 //! | a batch, and why there is none | `specs/Batch.antt`: `IsTable`, `Judges` |
 //! | that a column has one child for each field | `specs/Laws.antt`: `OneField`, `OneChild` |
@@ -42,6 +43,7 @@ mod parts;
 mod same;
 mod shared_type;
 mod slot;
+mod slots;
 mod texts;
 mod value;
 
@@ -50,4 +52,5 @@ pub use batch::{Batch, BatchFault};
 pub use byte_range::ByteRange;
 pub use dictionary::Dictionary;
 pub use shared_type::{SharedType, shared_types};
+pub use slots::Slots;
 pub use value::Value;
