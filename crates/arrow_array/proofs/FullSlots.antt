@@ -1,5 +1,5 @@
 -- Slots of which none is null, and the bytes of their values.
-use Rattle.std.proofs.Common.{◌≡◌, ◌≤◌, ◌<◌, ℕ, zero, suc, ◌+◌, ◌-◌, ◌*◌, Bool, true, false, List, [], ◌∷◌, ◌++◌, length, take, drop, get_or, refl, sym, ap, ◌∙◌, subst, arith, if◌then◌else◌, append-nil, inl, inr}
+use Rattle.std.proofs.Common.{◌≡◌, ◌≤◌, ◌<◌, ℕ, zero, suc, ◌+◌, ◌-◌, ◌*◌, Bool, true, false, List, [], ◌∷◌, ◌++◌, length, take, drop, refl, sym, ap, ◌∙◌, subst, arith, if◌then◌else◌, append-nil}
 use Rattle.std.specs.Prelude.{not, slice_range, Option, None, Some}
 use Rattle.std.specs.List.{flat_map}
 use Rattle.std.specs.List.Sorted.{IsNonDecreasing}
@@ -12,9 +12,9 @@ use Rattle.arrow_bits.specs.Offsets.{plain_list}
 use Rattle.arrow_types.specs.Field.{TypeShape}
 use Rattle.arrow_types.specs.declared.field.Encoding.{Encoding}
 use Rattle.arrow_array.specs.Column.{Column, ValueList, values_from}
-use Rattle.arrow_array.specs.Form.{node_form, number_width, offset_bytes}
+use Rattle.arrow_array.specs.Form.{node_form, offset_bytes}
 use Rattle.arrow_array.specs.FullSlots.{AreFull, IsFirstInvalid, IsFirstNull, value_bytes, width_in}
-use Rattle.arrow_array.specs.Node.{AreBytes, AreEntriesBy, AreFixed, AreInts, AreRanges, IsFormat, IsInside, bytes_of, fixed_at, int_at, raw_slot, validity_in}
+use Rattle.arrow_array.specs.Node.{AreBytes, AreEntriesBy, AreInts, AreRanges, IsFormat, IsInside, bytes_of, fixed_at, int_at, raw_slot, validity_in}
 use Rattle.arrow_array.specs.PlainValue.{PlainValue, null_value, binary_value, int_value, is_null_value, value_at}
 use Rattle.arrow_array.specs.Slots.{HasBits, is_valid_at, or_null, place_of, range_of, slots}
 use Rattle.arrow_array.specs.declared.array.Ranges.{Ranges}
@@ -25,7 +25,6 @@ use Rattle.arrow_array.specs.declared.buffers.Ints.{Ints}
 use Rattle.arrow_array.specs.declared.buffers.Strings.{Strings}
 use Rattle.arrow_array.specs.declared.form.Form.{Form}
 use Rattle.arrow_array.specs.declared.form.Form.TheVariants as forms
-use Rattle.arrow_array.specs.declared.form.OffsetWidth.{OffsetWidth}
 use Rattle.arrow_array.proofs.Again.{int_again_at}
 use Rattle.arrow_array.proofs.Cuts.{places_order}
 use Rattle.arrow_array.proofs.Fitting.{part_small, some_bytes}

@@ -1,5 +1,5 @@
 -- What is said of a child of a column leaves one child alone.
-use Rattle.std.proofs.Common.{◌≡◌, ℕ, List, [], ◌∷◌, get_or, Option, None, Some, refl, sym, ap, ◌∙◌}
+use Rattle.std.proofs.Common.{◌≡◌, ℕ, [], ◌∷◌, get_or, Option, None, Some, sym, ap, ◌∙◌}
 use Rattle.arrow_types.specs.Field.{Fields, none, more}
 use Rattle.arrow_array.specs.Column.{AreOf, Column, HasChild, HasField}
 use Rattle.arrow_array.specs.Laws.{AreOneColumn}

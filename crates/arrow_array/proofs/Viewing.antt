@@ -1,12 +1,12 @@
 -- The buffers of an array hold its slots.
-use Rattle.std.proofs.Common.{◌≡◌, ◌<◌, ℕ, List, length, Option, None, Some, ap, ◌∙◌, subst, arith}
+use Rattle.std.proofs.Common.{◌≡◌, ℕ, List, length, Option, None, Some, ap, ◌∙◌, subst, arith}
 use Rattle.std.specs.Global.{Box}
 use Rattle.arrow_types.specs.Field.{TypeShape}
 use Rattle.arrow_types.specs.declared.field.Encoding.{Encoding}
 use Rattle.arrow_types.specs.View.{type_view}
 use Rattle.arrow_array.specs.Column.{Column, ValueList}
 use Rattle.arrow_array.specs.Node.{AreEntriesBy, AreInts, AreRanges, IsArray, bytes_of, column_by, column_of, raw_slot, resolved_slot}
-use Rattle.arrow_array.specs.PlainValue.{null_value, value_at}
+use Rattle.arrow_array.specs.PlainValue.{null_value}
 use Rattle.arrow_array.specs.Slots.{AreIndices}
 use Rattle.arrow_array.specs.View.{AreValues, HoldBinaries, HoldBools, HoldFixed, HoldIndices, HoldInts, HoldTexts}
 use Rattle.arrow_array.specs.declared.array.Array.TheInside.{Inside}

@@ -1,5 +1,5 @@
 -- What the buffers of a column hold, found once for all of its slots.
-use Rattle.std.specs.Prelude.{◌≡◌, ◌<◌, ℕ, Bool, List, length, ⊤, None, Some, is_some, IsTrue}
+use Rattle.std.specs.Prelude.{◌≡◌, ◌<◌, ℕ, Bool, List, length, None, is_some, IsTrue}
 use Rattle.arrow_bits.specs.Numbers.{IsWidth}
 use Rattle.arrow_array.specs.PlainValue.{PlainValue, null_value, value_at}
 use Rattle.arrow_array.specs.Column.{Column, HasDictionary, ValueList}
