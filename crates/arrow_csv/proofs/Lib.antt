@@ -2,3 +2,4 @@ pub mod Joining
 pub mod Written
 mod Chunked
 mod Digits
+mod Making

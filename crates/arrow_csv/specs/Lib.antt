@@ -1,3 +1,4 @@
 pub mod Texts
 pub mod Records
 pub mod Chunks
+pub mod Made

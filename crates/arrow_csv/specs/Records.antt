@@ -1,10 +1,11 @@
 -- The records of a schema and of rows (RFC 4180, with line feeds; the quoting is that of the crate `csv` by default).
-use Rattle.std.specs.Prelude.{◌+◌, ◌-◌, ◌++◌, ℕ, List, [], ◌∷◌, map, codes, Option, None, Some}
+use Rattle.std.specs.Prelude.{◌+◌, ◌-◌, ◌++◌, ℕ, List, [], ◌∷◌, map, codes, Option, None, Some, refl}
+use Rattle.std.specs.Coded.{Coded, code_by, coded×, coded_ℕ}
 use Rattle.std.specs.Fmt.{decimal}
 use Rattle.std.specs.List.{flat_map, range_with_len}
 use Rattle.csv.specs.Writing.{default_writer, row_text}
 use Rattle.arrow_types.specs.Field.{Fields, none, more}
-use Rattle.arrow_array.specs.Batch.{Table}
+use Rattle.arrow_array.specs.Batch.{Table, table_code}
 use Rattle.arrow_array.specs.Column.{Column}
 use Rattle.arrow_array.specs.PlainValue.{value_at}
 use Rattle.arrow_csv.specs.Texts.{value_text}
@@ -33,6 +34,15 @@ row_record number batch i = record_of (decimal number ∷ column_texts batch.col
 -- the records of the rows from `start` up to `end`
 abbrev pub batch_rows : ℕ → Table → ℕ → ℕ → List ℕ
 batch_rows number batch start end = flat_map (row_record number batch) (range_with_len start (end - start))
+
+-- a batch, and its number in the stream
+pub record NumberedBatch : Type 0 where
+  pub number : ℕ
+  pub batch : Table
+
+-- how the logic stores it
+abbrev pub numbered_code : Coded NumberedBatch
+numbered_code = code_by (ℕ × Table) (coded× coded_ℕ table_code) (λ r. (r.number, r.batch)) (λ p. record { number = p.0; batch = p.1 }) (λ _. refl)
 
 -- the records of batches, the first of which has this number
 abbrev pub batches_text : ℕ → List Table → List ℕ

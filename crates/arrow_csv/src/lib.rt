@@ -9,21 +9,27 @@
 //! are looked for sixteen at a time, sixty-four in long fields (`src/chunks.rt`).
 //!
 //! What a value's text is, is said by `value_text` (`specs/Texts.antt`), over plain values:
-//! [`header`], [`rows`] and [`push_rows`] give the records of the definition for every schema and
+//! [`header`], [`rows`] and [`BatchRows::push`] give the records of the definition for every schema and
 //! every batch. The standard gives no such text; this one is the project's own, and it is not
 //! claimed that it can be read back.
+//!
+//! Who writes the rows of a batch in parts keeps its [`BatchRows`]: where each column's values lie is
+//! looked up once, and of a dictionary that has few values beside the rows the field of each value is
+//! made once.
 //!
 //! | Notion | Definition |
 //! |---|---|
 //! | the text of a value | `specs/Texts.antt`: `value_text` |
 //! | the record of a row, of a schema | `specs/Records.antt`: `row_record`, `header_record` |
 //! | the records of a batch, of a stream | `specs/Records.antt`: `batch_rows`, `stream_text` |
+//! | fields of a dictionary's values, made before the rows | `specs/Made.antt`: `AreFieldsOf` |
 //! | bytes that call for no quotes, seen by chunks | `specs/Chunks.antt`: `AreAllPlain`, `is_mark` |
 #![tactic(auto)]
 
 mod chunks;
+mod column_text;
 mod fields;
 mod records;
 mod texts;
 
-pub use records::{header, push_rows, rows};
+pub use records::{BatchRows, header, rows};

@@ -3,10 +3,12 @@
 ghost use Rattle.std.specs.Prelude.{◌≡◌, ◌≤◌, ◌<◌, ◌++◌, [], IfOk, OnOk, codes, length};
 ghost use Rattle.arrow_array.specs.PlainValue.{value_at};
 ghost use Rattle.arrow_array.specs.Same.{HaveSlot};
+ghost use Rattle.arrow_array.specs.Shown.{HoldsValue};
 ghost use Rattle.csv.specs.Writing.{default_writer, field_text, fields_text};
 ghost use Rattle.arrow_csv.specs.Texts.{value_text};
 ghost use Rattle.arrow_csv.specs.Records.{batch_rows, column_texts, header_record};
 
+use crate::column_text::ColumnText;
 use crate::fields::{push_field_text, quote_from};
 use crate::texts::{push_bytes, push_items, push_number, push_parts};
 use arrow_array::{Array, Batch, SlotValue};
@@ -14,6 +16,7 @@ use arrow_types::Schema;
 use csv::{ByteRecord, WriterBuilder};
 use itoa::Buffer;
 use std::alloc::{AllocError, Global};
+use std::marker::Model;
 
 /// The first record: the word `batch` and the names of the columns.
 pub fn header(alloc: Global, schema: &Schema) -> Result<Vec<u8>, AllocError>
@@ -47,27 +50,97 @@ pub fn rows(
     ensures { IfOk result (λ text. text.items ≡ batch_rows number batch.now start end) }
 {
     let mut out = Vec::new(alloc);
-    push_rows(alloc, &mut out, number, batch, start, end)?;
+    BatchRows::new(alloc, number, batch)?.push(alloc, &mut out, start, end)?;
     Ok(out)
 }
 
-/// Appends the records of the rows from `start` up to `end` of the batch that has this number.
-pub fn push_rows(
+/// The rows of a batch that has a number, on their way into text.
+///
+/// What is the same for all rows is looked up or made with it: where each column's values lie, and
+/// of a dictionary that has few values beside the rows the field of each value.
+#[derive(Drop)]
+pub struct BatchRows<'a> {
+    number: u64,
+    batch: &'a Batch,
+    columns: Vec<ColumnText<'a>>,
+}
+
+impl<'a> Model for BatchRows<'a> {
+    ghost use Rattle.std.specs.Prelude.{◌≡◌};
+    ghost use Rattle.arrow_csv.specs.Records.{NumberedBatch, numbered_code};
+
+    ghost Value = { NumberedBatch };
+
+    ghost coded = { numbered_code };
+
+    ghost view = { λ r. record { number = r.number; batch = r.batch.now } };
+
+    ghost invariant = { λ r. r.columns.items ≡ r.batch.now.columns };
+}
+
+impl<'a> BatchRows<'a> {
+    /// The rows of the batch that has this number.
+    pub fn new(alloc: Global, number: u64, batch: &'a Batch) -> Result<BatchRows<'a>, AllocError>
+        ensures { IfOk result (λ rows. rows ≡ record { number = number; batch = batch.now }) }
+    {
+        let mut columns = Vec::with_capacity(alloc, batch.columns().len())?;
+        for column in batch.columns() {
+            columns.push(ColumnText::new(alloc, column)?)?;
+        }
+        Ok(BatchRows {
+            number,
+            batch,
+            columns,
+        })
+    }
+
+    /// Appends the records of the rows from `start` up to `end`.
+    pub fn push(
+        &self,
+        alloc: Global,
+        out: &mut Vec<u8>,
+        start: usize,
+        end: usize,
+    ) -> Result<(), AllocError>
+        requires order { start ≤ end }
+        requires inside { end ≤ self.now.batch.rows }
+        ensures { OnOk result (out.new.items
+            ≡ out.old.items ++ batch_rows self.now.number self.now.batch start end) }
+    {
+        push_records(
+            alloc,
+            out,
+            self.number,
+            self.batch,
+            &self.columns,
+            start,
+            end,
+        )
+    }
+}
+
+/// Appends the records of the rows from `start` up to `end` of a batch of these columns that has
+/// this number.
+fn push_records(
     alloc: Global,
     out: &mut Vec<u8>,
     number: u64,
     batch: &Batch,
+    columns: &[ColumnText],
     start: usize,
     end: usize,
 ) -> Result<(), AllocError>
+    requires columns { columns.now ≡ batch.now.columns }
     requires order { start ≤ end }
     requires inside { end ≤ batch.now.rows }
     ensures { OnOk result (out.new.items ≡ out.old.items ++ batch_rows number batch.now start end) }
 {
+    // Called for what it says of every batch.
+    batch.columns();
     let mut buffer = Buffer::new();
     let head = buffer.format(number);
     for i in start..end {
-        push_row(alloc, out, head.as_bytes(), batch.columns(), i)?;
+        push_row(alloc, out, head.as_bytes(), columns, i)?;
     }
     Ok(())
 }
@@ -78,7 +151,7 @@ fn push_row(
     alloc: Global,
     out: &mut Vec<u8>,
     head: &[u8],
-    columns: &[Array],
+    columns: &[ColumnText],
     i: usize,
 ) -> Result<(), AllocError>
     requires { HaveSlot i columns.now }
@@ -88,20 +161,28 @@ fn push_row(
     out.extend_from_slice(head)?;
     for column in columns {
         out.push(b',')?;
-        push_field(alloc, out, column, i)?;
+        column.push(alloc, out, i)?;
     }
     out.push(b'\n')?;
     Ok(())
 }
 
-/// Appends the text of a value, between quotes where it calls for them, as no truth value does, no
-/// number and no byte string.
-fn push_field(alloc: Global, out: &mut Vec<u8>, column: &Array, i: usize) -> Result<(), AllocError>
-    requires { i < length column.now.raw }
+/// Appends the text of the value in slot `i`, which is at hand, between quotes where it calls for
+/// them, as no truth value does, no number and no byte string.
+#[inline(always)]
+pub(crate) fn push_field(
+    alloc: Global,
+    out: &mut Vec<u8>,
+    column: &Array,
+    i: usize,
+    value: SlotValue<'_>,
+) -> Result<(), AllocError>
+    requires inside { i < length column.now.raw }
+    requires holds { HoldsValue column.now i value }
     ensures { OnOk result (out.new.items ≡ out.old.items ++ field_text default_writer
         (value_text [] column.now.data_type.children (value_at column.now.resolved i))) }
 {
-    match column.slot(i) {
+    match value {
         SlotValue::Null => Ok(()),
         SlotValue::Bool(true) => out.extend_from_slice(b"true"),
         SlotValue::Bool(false) => out.extend_from_slice(b"false"),

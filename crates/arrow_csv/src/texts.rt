@@ -7,6 +7,7 @@ ghost use Rattle.csv.specs.Writing.{default_writer, needs_quotes};
 ghost use Rattle.arrow_array.specs.Column.{AreOf, resolved_row_of, values_from};
 ghost use Rattle.arrow_array.specs.PlainValue.{value_at, values_of};
 ghost use Rattle.arrow_array.specs.Same.{HaveSlot};
+ghost use Rattle.arrow_array.specs.Shown.{HoldsValue};
 ghost use Rattle.arrow_types.specs.View.{fields_view};
 ghost use Rattle.arrow_csv.specs.Texts.{item_text, joined, part_texts};
 
@@ -15,15 +16,23 @@ use arrow_types::Field;
 use itoa::{Buffer, Integer};
 use std::alloc::{AllocError, Global};
 
-/// Appends the text of the value in slot `i`, as it shows inside of a list or a struct.
+/// Appends the text of the value in slot `i`, which is at hand, as it shows inside of a list or a
+/// struct.
 #[cycle(text)]
 #[inline(always)]
-fn push_value(alloc: Global, out: &mut Vec<u8>, column: &Array, i: usize) -> Result<(), AllocError>
-    requires { i < length column.now.raw }
+fn push_value(
+    alloc: Global,
+    out: &mut Vec<u8>,
+    column: &Array,
+    i: usize,
+    value: SlotValue<'_>,
+) -> Result<(), AllocError>
+    requires inside { i < length column.now.raw }
+    requires holds { HoldsValue column.now i value }
     ensures { OnOk result (out.new.items ≡ out.old.items
         ++ item_text column.now.data_type.children (value_at column.now.resolved i)) }
 {
-    match column.slot(i) {
+    match value {
         SlotValue::Null => out.extend_from_slice(b"null"),
         SlotValue::Bool(true) => out.extend_from_slice(b"true"),
         SlotValue::Bool(false) => out.extend_from_slice(b"false"),
@@ -105,11 +114,12 @@ pub(crate) fn push_items(
         (values_from items.now.resolved start end)) ++ codes "]") }
 {
     out.push(b'[')?;
+    let slots = items.slots();
     for k in start..end {
         if k > start {
             out.push(b';')?;
         }
-        push_value(alloc, out, items, k)?;
+        push_value(alloc, out, items, k, slots.slot(k))?;
     }
     out.push(b']')?;
     Ok(())
@@ -138,7 +148,7 @@ pub(crate) fn push_parts(
         }
         out.extend_from_slice(fields[k].name.as_bytes())?;
         out.push(b'=')?;
-        push_value(alloc, out, &children[k], place)?;
+        push_value(alloc, out, &children[k], place, children[k].slot(place))?;
     }
     out.push(b'}')?;
     Ok(())

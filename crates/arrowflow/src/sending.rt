@@ -6,7 +6,7 @@ ghost use Rattle.arrowflow.specs.Reports.{Sends};
 
 use crate::tool_fault::ToolFault;
 use arrow_array::Batch;
-use arrow_csv::push_rows;
+use arrow_csv::BatchRows;
 use arrow_sink::{Sink, send};
 use std::alloc::Global;
 
@@ -39,11 +39,14 @@ pub(crate) fn send_rows<S: Sink>(
         (batch_rows number batch.now 0 batch.now.rows) result (S.contents output.new)
         (S.failed output.new) }
 {
+    let Ok(rows) = BatchRows::new(alloc, number, batch) else {
+        return Err(ToolFault::Memory);
+    };
     let mut start = 0;
     while start < batch.rows() {
         let end = start + ROWS.min(batch.rows() - start);
         text.clear();
-        let Ok(()) = push_rows(alloc, text, number, batch, start, end) else {
+        let Ok(()) = rows.push(alloc, text, start, end) else {
             return Err(ToolFault::Memory);
         };
         match send_text(output, text) {

@@ -1,6 +1,7 @@
-use Rattle.std.proofs.Common.{[], ◌∙◌, arith}
+use Rattle.std.proofs.Common.{[], ◌∙◌, subst, arith}
 use Rattle.std.proofs.lemmas.Result.{on_ok_weaker}
 use Rattle.arrow_array.specs.PlainValue.{value_at}
+use Rattle.arrow_array.specs.Shown.{HoldsValue}
 use Rattle.arrow_csv.specs.Texts.{value_text}
 use Rattle.arrow_csv.proofs.Joining.{list_shown}
 use Rattle.arrow_csv.proofs.Written.{field_behind}
@@ -12,6 +13,7 @@ returns-in_ok-push_items-in-List c =
     let column = c.args.column.now in
     let list = c.in-List in
     let old = c.args.out.now.items in
+    let lists = subst (HoldsValue column c.args.i) list.is c.requires.holds in
     let text = value_text [] column.data_type.children (value_at column.resolved c.args.i) in
-    let written = c.in_ok-push_items-in-List.ensures ∙ list_shown column list.items.now c.args.i list.start list.end [] old list.ensures in
+    let written = c.in_ok-push_items-in-List.ensures ∙ list_shown column list.items.now c.args.i list.start list.end [] old lists in
     on_ok_weaker c.quote_from.result (λ e. e ∙ field_behind old text c.push_items.new.out.items c.len-place.result (omega (arith, c.len-place.ensures)) written) c.quote_from.ensures

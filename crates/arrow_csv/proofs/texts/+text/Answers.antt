@@ -5,6 +5,7 @@ use Rattle.arrow_types.specs.declared.field.Field.{Field, the_lemmas}
 use Rattle.arrow_types.specs.View.{field_view, fields_view}
 use Rattle.arrow_array.specs.Column.{AreOf, resolved_row_of, values_from}
 use Rattle.arrow_array.specs.PlainValue.{value_at, values_of}
+use Rattle.arrow_array.specs.Shown.{HoldsValue}
 use Rattle.arrow_array.proofs.Sameness.{child_smaller, parts_smaller}
 use Rattle.arrow_csv.specs.Texts.{item_text, joined, part_texts}
 use Rattle.arrow_csv.proofs.Joining.{as_many, item_at, joined_more, length-parts, list_shown, part_at, separator, separator_first, separator_later}
@@ -14,14 +15,14 @@ use Rattle.arrow_csv.proofs.texts.+text.Goals.{push_items-then-k-start+in_ok-pus
 -- the items of a slot lie inside of the child, which is smaller
 pub push_value-push_items-requires : goal.push_value-push_items-requires
 push_value-push_items-requires t c =
-    let h = c.in-List.ensures in
+    let h = subst (HoldsValue c.args.column.now c.args.i) c.in-List.is c.requires.holds in
     let m = child_smaller c.args.column.now c.in-List.items.now h.typed in
     (omega (arith, c.decreases, m), (h.ordered, (h.inside, h.long)))
 
 -- the columns of a struct are of its fields, have its slot and are smaller
 pub push_value-push_parts-requires : goal.push_value-push_parts-requires
 push_value-push_parts-requires t c =
-    let h = c.in-Struct.ensures in
+    let h = subst (HoldsValue c.args.column.now c.args.i) c.in-Struct.is c.requires.holds in
     let m = parts_smaller c.args.column.now c.in-Struct.children.now h.typed in
     let same = c.children.ensures ∙ ap (λ x. x.children) c.data_type.ensures in
     (omega (arith, c.decreases, m), (subst (λ f. AreOf f c.in-Struct.children.now) (sym same) h.typed, h.inside))
@@ -29,7 +30,8 @@ push_value-push_parts-requires t c =
 -- what the items make is the text of the list
 pub push_value-returns-in-List : goal.push_value-returns-in-List
 push_value-returns-in-List t c =
-    on_ok_weaker c.push_items.result (λ e. e ∙ list_shown c.args.column.now c.in-List.items.now c.args.i c.in-List.start c.in-List.end (codes "null") c.args.out.now.items c.in-List.ensures) c.push_items.ensures
+    let h = subst (HoldsValue c.args.column.now c.args.i) c.in-List.is c.requires.holds in
+    on_ok_weaker c.push_items.result (λ e. e ∙ list_shown c.args.column.now c.in-List.items.now c.args.i c.in-List.start c.in-List.end (codes "null") c.args.out.now.items h) c.push_items.ensures
 
 -- one more item is written
 pub push_items-loop-k-preserved : goal.push_items-loop-k-preserved

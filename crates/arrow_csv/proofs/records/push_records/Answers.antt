@@ -4,7 +4,7 @@ use Rattle.csv.specs.Writing.{default_writer, field_text, fields_text}
 use Rattle.arrow_csv.specs.Records.{batch_rows, column_texts, row_record}
 use Rattle.arrow_csv.proofs.Digits.{digits_plain}
 use Rattle.arrow_csv.proofs.Written.{row_plain, rows_next}
-use Rattle.arrow_csv.proofs.records.push_rows.Goals as goal
+use Rattle.arrow_csv.proofs.records.push_records.Goals as goal
 
 -- one more row is written
 pub loop-i-preserved : goal.loop-i-preserved
@@ -17,9 +17,9 @@ loop-i-preserved c =
     let less = c.loop-i-test.true in
     let plain = digits_plain n (omega (arith, c.ranges.number.fits)) in
     let head : c.as_bytes.result.now ≡ field_text default_writer (decimal n) = rw plain (c.as_bytes.ensures.value ∙ c.format-head.ensures.text) in
-    let row : c.as_bytes.result.now ++ (fields_text default_writer (column_texts c.columns.result.now i) ++ codes "\n") ≡ row_record n b i =
-    ap (λ h. h ++ (fields_text default_writer (column_texts c.columns.result.now i) ++ codes "\n")) head
-    ∙ ap (λ cs. field_text default_writer (decimal n) ++ (fields_text default_writer (column_texts cs i) ++ codes "\n")) c.columns.ensures.same
+    let row : c.as_bytes.result.now ++ (fields_text default_writer (column_texts c.args.columns.now i) ++ codes "\n") ≡ row_record n b i =
+    ap (λ h. h ++ (fields_text default_writer (column_texts c.args.columns.now i) ++ codes "\n")) head
+    ∙ ap (λ cs. field_text default_writer (decimal n) ++ (fields_text default_writer (column_texts cs i) ++ codes "\n")) c.requires.columns
     ∙ sym (row_plain n (column_texts b.columns i) c.ranges.number.fits) in (
       ap (λ t. t ++ batch_rows n b (i + 1) end) (c.in_ok-push_row.ensures ∙ ap (λ r. old ++ r) row) ∙ append_assoc old (row_record n b i) (batch_rows n b (i + 1) end)
           ∙ ap (λ t. old ++ t) (sym (rows_next n b i end less)) ∙ c.loop-i.invariant.0,

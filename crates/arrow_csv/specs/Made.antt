@@ -1,0 +1,32 @@
+-- Fields that are made before the rows which they stand in. Only the crate's private clauses cite these.
+use Rattle.std.specs.Prelude.{◌≡◌, ◌≤◌, ◌<◌, ◌+◌, ℕ, List, [], length, get_or, slice_range, ⊤, Option, None, Some}
+use Rattle.csv.specs.Writing.{default_writer, field_text}
+use Rattle.arrow_array.specs.Column.{Column, HasDictionary, ValueList}
+use Rattle.arrow_array.specs.PlainValue.{value_at}
+use Rattle.arrow_csv.specs.Texts.{value_text}
+use Rattle.arrow_csv.specs.declared.column_text.EntryFields.{EntryFields}
+
+-- the field of value n of a dictionary
+abbrev pub field_of : ValueList → ℕ → List ℕ
+field_of d n = field_text default_writer (value_text [] d.data_type.children (value_at d.values n))
+
+-- field n lies between place n and the next one
+pub record IsField (d : ValueList) (bytes places : List ℕ) (n : ℕ) : Type 0 where
+  pub ordered : get_or places n 0 ≤ get_or places (n + 1) 0
+  pub inside : get_or places (n + 1) 0 ≤ length bytes
+  pub same : slice_range bytes (get_or places n 0) (get_or places (n + 1) 0) ≡ field_of d n
+
+-- the first `count` fields do, and the last of them ends with the bytes
+pub record AreFirst (d : ValueList) (bytes places : List ℕ) (count : ℕ) : Type 0 where
+  pub long : length places ≡ count + 1
+  pub last : get_or places count 0 ≡ length bytes
+  pub each : (n : ℕ) → n < count → IsField d bytes places n
+
+-- these are the fields of the values of a dictionary
+abbrev pub AreFieldsOf : ValueList → EntryFields → Type 0
+AreFieldsOf d fields = AreFirst d fields.bytes.items fields.places.items (length d.values)
+
+-- the fields of a column's dictionary, where they were made
+abbrev pub HasFields : Column → Option EntryFields → Type 0
+HasFields c None = ⊤
+HasFields c (Some fields) = (d : ValueList) × HasDictionary c d × AreFieldsOf d fields

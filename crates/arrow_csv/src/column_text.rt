@@ -1,0 +1,106 @@
+//! A column on its way into text: what is the same for its slots is looked up, or made, once.
+
+ghost use Rattle.std.specs.Prelude.{◌≡◌, ◌<◌, ◌++◌, [], IfOk, IfSome, OnOk, length};
+ghost use Rattle.arrow_array.specs.PlainValue.{value_at};
+ghost use Rattle.csv.specs.Writing.{default_writer, field_text};
+ghost use Rattle.arrow_csv.specs.Made.{AreFieldsOf, field_of};
+ghost use Rattle.arrow_csv.specs.Texts.{value_text};
+
+use crate::records::push_field;
+use arrow_array::{Array, Dictionary, Slots};
+use std::alloc::{AllocError, Global};
+use std::marker::Model;
+
+/// How many bytes the fields of a dictionary's values may have that are made before the rows.
+const MOST_BYTES: usize = 65_536;
+
+/// The fields of the values of a dictionary, one behind another.
+#[derive(Drop)]
+pub(crate) struct EntryFields {
+    bytes: Vec<u8>,
+    // Where each field begins, and where the last one ends.
+    places: Vec<usize>,
+}
+
+impl EntryFields {
+    /// The fields of the values; `None` where they are longer than is kept.
+    fn of(alloc: Global, dictionary: &Dictionary) -> Result<Option<EntryFields>, AllocError>
+        ensures { IfOk result (λ made. IfSome made (λ fields. AreFieldsOf dictionary.now fields)) }
+    {
+        // Called for what it says of every dictionary.
+        dictionary.data_type();
+        let mut bytes = Vec::new(alloc);
+        let mut places = Vec::with_capacity(alloc, dictionary.len() + 1)?;
+        places.push(0)?;
+        for n in 0..dictionary.len() {
+            let (values, place) = dictionary.value(n);
+            // Called for what it says of every array.
+            values.len();
+            push_field(alloc, &mut bytes, values, place, values.slot(place))?;
+            if bytes.len() > MOST_BYTES {
+                return Ok(None);
+            }
+            places.push(bytes.len())?;
+        }
+        Ok(Some(EntryFields { bytes, places }))
+    }
+}
+
+/// A column whose slots become fields of records. Of a dictionary that has few values beside the
+/// rows, the field of each value is made once, and copied for each row that refers to it.
+#[derive(Drop)]
+pub(crate) struct ColumnText<'a> {
+    slots: Slots<'a>,
+    entries: Option<EntryFields>,
+}
+
+impl<'a> Model for ColumnText<'a> {
+    ghost use Rattle.arrow_array.specs.Column.{Column, column_code};
+
+    ghost Value = { Column };
+
+    ghost coded = { column_code };
+
+    ghost use Rattle.arrow_csv.specs.Made.{HasFields};
+
+    ghost view = { λ t. t.slots };
+
+    ghost invariant = { λ t. HasFields t.slots t.entries };
+}
+
+impl<'a> ColumnText<'a> {
+    /// The text of a column, which stays where it is.
+    pub(crate) fn new(alloc: Global, column: &'a Array) -> Result<ColumnText<'a>, AllocError>
+        ensures { IfOk result (λ text. text ≡ column.now) }
+    {
+        let entries = match column.dictionary() {
+            Some(dictionary) if dictionary.len() <= column.len() / 2 => {
+                EntryFields::of(alloc, dictionary)?
+            }
+            Some(_) | None => None,
+        };
+        Ok(ColumnText {
+            slots: column.slots(),
+            entries,
+        })
+    }
+
+    /// Appends the field of slot `i`.
+    #[inline(always)]
+    pub(crate) fn push(&self, alloc: Global, out: &mut Vec<u8>, i: usize) -> Result<(), AllocError>
+        requires { i < length self.now.raw }
+        ensures { OnOk result (out.new.items ≡ out.old.items ++ field_text default_writer
+            (value_text [] self.now.data_type.children (value_at self.now.resolved i))) }
+    {
+        match &self.entries {
+            Some(fields) => match self.slots.entry(i) {
+                Some(n) => {
+                    let field = &fields.bytes[fields.places[n]..fields.places[n + 1]];
+                    out.extend_from_slice(field)
+                }
+                None => Ok(()),
+            },
+            None => push_field(alloc, out, self.slots.array(), i, self.slots.slot(i)),
+        }
+    }
+}
