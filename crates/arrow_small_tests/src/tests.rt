@@ -1,9 +1,10 @@
-//! A file for each library; `records`, `chunks` and `nested` are of `arrow_csv`, `refusals` of
+//! A file for each library; `records`, `chunks`, `dictionaries` and `nested` are of `arrow_csv`, `refusals` of
 //! `arrow_written`, and `columns` builds what these show.
 
 mod bits;
 mod chunks;
 mod columns;
+mod dictionaries;
 mod flatbuf;
 mod nested;
 mod records;

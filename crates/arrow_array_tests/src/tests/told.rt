@@ -32,6 +32,38 @@ pub(super) fn is_told(
 ) {
     let text = told(rt, column);
     assert_eq!(rt; text.as_str(), want, "row {row}");
+    if let Some(column) = column {
+        let (one, other) = (one_by_one(rt, column), together(rt, column));
+        assert_eq!(rt; other.as_str(), one.as_str(), "slots of row {row}");
+    }
+}
+
+// The value of each slot, and behind it the index that stands there.
+fn one_by_one(rt: &(impl Abort + AllocGlobal), column: &Array) -> String {
+    let mut text = String::new(rt.alloc());
+    let encoded = column.encoding().is_some();
+    for j in 0..column.len() {
+        push_value(rt, &mut text, column.slot(j));
+        if let (true, Some(index)) = (encoded, column.int_at(j)) {
+            write!(text, " by {index}").expect(rt, MEMORY);
+        }
+        text.push_str(", ").expect(rt, MEMORY);
+    }
+    text
+}
+
+// The same, of slots whose form was looked at once.
+fn together(rt: &(impl Abort + AllocGlobal), column: &Array) -> String {
+    let mut text = String::new(rt.alloc());
+    let slots = column.slots();
+    for j in 0..slots.array().len() {
+        push_value(rt, &mut text, slots.slot(j));
+        if let Some(index) = slots.entry(j) {
+            write!(text, " by {index}").expect(rt, MEMORY);
+        }
+        text.push_str(", ").expect(rt, MEMORY);
+    }
+    text
 }
 
 // That the column of a row without children shows this.

@@ -21,8 +21,13 @@ pub(super) fn field(rt: &(impl Abort + AllocGlobal), name: &str, data_type: Data
 
 // The schema of one nullable column without a name.
 pub(super) fn schema(rt: &(impl Abort + AllocGlobal), data_type: DataType) -> Rc<Schema> {
+    schema_of(rt, field(rt, "", data_type))
+}
+
+// The schema of one field.
+pub(super) fn schema_of(rt: &(impl Abort + AllocGlobal), field: Field) -> Rc<Schema> {
     let mut fields = Vec::new(rt.alloc());
-    fields.push(field(rt, "", data_type)).expect(rt, MEMORY);
+    fields.push(field).expect(rt, MEMORY);
     let schema = Schema::new(rt.alloc(), fields).expect(rt, "the field of a schema");
     Rc::new(rt.alloc(), schema).expect(rt, MEMORY)
 }

@@ -7,7 +7,7 @@ ghost use Rattle.arrow_array.specs.Layout.{IsText, buffer_count};
 
 use arrow_array::layout::is_laid;
 use arrow_array::{Array, Batch, ByteRange};
-use arrow_csv::{header, push_rows, rows};
+use arrow_csv::{BatchRows, header, rows};
 use arrow_types::{BitWidth, DataType, Field, Schema};
 use bytes::Bytes;
 use std::alloc::{AllocError, Global};
@@ -98,7 +98,7 @@ fn text_behind(
 ) -> Result<Vec<u8>, AllocError> {
     let mut out = Vec::from_slice(alloc, text.as_bytes())?;
     if start <= end && end <= batch.rows() {
-        push_rows(alloc, &mut out, 7, batch, start, end)?;
+        BatchRows::new(alloc, 7, batch)?.push(alloc, &mut out, start, end)?;
     }
     Ok(out)
 }
