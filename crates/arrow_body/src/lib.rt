@@ -36,9 +36,10 @@ mod laid;
 pub mod laws;
 mod listed;
 mod look;
+mod source;
 mod taken;
 mod text;
 
-pub use body::{BodyFault, check, load, load_unchecked};
+pub use body::{BodyFault, check, load, load_typed};
 pub use counts::{have_length, nodes_of};
 pub use fit::are_fit;
