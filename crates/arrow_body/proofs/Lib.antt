@@ -1,6 +1,8 @@
 pub mod Taking
 pub mod Types
 pub mod Columns
+pub mod Building
+pub mod Least
 pub mod Readings
 pub mod Ids
 pub mod Inside

@@ -5,7 +5,7 @@ use Rattle.std.proofs.Math.Seq.{drop-append_seam}
 use Rattle.std.proofs.lemmas.List.{drop-drop, length-append}
 use Rattle.arrow_types.specs.Field.{Fields, Head, none, more}
 use Rattle.arrow_types.specs.declared.field.Encoding.{Encoding}
-use Rattle.arrow_array.specs.Shared.{NodeType, node_type, node_types, types_below}
+use Rattle.arrow_array.specs.Shared.{NodeType, node_types, types_below}
 use Rattle.arrow_body.specs.Taken.{IfFlattened, below, flattened, taken_nodes}
 use Rattle.arrow_body.specs.Types.{HaveTypes}
 use Rattle.arrow_body.proofs.Taking.{nodes_below}
@@ -57,13 +57,12 @@ flat : (e : Option Encoding) (c : Fields) (types : List NodeType) → IfFlattene
 flat None c types have = have
 flat (Some e) c types have = tt
 
--- the first type is that of the first field
-pub first_type : (h : Head) (c rest : Fields) (types others : List NodeType) (t : NodeType) → HaveTypes (more h c rest) types → types ≡ t ∷ others → t ≡ node_type h c
-first_type h c rest [] others t have is = cc
-first_type h c rest (u ∷ us) others t have is =
-    let own : slice_get (u ∷ us) 0 ≡ Some (node_type h c) = have.0 in
-    let one : u ≡ node_type h c = cc in
-    let same : u ≡ t = cc in
+-- the first of some types
+pub first_is : (types others : List NodeType) (t u : NodeType) → slice_get types 0 ≡ Some u → types ≡ t ∷ others → t ≡ u
+first_is [] others t u got is = cc
+first_is (v ∷ vs) others t u got is =
+    let one : v ≡ u = cc in
+    let same : v ≡ t = cc in
     sym same ∙ one
 
 -- the types of what stands below a field, and of the fields that follow

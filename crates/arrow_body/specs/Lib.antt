@@ -1,5 +1,6 @@
 pub mod Taken
 pub mod Types
+pub mod Least
 pub mod Held
 pub mod Sound
 pub mod Rising

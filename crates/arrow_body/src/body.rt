@@ -1,19 +1,21 @@
 //! From nodes, buffers and a body to columns.
 
-ghost use Rattle.std.specs.Prelude.{◌≡◌, IfOk, MatchResult};
+ghost use Rattle.std.specs.Prelude.{◌≡◌, IfSome, MatchResult, []};
 ghost use Rattle.arrow_types.specs.View.{fields_view};
 ghost use Rattle.arrow_body.specs.Sound.{AreFit, Explains, IsExplained, IsSound, columns_of};
 ghost use Rattle.arrow_body.specs.Sound.{number_of};
+ghost use Rattle.arrow_body.specs.Types.{HaveTypes};
 ghost use Rattle.arrow_array.specs.Shared.{node_types};
 
-use crate::build::build;
+use crate::build::Builder;
 use crate::listed::Listed;
 use crate::look::look;
+use crate::source::Source;
 use crate::taken::Left;
 use arrow_array::{Array, Dictionary, SharedType, shared_types};
 use arrow_types::{Buffer, Field, FieldNode};
 use bytes::Bytes;
-use std::alloc::{AllocError, Global};
+use std::alloc::Global;
 use std::error::Error;
 use std::fmt;
 
@@ -86,16 +88,16 @@ pub fn check(
         (λ fault. IsExplained fault body.now dictionaries.now
         (fields_view fields.now) nodes.now buffers.now) }
 {
-    let left = Left { nodes, buffers };
-    let Some(found) = look(fields, left, body, Listed::new(dictionaries)) else {
-        return Err(BodyFault::Layout);
+    let left = Left {
+        nodes,
+        buffers,
+        types: &[],
     };
-    if !found.seen.texts {
-        return Err(BodyFault::Text);
-    }
-    if !found.seen.indices {
-        return Err(BodyFault::Index);
-    }
+    let source = Source {
+        body,
+        dictionaries: Listed::new(dictionaries),
+    };
+    walk(fields, left, source, None)?;
     Ok(())
 }
 
@@ -120,19 +122,22 @@ pub fn load(
         (λ fault. Explains fault body.now dictionaries.now
         (fields_view fields.now) nodes.now buffers.now) }
 {
-    check(fields, nodes, buffers, body.as_slice(), dictionaries)?;
-    let Ok(types) = shared_types(alloc, fields) else {
-        return Err(BodyFault::Memory);
-    };
-    match load_unchecked(alloc, fields, &types, nodes, buffers, body, dictionaries) {
-        Ok(arrays) => Ok(arrays),
-        Err(_) => Err(BodyFault::Memory),
+    match shared_types(alloc, fields) {
+        Ok(types) => load_typed(alloc, fields, &types, nodes, buffers, body, dictionaries),
+        Err(_) => {
+            check(fields, nodes, buffers, body.as_slice(), dictionaries)?;
+            Err(BodyFault::Memory)
+        }
     }
 }
 
-/// As `load`, of a body that `check` was seen to pass, and with the types of the nodes, which
-/// `shared_types` makes once for all batches of the fields: the columns share them.
-pub fn load_unchecked(
+/// As `load`, with the types of the nodes, which `shared_types` makes once for all batches of the
+/// fields: the columns share them.
+///
+/// The nodes are walked over once: each is looked at, and its array is made of the ranges that the
+/// look found. Once a growth is refused, or a text or an index is not as it should be, the walk goes
+/// on without making arrays, since a fault of a lower number may come behind.
+pub fn load_typed(
     alloc: Global,
     fields: &[Field],
     types: &[SharedType],
@@ -140,15 +145,61 @@ pub fn load_unchecked(
     buffers: &[Buffer],
     body: &Bytes,
     dictionaries: &[(i64, Dictionary)],
-) -> Result<Vec<Array>, AllocError>
-    requires sound { IsSound body.now dictionaries.now
-        (fields_view fields.now) nodes.now buffers.now }
+) -> Result<Vec<Array>, BodyFault>
     requires typed { types.now ≡ node_types (fields_view fields.now) }
     requires fit { AreFit dictionaries.now (fields_view fields.now) }
-    ensures { IfOk result (λ arrays. arrays.items
-        ≡ columns_of body.now dictionaries.now (fields_view fields.now) nodes.now buffers.now) }
+    ensures { MatchResult result
+        (λ arrays. IsSound body.now dictionaries.now (fields_view fields.now) nodes.now buffers.now
+        × (arrays.items ≡ columns_of body.now dictionaries.now
+        (fields_view fields.now) nodes.now buffers.now))
+        (λ fault. Explains fault body.now dictionaries.now
+        (fields_view fields.now) nodes.now buffers.now) }
 {
-    let left = Left { nodes, buffers };
-    let listed = Listed::new(dictionaries);
-    Ok(build(alloc, fields, types, left, body, listed)?.arrays)
+    let left = Left {
+        nodes,
+        buffers,
+        types,
+    };
+    let source = Source {
+        body: body.as_slice(),
+        dictionaries: Listed::new(dictionaries),
+    };
+    let builder = Builder::new(alloc, body, fields.len());
+    match walk(fields, left, source, builder)? {
+        Some(builder) => Ok(builder.arrays),
+        None => Err(BodyFault::Memory),
+    }
+}
+
+// One walk over all nodes: the builder with the arrays of the fields, None where none was given or
+// a growth was refused; or the fault with the least number of those that apply.
+fn walk<'a>(
+    fields: &[Field],
+    left: Left<'a>,
+    source: Source<'_>,
+    builder: Option<Builder<'a>>,
+) -> Result<Option<Builder<'a>>, BodyFault>
+    requires building { IfSome builder (λ b. (b.body.now ≡ source.body.now)
+        × (b.arrays.items ≡ [])
+        × HaveTypes (fields_view fields.now) left.types.now
+        × AreFit source.dictionaries.entries.now (fields_view fields.now)) }
+    ensures { MatchResult result
+        (λ built. IsSound source.entry.body.now source.entry.dictionaries.entries.now
+        (fields_view fields.now) left.entry.nodes.now left.entry.buffers.now
+        × IfSome built (λ b. b.arrays.items
+        ≡ columns_of source.entry.body.now source.entry.dictionaries.entries.now
+        (fields_view fields.now) left.entry.nodes.now left.entry.buffers.now))
+        (λ fault. IsExplained fault source.entry.body.now source.entry.dictionaries.entries.now
+        (fields_view fields.now) left.entry.nodes.now left.entry.buffers.now) }
+{
+    let Some(found) = look(fields, left, source, builder) else {
+        return Err(BodyFault::Layout);
+    };
+    if !found.seen.texts {
+        return Err(BodyFault::Text);
+    }
+    if !found.seen.indices {
+        return Err(BodyFault::Index);
+    }
+    Ok(found.builder)
 }

@@ -1,25 +1,187 @@
-//! The arrays of nodes and buffers that are known to be as they should be.
+//! The arrays of nodes and buffers that were looked at and are as they should be.
 
-ghost use Rattle.std.specs.Prelude.{◌≡◌, IfOk, drop, [], ◌∷◌};
+ghost use Rattle.std.specs.Prelude.{◌≡◌, ◌++◌, IfOk, IfSome, IsTrue, MatchOption, Some, ⊤};
+ghost use Rattle.std.specs.Prelude.{drop, slice_get, take, [], ◌∷◌};
 ghost use Rattle.arrow_array.specs.Parts.{node_column, values_in};
 ghost use Rattle.arrow_array.specs.Listed.{IsNodeFit, dictionary_for};
-ghost use Rattle.arrow_types.specs.Field.{fields_of};
 ghost use Rattle.arrow_array.specs.Shared.{node_type};
-ghost use Rattle.arrow_types.specs.View.{field_view, fields_view};
-ghost use Rattle.arrow_body.specs.Sound.{AreFit, IsNodeIndexed, IsNodeLaid, IsNodeText};
-ghost use Rattle.arrow_body.specs.Sound.{IsSound, columns_of, own_bytes, slots_at};
-ghost use Rattle.arrow_body.specs.Taken.{AreThere, below, own_buffers};
-ghost use Rattle.arrow_body.specs.Taken.{taken_buffers, taken_nodes};
-ghost use Rattle.arrow_body.specs.Types.{HaveTypes};
+ghost use Rattle.arrow_types.specs.View.{field_view};
+ghost use Rattle.arrow_body.specs.Held.{AreRangesOf};
+ghost use Rattle.arrow_body.specs.Sound.{IsNodeIndexed, IsNodeLaid, IsNodeText};
+ghost use Rattle.arrow_body.specs.Sound.{columns_of, own_bytes, slots_at};
+ghost use Rattle.arrow_body.specs.Taken.{below, own_buffers};
 
-use crate::held::own_ranges;
-use crate::laid::slots;
 use crate::listed::Listed;
-use crate::taken::{Left, below, inside, own_buffers};
-use arrow_array::{Array, Dictionary, SharedType};
+use crate::look::Node;
+use crate::source::Source;
+use crate::taken::Left;
+use arrow_array::{Array, Dictionary};
 use arrow_types::{Encoding, Field};
 use bytes::Bytes;
 use std::alloc::{AllocError, Global};
+
+// Makes the arrays of fields out of ranges of a body, which they share.
+#[derive(Drop)]
+pub(crate) struct Builder<'a> {
+    alloc: Global,
+    body: &'a Bytes,
+    // The arrays of the fields so far.
+    pub(crate) arrays: Vec<Array>,
+}
+
+impl<'a> Builder<'a> {
+    // One with room for the arrays of so many fields, None where the growth is refused.
+    pub(crate) fn new(alloc: Global, body: &'a Bytes, count: usize) -> Option<Builder<'a>>
+        ensures { IfSome result (λ b. (b.body.now ≡ body.now) × (b.arrays.items ≡ [])) }
+    {
+        match Vec::with_capacity(alloc, count) {
+            Ok(arrays) => Some(Builder {
+                alloc,
+                body,
+                arrays,
+            }),
+            Err(_) => None,
+        }
+    }
+}
+
+// One for the fields below one, where a builder is left.
+pub(crate) fn builder_below<'a>(builder: &Option<Builder<'a>>, count: usize) -> Option<Builder<'a>>
+    ensures { MatchOption result ⊤ (λ inner. MatchOption builder.now ⊥
+        (λ b. (inner.body.now ≡ b.body.now) × (inner.arrays.items ≡ []))) }
+{
+    match builder {
+        Some(builder) => Builder::new(builder.alloc, builder.body, count),
+        None => None,
+    }
+}
+
+// The builder with the array of the field's own node, None where there is none so far or none for
+// what stands below, the node's texts or indices are not as they should be, or a growth is refused.
+pub(crate) fn with_node<'a>(
+    builder: Option<Builder<'a>>,
+    inner: Option<Builder<'a>>,
+    field: &Field,
+    own: usize,
+    left: Left<'_>,
+    node: &Node,
+    source: Source<'_>,
+) -> Option<Builder<'a>>
+    requires own { own ≡ own_buffers (field_view field.now).head }
+    requires laid { IsNodeLaid source.body.now (field_view field.now).head
+        (field_view field.now).children left.nodes.now left.buffers.now }
+    requires texts { IsTrue node.now.seen.texts → IsNodeText source.body.now
+        (field_view field.now).head (field_view field.now).children
+        left.nodes.now left.buffers.now }
+    requires indices { IsTrue node.now.seen.indices → IsNodeIndexed source.body.now
+        source.dictionaries.entries.now (field_view field.now).head (field_view field.now).children
+        left.nodes.now left.buffers.now }
+    requires len { node.now.len ≡ slots_at left.nodes.now }
+    requires lies { AreRangesOf source.body.now
+        (take (own_buffers (field_view field.now).head) left.buffers.now)
+        (take (own_buffers (field_view field.now).head) node.now.ranges) }
+    requires building { IfSome builder (λ b. (b.body.now ≡ source.body.now)
+        × (slice_get left.types.now 0
+        ≡ Some (node_type (field_view field.now).head (field_view field.now).children))
+        × IsNodeFit source.dictionaries.entries.now (field_view field.now).head
+        (field_view field.now).children) }
+    requires children { IfSome inner (λ b. b.arrays.items
+        ≡ columns_of source.body.now source.dictionaries.entries.now
+        (below (field_view field.now).head.encoding (field_view field.now).children)
+        (drop 1 left.nodes.now)
+        (drop (own_buffers (field_view field.now).head) left.buffers.now)) }
+    ensures { MatchOption result ⊤ (λ new. MatchOption builder.entry ⊥
+        (λ b. (new.body.now ≡ b.body.now) × (new.arrays.items ≡ b.arrays.items
+        ++ node_column
+        (node_type (field_view field.now).head (field_view field.now).children).data_type
+        (field_view field.now).head.encoding (slots_at left.entry.nodes.now)
+        (own_bytes source.entry.body.now (field_view field.now).head left.entry.buffers.now)
+        (columns_of source.entry.body.now source.entry.dictionaries.entries.now
+        (below (field_view field.now).head.encoding (field_view field.now).children)
+        (drop 1 left.entry.nodes.now)
+        (drop (own_buffers (field_view field.now).head) left.entry.buffers.now))
+        (values_in (dictionary_for source.entry.dictionaries.entries.now
+        (field_view field.now).head.encoding)) ∷ []))) }
+{
+    let Some(builder) = builder else {
+        return None;
+    };
+    let Some(inner) = inner else {
+        return None;
+    };
+    if !node.seen.texts || !node.seen.indices {
+        return None;
+    }
+    with_array(builder, inner, field, own, left, node, source)
+}
+
+// The same of a node whose texts and indices are as they should be.
+fn with_array<'a>(
+    builder: Builder<'a>,
+    inner: Builder<'a>,
+    field: &Field,
+    own: usize,
+    left: Left<'_>,
+    node: &Node,
+    source: Source<'_>,
+) -> Option<Builder<'a>>
+    requires own { own ≡ own_buffers (field_view field.now).head }
+    requires laid { IsNodeLaid source.body.now (field_view field.now).head
+        (field_view field.now).children left.nodes.now left.buffers.now }
+    requires text { IsNodeText source.body.now (field_view field.now).head
+        (field_view field.now).children left.nodes.now left.buffers.now }
+    requires indexed { IsNodeIndexed source.body.now source.dictionaries.entries.now
+        (field_view field.now).head (field_view field.now).children
+        left.nodes.now left.buffers.now }
+    requires len { node.now.len ≡ slots_at left.nodes.now }
+    requires lies { AreRangesOf source.body.now
+        (take (own_buffers (field_view field.now).head) left.buffers.now)
+        (take (own_buffers (field_view field.now).head) node.now.ranges) }
+    requires same { builder.body.now ≡ source.body.now }
+    requires typed { slice_get left.types.now 0
+        ≡ Some (node_type (field_view field.now).head (field_view field.now).children) }
+    requires fit { IsNodeFit source.dictionaries.entries.now (field_view field.now).head
+        (field_view field.now).children }
+    requires children { inner.arrays.items
+        ≡ columns_of source.body.now source.dictionaries.entries.now
+        (below (field_view field.now).head.encoding (field_view field.now).children)
+        (drop 1 left.nodes.now)
+        (drop (own_buffers (field_view field.now).head) left.buffers.now) }
+    ensures { IfSome result
+        (λ new. (new.body.now ≡ builder.entry.body.now)
+        × (new.arrays.items ≡ builder.entry.arrays.items ++ node_column
+        (node_type (field_view field.now).head (field_view field.now).children).data_type
+        (field_view field.now).head.encoding (slots_at left.entry.nodes.now)
+        (own_bytes source.entry.body.now (field_view field.now).head left.entry.buffers.now)
+        (columns_of source.entry.body.now source.entry.dictionaries.entries.now
+        (below (field_view field.now).head.encoding (field_view field.now).children)
+        (drop 1 left.entry.nodes.now)
+        (drop (own_buffers (field_view field.now).head) left.entry.buffers.now))
+        (values_in (dictionary_for source.entry.dictionaries.entries.now
+        (field_view field.now).head.encoding)) ∷ [])) }
+{
+    let Some((shared, _)) = left.types.split_first() else {
+        return None;
+    };
+    let dictionary = dictionary_of(builder.alloc, field.dictionary, source.dictionaries).ok()?;
+    let array = Array::from_shared_parts(
+        builder.alloc,
+        shared,
+        node.len,
+        builder.body,
+        &node.ranges[..own],
+        inner.arrays,
+        dictionary,
+    )
+    .ok()?;
+    let mut arrays = builder.arrays;
+    arrays.push(array).ok()?;
+    Some(Builder {
+        alloc: builder.alloc,
+        body: builder.body,
+        arrays,
+    })
+}
 
 // The dictionary that is listed for a field with this encoding, shared.
 fn dictionary_of(
@@ -36,101 +198,4 @@ fn dictionary_of(
         Some(dictionary) => Ok(Some(dictionary.copy(alloc)?)),
         None => Ok(None),
     }
-}
-
-// The array of the field's own node and buffers, with the arrays below it.
-fn build_node(
-    alloc: Global,
-    field: &Field,
-    shared: &SharedType,
-    left: Left<'_>,
-    body: &Bytes,
-    children: Vec<Array>,
-    dictionaries: Listed<'_>,
-) -> Result<Array, AllocError>
-    requires typed { shared.now
-        ≡ node_type (field_view field.now).head (field_view field.now).children }
-    requires there { AreThere
-        (fields_of (field_view field.now ∷ [])) left.nodes.now left.buffers.now }
-    requires laid { IsNodeLaid body.now (field_view field.now).head
-        (field_view field.now).children left.nodes.now left.buffers.now }
-    requires text { IsNodeText body.now (field_view field.now).head
-        (field_view field.now).children left.nodes.now left.buffers.now }
-    requires indexed { IsNodeIndexed body.now dictionaries.entries.now (field_view field.now).head
-        (field_view field.now).children left.nodes.now left.buffers.now }
-    requires fit { IsNodeFit dictionaries.entries.now (field_view field.now).head
-        (field_view field.now).children }
-    requires children { children.items ≡ columns_of body.now dictionaries.entries.now
-        (below (field_view field.now).head.encoding (field_view field.now).children)
-        (drop 1 left.nodes.now) (drop (own_buffers (field_view field.now).head) left.buffers.now) }
-    ensures { IfOk result (λ a. a ≡ node_column shared.now.data_type shared.now.encoding
-        (slots_at left.entry.nodes.now)
-        (own_bytes body.now (field_view field.now).head left.entry.buffers.now) children.items
-        (values_in (dictionary_for dictionaries.entry.entries.now shared.now.encoding))) }
-{
-    let own = own_buffers(field);
-    let Some(ranges) = own_ranges(body.as_slice(), left.buffers, own) else {
-        unreachable!()
-    };
-    Array::from_shared_parts(
-        alloc,
-        shared,
-        slots(left.nodes),
-        body,
-        &ranges[..own],
-        children,
-        dictionary_of(alloc, field.dictionary, dictionaries)?,
-    )
-}
-
-// The arrays of fields, and what is left behind them.
-#[derive(Drop)]
-pub(crate) struct Built<'a> {
-    pub(crate) arrays: Vec<Array>,
-    types: &'a [SharedType],
-    rest: Left<'a>,
-}
-
-// The arrays of the fields, which share the types of their nodes.
-#[cycle(build)]
-pub(crate) fn build<'a>(
-    alloc: Global,
-    fields: &[Field],
-    types: &'a [SharedType],
-    left: Left<'a>,
-    body: &Bytes,
-    dictionaries: Listed<'_>,
-) -> Result<Built<'a>, AllocError>
-    requires sound { IsSound body.now dictionaries.entries.now
-        (fields_view fields.now) left.nodes.now left.buffers.now }
-    requires typed { HaveTypes (fields_view fields.now) types.now }
-    requires fit { AreFit dictionaries.entries.now (fields_view fields.now) }
-    ensures { IfOk result
-        (λ built. (built.arrays.items ≡ columns_of body.now dictionaries.entry.entries.now
-        (fields_view fields.now) left.entry.nodes.now left.entry.buffers.now)
-        × (built.types.now ≡ drop (taken_nodes (fields_view fields.now)) types.entry.now)
-        × (built.rest.nodes.now
-        ≡ drop (taken_nodes (fields_view fields.now)) left.entry.nodes.now)
-        × (built.rest.buffers.now
-        ≡ drop (taken_buffers (fields_view fields.now)) left.entry.buffers.now)) }
-{
-    let mut arrays = Vec::with_capacity(alloc, fields.len())?;
-    let mut following = types;
-    let mut rest = left;
-    for field in fields {
-        let Some((shared, others)) = following.split_first() else {
-            unreachable!()
-        };
-        let inner = inside(field, rest);
-        let inner = build(alloc, below(field), others, inner, body, dictionaries)?;
-        let children = inner.arrays;
-        arrays.push(build_node(alloc, field, shared, rest, body, children, dictionaries)?)?;
-        following = inner.types;
-        rest = inner.rest;
-    }
-    Ok(Built {
-        arrays,
-        types: following,
-        rest,
-    })
 }

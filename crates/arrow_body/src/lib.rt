@@ -1,11 +1,12 @@
 //! Bodies of batches, read: nodes, buffers and a body are columns, or are refused.
 //!
 //! A record batch's metadata lists a node for each field and the places of their buffers in the
-//! body. `load` looks at all of them before any array is made: one look at each node tests that it
-//! and its buffers hold what its type asks for (Layout), that its texts are UTF-8 (Text), and that
-//! its indices have their values (Index); of the faults of all columns the least is told. Only then the arrays are made, as ranges of
-//! the one body, which they share. Who has no `Bytes` yet calls `check`, which takes none, and then
-//! `load_unchecked` with the copy.
+//! body. `load` walks over them once. One look at each node tests that it and its buffers hold what
+//! its type asks for (Layout), that its texts are UTF-8 (Text), and that its indices have their
+//! values (Index); of the faults of all columns the least is told. As long as nothing is wrong, the
+//! node's array is made at once, of ranges of the one body, which the arrays share. Who loads more
+//! than one body makes the types of the nodes once and calls `load_typed`; who wants to know alone
+//! whether a body is sound calls `check`, which takes no memory.
 //!
 //! What fields take of nodes and buffers stands in `specs/Taken.antt`, where a buffer lies in
 //! `specs/Held.antt`, when all is sound, and which columns it then is, in `specs/Sound.antt`, and
@@ -19,6 +20,7 @@
 //! |---|---|
 //! | nodes and buffers that fields take | `specs/Taken.antt`: `taken_nodes`, `taken_buffers` |
 //! | that nodes have these types | `specs/Types.antt`: `HaveTypes` |
+//! | how long the shortest of some columns is | `specs/Least.antt`: `IsLeast` |
 //! | where a buffer lies | `specs/Held.antt`: `IsHeld`, `bytes_in` |
 //! | a body that is sound, its columns | `specs/Sound.antt`: `IsSound`, `columns_of` |
 //! | its one reading | `specs/Inside.antt`: `IsReading` |
@@ -36,9 +38,10 @@ mod laid;
 pub mod laws;
 mod listed;
 mod look;
+mod source;
 mod taken;
 mod text;
 
-pub use body::{BodyFault, check, load, load_unchecked};
+pub use body::{BodyFault, check, load, load_typed};
 pub use counts::{have_length, nodes_of};
 pub use fit::are_fit;

@@ -1,5 +1,5 @@
 -- What the layer below answers of a body is what the body holds.
-use Rattle.std.proofs.Common.{◌≡◌, ◌↔◌, ℕ, ℤ, List, refl, sym, ap, ◌∙◌, subst, Ok, Err}
+use Rattle.std.proofs.Common.{◌≡◌, ◌↔◌, ℕ, ℤ, List, Result, MatchResult, refl, sym, subst, Ok, Err}
 use Rattle.std.specs.List.{AllByRecursion}
 use Rattle.arrow_types.specs.Field.{Fields}
 use Rattle.arrow_array.specs.Column.{Column, ValueList}
@@ -34,11 +34,15 @@ pub sound_of : (body body' : List ℕ) (ds : List (ℤ × ValueList)) (fields : 
 sound_of body body' ds fields ns ns' bs bs' b e f h =
     subst (λ x. IsSound x ds fields ns' bs') b (subst (λ x. IsSound body ds fields ns' x) f (subst (λ x. IsSound body ds fields x bs) e h))
 
--- the columns of a copy of a body are those of the body
-pub columns_are : (body body' : List ℕ) (ds : List (ℤ × ValueList)) (fields : Fields) (outline : PlainBatch) (ns : List FieldNode) (bs : List Buffer) (cs : List Column) →
-    body' ≡ body → ns ≡ outline.nodes → bs ≡ outline.buffers → cs ≡ columns_of body' ds fields ns bs → cs ≡ columns_of body ds fields outline.nodes outline.buffers
-columns_are body body' ds fields outline ns bs cs b e f h =
-    h ∙ ap (λ x. columns_of x ds fields ns bs) b ∙ ap (λ x. columns_of body ds fields x bs) e ∙ ap (λ x. columns_of body ds fields outline.nodes x) f
+-- what is told of a body: that it is sound and which columns it is, or a fault
+abbrev pub Told : {R : Type 0} → (R → List Column) → Result R BodyFault → List ℕ → List (ℤ × ValueList) → Fields → List FieldNode → List Buffer → Type 0
+Told items r body ds fields ns bs = MatchResult r (λ x. IsSound body ds fields ns bs × (items x ≡ columns_of body ds fields ns bs)) (λ k. Explains k body ds fields ns bs)
+
+-- what is told of a copy of a body is told of the body
+pub told_of : {R : Type 0} (items : R → List Column) (r : Result R BodyFault) (body body' : List ℕ) (ds : List (ℤ × ValueList)) (fields : Fields) (ns ns' : List FieldNode) (bs bs' : List Buffer) →
+    body ≡ body' → ns ≡ ns' → bs ≡ bs' → Told items r body ds fields ns bs → Told items r body' ds fields ns' bs'
+told_of items r body body' ds fields ns ns' bs bs' b e f h =
+    subst (λ x. Told items r x ds fields ns' bs') b (subst (λ x. Told items r body ds fields ns' x) f (subst (λ x. Told items r body ds fields x bs) e h))
 
 module _ {body : List ℕ} {ds : List (ℤ × ValueList)} {fields : Fields} {outline : PlainBatch} where
   -- columns of another length are no layout

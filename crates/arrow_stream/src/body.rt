@@ -4,7 +4,7 @@ ghost use Rattle.std.specs.Prelude.{◌≡◌, ◌≤◌, ◌≤ℤ◌, pos, len
 ghost use Rattle.arrow_array.specs.Shared.{node_types};
 ghost use Rattle.arrow_types.specs.View.{fields_view};
 ghost use Rattle.arrow_body.specs.Held.{count_of};
-ghost use Rattle.arrow_body.specs.Sound.{AreFit};
+ghost use Rattle.arrow_body.specs.Sound.{AreFit, Explains, IsSound, columns_of};
 ghost use Rattle.arrow_meta.specs.Means.{batch_view};
 ghost use Rattle.arrow_stream.specs.Batch.{Holds};
 ghost use Rattle.arrow_stream.specs.Views.{HasNoColumns};
@@ -12,7 +12,7 @@ ghost use Rattle.arrow_stream.specs.Views.{HasNoColumns};
 use crate::kind::Refusal;
 use crate::message::Stop;
 use arrow_array::{Array, Dictionary, SharedType};
-use arrow_body::{BodyFault, check, have_length, load_unchecked};
+use arrow_body::{BodyFault, check, have_length, load_typed};
 use arrow_meta::RecordBatch;
 use arrow_types::Field;
 use bytes::Bytes;
@@ -96,8 +96,8 @@ pub(crate) fn row_count(outline: &RecordBatch) -> usize
 }
 
 /// The columns of the fields that a body holds, or the first of Layout, Text and Index that applies
-/// to any of them. They share one body: where none applies it is copied, or shared itself. They also
-/// share the types of the nodes.
+/// to any of them. They share one body, which is copied where it is lent, and shared itself where it
+/// is not. They also share the types of the nodes.
 ///
 /// The outline is what the metadata tell of the body: the number of its rows, its nodes and its
 /// buffers.
@@ -121,32 +121,55 @@ pub(crate) fn hold(
     if !have_length(fields, &outline.nodes, row_count(outline)) {
         return Err(Stop::Refused(Refusal::Layout));
     }
-    match check(
-        fields,
-        &outline.nodes,
-        &outline.buffers,
-        body.as_slice(),
-        dictionaries,
-    ) {
-        Ok(()) => {}
-        Err(BodyFault::Layout) => return Err(Stop::Refused(Refusal::Layout)),
-        Err(BodyFault::Text) => return Err(Stop::Refused(Refusal::Text)),
-        Err(BodyFault::Index) => return Err(Stop::Refused(Refusal::Index)),
-        Err(BodyFault::Memory) => unreachable!(),
-    }
-    let Ok(body) = body.own(alloc) else {
-        return Err(Stop::Memory);
-    };
-    match load_unchecked(
-        alloc,
-        fields,
-        types,
-        &outline.nodes,
-        &outline.buffers,
-        &body,
-        dictionaries,
-    ) {
+    match columns_in(alloc, fields, types, outline, body, dictionaries) {
         Ok(columns) => Ok(columns),
-        Err(_) => Err(Stop::Memory),
+        Err(BodyFault::Layout) => Err(Stop::Refused(Refusal::Layout)),
+        Err(BodyFault::Text) => Err(Stop::Refused(Refusal::Text)),
+        Err(BodyFault::Index) => Err(Stop::Refused(Refusal::Index)),
+        Err(BodyFault::Memory) => Err(Stop::Memory),
+    }
+}
+
+// The same, whatever the number of rows is; where the copy of the body is refused its fault is told
+// first, as ever.
+fn columns_in(
+    alloc: Global,
+    fields: &[Field],
+    types: &[SharedType],
+    outline: &RecordBatch,
+    body: &Body,
+    dictionaries: &[(i64, Dictionary)],
+) -> Result<Vec<Array>, BodyFault>
+    requires typed { types.now ≡ node_types (fields_view fields.now) }
+    requires fit { AreFit dictionaries.now (fields_view fields.now) }
+    ensures { MatchResult result
+        (λ columns. IsSound body.now dictionaries.now (fields_view fields.now)
+        (batch_view outline.now).nodes (batch_view outline.now).buffers
+        × (columns.items ≡ columns_of body.now dictionaries.now (fields_view fields.now)
+        (batch_view outline.now).nodes (batch_view outline.now).buffers))
+        (λ fault. Explains fault body.now dictionaries.now (fields_view fields.now)
+        (batch_view outline.now).nodes (batch_view outline.now).buffers) }
+{
+    match body.own(alloc) {
+        Ok(owned) => load_typed(
+            alloc,
+            fields,
+            types,
+            &outline.nodes,
+            &outline.buffers,
+            &owned,
+            dictionaries,
+        ),
+        Err(_) => {
+            let bytes = body.as_slice();
+            check(
+                fields,
+                &outline.nodes,
+                &outline.buffers,
+                bytes,
+                dictionaries,
+            )?;
+            Err(BodyFault::Memory)
+        }
     }
 }

@@ -1,6 +1,6 @@
 // Bodies that are none.
 
-use super::fields::Kind;
+use super::fields::{INDEX, Kind};
 use super::reading::{Case, NUMBERS, Pairs, compare};
 use arrow_body::BodyFault;
 
@@ -163,6 +163,90 @@ static LATER: [Case<'static>; 5] = [
 #[test]
 fn the_least_fault_of_all_columns(rt: HostRuntime) {
     for case in &LATER {
+        compare(&rt, case);
+    }
+}
+
+// Structs of a struct of two columns of numbers, each level as long as the shortest below it or not.
+static LEVELS: [Case<'static>; 5] = [
+    Case {
+        of: &TWO_LEVELS,
+        nodes: &[(1, 0), (1, 0), (2, 0), (1, 0)],
+        buffers: &LEVEL_BUFFERS,
+        body: &NUMBERS,
+        want: "1: struct 0; 1: struct 0; 2: 1 0; 1: 1",
+    },
+    Case {
+        of: &TWO_LEVELS,
+        nodes: &[(0, 0), (1, 0), (2, 0), (2, 0)],
+        buffers: &LEVEL_BUFFERS,
+        body: &NUMBERS,
+        want: "0:; 1: struct 0; 2: 1 0; 2: 1 0",
+    },
+    // The second column of the inner struct is too short, the first, and the inner struct itself.
+    Case {
+        of: &TWO_LEVELS,
+        nodes: &[(2, 0), (2, 0), (2, 0), (1, 0)],
+        buffers: &LEVEL_BUFFERS,
+        body: &NUMBERS,
+        want: "Layout",
+    },
+    Case {
+        of: &TWO_LEVELS,
+        nodes: &[(1, 0), (2, 0), (1, 0), (2, 0)],
+        buffers: &LEVEL_BUFFERS,
+        body: &NUMBERS,
+        want: "Layout",
+    },
+    Case {
+        of: &TWO_LEVELS,
+        nodes: &[(2, 0), (1, 0), (2, 0), (2, 0)],
+        buffers: &LEVEL_BUFFERS,
+        body: &NUMBERS,
+        want: "Layout",
+    },
+];
+
+const TWO_LEVELS: [Kind; 4] = [Kind::Struct(1), Kind::Struct(2), Kind::Number, Kind::Number];
+
+const LEVEL_BUFFERS: [(i64, i64); 6] = [(0, 0), (0, 0), (0, 0), (8, 8), (0, 0), (8, 8)];
+
+#[test]
+fn structs_on_two_levels(rt: HostRuntime) {
+    for case in &LEVELS {
+        compare(&rt, case);
+    }
+}
+
+// An index without a value, alone, before a text that is none, and before a column that is too
+// short.
+static BEHIND_AN_INDEX: [Case<'static>; 3] = [
+    Case {
+        of: &[INDEX, Kind::Number, Kind::Text],
+        nodes: &[(1, 0), (1, 0)],
+        buffers: &[(0, 0), (0, 4), (0, 0), (4, 8), (12, 1)],
+        body: &[0, 0, 0, 0, 0, 0, 0, 0, 1, 0, 0, 0, 0x61],
+        want: "Index",
+    },
+    Case {
+        of: &[INDEX, Kind::Number, Kind::Text],
+        nodes: &[(1, 0), (1, 0)],
+        buffers: &[(0, 0), (0, 4), (0, 0), (4, 8), (12, 1)],
+        body: &[0, 0, 0, 0, 0, 0, 0, 0, 1, 0, 0, 0, 0xff],
+        want: "Text",
+    },
+    Case {
+        of: &[INDEX, Kind::Number, Kind::Text],
+        nodes: &[(1, 0), (1, 0)],
+        buffers: &[(0, 0), (0, 4), (0, 0), (4, 8), (12, 2)],
+        body: &[0, 0, 0, 0, 0, 0, 0, 0, 2, 0, 0, 0, 0xff],
+        want: "Layout",
+    },
+];
+
+#[test]
+fn faults_behind_an_index(rt: HostRuntime) {
+    for case in &BEHIND_AN_INDEX {
         compare(&rt, case);
     }
 }

@@ -5,7 +5,7 @@ use super::forms::{Form, fields_of};
 use super::reading::{Pairs, nodes_of_pairs};
 use super::written::dictionary;
 use arrow_array::{Array, Dictionary, shared_types};
-use arrow_body::{BodyFault, are_fit, check, load_unchecked};
+use arrow_body::{BodyFault, are_fit, load_typed};
 use arrow_body_write::{Align, rest_size};
 use arrow_types::Buffer;
 use bytes::Bytes;
@@ -132,20 +132,19 @@ fn append(rt: &(impl Abort + AllocGlobal), dictionary: &mut Dictionary, columns:
     dictionary.append(rt.alloc(), values).expect(rt, "memory");
 }
 
-// The bytes are looked at once.
+// The array is loaded as often as it is put in.
 fn again_and_again(rt: &(impl Abort + AllocGlobal), case: &Case) -> Result<Dictionary, BodyFault> {
     let fields = fields_of(rt, case.of, None);
     let nodes = nodes_of_pairs(rt, case.nodes);
     let buffers = places(rt, case.buffers);
     let body = body_of(rt, case.front);
     assert!(rt; are_fit(&fields, &[]));
-    check(&fields, &nodes, &buffers, &body, &[])?;
     let types = shared_types(rt.alloc(), &fields).expect(rt, "memory");
-    let columns = load_unchecked(rt.alloc(), &fields, &types, &nodes, &buffers, &body, &[]);
-    let mut whole = dictionary(rt, Ok(columns.expect(rt, "memory")));
+    let columns = load_typed(rt.alloc(), &fields, &types, &nodes, &buffers, &body, &[])?;
+    let mut whole = dictionary(rt, Ok(columns));
     for _ in 1..case.times {
-        let columns = load_unchecked(rt.alloc(), &fields, &types, &nodes, &buffers, &body, &[]);
-        append(rt, &mut whole, columns.expect(rt, "memory"));
+        let columns = load_typed(rt.alloc(), &fields, &types, &nodes, &buffers, &body, &[])?;
+        append(rt, &mut whole, columns);
     }
     Ok(whole)
 }

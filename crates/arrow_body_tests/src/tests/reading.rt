@@ -1,9 +1,9 @@
-// What `load` answers, and `check` with `load_unchecked`.
+// What `load`, `check` and `load_typed` answer.
 
 use super::fields::{Kind, fields_of};
 use super::shown::shown;
 use arrow_array::{Array, Dictionary, shared_types};
-use arrow_body::{BodyFault, are_fit, check, load, load_unchecked};
+use arrow_body::{BodyFault, are_fit, check, load, load_typed};
 use arrow_types::{Buffer, Field, FieldNode};
 use bytes::Bytes;
 use std::process::Abort;
@@ -46,8 +46,8 @@ pub(super) fn loaded(
     load(rt.alloc(), fields, &nodes, &buffers, &body, dictionaries)
 }
 
-// The same by a test of the bytes, and then of a copy of them.
-fn loaded_in_two(
+// The same with types that were made before; the bytes alone have the same fault.
+fn loaded_typed(
     rt: &(impl Abort + AllocGlobal),
     fields: &[Field],
     nodes: Pairs<'_>,
@@ -57,13 +57,20 @@ fn loaded_in_two(
     let nodes = nodes_of_pairs(rt, nodes);
     let buffers = buffers_of_pairs(rt, buffers);
     assert!(rt; are_fit(fields, &[]));
-    check(fields, &nodes, &buffers, body, &[])?;
+    let fault = check(fields, &nodes, &buffers, body, &[]).err();
     let body = Bytes::copy_from_slice(rt.alloc(), body).expect(rt, "memory");
     let types = shared_types(rt.alloc(), fields).expect(rt, "memory");
-    let columns = load_unchecked(rt.alloc(), fields, &types, &nodes, &buffers, &body, &[]);
-    let columns = columns.expect(rt, "memory");
-    assert!(rt; are_typed(fields, &columns) && are_children_typed(fields, &columns));
-    Ok(columns)
+    match load_typed(rt.alloc(), fields, &types, &nodes, &buffers, &body, &[]) {
+        Ok(columns) => {
+            assert_eq!(rt; fault, None);
+            assert!(rt; are_typed(fields, &columns) && are_children_typed(fields, &columns));
+            Ok(columns)
+        }
+        Err(found) => {
+            assert_eq!(rt; fault, Some(found));
+            Err(found)
+        }
+    }
 }
 
 // Whether the columns are of the fields' types.
@@ -125,12 +132,12 @@ pub(super) const NUMBERS: [u8; 24] = [
     5, 0, 0, 0, 0, 0, 0, 0, 1, 0, 0, 0, 0, 0, 0, 0, 3, 0, 0, 0, 0, 0, 0, 0,
 ];
 
-// In one call and in two.
+// With types that are made for the call, and with such as were made before.
 pub(super) fn compare(rt: &(impl Abort + AllocGlobal), case: &Case<'_>) {
     let fields = fields_of(rt, case.of);
     let columns = loaded(rt, &fields, case.nodes, case.buffers, case.body, &[]);
     is_told(rt, case, columns);
-    let columns = loaded_in_two(rt, &fields, case.nodes, case.buffers, case.body);
+    let columns = loaded_typed(rt, &fields, case.nodes, case.buffers, case.body);
     is_told(rt, case, columns);
 }
 
