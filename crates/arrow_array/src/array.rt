@@ -436,6 +436,7 @@ impl Array {
 
     /// Where the value that slot `i` refers to stands: an array and a place there. None where the
     /// slot is null, or the column is not dictionary-encoded.
+    #[inline(always)]
     pub fn resolved(&self, i: usize) -> Option<(&Array, usize)>
         requires { i < length self.now.raw }
         ensures { MatchOption result (HasNoIndex self.now i)

@@ -21,6 +21,7 @@ impl ByteRange {
 const _: () = prove!(ByteRange::EMPTY.start == 0 && ByteRange::EMPTY.end == 0);
 
 // The bytes of a range.
+#[inline(always)]
 pub(crate) fn bytes_in(body: &[u8], range: ByteRange) -> &[u8]
     requires { IsInside body.now range }
     ensures { result.now ≡ bytes_of body.now range }

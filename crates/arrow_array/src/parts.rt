@@ -63,6 +63,7 @@ impl Array {
     }
 
     /// As `from_parts`, of a type of which no copy is made: the array shares it.
+    #[inline(always)]
     pub fn from_shared_parts(
         alloc: Global,
         shared: &SharedType,
@@ -107,6 +108,7 @@ impl Array {
 }
 
 // The array of these ranges.
+#[inline(always)]
 fn of_ranges(
     data_type: &Rc<DataType>,
     encoding: Option<Encoding>,
@@ -160,6 +162,7 @@ fn or_empty(
 }
 
 // The buffers of numbers of this width and sign.
+#[inline(always)]
 fn numbers(bits: BitWidth, signed: bool, buffers: &[ByteRange]) -> Ints
     requires { 2 ≤ length buffers.now }
     ensures format { IsFormat (forms.Numbers bits signed) result }
@@ -175,6 +178,7 @@ fn numbers(bits: BitWidth, signed: bool, buffers: &[ByteRange]) -> Ints
 }
 
 // The buffers of byte strings of this width.
+#[inline(always)]
 fn fixed(width: u32, buffers: &[ByteRange]) -> Fixed
     requires { 2 ≤ length buffers.now }
     ensures width { result.width ≡ width }
@@ -189,6 +193,7 @@ fn fixed(width: u32, buffers: &[ByteRange]) -> Fixed
 }
 
 // The buffers of truth values.
+#[inline(always)]
 fn bools(buffers: &[ByteRange]) -> Bools
     requires { 2 ≤ length buffers.now }
     ensures validity { result.validity ≡ slice_index_or buffers.now 0 result.validity }
@@ -201,6 +206,7 @@ fn bools(buffers: &[ByteRange]) -> Bools
 }
 
 // The buffers of texts, and of bytes, behind offsets of this width.
+#[inline(always)]
 fn strings(width: OffsetWidth, buffers: &[ByteRange]) -> Strings
     requires { 3 ≤ length buffers.now }
     ensures width { result.width ≡ width }

@@ -14,6 +14,7 @@ use crate::form::OffsetWidth;
 use arrow_bits::{LargeOffsets, Offsets, bit, first_unset, int_at};
 
 // Whether slot `i` is valid.
+#[inline(always)]
 pub(crate) fn is_valid(validity: &[u8], i: usize) -> bool
     requires { HasBits (i + 1) validity.now }
     ensures { result ≡ is_valid_at validity.now i }
@@ -35,6 +36,7 @@ pub(crate) fn first_invalid(validity: &[u8], start: usize, stop: usize) -> usize
 }
 
 // The truth value of slot `i`, where it is valid.
+#[inline(always)]
 pub(crate) fn bool_at(validity: &[u8], values: &[u8], i: usize) -> Option<bool>
     requires bits { HasBits (i + 1) validity.now }
     requires long { i < 8 * length values.now }
@@ -49,6 +51,7 @@ pub(crate) fn bool_at(validity: &[u8], values: &[u8], i: usize) -> Option<bool>
 }
 
 // The number of slot `i`, where it is valid.
+#[inline(always)]
 pub(crate) fn number_at(
     validity: &[u8],
     values: &[u8],
@@ -70,6 +73,7 @@ pub(crate) fn number_at(
 }
 
 // The bytes of slot `i`, where it is valid.
+#[inline(always)]
 pub(crate) fn fixed_at<'a>(
     validity: &[u8],
     values: &'a [u8],
@@ -147,6 +151,7 @@ pub(crate) fn range_at(
 }
 
 // The byte string of slot `i` of `len`, where it is valid.
+#[inline(always)]
 pub(crate) fn binary_at<'a>(
     width: OffsetWidth,
     validity: &[u8],
@@ -167,6 +172,7 @@ pub(crate) fn binary_at<'a>(
 }
 
 // The text of slot `i` of `len`, where it is valid.
+#[inline(always)]
 pub(crate) fn text_at<'a>(
     width: OffsetWidth,
     validity: &[u8],
