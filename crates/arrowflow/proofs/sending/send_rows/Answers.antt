@@ -6,8 +6,8 @@ use Rattle.arrow_sink.specs.Sinks.{AcceptsBeginning}
 use Rattle.arrowflow.proofs.Sent.{begun_all, begun_longer, cut_between, rows_join}
 use Rattle.arrowflow.proofs.sending.send_rows.Goals as goal
 
-pub returns-in_default : goal.returns-in_default
-returns-in_default g c =
+pub returns-in_default-push : goal.returns-in_default-push
+returns-in_default-push g c =
     let i = c.loop-start.invariant in
     let batch = c.args.batch.now in
     let start = c.loop-start.start in
