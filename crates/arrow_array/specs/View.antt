@@ -13,11 +13,11 @@ use Rattle.arrow_array.specs.declared.slots.Cells.TheVariants as cells
 abbrev pub AreValues : Column → (ℕ → PlainValue) → Type 0
 AreValues c slot = (j : ℕ) → j < length c.raw → value_at c.resolved j ≡ slot j
 
--- slot i of a dictionary-encoded column has no index
+-- in a dictionary-encoded column the value of slot i is null
 abbrev pub HasNoEntry : Column → ℕ → Type 0
 HasNoEntry c i = IsTrue (is_some c.encoding) → value_at c.resolved i ≡ null_value
 
--- slot i has the index of value n in the column's dictionary
+-- the value of slot i is value n of the column's dictionary, where it has one
 abbrev pub RefersTo : Column → ℕ → ℕ → Type 0
 RefersTo c i n = (d : ValueList) → HasDictionary c d → (n < length d.values) × (value_at c.resolved i ≡ value_at d.values n)
 
