@@ -1,7 +1,7 @@
 -- What the buffers of a column hold, found once for all of its slots.
-use Rattle.std.specs.Prelude.{◌≡◌, ◌<◌, ℕ, Bool, List, length, None, is_some, IsTrue}
+use Rattle.std.specs.Prelude.{◌≡◌, ◌<◌, ℕ, pos, Bool, List, length, None, is_some, IsTrue}
 use Rattle.arrow_bits.specs.Numbers.{IsWidth}
-use Rattle.arrow_array.specs.PlainValue.{PlainValue, null_value, value_at}
+use Rattle.arrow_array.specs.PlainValue.{PlainValue, int_value, null_value, value_at}
 use Rattle.arrow_array.specs.Column.{Column, HasDictionary, ValueList}
 use Rattle.arrow_array.specs.Layout.{HasBools, HasFixed, HasStrings}
 use Rattle.arrow_array.specs.Slots.{AreIndices, AreTexts, binary_slot, bool_slot, entry_slot, fixed_slot, int_slot, utf8_slot}
@@ -9,17 +9,23 @@ use Rattle.arrow_array.specs.declared.form.OffsetWidth.{OffsetWidth}
 use Rattle.arrow_array.specs.declared.slots.Cells.{Cells}
 use Rattle.arrow_array.specs.declared.slots.Cells.TheVariants as cells
 
+-- the raw values of the column's slots are these
+abbrev pub AreRaw : Column → (ℕ → PlainValue) → Type 0
+AreRaw c slot = (j : ℕ) → j < length c.raw → value_at c.raw j ≡ slot j
+
 -- the values of the column's slots, indices looked up, are these
 abbrev pub AreValues : Column → (ℕ → PlainValue) → Type 0
 AreValues c slot = (j : ℕ) → j < length c.raw → value_at c.resolved j ≡ slot j
 
--- in a dictionary-encoded column the value of slot i is null
+-- slot i holds no index, so that it has no value either, or the column is not dictionary-encoded
 abbrev pub HasNoEntry : Column → ℕ → Type 0
-HasNoEntry c i = IsTrue (is_some c.encoding) → value_at c.resolved i ≡ null_value
+HasNoEntry c i = IsTrue (is_some c.encoding) → (value_at c.raw i ≡ null_value) × (value_at c.resolved i ≡ null_value)
 
--- the value of slot i is value n of the column's dictionary, where it has one
+-- the column is dictionary-encoded, slot i holds index n, and its value is value n of the column's dictionary
 abbrev pub RefersTo : Column → ℕ → ℕ → Type 0
-RefersTo c i n = (d : ValueList) → HasDictionary c d → (n < length d.values) × (value_at c.resolved i ≡ value_at d.values n)
+RefersTo c i n =
+    IsTrue (is_some c.encoding) × (value_at c.raw i ≡ int_value (pos n))
+    × ((d : ValueList) → HasDictionary c d → (n < length d.values) × (value_at c.resolved i ≡ value_at d.values n))
 
 -- truth values
 abbrev pub HoldBools : Column → List ℕ → List ℕ → Type 0
@@ -46,7 +52,8 @@ HoldFixed c width validity values = HasFixed (length c.raw) width validity value
 abbrev pub HoldIndices : Column → ℕ → Bool → List ℕ → List ℕ → ValueList → Type 0
 HoldIndices c width signed validity values d =
     IsWidth width × HasFixed (length c.raw) width validity values × AreIndices (length c.raw) width signed validity values (length d.values)
-    × HasDictionary c d × AreValues c (entry_slot width signed validity values d.values)
+    × IsTrue (is_some c.encoding) × HasDictionary c d × AreRaw c (int_slot width signed validity values)
+    × AreValues c (entry_slot width signed validity values d.values)
 
 -- the buffers are those of the column
 abbrev pub AreCellsOf : Column → Cells → Type 0

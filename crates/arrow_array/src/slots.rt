@@ -1,12 +1,13 @@
 //! The slots of an array, whose form is looked at once for many of them.
 
-ghost use Rattle.std.specs.Prelude.{◌≡◌, ◌<◌, length, option_map, MatchOption};
+ghost use Rattle.std.specs.Prelude.{◌≡◌, ◌<◌, length, MatchOption};
 ghost use Rattle.arrow_array.specs.Shown.{HoldsValue};
-ghost use Rattle.arrow_array.specs.Node.{IsArray, column_of};
+ghost use Rattle.arrow_array.specs.Node.{IsInside, bytes_of};
 ghost use Rattle.arrow_array.specs.View.{AreCellsOf, HasNoEntry, RefersTo};
 
 use crate::array::{Array, Ranges, SlotValue};
-use crate::byte_range::{ByteRange, bytes_in};
+use crate::buffers::{Ints, Strings};
+use crate::byte_range::bytes_in;
 use crate::dictionary::Dictionary;
 use crate::form::OffsetWidth;
 use crate::slot::{binary_at, bool_at, fixed_at, number_at, text_at};
@@ -57,6 +58,25 @@ pub(crate) struct Numbers<'a> {
     values: &'a [u8],
 }
 
+impl<'a> Numbers<'a> {
+    // The numbers whose buffers are these ranges of a body.
+    fn of(ints: Ints, body: &'a [u8]) -> Numbers<'a>
+        requires validity { IsInside body.now ints.validity }
+        requires values { IsInside body.now ints.values }
+        ensures width { result.width ≡ ints.width }
+        ensures signed { result.signed ≡ ints.signed }
+        ensures validity { result.validity.now ≡ bytes_of body.now ints.validity }
+        ensures values { result.values.now ≡ bytes_of body.now ints.values }
+    {
+        Numbers {
+            width: ints.width,
+            signed: ints.signed,
+            validity: bytes_in(body, ints.validity),
+            values: bytes_in(body, ints.values),
+        }
+    }
+}
+
 // The validity of byte strings or texts, their offsets, and their bytes.
 #[derive(Clone, Copy)]
 pub(crate) struct Parts<'a> {
@@ -64,6 +84,26 @@ pub(crate) struct Parts<'a> {
     validity: &'a [u8],
     offsets: &'a [u8],
     bytes: &'a [u8],
+}
+
+impl<'a> Parts<'a> {
+    // The byte strings whose buffers are these ranges of a body.
+    fn of(strings: Strings, body: &'a [u8]) -> Parts<'a>
+        requires validity { IsInside body.now strings.validity }
+        requires offsets { IsInside body.now strings.offsets }
+        requires bytes { IsInside body.now strings.bytes }
+        ensures width { result.width ≡ strings.width }
+        ensures validity { result.validity.now ≡ bytes_of body.now strings.validity }
+        ensures offsets { result.offsets.now ≡ bytes_of body.now strings.offsets }
+        ensures bytes { result.bytes.now ≡ bytes_of body.now strings.bytes }
+    {
+        Parts {
+            width: strings.width,
+            validity: bytes_in(body, strings.validity),
+            offsets: bytes_in(body, strings.offsets),
+            bytes: bytes_in(body, strings.bytes),
+        }
+    }
 }
 
 impl Array {
@@ -88,39 +128,18 @@ impl Array {
                 bytes_in(body, bools.validity),
                 bytes_in(body, bools.values),
             ),
-            Ranges::Ints(ints) => Cells::Ints(Numbers {
-                width: ints.width,
-                signed: ints.signed,
-                validity: bytes_in(body, ints.validity),
-                values: bytes_in(body, ints.values),
-            }),
-            Ranges::Binaries(strings) => Cells::Binaries(Parts {
-                width: strings.width,
-                validity: bytes_in(body, strings.validity),
-                offsets: bytes_in(body, strings.offsets),
-                bytes: bytes_in(body, strings.bytes),
-            }),
-            Ranges::Texts(strings) => Cells::Texts(Parts {
-                width: strings.width,
-                validity: bytes_in(body, strings.validity),
-                offsets: bytes_in(body, strings.offsets),
-                bytes: bytes_in(body, strings.bytes),
-            }),
+            Ranges::Ints(ints) => Cells::Ints(Numbers::of(*ints, body)),
+            Ranges::Binaries(strings) => Cells::Binaries(Parts::of(*strings, body)),
+            Ranges::Texts(strings) => Cells::Texts(Parts::of(*strings, body)),
             Ranges::FixedBytes(fixed) => Cells::FixedBytes(
                 fixed.width,
                 bytes_in(body, fixed.validity),
                 bytes_in(body, fixed.values),
             ),
             Ranges::Lists { .. } | Ranges::Structs { .. } => Cells::Nested,
-            Ranges::Indices(ints, dictionary) => Cells::Indices(
-                Numbers {
-                    width: ints.width,
-                    signed: ints.signed,
-                    validity: bytes_in(body, ints.validity),
-                    values: bytes_in(body, ints.values),
-                },
-                dictionary,
-            ),
+            Ranges::Indices(ints, dictionary) => {
+                Cells::Indices(Numbers::of(*ints, body), dictionary)
+            }
         }
     }
 }
@@ -173,7 +192,7 @@ impl<'a> Slots<'a> {
         }
     }
 
-    /// The number of the value that slot `i` of a dictionary-encoded column refers to, in the
+    /// The index in slot `i` of a dictionary-encoded column: the number of its value in the
     /// column's dictionary. None where the slot is null, or the column is not dictionary-encoded.
     #[inline(always)]
     pub fn entry(&self, i: usize) -> Option<usize>

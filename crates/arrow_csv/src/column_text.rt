@@ -3,7 +3,7 @@
 ghost use Rattle.std.specs.Prelude.{◌≡◌, ◌<◌, ◌++◌, [], IfOk, IfSome, OnOk, length};
 ghost use Rattle.arrow_array.specs.PlainValue.{value_at};
 ghost use Rattle.csv.specs.Writing.{default_writer, field_text};
-ghost use Rattle.arrow_csv.specs.Made.{AreFieldsOf, field_of};
+ghost use Rattle.arrow_csv.specs.Made.{AreFieldsOf};
 ghost use Rattle.arrow_csv.specs.Texts.{value_text};
 
 use crate::records::push_field;

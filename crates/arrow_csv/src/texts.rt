@@ -114,12 +114,11 @@ pub(crate) fn push_items(
         (values_from items.now.resolved start end)) ++ codes "]") }
 {
     out.push(b'[')?;
-    let slots = items.slots();
     for k in start..end {
         if k > start {
             out.push(b';')?;
         }
-        push_value(alloc, out, items, k, slots.slot(k))?;
+        push_value(alloc, out, items, k, items.slot(k))?;
     }
     out.push(b']')?;
     Ok(())

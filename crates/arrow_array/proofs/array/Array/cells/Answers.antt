@@ -16,19 +16,25 @@ returns-in-Bools c =
 pub returns-in-Ints : goal.returns-in-Ints
 returns-in-Ints c =
     let body = λ (r : ByteRange). ap (λ bs. bytes_of bs r) c.as_slice-body.ensures in
-    ints_held c.self.inside c.args.self.now c.in-Ints.ints c.bytes_in-in-Ints.result.now c.bytes_in-in-Ints-2.result.now c.self.view_is c.self.invariant c.in-Ints.is (c.bytes_in-in-Ints.ensures ∙ body c.in-Ints.ints.validity) (c.bytes_in-in-Ints-2.ensures ∙ body c.in-Ints.ints.values)
+    let n = c.in-Ints.ints in
+    let of = c.of.ensures in
+    ints_held c.self.inside c.args.self.now n c.of.result.width c.of.result.signed c.of.result.validity.now c.of.result.values.now c.self.view_is c.self.invariant c.in-Ints.is of.width of.signed (of.validity ∙ body n.validity) (of.values ∙ body n.values)
 
 pub returns-in-Binaries : goal.returns-in-Binaries
 returns-in-Binaries c =
     let body = λ (r : ByteRange). ap (λ bs. bytes_of bs r) c.as_slice-body.ensures in
     let s = c.in-Binaries.strings in
-    binaries_held c.self.inside c.args.self.now s c.bytes_in-in-Binaries.result.now c.bytes_in-in-Binaries-2.result.now c.bytes_in-in-Binaries-3.result.now c.self.view_is c.self.invariant c.in-Binaries.is (c.bytes_in-in-Binaries.ensures ∙ body s.validity) (c.bytes_in-in-Binaries-2.ensures ∙ body s.offsets) (c.bytes_in-in-Binaries-3.ensures ∙ body s.bytes)
+    let x = c.of-in-Binaries.result in
+    let of = c.of-in-Binaries.ensures in
+    binaries_held c.self.inside c.args.self.now s x.width x.validity.now x.offsets.now x.bytes.now c.self.view_is c.self.invariant c.in-Binaries.is of.width (of.validity ∙ body s.validity) (of.offsets ∙ body s.offsets) (of.bytes ∙ body s.bytes)
 
 pub returns-in-Texts : goal.returns-in-Texts
 returns-in-Texts c =
     let body = λ (r : ByteRange). ap (λ bs. bytes_of bs r) c.as_slice-body.ensures in
     let s = c.in-Texts.strings in
-    texts_held c.self.inside c.args.self.now s c.bytes_in-in-Texts.result.now c.bytes_in-in-Texts-2.result.now c.bytes_in-in-Texts-3.result.now c.self.view_is c.self.invariant c.in-Texts.is (c.bytes_in-in-Texts.ensures ∙ body s.validity) (c.bytes_in-in-Texts-2.ensures ∙ body s.offsets) (c.bytes_in-in-Texts-3.ensures ∙ body s.bytes)
+    let x = c.of-in-Texts.result in
+    let of = c.of-in-Texts.ensures in
+    texts_held c.self.inside c.args.self.now s x.width x.validity.now x.offsets.now x.bytes.now c.self.view_is c.self.invariant c.in-Texts.is of.width (of.validity ∙ body s.validity) (of.offsets ∙ body s.offsets) (of.bytes ∙ body s.bytes)
 
 pub returns-in-FixedBytes : goal.returns-in-FixedBytes
 returns-in-FixedBytes c =
@@ -40,5 +46,7 @@ pub returns-in-Indices : goal.returns-in-Indices
 returns-in-Indices c =
     let body = λ (r : ByteRange). ap (λ bs. bytes_of bs r) c.as_slice-body.ensures in
     let n = c.in-Indices.ints in
-    let held = indices_held c.self.inside c.args.self.now n c.in-Indices.dictionary c.bytes_in-in-Indices.result.now c.bytes_in-in-Indices-2.result.now c.self.view_is c.self.invariant c.in-Indices.is (c.bytes_in-in-Indices.ensures ∙ body n.validity) (c.bytes_in-in-Indices-2.ensures ∙ body n.values) in
-    subst (HoldIndices c.args.self.now n.width n.signed c.bytes_in-in-Indices.result.now c.bytes_in-in-Indices-2.result.now) (sym c.deref.ensures) held
+    let x = c.of-in-Indices.result in
+    let of = c.of-in-Indices.ensures in
+    let held = indices_held c.self.inside c.args.self.now n c.in-Indices.dictionary x.width x.signed x.validity.now x.values.now c.self.view_is c.self.invariant c.in-Indices.is of.width of.signed (of.validity ∙ body n.validity) (of.values ∙ body n.values) in
+    subst (HoldIndices c.args.self.now x.width x.signed x.validity.now x.values.now) (sym c.deref.ensures) held
