@@ -161,7 +161,7 @@ fn with_array<'a>(
         (field_view field.now).head.encoding)) ∷ [])) }
 {
     let Some((shared, _)) = left.types.split_first() else {
-        return None;
+        unreachable!();
     };
     let dictionary = dictionary_of(builder.alloc, field.dictionary, source.dictionaries).ok()?;
     let array = Array::from_shared_parts(
