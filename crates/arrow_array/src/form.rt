@@ -41,6 +41,7 @@ pub enum Form {
 }
 
 /// The form of the values of a type.
+#[inline(always)]
 pub fn form_of(data_type: &DataType) -> Form
     ensures same { result ≡ form_of (type_view data_type.now).tag }
     ensures below { HasFieldsOf result (type_view data_type.now).children }
@@ -67,6 +68,7 @@ pub fn form_of(data_type: &DataType) -> Form
 }
 
 // Numbers of this width with a sign.
+#[inline(always)]
 fn signed(bits: BitWidth) -> Form
     ensures { result ≡ forms.Numbers bits true }
 {
@@ -74,6 +76,7 @@ fn signed(bits: BitWidth) -> Form
 }
 
 /// The form of a node of this type and encoding: a dictionary-encoded one has that of its indices.
+#[inline(always)]
 pub fn node_form(data_type: &DataType, encoding: Option<Encoding>) -> Form
     ensures { result ≡ node_form (type_view data_type.now).tag encoding }
 {
@@ -87,6 +90,7 @@ pub fn node_form(data_type: &DataType, encoding: Option<Encoding>) -> Form
 }
 
 // How many bytes a number of this width takes.
+#[inline(always)]
 pub(crate) fn number_width(bits: BitWidth) -> usize
     ensures same { result ≡ number_width bits }
     ensures whole { IsWidth result }

@@ -25,6 +25,7 @@ use arrow_bits::{LargeOffsets, Offsets, are_at_most};
 use arrow_types::{DataType, Encoding};
 
 /// Whether there is no bitmap, or it has a bit for each of `len` slots.
+#[inline(always)]
 pub fn has_bits(len: usize, validity: &[u8]) -> bool
     ensures { IsTrue result ↔ HasBits len validity.now }
 {
@@ -32,6 +33,7 @@ pub fn has_bits(len: usize, validity: &[u8]) -> bool
 }
 
 /// Whether there is a truth value for each of `len` slots.
+#[inline(always)]
 pub fn has_bools(len: usize, validity: &[u8], values: &[u8]) -> bool
     ensures { IsTrue result ↔ HasBools len validity.now values.now }
 {
@@ -39,6 +41,7 @@ pub fn has_bools(len: usize, validity: &[u8], values: &[u8]) -> bool
 }
 
 /// Whether there are `width` bytes for each of `len` slots.
+#[inline(always)]
 pub fn has_fixed(len: usize, width: usize, validity: &[u8], values: &[u8]) -> bool
     ensures { IsTrue result ↔ HasFixed len width validity.now values.now }
 {
@@ -50,6 +53,7 @@ pub fn has_fixed(len: usize, width: usize, validity: &[u8], values: &[u8]) -> bo
 }
 
 /// Whether there is a range of the bytes, behind offsets of this width, for each of `len` slots.
+#[inline(always)]
 pub fn has_strings(
     width: OffsetWidth,
     len: usize,
@@ -64,6 +68,7 @@ pub fn has_strings(
 
 /// Whether there is a range of a child's `count` slots, behind offsets of this width, for each of
 /// `len` slots.
+#[inline(always)]
 pub fn has_lists(
     width: OffsetWidth,
     len: usize,
@@ -77,6 +82,7 @@ pub fn has_lists(
 }
 
 /// Whether there are offsets of this width of `len` ranges, which end at `top` or before.
+#[inline(always)]
 pub fn has_offsets(width: OffsetWidth, len: usize, offsets: &[u8], top: usize) -> bool
     ensures { IsTrue result ↔ HasOffsets width len top offsets.now }
 {
@@ -188,6 +194,7 @@ fn last_index(width: usize, signed: bool, count: usize) -> u64
 
 /// How many buffers a node of this type and encoding has: a dictionary-encoded one has those of its
 /// indices.
+#[inline(always)]
 pub fn buffer_count(data_type: &DataType, encoding: Option<Encoding>) -> usize
     ensures { result ≡ buffer_count (type_view data_type.now).tag encoding }
 {
@@ -201,6 +208,7 @@ pub fn buffer_count(data_type: &DataType, encoding: Option<Encoding>) -> usize
 
 /// Whether the buffers of a node of this type and encoding, and children of so many slots, hold
 /// `len` slots.
+#[inline(always)]
 pub fn is_laid(
     data_type: &DataType,
     encoding: Option<Encoding>,
@@ -260,6 +268,7 @@ fn are_longer(len: usize, counts: &[usize]) -> bool
 }
 
 // The bytes of buffer `k`.
+#[inline(always)]
 fn buffer<'a>(body: &'a [u8], buffers: &[ByteRange], k: usize) -> &'a [u8]
     requires there { k < length buffers.now }
     requires inside { AllByRecursion (IsInside body.now) buffers.now }

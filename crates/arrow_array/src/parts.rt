@@ -134,6 +134,7 @@ fn of_ranges(
 }
 
 // What every slice of bytes holds.
+#[inline(always)]
 fn hold_bytes(bytes: &[u8])
     ensures { AreBytes bytes.now }
 {
@@ -235,6 +236,7 @@ fn only(arrays: Vec<Array>) -> Array
 }
 
 // The ranges of a node of values.
+#[inline(always)]
 fn value_ranges(
     alloc: Global,
     data_type: &DataType,

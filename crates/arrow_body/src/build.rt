@@ -46,6 +46,7 @@ impl<'a> Builder<'a> {
 }
 
 // One for the fields below one, where a builder is left.
+#[inline(always)]
 pub(crate) fn builder_below<'a>(builder: &Option<Builder<'a>>, count: usize) -> Option<Builder<'a>>
     ensures { MatchOption result ⊤ (λ inner. MatchOption builder.now ⊥
         (λ b. (inner.body.now ≡ b.body.now) × (inner.arrays.items ≡ []))) }
@@ -58,6 +59,7 @@ pub(crate) fn builder_below<'a>(builder: &Option<Builder<'a>>, count: usize) -> 
 
 // The builder with the array of the field's own node, None where there is none so far or none for
 // what stands below, the node's texts or indices are not as they should be, or a growth is refused.
+#[inline(always)]
 pub(crate) fn with_node<'a>(
     builder: Option<Builder<'a>>,
     inner: Option<Builder<'a>>,
@@ -116,6 +118,7 @@ pub(crate) fn with_node<'a>(
 }
 
 // The same of a node whose texts and indices are as they should be.
+#[inline(always)]
 fn with_array<'a>(
     builder: Builder<'a>,
     inner: Builder<'a>,

@@ -10,6 +10,7 @@ use arrow_array::ByteRange;
 use arrow_types::Buffer;
 
 // Where a buffer lies, None where that is not inside the body.
+#[inline(always)]
 pub(crate) fn held(body: &[u8], buffer: Buffer) -> Option<ByteRange>
     ensures { MatchOption result (IsHeld body.now buffer → ⊥)
         (λ r. IsHeld body.now buffer × IsInside body.now r
@@ -30,6 +31,7 @@ pub(crate) fn held(body: &[u8], buffer: Buffer) -> Option<ByteRange>
 }
 
 // Where the first `own` buffers lie, at most three, None where one does not lie inside the body.
+#[inline(always)]
 pub(crate) fn own_ranges(body: &[u8], buffers: &[Buffer], own: usize) -> Option<[ByteRange; 3]>
     requires most { own ≤ 3 }
     requires there { own ≤ length buffers.now }
@@ -57,6 +59,7 @@ pub(crate) fn own_ranges(body: &[u8], buffers: &[Buffer], own: usize) -> Option<
 }
 
 // The bytes of range `k`.
+#[inline(always)]
 pub(crate) fn bytes_at<'a>(body: &'a [u8], ranges: &[ByteRange], k: usize) -> &'a [u8]
     requires there { k < length ranges.now }
     requires inside { AllByRecursion (IsInside body.now) ranges.now }

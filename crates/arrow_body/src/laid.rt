@@ -20,6 +20,7 @@ use arrow_bits::Bits;
 use arrow_types::{Field, FieldNode};
 
 // How many slots the first node has, 0 where a number stands there that is none.
+#[inline(always)]
 pub(crate) fn slots(nodes: &[FieldNode]) -> usize
     ensures { result ≡ slots_at nodes.now }
 {
@@ -30,6 +31,7 @@ pub(crate) fn slots(nodes: &[FieldNode]) -> usize
 }
 
 // Whether the number of nulls is that of the bitmap, or is not told.
+#[inline(always)]
 fn is_count(node: FieldNode, len: usize, validity: &[u8]) -> bool
     requires slots { len ≡ count_of node.length }
     requires bits { HasBits len validity.now }
@@ -49,6 +51,7 @@ fn is_count(node: FieldNode, len: usize, validity: &[u8]) -> bool
 
 // Whether the buffers, and the nodes below, of which the shortest has `least` slots, hold `len`
 // slots of the field.
+#[inline(always)]
 pub(crate) fn are_buffers_laid(
     field: &Field,
     form: Form,
@@ -96,6 +99,7 @@ pub(crate) fn are_buffers_laid(
 
 // Whether the number of nulls of a node of the form is that of its bitmap; of one without buffers
 // any number is taken.
+#[inline(always)]
 pub(crate) fn is_counted(
     form: Form,
     node: FieldNode,

@@ -37,6 +37,7 @@ pub(crate) struct Seen {
 
 impl Seen {
     // What was seen of both.
+    #[inline(always)]
     fn and(self, other: Seen) -> Seen
         ensures texts { IsTrue result.texts ↔ IsTrue self.texts × IsTrue other.texts }
         ensures indices { IsTrue result.indices ↔ IsTrue self.indices × IsTrue other.indices }
@@ -77,6 +78,7 @@ pub(crate) struct Node {
 
 // Where the field's own node and buffers lie, None where they do not lie in the body as its type
 // asks for; of the fields below it the shortest has `least` slots.
+#[inline(always)]
 fn laid(
     field: &Field,
     form: Form,
@@ -126,6 +128,7 @@ fn laid(
 }
 
 // Whether the valid slots of the field's own node, if it is one of texts, are UTF-8.
+#[inline(always)]
 fn has_texts(
     field: &Field,
     form: Form,
@@ -158,6 +161,7 @@ fn has_texts(
 }
 
 // Whether the valid slots of the field's own node, if it is dictionary-encoded, have their values.
+#[inline(always)]
 fn has_values(
     field: &Field,
     left: Left<'_>,
@@ -184,6 +188,7 @@ fn has_values(
 
 // A look at the field's own node: None where it does not lie in the body as its type asks for; of
 // the fields below it the shortest has `least` slots.
+#[inline(always)]
 fn look_at(
     field: &Field,
     own: usize,

@@ -17,6 +17,7 @@ pub(crate) struct Left<'a> {
 }
 
 // The fields whose nodes and buffers follow those of the field.
+#[inline(always)]
 pub(crate) fn below(field: &Field) -> &[Field]
     ensures { fields_view result.now
         ≡ below (field_view field.now).head.encoding (field_view field.now).children }
@@ -29,6 +30,7 @@ pub(crate) fn below(field: &Field) -> &[Field]
 }
 
 // How many buffers the field has of its own.
+#[inline(always)]
 pub(crate) fn own_buffers(field: &Field) -> usize
     ensures { result ≡ own_buffers (field_view field.now).head }
 {
@@ -36,6 +38,7 @@ pub(crate) fn own_buffers(field: &Field) -> usize
 }
 
 // What is left after a node with so many buffers of its own.
+#[inline(always)]
 pub(crate) fn inside<'a>(own: usize, left: Left<'a>) -> Left<'a>
     requires node { 1 ≤ length left.nodes.now }
     requires own { own ≤ length left.buffers.now }
@@ -51,6 +54,7 @@ pub(crate) fn inside<'a>(own: usize, left: Left<'a>) -> Left<'a>
 }
 
 // The types behind the first.
+#[inline(always)]
 fn without_first(types: &[SharedType]) -> &[SharedType]
     ensures { result.now ≡ drop 1 types.now }
 {

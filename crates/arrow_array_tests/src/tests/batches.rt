@@ -78,6 +78,16 @@ fn a_batch_without_columns_has_rows(rt: HostRuntime) {
     assert!(rt; batch.columns().is_empty());
 }
 
+#[test]
+fn a_batch_of_columns_that_are_known_to_fit(rt: HostRuntime) {
+    let none = Schema::new(rt.alloc(), Vec::new(rt.alloc())).expect(&rt, "no fields");
+    let schema = Rc::new(rt.alloc(), none).expect(&rt, "memory");
+    let batch = Batch::new_unchecked(schema, Vec::new(rt.alloc()), 3);
+    assert_eq!(rt; batch.rows(), 3);
+    assert!(rt; batch.columns().is_empty());
+    assert!(rt; batch.schema().fields().is_empty());
+}
+
 // The type of the schema's one column, whether it is dictionary-encoded, the slots of each column
 // of numbers that is given, the rows that are asked for, and the fault.
 static FAULTS: [(Form, bool, &[usize], usize, Option<BatchFault>); 6] = [

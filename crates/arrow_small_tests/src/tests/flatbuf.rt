@@ -334,6 +334,11 @@ fn assert_pairs(rt: &impl Abort, table: &Table, field: u16, pairs: &[(u64, u64)]
             *second,
             "field {field}, {index}"
         );
+        assert_eq!(rt;
+            structs.pair(index),
+            (*first, *second),
+            "field {field}, {index}"
+        );
     }
 }
 
