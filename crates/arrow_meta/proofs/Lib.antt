@@ -15,3 +15,4 @@ pub mod Shallow
 pub mod Least
 pub mod OneAnswer
 pub mod Decoding
+pub mod Straight

@@ -16,3 +16,4 @@ pub mod Means
 pub mod Sharing
 pub mod Builds
 pub mod Judges
+pub mod Straight

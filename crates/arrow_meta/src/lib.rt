@@ -9,7 +9,9 @@
 //! - [`judge`] answers the [`Message`] that the tree means, or the [`MetaFault`] with the least
 //!   number of those that hold.
 //!
-//! [`decode`] is one after the other. Each answer is pinned in both directions: a fault comes
+//! [`decode`] is one after the other, but for batches in which nothing is amiss, which nearly all
+//! messages of a stream are: these it makes straight from their tables, and no tree of them. Each
+//! answer is pinned in both directions: a fault comes
 //! exactly where its condition holds and no condition of a lower number does, and a message exactly
 //! where none holds. Of a tree `Memory`, a refused growth, is answered only where no fault holds:
 //! every fault is told before the memory of a message is taken, and where a growth is refused to the
@@ -25,6 +27,7 @@
 //! | the conditions of faults | `specs/Conditions.antt`; `specs/Faults.antt`: `fault_of` |
 //! | what fields say of their dictionaries | `specs/Sharing.antt`: `type_of`, `encoded_view` |
 //! | the message that a tree means | `specs/SchemaMeaning.antt`, `specs/Means.antt`: `Means` |
+//! | what the tables of a batch say | `specs/Straight.antt`: `HasNumber`, `HasPairs`, `IsHeader` |
 //! | what is answered | `specs/Judges.antt`: `Judges`, `Decodes` |
 //!
 //! However offsets share tables and texts, the work is bounded: each visit of a Field table is
@@ -33,6 +36,7 @@
 //! elements of a vector is made as they are read, after all were found to lie inside.
 #![tactic(auto)]
 
+mod batches;
 mod build;
 mod codes;
 mod conditions;

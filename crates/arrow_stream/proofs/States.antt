@@ -3,12 +3,9 @@ use Rattle.std.proofs.Common.{◌≡◌, ℕ, ◌+◌, ℤ, Bool, true, false, c
 use Rattle.std.specs.Prelude.{◌&&◌, not, nat_lt}
 use Rattle.std.specs.List.{AllByRecursion}
 use Rattle.std.proofs.lemmas.Bool.{ltb-false}
-use Rattle.arrow_types.specs.Field.{Fields, Head, none, more, fields_of, width, TypeShape}
+use Rattle.arrow_types.specs.Field.{Fields, Head, none, more, fields_of, TypeShape}
 use Rattle.arrow_types.specs.Schema.{dictionary_fields, has_encoding}
-use Rattle.arrow_array.specs.Batch.{HaveRows, Judges, Table}
-use Rattle.arrow_array.specs.declared.batch.BatchFault.{BatchFault}
-use Rattle.arrow_array.specs.declared.batch.BatchFault.TheVariants.{ColumnCount, ColumnType, ColumnLength, IndexRange}
-use Rattle.arrow_array.specs.declared.batch.BatchFault.TheVariants as batches
+use Rattle.arrow_array.specs.Batch.{HaveRows, Table}
 use Rattle.arrow_array.specs.Column.{AreOf, Column, ValueList, counts_of}
 use Rattle.arrow_array.specs.Listed.{listed}
 use Rattle.arrow_body.specs.Held.{count_of}
@@ -43,24 +40,9 @@ have_rows : (n : ℕ) (cs : List Column) → AllByRecursion (λ (k : ℕ). k ≡
 have_rows n [] h = tt
 have_rows n (c ∷ cs) h = (h.0, have_rows n cs h.1)
 
-typed_width : (f : Fields) (cs : List Column) → AreOf f cs → length cs ≡ width f
-typed_width none [] a = refl
-typed_width none (c ∷ cs) a = absurd a
-typed_width (more h c rest) [] a = absurd a
-typed_width (more h c rest) (x ∷ xs) a = omega (arith, typed_width rest xs a.2)
-
--- columns of the fields, with these rows, are a batch
-no_fault : (fault : BatchFault) (f : Fields) (cs : List Column) (n : ℕ) → AreOf f cs → HaveRows n cs → Judges (Err fault) f cs n → ⊥
-no_fault ColumnCount f cs n typed long j = j (typed_width f cs typed)
-no_fault ColumnType f cs n typed long j = j.1 typed
-no_fault ColumnLength f cs n typed long j = j.1 long
-no_fault IndexRange f cs n typed long j = j
-no_fault batches.Memory f cs n typed long j = j
-
--- so are those that a body holds
-pub held_fits : {body : List ℕ} {ds : List (ℤ × ValueList)} {f : Fields} {w : PlainBatch} {cs : List Column} (fault : BatchFault) → Holds body ds f w (Ok cs) →
-    Judges (Err fault) f cs (count_of w.length) → ⊥
-held_fits {f = f} {w = w} {cs = cs} fault h = no_fault fault f cs (count_of w.length) (held_typed h) (have_rows (count_of w.length) cs (held_long h))
+-- the columns that a body holds are those of a batch
+pub held_fits : {body : List ℕ} {ds : List (ℤ × ValueList)} {f : Fields} {w : PlainBatch} {cs : List Column} → Holds body ds f w (Ok cs) → AreOf f cs × HaveRows (count_of w.length) cs
+held_fits {w = w} {cs = cs} h = (held_typed h, have_rows (count_of w.length) cs (held_long h))
 
 -- WHAT STANDS AGAINST A DICTIONARY BATCH
 

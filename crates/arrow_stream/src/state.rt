@@ -117,10 +117,7 @@ impl State {
         let Ok(schema) = schema.clone() else {
             return Err(Stop::Memory);
         };
-        match Batch::new(schema, arrays, row_count(outline)) {
-            Ok(batch) => Ok(batch),
-            Err(_) => unreachable!(),
-        }
+        Ok(Batch::new_unchecked(schema, arrays, row_count(outline)))
     }
 
     /// The values of a dictionary batch with this body.

@@ -1,7 +1,8 @@
-use Rattle.std.proofs.Common.{◌≡◌, sym, ap, ◌∙◌, subst, Ok, Err}
+use Rattle.std.proofs.Common.{◌≡◌, sym, ap, ◌∙◌, subst, Ok}
 use Rattle.arrow_types.specs.Schema.{IsSchema}
 use Rattle.arrow_types.specs.View.{fields_view}
-use Rattle.arrow_array.specs.Batch.{Judges}
+use Rattle.arrow_array.specs.Batch.{HaveRows}
+use Rattle.arrow_array.specs.Column.{AreOf}
 use Rattle.arrow_body.specs.Sound.{AreFit}
 use Rattle.arrow_meta.specs.Means.{batch_view}
 use Rattle.arrow_stream.specs.Batch.{Holds}
@@ -41,10 +42,10 @@ returns c =
     let held = c.shared-schema.ensures.same ∙ sym (ap fields_in c.in-Some.is) in
     let same : fields_view c.fields.result.now ≡ fields_in s.schema = c.fields.ensures.same ∙ c.deref.ensures ∙ held in
     record {
-      gives = batch_read s outline body cs c.in-Ok-new.batch
+      gives = batch_read s outline body cs c.new_unchecked.result
           (subst (λ x. Holds body x (fields_in s.schema) outline (Ok cs)) c.entries-dictionaries.ensures.all
           (subst (λ x. Holds body c.entries-dictionaries.result.now x outline (Ok cs)) same c.in-Ok.ensures.held))
-          (c.in-Ok-new.ensures.2
+          (c.new_unchecked.ensures
           ∙ ap (λ x. record { schema = x; columns = cs; rows = c.row_count.result }) (c.in-Ok-clone.ensures.cases ∙ held)
           ∙ ap (λ n. record { schema = fields_in s.schema; columns = cs; rows = n }) c.row_count.ensures.count);
     }
@@ -62,8 +63,8 @@ returns-in_default-clone c =
     (subst (λ x. Holds body c.entries-dictionaries.result.now x outline (Ok cs)) same c.in-Ok.ensures.held) in
     record { gives = batch_applicable s outline body cs holds }
 
-pub unreachable-requires-in-Err-new : goal.unreachable-requires-in-Err-new
-unreachable-requires-in-Err-new c =
+pub new_unchecked-requires : goal.new_unchecked-requires
+new_unchecked-requires c =
     let s = plain c.args.self.now in
     let outline = batch_view c.args.outline.now in
     let body = c.args.body.now in
@@ -73,7 +74,5 @@ unreachable-requires-in-Err-new c =
     let holds : Holds body s.dictionaries (fields_in s.schema) outline (Ok cs) =
     subst (λ x. Holds body x (fields_in s.schema) outline (Ok cs)) c.entries-dictionaries.ensures.all
     (subst (λ x. Holds body c.entries-dictionaries.result.now x outline (Ok cs)) same c.in-Ok.ensures.held) in
-    let schema = c.in-Ok-clone.ensures.cases ∙ held in
-    held_fits c.in-Err-new.field-0 holds
-    (subst (λ n. Judges (Err c.in-Err-new.field-0) (fields_in s.schema) cs n) c.row_count.ensures.count
-    (subst (λ x. Judges (Err c.in-Err-new.field-0) x cs c.row_count.result) schema c.in-Err-new.ensures))
+    let fits = held_fits holds in
+    record { typed = subst (λ f. AreOf f cs) (sym (c.in-Ok-clone.ensures.cases ∙ held)) fits.0; long = subst (λ n. HaveRows n cs) (sym c.row_count.ensures.count) fits.1 }
