@@ -14,10 +14,10 @@
 //!
 //! Each answer is pinned in both directions: a fault comes exactly where its condition holds and no
 //! condition of a lower number does, and a message exactly where none holds. Of a tree `Memory`, a
-//! refused growth, is answered only where no fault holds: every fault is told before the memory of a
-//! message is taken, and where a growth is refused to the test of shared dictionary ids, that goes
-//! on without memory. Of bytes it says only that reading them asks for memory, since their tree is
-//! kept in memory.
+//! refused growth, is answered only where no fault holds: every fault is told before the memory of
+//! a message is taken, and where a growth is refused to the test of shared dictionary ids, that
+//! goes on without memory. Of bytes it says only that reading them asks for memory, since their
+//! tree is kept in memory.
 //!
 //! | Notion | Definition |
 //! |---|---|
