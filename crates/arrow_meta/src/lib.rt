@@ -34,7 +34,7 @@
 //! However offsets share tables and texts, the work is bounded: each visit of a Field table is
 //! counted in one function before the table is opened, and the bytes of each name or zone in one
 //! before they are copied. Recursion goes no deeper than the levels of fields, and room for the
-//! elements of a vector is made as they are read, after all were found to lie inside.
+//! elements of a vector is made only after all of them were found to lie inside.
 #![tactic(auto)]
 
 mod batches;
