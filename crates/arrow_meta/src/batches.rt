@@ -3,9 +3,7 @@
 //! Of the messages of a stream nearly all are batches in which nothing is amiss. These are made
 //! without a tree; whatever else there is, a schema or a fault or a refused growth, is told by the
 //! tree.
-ghost use Rattle.std.specs.Prelude.{◌≡◌, ◌≤◌, ℕ, List, IfOk, IfSome, None, Some, map};
-ghost use Rattle.std.specs.Int.{cast_signed, w64};
-ghost use Rattle.arrow_flatbuf.specs.Table.{field_place};
+ghost use Rattle.std.specs.Prelude.{◌≡◌, ◌≤◌, ℕ, List, IfOk, IfSome, Some, map};
 ghost use Rattle.arrow_meta.specs.Codes.{header_kind};
 ghost use Rattle.arrow_meta.specs.Judges.{MetadataMeans};
 ghost use Rattle.arrow_meta.specs.Lies.{pairs_from};
