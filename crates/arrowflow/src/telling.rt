@@ -8,7 +8,7 @@ ghost use Rattle.arrowflow.specs.Reports.{EndTold, IsAdded, Sends, SendsSome, Te
 ghost use Rattle.arrow_stream.specs.Tables.{table_in};
 ghost use Rattle.arrowflow.specs.Shown.{text_in};
 
-use crate::lines::{end_line, message_line};
+use crate::lines::{end_line, push_line};
 use crate::report::Report;
 use crate::sending::{send_rows, send_text};
 use crate::tool_fault::ToolFault;
@@ -17,8 +17,8 @@ use arrow_sink::Sink;
 use arrow_stream::{Item, StreamReader};
 use std::alloc::Global;
 
-/// How far a stream is told: how many of its batches came, and the room in which the texts of their
-/// rows are made, one after another.
+/// How far a stream is told: how many of its batches came, and the room in which the lines of its
+/// messages, or the texts of their rows, are made, one after another.
 #[derive(Drop)]
 pub(crate) struct Teller {
     alloc: Global,
@@ -98,16 +98,16 @@ fn tell_item<S: Sink>(
         teller.number = next;
     }
     match report {
-        Report::Messages => tell_message(teller.alloc, reader, place, before, item, output),
+        Report::Messages => tell_message(reader, place, &mut teller.text, before, item, output),
         Report::Rows => tell_rows(teller.alloc, reader, &mut teller.text, before, item, output),
     }
 }
 
-/// Sends the line of a message.
+/// Sends the line of a message, which is made in the room of a text.
 fn tell_message<S: Sink>(
-    alloc: Global,
     reader: &StreamReader,
     place: u64,
+    text: &mut Vec<u8>,
     number: u64,
     item: &Item,
     output: &mut S,
@@ -117,8 +117,9 @@ fn tell_message<S: Sink>(
         (S.contents output.old) (S.failed output.old) result (S.contents output.new)
         (S.failed output.new) }
 {
-    match message_line(alloc, reader, place, number, item) {
-        Ok(line) => send_text(output, line.as_bytes()),
+    text.clear();
+    match push_line(text, reader, place, number, item) {
+        Ok(()) => send_text(output, text),
         Err(_) => Err(ToolFault::Memory),
     }
 }
@@ -166,7 +167,7 @@ pub(crate) fn tell_end<S: Sink>(
     }
     match report {
         Report::Messages => match end_line(teller.alloc, reader.place()) {
-            Ok(line) => send_text(output, line.as_bytes()),
+            Ok(line) => send_text(output, &line),
             Err(_) => Err(ToolFault::Memory),
         },
         Report::Rows => Ok(()),
