@@ -114,21 +114,11 @@ pub(crate) fn push_items(
         (values_from items.now.resolved start end)) ++ codes "]") }
 {
     out.push(b'[')?;
-    // The form of the items is looked at once, where there are some.
-    let slots = if end - start > 1 {
-        Some(items.slots())
-    } else {
-        None
-    };
     for k in start..end {
         if k > start {
             out.push(b';')?;
         }
-        let value = match &slots {
-            Some(slots) => slots.slot(k),
-            None => items.slot(k),
-        };
-        push_value(alloc, out, items, k, value)?;
+        push_value(alloc, out, items, k, items.slot(k))?;
     }
     out.push(b']')?;
     Ok(())
