@@ -1,0 +1,157 @@
+"""The crates of this repository, for the scripts that check and measure them: which there are, what they use and read, a
+copy of them with one program more, and what earlier runs on this machine saw of the same files."""
+import hashlib
+import json
+import os
+import re
+import shutil
+import subprocess
+
+TOP = os.path.dirname(os.path.dirname(os.path.abspath(__file__)))
+KIT = os.path.dirname(subprocess.run(["rt", "doc"], capture_output=True, text=True, check=True).stdout.strip())
+PARTS = ("src", "specs", "proofs")
+
+
+# ---- which crates there are
+
+
+def listed(top=TOP):
+    """The crates, each with what it uses."""
+    found = {}
+    with open(f"{top}/crates.txt", encoding="utf-8") as it:
+        for line in it:
+            name, colon, uses = line.partition("#")[0].partition(":")
+            if colon:
+                found[name.split()[0]] = uses.split()
+    return found
+
+
+def below(name, crates):
+    """The crates of the repository below this one, each after those that it uses."""
+    found = []
+    for it in crates[name]:
+        if it in crates:
+            found += [x for x in [*below(it, crates), it] if x not in found]
+    return found
+
+
+def sources(name):
+    """The files of a crate that a proof reads."""
+    for part in PARTS:
+        for at, folders, files in os.walk(f"{TOP}/crates/{name}/{part}"):
+            folders.sort()
+            yield from (f"{at}/{it}" for it in sorted(files))
+
+
+def source(name, path):
+    with open(f"{TOP}/crates/{name}/{path}", encoding="utf-8") as it:
+        return it.read()
+
+
+# ---- a copy of them
+
+
+def laid(room, names=None, parts=PARTS):
+    """Lays the crates of these names, or all, into a folder, each with these parts, and what the top has of them."""
+    crates = listed()
+    names = [*crates] if names is None else names
+    for name in names:
+        for part in parts:
+            if os.path.isdir(f"{TOP}/crates/{name}/{part}"):
+                shutil.copytree(f"{TOP}/crates/{name}/{part}", f"{room}/crates/{name}/{part}", copy_function=shutil.copy2)
+    with open(f"{room}/crates.txt", "w", encoding="utf-8") as it:
+        it.write("".join(f"{name}: {' '.join(crates[name])}\n" for name in names))
+    shutil.copy(f"{TOP}/HANDLES", f"{room}/HANDLES")
+
+
+def laid_with(room, name, folder):
+    """Lays into the room the crates that a program stands on, and the program under this name; returns the program's folder.
+    The program's folder has main.rt.txt, whose name ends so because the gate takes no source file of no crate, and uses."""
+    crates = listed()
+    with open(f"{folder}/uses", encoding="utf-8") as it:
+        crates[name] = it.read().split()
+    laid(room, below(name, crates))
+    os.makedirs(f"{room}/crates/{name}/src")
+    shutil.copy(f"{folder}/main.rt.txt", f"{room}/crates/{name}/src/main.rt")
+    with open(f"{room}/crates.txt", "a", encoding="utf-8") as it:
+        it.write(f"{name}: {' '.join(crates[name])}\n")
+    return f"{room}/crates/{name}"
+
+
+# ---- what earlier runs saw
+
+
+def sum_of(*files, words=()):
+    """A sum of these words and of these files, each with its place below the top."""
+    made = hashlib.sha256(repr(words).encode())
+    for file in files:
+        with open(file, "rb") as it:
+            made.update(repr((os.path.relpath(file, TOP), it.read())).encode())
+    return made.hexdigest()
+
+
+def kit_sum():
+    """What names the kit, and the size and time of what a check runs."""
+    told = []
+    for file in ("KIT-ID", "WHAT"):
+        with open(f"{KIT}/{file}", encoding="utf-8") as it:
+            told.append(it.read())
+    for folder in ("bin", "logic_built", "c"):
+        for it in sorted(os.scandir(f"{KIT}/{folder}"), key=lambda it: it.name):
+            told.append((it.name, it.stat().st_size, it.stat().st_mtime_ns))
+    return hashlib.sha256(repr(told).encode()).hexdigest()
+
+
+def crate_sum(name, crates=None):
+    """A sum of all that a check of a crate reads: its files, those of the crates below it, what each uses, and the kit."""
+    crates = crates or listed()
+    its = [*below(name, crates), name]
+    files = [file for it in its for file in sources(it)]
+    return sum_of(*files, words=(kit_sum(), [(it, crates[it]) for it in its]))
+
+
+class Kept:
+    """What runs on this machine saw, one line of text for each thing under the sum of all that it hangs on. It lies beside
+    what `rt ci` keeps, or in the folder that KEPT names, never in the repository. Each line is written as soon as it is
+    known, so a run that is cut off loses none. With `anew` nothing is read."""
+
+    def __init__(self, what, anew=False):
+        place = os.environ.get("KEPT") or f"{os.path.dirname(KIT)}/rattle-kept"
+        self.anew, self.folder = anew, f"{place}/atticoregano-{what}"
+        try:
+            os.makedirs(self.folder, mode=0o700, exist_ok=True)
+        except OSError:
+            self.folder = None
+
+    def get(self, key):
+        """What was seen, or None."""
+        if self.anew or not self.folder or not re.fullmatch(r"[0-9a-f]{64}", key):
+            return None
+        try:
+            with open(f"{self.folder}/{key}", encoding="utf-8") as it:
+                found = json.load(it)
+            os.utime(f"{self.folder}/{key}")
+            return found["seen"] if found["key"] == key else None
+        except (OSError, ValueError, KeyError, TypeError):
+            return None
+
+    def put(self, key, seen):
+        """Keeps what was seen; where there is no room for it, the next run sees it again."""
+        if not self.folder:
+            return
+        new = f"{self.folder}/new-{os.getpid()}-{key}"
+        try:
+            with open(new, "w", encoding="utf-8") as it:
+                json.dump({"key": key, "seen": seen}, it)
+            os.replace(new, f"{self.folder}/{key}")
+        except OSError:
+            pass
+
+    def forget_old(self, days=30):
+        """Lets go what no run has asked for in so many days."""
+        import time
+        if not self.folder:
+            return
+        for it in os.scandir(self.folder):
+            if time.time() - it.stat().st_mtime > days * 86400:
+                os.remove(it.path)
