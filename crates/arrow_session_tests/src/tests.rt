@@ -16,10 +16,3 @@ mod session;
 mod stream;
 mod telling;
 mod writers;
-
-use arrow_writer::laws;
-
-#[test]
-fn the_law_can_be_called() {
-    laws::delivered_whole();
-}

@@ -19,13 +19,3 @@ mod sizes;
 mod telling;
 mod updates;
 mod values;
-
-use arrow_stream::laws;
-
-#[test]
-fn the_laws_can_be_called() {
-    laws::one_front();
-    laws::front_grows();
-    laws::same_standing();
-    laws::less_waits();
-}

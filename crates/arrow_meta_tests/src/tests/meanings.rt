@@ -1,8 +1,8 @@
 // What metadata mean: version, length of the body, and header.
 
-use super::reading::{Edits, body_len_in, edited, means, push_message};
+use super::reading::{Edits, edited, means, push_message};
 use crate::vectors::{FOUR_FIELDS, LETTERS, ONE_BATCH, ONE_FIELD, SHARED_ID};
-use arrow_meta::{MetaFault, decode, judge, laws, tree};
+use arrow_meta::{judge, tree};
 use arrow_types::Limits;
 
 // The schema of one field with bytes changed, by its type.
@@ -205,28 +205,4 @@ fn a_tree_is_judged(rt: HostRuntime) {
     push_message(&rt, &mut text, &message);
     let want = "4 24 batch 3 rows, nodes 3/1, buffers 0+1 8+12";
     assert_eq!(rt; text.as_str(), want);
-}
-
-// Metadata with the lengths of their bodies.
-static BODIES: [(&[u8], u64); 3] = [(FOUR_FIELDS, 0), (LETTERS, 24), (ONE_BATCH, 24)];
-
-// With one growth refused, whichever it is, the fault is Memory, and the same call succeeds after
-// it.
-#[test]
-fn a_refused_growth_is_memory_alone(rt: HostRuntime) {
-    for &(bytes, body_len) in &BODIES {
-        match decode(rt.alloc(), bytes, &Limits::standard()) {
-            Ok(message) => assert_eq!(rt; message.body_len, body_len),
-            Err(fault) => {
-                assert_eq!(rt; fault, MetaFault::Memory);
-                assert_eq!(rt; body_len_in(rt.alloc(), bytes), Some(body_len));
-            }
-        }
-    }
-}
-
-#[test]
-fn the_laws_can_be_called() {
-    laws::one_meaning();
-    laws::one_answer();
 }

@@ -29,14 +29,6 @@ fn fault_in(alloc: Global, bytes: &[u8], limits: &Limits) -> Option<MetaFault> {
     }
 }
 
-// How many bytes of body follow the metadata.
-pub(super) fn body_len_in(alloc: Global, bytes: &[u8]) -> Option<u64> {
-    match decode(alloc, bytes, &Limits::standard()) {
-        Ok(message) => Some(message.body_len),
-        Err(_) => None,
-    }
-}
-
 // That bytes are refused so, or read where no fault is given.
 pub(super) fn is_refused(
     rt: &impl Abort,

@@ -2,7 +2,7 @@
 
 use super::again::decoded;
 use crate::vectors::{ABC, EVERY_TYPE, FOUR_FIELDS, NO_COLUMNS, ONE_BATCH, ONE_FIELD};
-use arrow_frame_write::{laws, put_end_marker, put_frame};
+use arrow_frame_write::{put_end_marker, put_frame};
 use arrow_meta_write::encoded_size;
 use std::alloc::Global;
 
@@ -71,5 +71,4 @@ fn the_end_marker_stands_behind_what_there_was(rt: HostRuntime) {
         bytes.as_slice(),
         [1, 255, 255, 255, 255, 0, 0, 0, 0].as_slice()
     );
-    laws::sizes_of_batches();
 }

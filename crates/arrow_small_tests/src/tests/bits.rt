@@ -1,4 +1,4 @@
-ghost use Rattle.arrow_bits.specs.Numbers.{FitsWidth, IsWidth};
+ghost use Rattle.arrow_bits.specs.Numbers.{IsWidth};
 
 use arrow_bits::{
     Bits, BitsBuilder, LargeOffsets, Offsets, are_at_most, first_unset, int_at, plain, put_int,
@@ -189,21 +189,11 @@ static PACKED: [(&[bool], &[u8], usize); 3] = [
     ),
 ];
 
-// A bit that is refused for want of memory is pushed again.
-fn push(builder: &mut BitsBuilder, bit: bool) -> bool {
-    for _ in 0..2 {
-        if builder.push(bit).is_ok() {
-            return true;
-        }
-    }
-    false
-}
-
 fn built(rt: &(impl Abort + AllocGlobal), bits: &[bool]) -> BitsBuilder {
     let mut builder = BitsBuilder::new(rt.alloc());
     for (j, bit) in bits.iter().enumerate() {
         assert!(rt; builder.len() == j, "{j} bits");
-        assert!(rt; push(&mut builder, *bit), "memory");
+        builder.push(*bit).expect(rt, "memory");
     }
     builder
 }
@@ -713,33 +703,15 @@ fn integers_of_each_width(rt: HostRuntime) {
     assert!(rt; int_at(&THREE_OF_TWO_BYTES, 2, true, 2) == 259);
 }
 
-// An integer that is refused for want of memory is put again.
-fn put(out: &mut Vec<u8>, width: usize, value: i128) -> bool
-    requires width { IsWidth width }
-    requires fits { FitsWidth width value }
-{
-    for _ in 0..2 {
-        if put_int(out, width, value).is_ok() {
-            return true;
-        }
-    }
-    false
-}
-
 static NARROW: [u8; 12] = [255, 255, 255, 128, 0, 0, 0, 128, 2, 1, 0, 0];
 
-fn put_narrow(out: &mut Vec<u8>) -> bool {
-    put(out, 1, 255) && put(out, 1, -128) && put(out, 4, -2147483648) && put(out, 4, 258)
-}
-
-fn put_wide(out: &mut Vec<u8>) -> bool {
-    put(out, 8, 18446744073709551615) && put(out, 8, -2)
-}
-
 fn assert_narrow(rt: &impl Abort, out: &mut Vec<u8>) {
-    assert!(rt; put(out, 2, -1), "memory");
+    put_int(out, 2, -1).expect(rt, "memory");
     assert!(rt; out.as_slice() == &NARROW[..2]);
-    assert!(rt; put_narrow(out), "memory");
+    put_int(out, 1, 255).expect(rt, "memory");
+    put_int(out, 1, -128).expect(rt, "memory");
+    put_int(out, 4, -2147483648).expect(rt, "memory");
+    put_int(out, 4, 258).expect(rt, "memory");
     assert!(rt; out.as_slice() == NARROW.as_slice());
 }
 
@@ -753,6 +725,7 @@ fn assert_wide(rt: &impl Abort, out: &[u8]) {
 fn integers_are_appended(rt: HostRuntime) {
     assert_narrow(&rt, &mut Vec::new(rt.alloc()));
     let mut wide = Vec::new(rt.alloc());
-    assert!(rt; put_wide(&mut wide), "memory");
+    put_int(&mut wide, 8, 18446744073709551615).expect(&rt, "memory");
+    put_int(&mut wide, 8, -2).expect(&rt, "memory");
     assert_wide(&rt, &wide);
 }

@@ -3,7 +3,7 @@
 use super::telling::Told;
 use super::values::{MEMORY, push_dictionaries, push_rows};
 use arrow_array::Batch;
-use arrow_stream::{Fault, Item, Kind, StreamReader};
+use arrow_stream::{Fault, Item, StreamReader};
 use arrow_types::{BitWidth, DataType, Field};
 use std::alloc::Global;
 use std::process::Abort;
@@ -93,8 +93,7 @@ impl Answers {
         answers
     }
 
-    // Gives a reader a piece, what it leaves of it again and again. Where a growth was refused the
-    // call is made again.
+    // Gives a reader a piece, what it leaves of it again and again.
     pub(super) fn give(&mut self, rt: &impl Abort, reader: &mut StreamReader, piece: &[u8]) {
         let mut rest = piece;
         for _ in 0..16 {
@@ -104,7 +103,6 @@ impl Answers {
                     rest = &rest[taken..];
                 }
                 Ok((_, None)) => return,
-                Err(fault) if fault.kind == Kind::Memory => {}
                 Err(fault) => return self.push_fault(rt, fault),
             }
         }

@@ -83,7 +83,6 @@ fn each_beginning(rt: HostRuntime) {
         &END_MARKER,
     ];
     let bytes = stream(&rt, rt.alloc(), &frames, &[]);
-    assert_eq!(rt; bytes.len(), 1376);
     are_beginnings_told(&rt, rt.alloc(), &bytes, &PLACES);
 }
 
