@@ -118,6 +118,11 @@ def frame(code, header, body=b"", align=8):
     return b"\xff\xff\xff\xff" + struct.pack("<i", len(words)) + words + body
 
 
+def metadata_in(words):
+    """The metadata of a frame."""
+    return words[8:8 + int.from_bytes(words[4:8], "little")]
+
+
 # Types: the code of the union Type and the type's table.
 NULL, BINARY, UTF8, BOOL, LIST, STRUCT = [(code, table()) for code in (1, 4, 5, 6, 12, 13)]
 LARGE_BINARY, LARGE_UTF8, LARGE_LIST = [(code, table()) for code in (19, 20, 21)]

@@ -28,6 +28,14 @@ def letters(words, delta=False, align=8):
     return dictionary_batch(0, strings(words), delta, align=align)
 
 
+def four_fields():
+    """A column by a dictionary, a list, a struct, and a timestamp in a zone."""
+    return schema(field("k", UTF8, encoding=dictionary(0)),
+                  field("l", LIST, [field("item", INT32)], nullable=False),
+                  field("s", STRUCT, [field("m", integer(8, False), nullable=False)]),
+                  field("t", timestamp(2, "UTC")))
+
+
 def growing_dictionary(align=8):
     """Three batches; the dictionary has three values, then five by a delta, and is then replaced by four others."""
     return [letters_schema(align), letters("abc", align=align), batch(numbers([0, 1, 2]), align=align),
