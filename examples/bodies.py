@@ -48,9 +48,9 @@ def large_strings(values):
                          [frames.validity(values), large_offsets(values), b"".join(value or b"" for value in values)])
 
 
-def fixed(values):
+def fixed(values, width):
     return frames.Column([frames.node(values)],
-                         [frames.validity(values), b"".join(value or bytes(3) for value in values)])
+                         [frames.validity(values), b"".join(value or bytes(width) for value in values)])
 
 
 def bytes_of_number(values):
@@ -61,8 +61,8 @@ def items(slot):
     return [[], [-128, 127], [None], [slot, 1, 2]][slot % 4]
 
 
-def large_lists(values):
-    child = bytes_of_number([item for value in values for item in value or ()])
+def large_lists(values, of):
+    child = of([item for value in values for item in value or ()])
     return frames.Column([frames.node(values)] + child.nodes,
                          [frames.validity(values), large_offsets(values)] + child.buffers)
 
@@ -91,9 +91,9 @@ KINDS = [
     *2 * [integers(64, True)],      # timestamps, and lengths of time
     *2 * [(string, frames.strings)],
     *2 * [(string, large_strings)],
-    (lambda slot: bytes([slot, 255, 0]), fixed),
+    (lambda slot: bytes([slot, 255, 0]), lambda values: fixed(values, 3)),
     (items, lambda values: frames.lists(values, bytes_of_number)),
-    (items, large_lists),
+    (items, lambda values: large_lists(values, bytes_of_number)),
     (pair, pairs),
     (pairs_in_list, lambda values: frames.lists(values, pairs)),
 ]
