@@ -1,0 +1,159 @@
+"""What the crates of this repository name: functions and their clauses, types and what belongs to them, definitions and the parts
+of each, lemmas, edits, files. For the scripts that check what documents name."""
+import glob
+import os
+import re
+import subprocess
+import crates
+
+TOP = crates.TOP
+PUB = r"(?:pub(?:\([^)]*\))? )?"
+FUNCTION = re.compile(rf"^[ \t]*({PUB})(?:const )?(?:unsafe )?fn (\w+)", re.M)
+CLAUSE = re.compile(r"^\s*(?:ensures|requires)(?: (\w+))? \{", re.M)
+BLOCK = re.compile(r"^(pub )?(?:unsafe )?(impl|trait)\b([^{}]*)\{", re.M)
+# What an `impl` says of its type to the logic.
+SAID = re.compile(r"^    ghost (\w+)(?::| =)", re.M)
+TYPE = re.compile(rf"^[ \t]*{PUB}(?:struct|enum|trait|type) (\w+)", re.M)
+CONSTANT = re.compile(rf"^[ \t]*{PUB}(?:const|static) (\w+):", re.M)
+# A variant or a field of a type.
+MEMBER = re.compile(rf"^    {PUB}(\w+)\s*(?:[:,(]|\{{|$)", re.M)
+DEFINED = re.compile(r"(?:abbrev |unfoldable | *)pub (?!mod )(record |data )?([^\s:(){}]+)")
+PART = re.compile(r" +(?:pub )?([^\s:(){}]+) :")
+LEMMA = re.compile(r"^(?:abbrev |unfoldable )?(?:pub )?([^\s:(){}]+) :", re.M)
+
+
+class Function:
+    """A function: the modules and the type that it stands in, whether it is public by itself or by its trait, and the names of its
+    clauses and of what is said of its type."""
+
+    def __init__(self, inside, name, public, clauses):
+        self.inside, self.name, self.public, self.clauses = inside, name, public, clauses
+
+    def is_called(self, path):
+        """Whether these words, the last of them its name, are a way to name it."""
+        inside = iter(self.inside)
+        return path[-1] == self.name and all(it in inside for it in path[:-1])
+
+    def full(self):
+        return "::".join([*self.inside[-1:], self.name])
+
+
+def owner_of(kind, head):
+    """The type, or the trait, of which an `impl` or a `trait` begins so."""
+    head, shorter = re.sub(r"\bwhere\b.*", "", head, flags=re.S), None
+    while shorter != head:
+        head, shorter = re.sub(r"<[^<>]*>", "", head), head
+    words = re.split(r"\bfor\b", head)[-1].split(":" if kind == "trait" else None)
+    return words[0].split("::")[-1].strip("& ") if words else ""
+
+
+def blocks(text):
+    """Each `impl` and `trait`: where it begins and ends, its type's name, by what all of it is public, if it is, and what it says."""
+    for m in BLOCK.finditer(text):
+        closes = m.end() if text[m.end()] == "}" else text.find("\n}", m.end())
+        public = "itself" if m[2] == "trait" and m[1] else "trait" if " for " in m[3] else ""
+        yield m.start(), closes, owner_of(m[2], m[3]), public, SAID.findall(text[m.end() : closes])
+
+
+def definitions_in(text):
+    """The names that a file of definitions gives, each with the parts that it has, or those of the definitions that it is made of."""
+    found, bodies, parts, last = {}, {}, set(), ""
+    for line in text.split("\n"):
+        defined, part = DEFINED.match(line), PART.match(line)
+        if defined and (defined[1] or not line.startswith(" ")):
+            last = defined[2]
+            parts = found.setdefault(last, set())
+        elif defined:
+            # a part of the definition above, or one of several that name each other
+            parts.add(defined[2])
+            found.setdefault(defined[2], set())
+        elif part:
+            parts.add(part[1])
+        bodies.setdefault(last, set()).update(re.findall(r"\w+", line))
+    of_others = {name: set().union(*(found[it] for it in bodies.get(name, ()) if it in found)) for name in found}
+    return {name: found[name] or of_others[name] for name in found}
+
+
+class Crate:
+    """The names of one crate. Its files and its definitions are by their paths in it."""
+
+    def __init__(self, name):
+        self.name, self.files, self.functions, self.types, self.definitions = name, {}, [], {}, {}
+        for file in crates.sources(name):
+            with open(file, encoding="utf-8") as it:
+                self.files[os.path.relpath(file, f"{TOP}/crates/{name}")] = it.read()
+        for path, text in self.files.items():
+            if path.endswith(".rt"):
+                self.read_code(path, text)
+            elif path.startswith("specs/"):
+                self.definitions[path] = definitions_in(text)
+        self.clauses = {clause for it in self.functions for clause in it.clauses}
+        self.edits = {it.removesuffix(".edit") for it in self.folders_of_edits()}
+        self.names = {name, *self.edits, *(os.path.basename(it).split(".")[0] for it in self.files)}
+        for it in self.functions:
+            self.names |= {it.name, *it.inside, *it.clauses}
+        for its in (self.types, *self.definitions.values()):
+            self.names |= {*its}.union(*its.values())
+        self.names |= {it for path, text in self.files.items() if path.startswith("proofs/") for it in LEMMA.findall(text)}
+
+    def folders_of_edits(self):
+        for folder in (f"crates/{self.name}/must-fail", f"mutants/{self.name}", f"mutants/let_through/{self.name}"):
+            if os.path.isdir(f"{TOP}/{folder}"):
+                yield from os.listdir(f"{TOP}/{folder}")
+
+    def read_code(self, path, text):
+        module = [it for it in path.removesuffix(".rt").split("/")[1:] if it not in ("lib", "main", "mod")]
+        its, starts = [*blocks(text)], [*FUNCTION.finditer(text)]
+        for m in TYPE.finditer(text):
+            closes = text.find("\n}", m.end())
+            self.types.setdefault(m[1], set()).update(MEMBER.findall(text[m.end() : max(closes, m.end())]))
+        for m, end in zip(starts, [*[it.start() for it in starts[1:]], len(text)]):
+            owner, public, said = next((it[2:] for it in its if it[0] < m.start() < it[1]), ("", "", []))
+            inside, public = [*module, owner] if owner else module, "itself" if m[1] == "pub " else public
+            self.functions.append(Function(inside, m[2], public, CLAUSE.findall(text[m.start() : end]) + said))
+        for m in CONSTANT.finditer(text):
+            owner = next((it[2] for it in its if it[0] < m.start() < it[1]), "")
+            self.types.setdefault(owner, set()).add(m[1])
+
+    def called(self, path):
+        """The functions that these words name."""
+        return [it for it in self.functions if it.is_called(path)]
+
+    def parts_of(self, name):
+        """The parts of the definitions of this name, or None where there is none."""
+        found = [its[name] for its in self.definitions.values() if name in its]
+        return set().union(*found) if found else None
+
+    def has(self, path):
+        """Whether these words name a function, a type or what belongs to one, a constant, a module, or a lemma by its file."""
+        if path[0] in crates.PARTS:
+            return path[-1] in LEMMA.findall(self.files.get(f"{'/'.join(path[:-1])}.antt", ""))
+        if self.called(path) or path[-1] in self.types or path[-1] in self.types.get("::".join(path[-2:-1]), ()):
+            return True
+        return any(f"src/{path[-1]}{it}.rt" in self.files for it in ("", "/mod"))
+
+    def file(self, path):
+        """Whether a file or a folder is here: by its path in the crate, or by its name below one of its parts."""
+        top = f"{TOP}/crates/{self.name}"
+        return any(glob.glob(f"{top}/{it}{path}", recursive=True) for it in ("", *(f"{part}/**/" for part in crates.PARTS)))
+
+
+class Known:
+    """The names of all crates."""
+
+    def __init__(self):
+        self.uses = crates.listed()
+        self.crates = {name: Crate(name) for name in self.uses}
+        self.kit = {it for its in self.uses.values() for it in its if it not in self.uses} | {"std", "core", "alloc"}
+
+    def near(self, name):
+        """A crate and those below it; all, where there is no name."""
+        return [self.crates[it] for it in [name, *crates.below(name, self.uses)]] if name else [*self.crates.values()]
+
+    def of_kit(self, names):
+        """Which of these names std and the kit's crates that are used give: behind what kind a name is of, or at the begin of a line."""
+        given = rf"(^ *|\b(pub|fn|struct|enum|trait|type|mod|record|data) )({'|'.join(sorted(names))})\b"
+        folders = [f"{crates.KIT}/rlibs/{it}.rlib" for it in self.kit - {"alloc"}]
+        words = ["grep", "-rhoE", "--include=*.rt", "--include=*.antt", given, *folders]
+        lines = subprocess.run(words, capture_output=True, text=True).stdout.split("\n") if names else []
+        return {it.split()[-1] for it in lines if it}
