@@ -35,9 +35,9 @@ def below(name, crates):
     return found
 
 
-def sources(name):
-    """The files of a crate that a proof reads."""
-    for part in PARTS:
+def sources(name, parts=PARTS):
+    """The files of a crate that a proof reads, or those of these parts."""
+    for part in parts:
         for at, folders, files in os.walk(f"{TOP}/crates/{name}/{part}"):
             folders.sort()
             yield from (f"{at}/{it}" for it in sorted(files))
@@ -64,15 +64,18 @@ def laid(room, names=None, parts=PARTS):
     shutil.copy(f"{TOP}/HANDLES", f"{room}/HANDLES")
 
 
-def laid_with(room, name, folder):
+def laid_with(room, name, folder, parts=PARTS):
     """Lays into the room the crates that a program stands on, and the program under this name; returns the program's folder.
-    The program's folder has main.rt.txt, whose name ends so because the gate takes no source file of no crate, and uses."""
+    The program's folder has main.rt.txt and its modules, whose names end so because the gate takes no source file of no
+    crate, and uses."""
     crates = listed()
     with open(f"{folder}/uses", encoding="utf-8") as it:
         crates[name] = it.read().split()
-    laid(room, below(name, crates))
+    laid(room, below(name, crates), parts)
     os.makedirs(f"{room}/crates/{name}/src")
-    shutil.copy(f"{folder}/main.rt.txt", f"{room}/crates/{name}/src/main.rt")
+    for it in os.listdir(folder):
+        if it.endswith(".rt.txt"):
+            shutil.copy(f"{folder}/{it}", f"{room}/crates/{name}/src/{it.removesuffix('.txt')}")
     with open(f"{room}/crates.txt", "a", encoding="utf-8") as it:
         it.write(f"{name}: {' '.join(crates[name])}\n")
     return f"{room}/crates/{name}"
