@@ -23,8 +23,8 @@ LEMMA = re.compile(r"^(?:abbrev |unfoldable )?(?:pub )?([^\s:(){}]+) :", re.M)
 
 
 class Function:
-    """A function: the modules and the type that it stands in, whether it is public by itself or by its trait, and the names of its
-    clauses and of what is said of its type."""
+    """A function: the modules and the type that it stands in, by what it is public, itself or its trait, if it is, and the names
+    of its clauses and of what is said of its type."""
 
     def __init__(self, inside, name, public, clauses):
         self.inside, self.name, self.public, self.clauses = inside, name, public, clauses
@@ -48,7 +48,7 @@ def owner_of(kind, head):
 
 
 def blocks(text):
-    """Each `impl` and `trait`: where it begins and ends, its type's name, by what all of it is public, if it is, and what it says."""
+    """Each `impl` and `trait`: where it begins and ends, its type's name, by what all of it is public, and what it says."""
     for m in BLOCK.finditer(text):
         closes = m.end() if text[m.end()] == "}" else text.find("\n}", m.end())
         public = "itself" if m[2] == "trait" and m[1] else "trait" if " for " in m[3] else ""
@@ -56,7 +56,7 @@ def blocks(text):
 
 
 def definitions_in(text):
-    """The names that a file of definitions gives, each with the parts that it has, or those of the definitions that it is made of."""
+    """The names that a file of definitions gives, each with its parts, or those of the definitions that it is made of."""
     found, bodies, parts, last = {}, {}, set(), ""
     for line in text.split("\n"):
         defined, part = DEFINED.match(line), PART.match(line)
@@ -151,7 +151,7 @@ class Known:
         return [self.crates[it] for it in [name, *crates.below(name, self.uses)]] if name else [*self.crates.values()]
 
     def of_kit(self, names):
-        """Which of these names std and the kit's crates that are used give: behind what kind a name is of, or at the begin of a line."""
+        """Which of these names std and the kit's crates give: behind what kind a name is of, or at the beginning of a line."""
         given = rf"(^ *|\b(pub|fn|struct|enum|trait|type|mod|record|data) )({'|'.join(sorted(names))})\b"
         folders = [f"{crates.KIT}/rlibs/{it}.rlib" for it in self.kit - {"alloc"}]
         words = ["grep", "-rhoE", "--include=*.rt", "--include=*.antt", given, *folders]
