@@ -48,6 +48,15 @@ def source(name, path):
         return it.read()
 
 
+def rlib(name):
+    return f"{TOP}/crates/{name}/out/rlib/{name}.rlib"
+
+
+def is_built(name):
+    """Whether the library stands, laid there after each of its sources was."""
+    return os.path.isdir(rlib(name)) and all(os.path.getmtime(it) < os.path.getmtime(rlib(name)) for it in sources(name))
+
+
 # ---- a copy of them
 
 
