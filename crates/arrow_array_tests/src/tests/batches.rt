@@ -2,23 +2,24 @@
 
 use super::forms::{Form, INT32, data_type, referring};
 use super::making::{column, field, indices, int32, one, range};
+use super::told::is_text;
 use arrow_array::{Array, Batch, BatchFault, ByteRange};
 use arrow_types::{BitWidth, DataType, Encoding, Field, IndexType, Schema};
 use bytes::Bytes;
 use std::process::Abort;
 use std::rc::Rc;
 
-// A schema of columns of these types, the first dictionary-encoded where that is asked for.
-fn schema(rt: &(impl Abort + AllocGlobal), types: Vec<DataType>, encoded: bool) -> Rc<Schema> {
-    let mut fields = Vec::new(rt.alloc());
-    for data_type in types {
-        let column = if encoded && fields.is_empty() {
-            indices(rt, "k", data_type)
-        } else {
-            field(rt, "x", data_type)
-        };
-        fields.push(column).expect(rt, "memory");
-    }
+// A schema of one column of this type, dictionary-encoded where that is asked for.
+fn schema(rt: &(impl Abort + AllocGlobal), data_type: DataType, encoded: bool) -> Rc<Schema> {
+    let column = if encoded {
+        indices(rt, "k", data_type)
+    } else {
+        field(rt, "x", data_type)
+    };
+    shared(rt, one(rt, column))
+}
+
+fn shared(rt: &(impl Abort + AllocGlobal), fields: Vec<Field>) -> Rc<Schema> {
     let schema = Schema::new(rt.alloc(), fields).expect(rt, "the schema keeps to the limits");
     Rc::new(rt.alloc(), schema).expect(rt, "memory")
 }
@@ -47,7 +48,7 @@ fn fault_of(
     lens: &[usize],
     rows: usize,
 ) -> Option<BatchFault> {
-    let schema = schema(rt, one(rt, data_type(rt, form)), encoded);
+    let schema = schema(rt, data_type(rt, form), encoded);
     let mut columns = Vec::new(rt.alloc());
     for len in lens {
         columns.push(zeros(rt, "any", *len)).expect(rt, "memory");
@@ -55,27 +56,42 @@ fn fault_of(
     Batch::new(schema, columns, rows).err()
 }
 
+fn is_count(rt: &impl Abort, count: usize, want: usize) {
+    assert_eq!(rt; count, want);
+}
+
+// That a batch has this schema, and one column of three slots.
+fn is_of_one_column(rt: &impl Abort, batch: &Batch, schema: &Schema) {
+    is_count(rt, batch.rows(), 3);
+    assert!(rt; *batch.schema() == *schema);
+    is_count(rt, batch.columns().len(), 1);
+    assert!(rt; 0 < batch.columns().len());
+    is_count(rt, batch.column(0).len(), 3);
+}
+
 #[test]
 fn a_batch_of_one_column(rt: HostRuntime) {
-    let schema = schema(&rt, one(&rt, int32()), false);
+    let schema = schema(&rt, int32(), false);
     let columns = one(&rt, zeros(&rt, "another name", 3));
     let batch = Batch::new(schema.clone().expect(&rt, "memory"), columns, 3).expect(
         &rt,
         "there is no fault",
     );
-    assert_eq!(rt; batch.rows(), 3);
-    assert!(rt; *batch.schema() == *schema);
-    assert_eq!(rt; batch.columns().len(), 1);
-    assert!(rt; 0 < batch.columns().len());
-    assert_eq!(rt; batch.column(0).len(), 3);
+    is_of_one_column(&rt, &batch, &schema);
+}
+
+// That a batch has three rows, and no column.
+fn has_rows_alone(rt: &impl Abort, batch: &Batch) {
+    is_count(rt, batch.rows(), 3);
+    is_count(rt, batch.columns().len(), 0);
+    is_count(rt, batch.schema().fields().len(), 0);
 }
 
 #[test]
 fn a_batch_without_columns_has_rows(rt: HostRuntime) {
-    let schema = schema(&rt, Vec::new(rt.alloc()), false);
+    let schema = shared(&rt, Vec::new(rt.alloc()));
     let batch = Batch::new(schema, Vec::new(rt.alloc()), 3).expect(&rt, "there is no fault");
-    assert_eq!(rt; batch.rows(), 3);
-    assert!(rt; batch.columns().is_empty());
+    has_rows_alone(&rt, &batch);
 }
 
 #[test]
@@ -83,9 +99,7 @@ fn a_batch_of_columns_that_are_known_to_fit(rt: HostRuntime) {
     let none = Schema::new(rt.alloc(), Vec::new(rt.alloc())).expect(&rt, "no fields");
     let schema = Rc::new(rt.alloc(), none).expect(&rt, "memory");
     let batch = Batch::new_unchecked(schema, Vec::new(rt.alloc()), 3);
-    assert_eq!(rt; batch.rows(), 3);
-    assert!(rt; batch.columns().is_empty());
-    assert!(rt; batch.schema().fields().is_empty());
+    has_rows_alone(&rt, &batch);
 }
 
 // The type of the schema's one column, whether it is dictionary-encoded, the slots of each column
@@ -99,11 +113,15 @@ static FAULTS: [(Form, bool, &[usize], usize, Option<BatchFault>); 6] = [
     (INT32, true, &[3], 3, Some(BatchFault::ColumnType)),
 ];
 
+fn is_fault(rt: &impl Abort, row: usize, fault: Option<BatchFault>, want: Option<BatchFault>) {
+    assert_eq!(rt; fault, want, "row {row}");
+}
+
 #[test]
 fn the_least_fault_is_told(rt: HostRuntime) {
     for (row, (form, encoded, lens, rows, want)) in FAULTS.iter().enumerate() {
         let fault = fault_of(&rt, (*form, *encoded), lens, *rows);
-        assert_eq!(rt; fault, *want, "row {row}");
+        is_fault(&rt, row, fault, *want);
     }
 }
 
@@ -156,8 +174,7 @@ fn fault_by(rt: &(impl Abort + AllocGlobal), form: Form, by: Option<By>) -> Opti
         data_type: data_type(rt, form),
         dictionary: encoding(by),
     };
-    let schema = Schema::new(rt.alloc(), one(rt, texts)).expect(rt, "there is no fault");
-    let schema = Rc::new(rt.alloc(), schema).expect(rt, "memory");
+    let schema = shared(rt, one(rt, texts));
     let column = referring(rt, Form::Utf8, &[0], &[0], None).expect(rt, "a null");
     Batch::new(schema, one(rt, column), 1).err()
 }
@@ -165,11 +182,10 @@ fn fault_by(rt: &(impl Abort + AllocGlobal), form: Form, by: Option<By>) -> Opti
 #[test]
 fn all_of_an_encoding_is_compared(rt: HostRuntime) {
     for (row, (by, want)) in ENCODINGS.iter().enumerate() {
-        let fault = fault_by(&rt, Form::Utf8, *by);
-        assert_eq!(rt; fault, *want, "row {row}");
+        is_fault(&rt, row, fault_by(&rt, Form::Utf8, *by), *want);
     }
     let fault = fault_by(&rt, Form::Binary, Some(BY));
-    assert_eq!(rt; fault, Some(BatchFault::ColumnType));
+    is_fault(&rt, ENCODINGS.len(), fault, Some(BatchFault::ColumnType));
 }
 
 // The faults with their numbers and words.
@@ -191,6 +207,6 @@ static FAULT_WORDS: [(BatchFault, &str); 5] = [
 fn faults_have_their_numbers(rt: HostRuntime) {
     for &(fault, want) in &FAULT_WORDS {
         let words = format!(in rt.alloc(); "{} {fault}", fault.number()).expect(&rt, "memory");
-        assert_eq!(rt; words.as_str(), want);
+        is_text(&rt, "fault", usize::from(fault.number()), &words, want);
     }
 }

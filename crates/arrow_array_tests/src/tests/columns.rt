@@ -1,7 +1,7 @@
 // Columns of every type, without dictionaries.
 
 use super::forms::{Form, INT32, Leaf, Nested, Parts};
-use super::same::{are_nested_same, are_same};
+use super::same::{all_are_nested_same, all_are_same};
 use super::told::{nested_shows, shows};
 use arrow_types::{BitWidth, DateUnit, TimeUnit};
 
@@ -158,11 +158,19 @@ fn lists_and_structs(rt: HostRuntime) {
     }
 }
 
-// A word for each slot of the first column: which slots of the second are equal to it.
+// Two columns, and a word for each slot of the first: which slots of the second are equal to it.
+static SAME: [(Leaf<'static>, Leaf<'static>, &str); 2] = [
+    (TEXTS, TEXTS, "=-- -=- --="),
+    (NULLS, TRUTH_VALUES, "--=- --=- --=- --=-"),
+];
+
+static NESTED_SAME: [(Nested<'static>, Nested<'static>, &str); 2] = [
+    (LISTS, LISTS, "=-- -=- --="),
+    (STRUCTS, STRUCTS, "=- -="),
+];
+
 #[test]
 fn equal_slots(rt: HostRuntime) {
-    are_same(&rt, &TEXTS, &TEXTS, "=-- -=- --=");
-    are_same(&rt, &NULLS, &TRUTH_VALUES, "--=- --=- --=- --=-");
-    are_nested_same(&rt, &LISTS, &LISTS, "=-- -=- --=");
-    are_nested_same(&rt, &STRUCTS, &STRUCTS, "=- -=");
+    all_are_same(&rt, &SAME);
+    all_are_nested_same(&rt, &NESTED_SAME);
 }

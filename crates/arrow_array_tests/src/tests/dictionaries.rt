@@ -85,8 +85,12 @@ pub(super) fn are_equal(
     other: &Dictionary,
     want: bool,
 ) {
-    assert_eq!(rt; *one == *other, want, "row {row}");
-    assert_eq!(rt; *one != *other, !want, "row {row}");
+    is_answered(rt, row, *one == *other, want);
+    is_answered(rt, row, *one != *other, !want);
+}
+
+fn is_answered(rt: &impl Abort, row: usize, answer: bool, want: bool) {
+    assert_eq!(rt; answer, want, "row {row}");
 }
 
 // That the dictionaries of these letters are equal, or that they are not.
@@ -129,11 +133,15 @@ fn nulls(rt: &(impl Abort + AllocGlobal)) -> Array {
     nulls.expect(rt, NO_COLUMN)
 }
 
+fn has_len(rt: &impl Abort, dictionary: &Dictionary, want: usize) {
+    assert_eq!(rt; dictionary.len(), want);
+}
+
 #[test]
 fn nulls_without_bytes(rt: HostRuntime) {
     let mut dictionary = dictionary(&rt, one(&rt, nulls(&rt)));
     append(&rt, &mut dictionary, nulls(&rt));
-    assert_eq!(rt; dictionary.len(), 4294967294);
+    has_len(&rt, &dictionary, 4294967294);
     for (i, want) in &MANY {
         is_value_told(&rt, &dictionary, *i, want);
     }
@@ -146,6 +154,17 @@ fn again(rt: &(impl Abort + AllocGlobal), parts: [&str; 3], count: usize) -> Dic
         append(rt, &mut dictionary, letters(rt, parts[k % 3]));
     }
     dictionary
+}
+
+// That a dictionary is equal to that of three segments, again and again.
+fn is_again(
+    rt: &(impl Abort + AllocGlobal),
+    row: usize,
+    dictionary: &Dictionary,
+    parts: [&str; 3],
+    count: usize,
+) {
+    are_equal(rt, row, dictionary, &again(rt, parts, count), true);
 }
 
 // Values of 200 segments, of which each three are `ab`, none and `c`, and where they stand. Lists
@@ -164,33 +183,36 @@ static LETTERS: [(usize, &str); 10] = [
     (199, "at 1 of 2: text 'b' = 'b'"),
 ];
 
+fn are_letters_told(rt: &(impl Abort + AllocGlobal), dictionary: &Dictionary) {
+    for (i, want) in &LETTERS {
+        is_value_told(rt, dictionary, *i, want);
+    }
+}
+
 // Also that a copy has the same values, and that what is appended to one is not in the other.
 #[test]
 fn values_of_many_segments(rt: HostRuntime) {
     let mut many = again(&rt, ["ab", "", "c"], 200);
     let copy = many.copy(rt.alloc()).expect(&rt, "memory");
     append(&rt, &mut many, letters(&rt, "c"));
-    assert_eq!(rt; many.len(), 201);
-    assert_eq!(rt; copy.len(), 200);
-    for (i, want) in &LETTERS {
-        is_value_told(&rt, &copy, *i, want);
-        is_value_told(&rt, &many, *i, want);
-    }
-    are_equal(&rt, 0, &many, &again(&rt, ["abc", "", ""], 200), true);
-    are_equal(&rt, 1, &many, &again(&rt, ["a", "b", "c"], 201), true);
+    has_len(&rt, &many, 201);
+    has_len(&rt, &copy, 200);
+    are_letters_told(&rt, &copy);
+    are_letters_told(&rt, &many);
+    is_again(&rt, 0, &many, ["abc", "", ""], 200);
+    is_again(&rt, 1, &many, ["a", "b", "c"], 201);
     are_equal(&rt, 2, &copy, &many, false);
 }
 
 // What is appended to one of two copies is not in the other.
 #[test]
 fn a_copy_stays_as_it_was(rt: HostRuntime) {
-    let first = spelled(&rt, &["abc"]);
-    let copy = first.copy(rt.alloc()).expect(&rt, "memory");
-    are_equal(&rt, 0, &copy, &first, true);
-    let mut grown = first;
+    let mut grown = spelled(&rt, &["abc"]);
+    let copy = grown.copy(rt.alloc()).expect(&rt, "memory");
+    are_equal(&rt, 0, &copy, &grown, true);
     append(&rt, &mut grown, letters(&rt, "de"));
-    assert_eq!(rt; grown.len(), 5);
-    assert_eq!(rt; copy.len(), 3);
+    has_len(&rt, &grown, 5);
+    has_len(&rt, &copy, 3);
     is_value_told(&rt, &grown, 4, "at 1 of 2: text 'e' = 'e'");
     are_equal(&rt, 1, &copy, &grown, false);
 }
@@ -238,23 +260,21 @@ fn spelled_or_none(
     }
 }
 
-// That a column of these indices shows this.
-fn refers(
+// A column of indices into the dictionary of these letters.
+fn by_letters(
     rt: &(impl Abort + AllocGlobal),
-    row: usize,
     (validity, numbers): (&[u8], &[u8]),
     segments: Option<&[&str]>,
-    want: &str,
-) {
+) -> Option<Array> {
     let values = spelled_or_none(rt, segments);
-    let column = referring(rt, Form::Utf8, validity, numbers, values);
-    is_told(rt, row, &column, want);
+    referring(rt, Form::Utf8, validity, numbers, values)
 }
 
 #[test]
 fn indices_of_letters(rt: HostRuntime) {
     for (row, (validity, numbers, segments, want)) in INDICES.iter().enumerate() {
-        refers(&rt, row, (validity, numbers), *segments, want);
+        let column = by_letters(&rt, (validity, numbers), *segments);
+        is_told(&rt, row, &column, want);
     }
 }
 
@@ -273,9 +293,7 @@ fn indices_of_null_values(rt: HostRuntime) {
 // Slots by indices are equal where their indices are, whatever the dictionaries say.
 #[test]
 fn equal_indices(rt: HostRuntime) {
-    let letters = Some(spelled(&rt, &["ab"]));
-    let column = referring(&rt, Form::Utf8, &[0xfb], &[1, 0, 9, 1], letters);
-    let others = Some(spelled(&rt, &["xyz"]));
-    let other = referring(&rt, Form::Utf8, &[], &[0, 1], others);
+    let column = by_letters(&rt, (&[0xfb], &[1, 0, 9, 1]), Some(&["ab"]));
+    let other = by_letters(&rt, (&[], &[0, 1]), Some(&["xyz"]));
     is_same_told(&rt, &column, &other, "-= =- -- -=");
 }

@@ -3,6 +3,7 @@
 use super::forms::{Form, INT32, Leaf, leaf};
 use arrow_array::Array;
 use arrow_types::BitWidth;
+use std::process::Abort;
 
 // The first null after each null, at last the end, and the bytes of the values before it.
 type Runs = &'static [(usize, &'static [u8])];
@@ -84,10 +85,14 @@ fn has_runs(column: &Array, runs: &[(usize, &[u8])]) -> bool {
     start > len
 }
 
+// That the slots between nulls are these.
+fn are_runs(rt: &impl Abort, k: usize, column: &Array, runs: &[(usize, &[u8])]) {
+    assert!(rt; has_runs(column, runs), "column {k}");
+}
+
 #[test]
 fn slots_between_nulls(rt: HostRuntime) {
     for (k, (column, runs)) in COLUMNS.iter().enumerate() {
-        let column = leaf(&rt, column).expect(&rt, "a column");
-        assert!(rt; has_runs(&column, runs), "column {k}");
+        are_runs(&rt, k, &leaf(&rt, column).expect(&rt, "a column"), runs);
     }
 }

@@ -3,7 +3,7 @@
 // Each column has a bitmap FD: its second slot is null, and all spare bits are set.
 
 use super::forms::{Form, Leaf, Nested, Parts};
-use super::same::{are_nested_same, are_same};
+use super::same::{all_are_nested_same, all_are_same};
 use super::told::{nested_shows, shows};
 use arrow_types::{BitWidth, DateUnit, TimeUnit};
 use std::process::Abort;
@@ -200,9 +200,15 @@ const TWO_LISTS: Nested<'static> = (
 );
 
 // What a null hides makes no difference: a null is equal to another one alone.
+static SAME: [(Leaf<'static>, Leaf<'static>, &str); 1] = [(STRINGS, TEXTS, "--- -=- ---")];
+
+static NESTED_SAME: [(Nested<'static>, Nested<'static>, &str); 2] = [
+    (TWO_STRUCTS, TWO_LISTS, "-- -="),
+    (TWO_STRUCTS, TWO_STRUCTS, "=- -="),
+];
+
 #[test]
 fn nulls_over_other_values_are_equal(rt: HostRuntime) {
-    are_same(&rt, &STRINGS, &TEXTS, "--- -=- ---");
-    are_nested_same(&rt, &TWO_STRUCTS, &TWO_LISTS, "-- -=");
-    are_nested_same(&rt, &TWO_STRUCTS, &TWO_STRUCTS, "=- -=");
+    all_are_same(&rt, &SAME);
+    all_are_nested_same(&rt, &NESTED_SAME);
 }

@@ -2,9 +2,9 @@
 
 use super::forms::{Form, leaf};
 use super::making::{NO_COLUMN, column, dictionary, index_width, one, range};
-use arrow_array::ByteRange;
 use arrow_array::form::{Form as NodeForm, node_form};
 use arrow_array::layout::{are_indices, has_fixed};
+use arrow_array::{Array, ByteRange, Dictionary};
 use arrow_types::{BitWidth, DataType, Encoding, Field, IndexType};
 use bytes::Bytes;
 use std::process::Abort;
@@ -116,24 +116,34 @@ static INDICES: [(BitWidth, bool, &[u8], usize, bool); 30] = [
     (BitWidth::SixtyFour, true, &[255; 8], usize::MAX, false),
 ];
 
+// That all of so many indices lead to a value, or that one does not.
+fn all_lead(
+    rt: &impl Abort,
+    index: IndexType,
+    (len, validity, bytes): (usize, &[u8], &[u8]),
+    count: usize,
+    want: bool,
+) {
+    let width = index_width(index);
+    assert!(rt; has_fixed(len, width, validity, bytes));
+    let lead = are_indices(len, width, index.signed, validity, bytes, count);
+    assert_eq!(rt; lead, want, "{index:?} {bytes:?} of {count}");
+}
+
 // Whether the one index leads to a value, without a bitmap and with one; under a null it always
 // does.
 fn leads(rt: &impl Abort, index: IndexType, bytes: &[u8], count: usize, want: bool) {
-    let width = index_width(index);
     for (validity, want) in [(&[] as &[u8], want), (&[1], want), (&[0], true)] {
-        assert!(rt; has_fixed(1, width, validity, bytes));
-        let leads = are_indices(1, width, index.signed, validity, bytes, count);
-        assert_eq!(rt; leads, want, "{index:?} {bytes:?} of {count}");
+        all_lead(rt, index, (1, validity, bytes), count, want);
     }
 }
 
 // The index behind 129 that are 0.
 fn behind_zeros(rt: &(impl Abort + AllocGlobal), bytes: &[u8]) -> Vec<u8> {
     let mut all = Vec::new(rt.alloc());
-    for _ in 0..bytes.len().wrapping_mul(129) {
-        assert!(rt; all.push(0).is_ok(), "memory");
-    }
-    assert!(rt; all.extend_from_slice(bytes).is_ok(), "memory");
+    all.resize(bytes.len().wrapping_mul(129), 0)
+        .expect(rt, "memory");
+    all.extend_from_slice(bytes).expect(rt, "memory");
     all
 }
 
@@ -150,16 +160,13 @@ fn last_leads(
     count: usize,
     want: bool,
 ) {
-    let width = index_width(index);
     let all = behind_zeros(rt, bytes);
     for (validity, want) in [
         (&[] as &[u8], want),
         (&[255; 17], want),
         (&LAST_NULL, count > 0),
     ] {
-        assert!(rt; has_fixed(130, width, validity, &all));
-        let leads = are_indices(130, width, index.signed, validity, &all, count);
-        assert_eq!(rt; leads, want, "{index:?} {bytes:?} of {count}, the last");
+        all_lead(rt, index, (130, validity, &all), count, want);
     }
 }
 
@@ -171,9 +178,9 @@ fn an_index_by_its_width_and_sign(rt: HostRuntime) {
     }
 }
 
-// The number that an index of 8 bits to one of 300 nulls is shown as.
-fn shown(rt: &(impl Abort + AllocGlobal), signed: bool, byte: u8) -> Option<i128> {
-    let field = Field {
+// A field of indices of 8 bits to nulls.
+fn indices_to_nulls(rt: &(impl Abort + AllocGlobal), signed: bool) -> Field {
+    Field {
         name: String::new(rt.alloc()),
         nullable: true,
         data_type: DataType::Null,
@@ -185,16 +192,27 @@ fn shown(rt: &(impl Abort + AllocGlobal), signed: bool, byte: u8) -> Option<i128
             },
             ordered: false,
         }),
-    };
-    let values = leaf(rt, &(Form::Null, &[], (300, &[]))).expect(rt, NO_COLUMN);
-    let values = dictionary(rt, one(rt, values));
-    let body = Bytes::copy_from_slice(rt.alloc(), &[byte]).expect(rt, "memory");
-    let buffers = [ByteRange::EMPTY, range(0, 1)];
-    let children = Vec::new(rt.alloc());
-    let column = column(rt, &field, 1, &body, &buffers, children, Some(values));
-    let column = column.expect(rt, NO_COLUMN);
+    }
+}
+
+fn nulls(rt: &(impl Abort + AllocGlobal)) -> Dictionary {
+    let nulls = leaf(rt, &(Form::Null, &[], (300, &[]))).expect(rt, NO_COLUMN);
+    dictionary(rt, one(rt, nulls))
+}
+
+fn first_number(rt: &impl Abort, column: &Array) -> Option<i128> {
     assert!(rt; 0 < column.len());
     column.int_at(0)
+}
+
+// The number that an index of 8 bits to one of 300 nulls is shown as.
+fn shown(rt: &(impl Abort + AllocGlobal), signed: bool, byte: u8) -> Option<i128> {
+    let field = indices_to_nulls(rt, signed);
+    let body = Bytes::copy_from_slice(rt.alloc(), &[byte]).expect(rt, "memory");
+    let buffers = [ByteRange::EMPTY, range(0, 1)];
+    let (children, values) = (Vec::new(rt.alloc()), Some(nulls(rt)));
+    let column = column(rt, &field, 1, &body, &buffers, children, values);
+    first_number(rt, &column.expect(rt, NO_COLUMN))
 }
 
 #[test]
@@ -202,6 +220,18 @@ fn an_index_is_shown_with_its_sign(rt: HostRuntime) {
     for (signed, byte) in [(false, 200), (false, 100), (true, 100)] {
         assert_eq!(rt; shown(&rt, signed, byte), Some(i128::from(byte)));
     }
+}
+
+// That a node of indices of this type has the form of its numbers.
+fn has_their_form(rt: &impl Abort, index: IndexType) {
+    let encoding = Encoding {
+        id: 0,
+        index,
+        ordered: false,
+    };
+    let IndexType { bits, signed } = index;
+    let form = node_form(&DataType::Utf8, Some(encoding));
+    assert_eq!(rt; form, NodeForm::Numbers { bits, signed });
 }
 
 #[test]
@@ -213,13 +243,7 @@ fn a_node_of_indices_has_their_form(rt: HostRuntime) {
         BitWidth::SixtyFour,
     ] {
         for signed in [false, true] {
-            let encoding = Encoding {
-                id: 0,
-                index: IndexType { bits, signed },
-                ordered: false,
-            };
-            let form = node_form(&DataType::Utf8, Some(encoding));
-            assert_eq!(rt; form, NodeForm::Numbers { bits, signed });
+            has_their_form(&rt, IndexType { bits, signed });
         }
     }
 }

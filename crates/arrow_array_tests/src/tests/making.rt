@@ -271,13 +271,17 @@ pub(super) fn index_width(index: IndexType) -> usize
 // A dictionary of the values of these columns, one after another.
 pub(super) fn dictionary(rt: &(impl Abort + AllocGlobal), columns: Vec<Array>) -> Dictionary {
     let mut columns = columns.into_iter();
-    let first = columns.next().expect(rt, "a first column");
-    assert!(rt; is_plain(&first), "{NO_COLUMN}");
-    let mut dictionary = Dictionary::from_array(rt.alloc(), first).expect(rt, "memory");
+    let mut dictionary = begun(rt, columns.next().expect(rt, "a first column"));
     for values in columns {
         append(rt, &mut dictionary, values);
     }
     dictionary
+}
+
+// A dictionary of the values of one column.
+fn begun(rt: &(impl Abort + AllocGlobal), values: Array) -> Dictionary {
+    assert!(rt; is_plain(&values), "{NO_COLUMN}");
+    Dictionary::from_array(rt.alloc(), values).expect(rt, "memory")
 }
 
 // Puts the values of one column more into the dictionary.

@@ -9,6 +9,11 @@ use std::process::Abort;
 
 const MEMORY: &str = "memory";
 
+// That a text, which one of several things shows, is this.
+pub(super) fn is_text(rt: &impl Abort, what: &str, row: usize, text: &str, want: &str) {
+    assert_eq!(rt; text, want, "{what} {row}");
+}
+
 // All that a column shows, or that there is none.
 fn told(rt: &(impl Abort + AllocGlobal), column: &Option<Array>) -> String {
     let mut text = String::new(rt.alloc());
@@ -30,12 +35,16 @@ pub(super) fn is_told(
     column: &Option<Array>,
     want: &str,
 ) {
-    let text = told(rt, column);
-    assert_eq!(rt; text.as_str(), want, "row {row}");
+    is_text(rt, "row", row, &told(rt, column), want);
     if let Some(column) = column {
-        let (one, other) = (one_by_one(rt, column), together(rt, column));
-        assert_eq!(rt; other.as_str(), one.as_str(), "slots of row {row}");
+        is_told_together(rt, row, column);
     }
+}
+
+// That the column of a row shows the same of slots whose form was looked at once.
+fn is_told_together(rt: &(impl Abort + AllocGlobal), row: usize, column: &Array) {
+    let want = one_by_one(rt, column);
+    is_text(rt, "slots of row", row, &together(rt, column), &want);
 }
 
 // The value of each slot, and behind it the index that stands there.
@@ -206,7 +215,7 @@ pub(super) fn are_values_told(
             .expect(rt, MEMORY);
         push_entry(rt, &mut text, dictionary, i);
     }
-    assert_eq!(rt; text.as_str(), want);
+    is_text(rt, "all values of", dictionary.len(), &text, want);
 }
 
 // That value `i` of a dictionary shows this.
@@ -219,7 +228,7 @@ pub(super) fn is_value_told(
     assert!(rt; i < dictionary.len());
     let mut text = String::new(rt.alloc());
     push_entry(rt, &mut text, dictionary, i);
-    assert_eq!(rt; text.as_str(), want, "value {i}");
+    is_text(rt, "value", i, &text, want);
 }
 
 // Where a value stands, and what does.

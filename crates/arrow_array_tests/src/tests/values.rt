@@ -33,11 +33,22 @@ fn list_of(rt: &(impl Abort + AllocGlobal), numbers: &[i128]) -> Value {
     Value::List(items)
 }
 
+// That values of these numbers are equal, where it is one number.
+fn is_answered(rt: &impl Abort, (i, j): (usize, usize), answer: bool) {
+    assert_eq!(rt; answer, i == j, "{i} and {j}");
+}
+
 // That a value is equal to the one of number `i` alone.
 fn is_equal_to_one(rt: &impl Abort, value: &Value, values: &[Value], i: usize) {
     for (j, other) in values.iter().enumerate() {
-        assert_eq!(rt; *value == *other, i == j, "{i} and {j}");
+        is_answered(rt, (i, j), *value == *other);
     }
+}
+
+// That a copy of a value is equal to the one of number `i` alone.
+fn is_copied(rt: &(impl Abort + AllocGlobal), value: &Value, values: &[Value], i: usize) {
+    let copy = value.copy(rt.alloc()).expect(rt, "memory");
+    is_equal_to_one(rt, &copy, values, i);
 }
 
 #[test]
@@ -46,8 +57,7 @@ fn values_of_different_kinds_differ(rt: HostRuntime) {
     let others = one_of_each(&rt);
     for (i, value) in values.iter().enumerate() {
         is_equal_to_one(&rt, value, &others, i);
-        let copy = value.copy(rt.alloc()).expect(&rt, "memory");
-        is_equal_to_one(&rt, &copy, &others, i);
+        is_copied(&rt, value, &others, i);
     }
 }
 

@@ -3,7 +3,7 @@
 
 use super::forms::{Form, Leaf, Nested, leaf, referring};
 use super::making::{NO_COLUMN, dictionary, one};
-use super::same::{are_nested_same, are_same};
+use super::same::{all_are_nested_same, all_are_same};
 use super::told::{is_told, nested_shows, shows};
 use arrow_types::TimeUnit;
 use std::process::Abort;
@@ -223,12 +223,22 @@ fn large_lists_over_hidden_values(rt: HostRuntime) {
 }
 
 // Values are the same whatever the width of the offsets, or whether they have any.
+static SAME: [(Leaf<'static>, Leaf<'static>, &str); 3] = [
+    (TEXTS, SMALL_TEXTS, "=-- -=- --="),
+    (TRIPLES, HIDDEN_TRIPLES, "=-- -=-"),
+    (LATER_BYTES, HIDDEN_TRIPLES, "=-- --- --="),
+];
+
+static NESTED_SAME: [(Nested<'static>, Nested<'static>, &str); 1] = [(
+    LISTS,
+    SMALL_LISTS,
+    "=-- -=- --=",
+)];
+
 #[test]
 fn wide_values_are_equal_to_others(rt: HostRuntime) {
-    are_same(&rt, &TEXTS, &SMALL_TEXTS, "=-- -=- --=");
-    are_same(&rt, &TRIPLES, &HIDDEN_TRIPLES, "=-- -=-");
-    are_same(&rt, &LATER_BYTES, &HIDDEN_TRIPLES, "=-- --- --=");
-    are_nested_same(&rt, &LISTS, &SMALL_LISTS, "=-- -=- --=");
+    all_are_same(&rt, &SAME);
+    all_are_nested_same(&rt, &NESTED_SAME);
 }
 
 // What indices 1 and 0, and a null, show that refer to the values of a column.
