@@ -1,7 +1,7 @@
 // Texts about as long as the chunks in which they are looked at, with each byte that calls for quotes
 // at each place, and byte strings of each length up to that of two chunks and one byte.
 
-use super::columns::{MEMORY, builder, records, schema};
+use super::columns::{MEMORY, are_records, builder, push, records, schema};
 use arrow_array::Value;
 use arrow_build::ArrayBuilder;
 use arrow_types::DataType;
@@ -82,20 +82,17 @@ fn marked(
     text
 }
 
-// A text among others, and its row behind theirs.
-fn put(
-    rt: &(impl Abort + AllocGlobal),
-    column: &mut ArrayBuilder,
-    want: &mut String,
-    text: String,
-    shown: &str,
-) {
-    column
-        .push(&Value::Text(text))
-        .expect(rt, "a text of the column");
+// A row behind others.
+fn put_row(rt: &impl Abort, want: &mut String, shown: &str) {
     want.push_str("7,").expect(rt, MEMORY);
     want.push_str(shown).expect(rt, MEMORY);
     want.push_str("\n").expect(rt, MEMORY);
+}
+
+// A text among others, and its row behind theirs.
+fn put(rt: &impl Abort, column: &mut ArrayBuilder, want: &mut String, text: String, shown: &str) {
+    push(rt, column, &Value::Text(text));
+    put_row(rt, want, shown);
 }
 
 // Each byte at one place of a text of so many bytes, a row for each.
@@ -108,8 +105,7 @@ fn check_place(rt: &(impl Abort + AllocGlobal), len: usize, place: usize) {
         let shown = marked(rt, len, place, shown, around);
         put(rt, &mut column, &mut want, text, shown.as_str());
     }
-    let found = records(rt, schema, &column);
-    assert_eq!(rt; found.as_slice(), want.as_bytes());
+    are_records(rt, &records(rt, schema, &column), &want);
 }
 
 #[test]
@@ -131,45 +127,40 @@ fn texts_of_letters_alone(rt: HostRuntime) {
         let shown = marked(&rt, *len, *len, "", "");
         put(&rt, &mut column, &mut want, text, shown.as_str());
     }
-    let found = records(&rt, schema, &column);
-    assert_eq!(rt; found.as_slice(), want.as_bytes());
+    are_records(&rt, &records(&rt, schema, &column), &want);
+}
+
+fn push_text(rt: &(impl Abort + AllocGlobal), column: &mut ArrayBuilder, text: &str) {
+    let text = String::from_str(rt.alloc(), text).expect(rt, MEMORY);
+    push(rt, column, &Value::Text(text));
 }
 
 #[test]
 fn texts_of_many_quotes(rt: HostRuntime) {
     let schema = schema(&rt, DataType::Utf8);
     let mut column = builder(&rt, &schema);
-    let mut want = Vec::new(rt.alloc());
+    let mut want = String::new(rt.alloc());
     for (text, record) in &TEXTS {
-        let text = String::from_str(rt.alloc(), text).expect(&rt, MEMORY);
-        column
-            .push(&Value::Text(text))
-            .expect(&rt, "a text of the column");
-        want.extend_from_slice(record.as_bytes())
-            .expect(&rt, MEMORY);
+        push_text(&rt, &mut column, text);
+        want.push_str(record).expect(&rt, MEMORY);
     }
-    let found = records(&rt, schema, &column);
-    assert_eq!(rt; found.as_slice(), want.as_slice());
+    are_records(&rt, &records(&rt, schema, &column), &want);
+}
+
+fn push_bytes(rt: &(impl Abort + AllocGlobal), column: &mut ArrayBuilder, bytes: &[u8]) {
+    let bytes = Vec::from_slice(rt.alloc(), bytes).expect(rt, MEMORY);
+    push(rt, column, &Value::Bytes(bytes));
 }
 
 #[test]
 fn byte_strings_of_each_length(rt: HostRuntime) {
     let schema = schema(&rt, DataType::Binary);
     let mut column = builder(&rt, &schema);
-    let mut want = Vec::new(rt.alloc());
+    let mut want = String::new(rt.alloc());
     for len in 0..=BYTES.len() {
-        let bytes = Vec::from_slice(rt.alloc(), &BYTES[..len]).expect(&rt, MEMORY);
-        column
-            .push(&Value::Bytes(bytes))
-            .expect(&rt, "bytes of the column");
-        want.extend_from_slice(b"7,").expect(&rt, MEMORY);
-        let digits = DIGITS
-            .as_bytes()
-            .get(..2 * len)
-            .expect(&rt, "two digits a byte");
-        want.extend_from_slice(digits).expect(&rt, MEMORY);
-        want.push(b'\n').expect(&rt, MEMORY);
+        push_bytes(&rt, &mut column, &BYTES[..len]);
+        let digits = DIGITS.get(..2 * len).expect(&rt, "two digits a byte");
+        put_row(&rt, &mut want, digits);
     }
-    let found = records(&rt, schema, &column);
-    assert_eq!(rt; found.as_slice(), want.as_slice());
+    are_records(&rt, &records(&rt, schema, &column), &want);
 }

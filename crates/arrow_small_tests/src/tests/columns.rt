@@ -1,6 +1,6 @@
 // Columns that are built value by value, and their records.
 
-use arrow_array::Batch;
+use arrow_array::{Array, Batch, Value};
 use arrow_build::ArrayBuilder;
 use arrow_csv::rows;
 use arrow_types::{DataType, Field, Schema};
@@ -39,17 +39,35 @@ pub(super) fn builder(rt: &(impl Abort + AllocGlobal), schema: &Schema) -> Array
     ArrayBuilder::new(rt.alloc(), &fields[0]).expect(rt, MEMORY)
 }
 
+// That these bytes are records.
+pub(super) fn are_records(rt: &impl Abort, found: &[u8], want: &str) {
+    assert_eq!(rt; found, want.as_bytes());
+}
+
+// Puts a value into a column.
+pub(super) fn push(rt: &impl Abort, column: &mut ArrayBuilder, value: &Value) {
+    column.push(value).expect(rt, "a value of the column");
+}
+
 // The records of a column, of the batch that has number 7.
 pub(super) fn records(
     rt: &(impl Abort + AllocGlobal),
     schema: Rc<Schema>,
     column: &ArrayBuilder,
 ) -> Vec<u8> {
-    let array = column
-        .finish(rt.alloc(), &[])
-        .expect(rt, "no dictionary is asked for");
+    let array = column.finish(rt.alloc(), &[]);
+    records_of(rt, schema, array.expect(rt, "no dictionary is asked for"))
+}
+
+// The records of an array, of the batch that has number 7.
+pub(super) fn records_of(
+    rt: &(impl Abort + AllocGlobal),
+    schema: Rc<Schema>,
+    array: Array,
+) -> Vec<u8> {
+    let len = array.len();
     let mut columns = Vec::new(rt.alloc());
     columns.push(array).expect(rt, MEMORY);
-    let batch = Batch::new(schema, columns, column.len()).expect(rt, "one column as asked");
+    let batch = Batch::new(schema, columns, len).expect(rt, "one column as asked");
     rows(rt.alloc(), 7, &batch, 0, batch.rows()).expect(rt, MEMORY)
 }

@@ -1,9 +1,8 @@
 // Records of dictionary-encoded columns, of short dictionaries and of long ones.
 
-use super::columns::{MEMORY, builder, field, schema, schema_of};
-use arrow_array::{Array, Batch, Dictionary, Value};
-use arrow_csv::rows;
-use arrow_types::{BitWidth, DataType, Encoding, Field, IndexType};
+use super::columns::{MEMORY, are_records, builder, field, push, records_of, schema, schema_of};
+use arrow_array::{Array, Dictionary, Value};
+use arrow_types::{BitWidth, DataType, Encoding, Field, IndexType, Schema};
 use std::process::Abort;
 
 // The texts of a dictionary, None for a null.
@@ -54,18 +53,23 @@ fn value(rt: &(impl Abort + AllocGlobal), word: Option<&str>) -> Value {
     }
 }
 
+// A text of so many letters.
+fn long_text(rt: &(impl Abort + AllocGlobal), letters: usize) -> Value {
+    let mut long = String::new(rt.alloc());
+    for _ in 0..letters {
+        long.push_str("x").expect(rt, MEMORY);
+    }
+    Value::Text(long)
+}
+
 // The dictionary of these texts, and of one more of so many letters.
 fn dictionary(rt: &(impl Abort + AllocGlobal), letters: usize) -> Dictionary {
     let mut column = builder(rt, &schema(rt, DataType::Utf8));
     for word in &WORDS {
-        column.push(&value(rt, *word)).expect(rt, "a text");
+        push(rt, &mut column, &value(rt, *word));
     }
     if letters > 0 {
-        let mut long = String::new(rt.alloc());
-        for _ in 0..letters {
-            long.push_str("x").expect(rt, MEMORY);
-        }
-        column.push(&Value::Text(long)).expect(rt, "a long text");
+        push(rt, &mut column, &long_text(rt, letters));
     }
     let values = column.finish(rt.alloc(), &[]);
     of_array(rt, values.expect(rt, "no dictionary is asked for"))
@@ -77,29 +81,40 @@ fn of_array(rt: &(impl Abort + AllocGlobal), values: Array) -> Dictionary {
     Dictionary::from_array(rt.alloc(), values).expect(rt, MEMORY)
 }
 
-// That the first `count` rows by this dictionary have the records of the table.
-fn check_rows(rt: &(impl Abort + AllocGlobal), count: usize, letters: usize) {
-    let schema = schema_of(rt, encoded(rt));
-    let mut column = builder(rt, &schema);
-    let mut want = String::new(rt.alloc());
-    for (index, record) in &ROWS[..count.min(12)] {
-        let value = match index {
-            Some(index) => Value::Int(*index),
-            None => Value::Null,
-        };
-        column.push(&value).expect(rt, "an index of 8 bits");
-        want.push_str(record).expect(rt, MEMORY);
+fn index(index: Option<i128>) -> Value {
+    match index {
+        Some(index) => Value::Int(index),
+        None => Value::Null,
+    }
+}
+
+// The column of the first `count` rows by the dictionary with one more text of so many letters.
+fn column(rt: &(impl Abort + AllocGlobal), schema: &Schema, count: usize, letters: usize) -> Array {
+    let mut column = builder(rt, schema);
+    for (at, _) in &ROWS[..count.min(12)] {
+        push(rt, &mut column, &index(*at));
     }
     let mut listed = Vec::new(rt.alloc());
     listed.push((3, dictionary(rt, letters))).expect(rt, MEMORY);
-    let array = column
+    column
         .finish(rt.alloc(), &listed)
-        .expect(rt, "indices of the dictionary");
-    let mut columns = Vec::new(rt.alloc());
-    columns.push(array).expect(rt, MEMORY);
-    let batch = Batch::new(schema, columns, column.len()).expect(rt, "one column as asked");
-    let found = rows(rt.alloc(), 7, &batch, 0, batch.rows()).expect(rt, MEMORY);
-    assert_eq!(rt; found.as_slice(), want.as_bytes());
+        .expect(rt, "indices of the dictionary")
+}
+
+// What the first `count` rows show.
+fn wanted(rt: &(impl Abort + AllocGlobal), count: usize) -> String {
+    let mut want = String::new(rt.alloc());
+    for (_, record) in &ROWS[..count.min(12)] {
+        want.push_str(record).expect(rt, MEMORY);
+    }
+    want
+}
+
+// That the first `count` rows by this dictionary have the records of the table.
+fn check_rows(rt: &(impl Abort + AllocGlobal), count: usize, letters: usize) {
+    let schema = schema_of(rt, encoded(rt));
+    let column = column(rt, &schema, count, letters);
+    are_records(rt, &records_of(rt, schema, column), &wanted(rt, count));
 }
 
 #[test]

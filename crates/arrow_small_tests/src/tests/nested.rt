@@ -1,9 +1,10 @@
 // Truth values, lists and structs as records, and numbers of few digits.
 
-use super::columns::{MEMORY, builder, field, records, schema};
+use super::columns::{MEMORY, are_records, builder, field, push, records, schema};
 use arrow_array::Value;
-use arrow_types::{BitWidth, DataType};
+use arrow_types::{BitWidth, DataType, Schema};
 use std::process::Abort;
+use std::rc::Rc;
 
 // Numbers of 16 bits.
 const NUMBER: DataType = DataType::Int {
@@ -19,73 +20,84 @@ fn pair(rt: &(impl Abort + AllocGlobal), number: Value, bytes: Value) -> Value {
     Value::Struct(values)
 }
 
+// The type of such structs.
+fn pairs(rt: &(impl Abort + AllocGlobal)) -> DataType {
+    let mut fields = Vec::new(rt.alloc());
+    fields.push(field(rt, "n", NUMBER)).expect(rt, MEMORY);
+    fields
+        .push(field(rt, "long name", DataType::Binary))
+        .expect(rt, MEMORY);
+    DataType::Struct(fields)
+}
+
+fn bytes(rt: &(impl Abort + AllocGlobal), bytes: &[u8]) -> Value {
+    Value::Bytes(Vec::from_slice(rt.alloc(), bytes).expect(rt, MEMORY))
+}
+
+// That a column of these values has these records.
+fn are_shown(rt: &(impl Abort + AllocGlobal), schema: Rc<Schema>, values: &[Value], want: &str) {
+    let mut column = builder(rt, &schema);
+    for value in values {
+        push(rt, &mut column, value);
+    }
+    are_records(rt, &records(rt, schema, &column), want);
+}
+
 #[test]
 fn structs_name_their_fields(rt: HostRuntime) {
-    let mut fields = Vec::new(rt.alloc());
-    fields.push(field(&rt, "n", NUMBER)).expect(&rt, MEMORY);
-    fields
-        .push(field(&rt, "long name", DataType::Binary))
-        .expect(&rt, MEMORY);
-    let schema = schema(&rt, DataType::Struct(fields));
-    let mut column = builder(&rt, &schema);
-    let bytes = Value::Bytes(Vec::from_slice(rt.alloc(), &[0xab, 0x0c]).expect(&rt, MEMORY));
+    let mut values = Vec::new(rt.alloc());
     for value in [
-        pair(&rt, Value::Int(-300), bytes),
+        pair(&rt, Value::Int(-300), bytes(&rt, &[0xab, 0x0c])),
         pair(&rt, Value::Null, Value::Null),
         Value::Null,
     ] {
-        column.push(&value).expect(&rt, "a value of the column");
+        values.push(value).expect(&rt, MEMORY);
     }
-    let found = records(&rt, schema, &column);
-    let want = b"7,{n=-300;long name=ab0c}\n7,{n=null;long name=null}\n7,\n".as_slice();
-    assert_eq!(rt; found.as_slice(), want);
+    let want = "7,{n=-300;long name=ab0c}\n7,{n=null;long name=null}\n7,\n";
+    are_shown(&rt, schema(&rt, pairs(&rt)), &values, want);
 }
 
 #[test]
 fn truth_values_are_words(rt: HostRuntime) {
+    let values = [Value::Bool(true), Value::Bool(false), Value::Null];
     let schema = schema(&rt, DataType::Bool);
-    let mut column = builder(&rt, &schema);
-    for value in [Value::Bool(true), Value::Bool(false), Value::Null] {
-        column.push(&value).expect(&rt, "a value of the column");
+    are_shown(&rt, schema, &values, "7,true\n7,false\n7,\n");
+}
+
+// The schema of a column of lists.
+fn lists(rt: &(impl Abort + AllocGlobal), items: DataType) -> Rc<Schema> {
+    let item = Box::new(rt.alloc(), field(rt, "item", items)).expect(rt, MEMORY);
+    schema(rt, DataType::List(item))
+}
+
+fn list(rt: &(impl Abort + AllocGlobal), items: [Value; 3]) -> Value {
+    let mut values = Vec::new(rt.alloc());
+    for item in items {
+        values.push(item).expect(rt, MEMORY);
     }
-    let found = records(&rt, schema, &column);
-    assert_eq!(rt; found.as_slice(), b"7,true\n7,false\n7,\n".as_slice());
+    Value::List(values)
 }
 
 #[test]
 fn lists_part_their_items(rt: HostRuntime) {
-    let item = Box::new(rt.alloc(), field(&rt, "item", NUMBER)).expect(&rt, MEMORY);
-    let schema = schema(&rt, DataType::List(item));
-    let mut column = builder(&rt, &schema);
-    let mut values = Vec::new(rt.alloc());
-    for value in [Value::Int(1), Value::Null, Value::Int(-3)] {
-        values.push(value).expect(&rt, MEMORY);
-    }
-    for value in [
-        Value::List(values),
+    let values = [
+        list(&rt, [Value::Int(1), Value::Null, Value::Int(-3)]),
         Value::List(Vec::new(rt.alloc())),
         Value::Null,
-    ] {
-        column.push(&value).expect(&rt, "a value of the column");
-    }
-    let found = records(&rt, schema, &column);
-    assert_eq!(rt; found.as_slice(), b"7,[1;null;-3]\n7,[]\n7,\n".as_slice());
+    ];
+    are_shown(
+        &rt,
+        lists(&rt, NUMBER),
+        &values,
+        "7,[1;null;-3]\n7,[]\n7,\n",
+    );
 }
 
 #[test]
 fn lists_of_truth_values(rt: HostRuntime) {
-    let item = Box::new(rt.alloc(), field(&rt, "item", DataType::Bool)).expect(&rt, MEMORY);
-    let schema = schema(&rt, DataType::List(item));
-    let mut column = builder(&rt, &schema);
-    let mut values = Vec::new(rt.alloc());
-    for value in [Value::Bool(true), Value::Null, Value::Bool(false)] {
-        values.push(value).expect(&rt, MEMORY);
-    }
-    column
-        .push(&Value::List(values))
-        .expect(&rt, "a value of the column");
-    let found = records(&rt, schema, &column);
-    assert_eq!(rt; found.as_slice(), b"7,[true;null;false]\n".as_slice());
+    let values = [list(&rt, [Value::Bool(true), Value::Null, Value::Bool(false)])];
+    let schema = lists(&rt, DataType::Bool);
+    are_shown(&rt, schema, &values, "7,[true;null;false]\n");
 }
 
 #[test]
@@ -93,11 +105,8 @@ fn numbers_of_few_digits(rt: HostRuntime) {
     let schema = schema(&rt, NUMBER);
     let mut column = builder(&rt, &schema);
     for number in [0, 1, 9, 10, 11, 99, 100, -1, -9, -10] {
-        column
-            .push(&Value::Int(number))
-            .expect(&rt, "a value of the column");
+        push(&rt, &mut column, &Value::Int(number));
     }
-    let found = records(&rt, schema, &column);
-    let want = b"7,0\n7,1\n7,9\n7,10\n7,11\n7,99\n7,100\n7,-1\n7,-9\n7,-10\n".as_slice();
-    assert_eq!(rt; found.as_slice(), want);
+    let want = "7,0\n7,1\n7,9\n7,10\n7,11\n7,99\n7,100\n7,-1\n7,-9\n7,-10\n";
+    are_records(&rt, &records(&rt, schema, &column), want);
 }
