@@ -1,7 +1,7 @@
 // Arrays of the same values with other dictionaries.
 
 use super::kinds::{Kind, builder};
-use super::told::told;
+use super::told::{is_number, is_text, told};
 use super::values::Step::{self, Int, List, Null, Struct, Text};
 use super::values::value;
 use arrow_array::{Array, Dictionary};
@@ -137,9 +137,7 @@ static FINISHES: [(Kind, &[&[Step]], &[Finish]); 7] = [
 fn pushed(rt: &(impl Abort + AllocGlobal), kind: Kind, values: &[&[Step]]) -> ArrayBuilder {
     let mut column = builder(rt, kind);
     for steps in values {
-        column
-            .push(&value(rt, steps))
-            .expect(rt, "a value that fits");
+        push_one(rt, &mut column, steps);
     }
     column
 }
@@ -176,6 +174,15 @@ fn all_listed(rt: &(impl Abort + AllocGlobal), all: &[Listed]) -> Vec<(i64, Dict
     dictionaries
 }
 
+// That a fault, or none, has this number.
+fn is_fault(rt: &impl Abort, row: usize, number: u8, want: u8) {
+    is_number(rt, row, usize::from(number), usize::from(want));
+}
+
+fn is_told(rt: &(impl Abort + AllocGlobal), row: usize, array: &Array, want: &str) {
+    is_text(rt, row, &told(rt, array), want);
+}
+
 fn is_finished(
     rt: &(impl Abort + AllocGlobal),
     row: usize,
@@ -184,14 +191,12 @@ fn is_finished(
     fault: u8,
     want: &str,
 ) {
-    let dictionaries = all_listed(rt, all);
-    match column.finish(rt.alloc(), &dictionaries) {
+    match column.finish(rt.alloc(), &all_listed(rt, all)) {
         Ok(array) => {
-            let text = told(rt, &array);
-            assert_eq!(rt; text.as_str(), want, "row {row}");
-            assert!(rt; fault == 0, "row {row}");
+            is_told(rt, row, &array, want);
+            is_fault(rt, row, 0, fault);
         }
-        Err(other) => assert_eq!(rt; other.number(), fault, "row {row}"),
+        Err(other) => is_fault(rt, row, other.number(), fault),
     }
 }
 
@@ -223,21 +228,29 @@ fn array_of(rt: &(impl Abort + AllocGlobal), column: &ArrayBuilder) -> Array {
     column.finish(rt.alloc(), &[]).expect(rt, "an array")
 }
 
+// That the array which a builder now makes has the same slots as another one, or that it has not.
+fn is_same(rt: &(impl Abort + AllocGlobal), before: &Array, column: &ArrayBuilder, want: bool) {
+    let is_same = are_same(before, &array_of(rt, column));
+    assert_eq!(rt; is_same, want);
+}
+
+// Puts one list more into the column.
+fn push_one(rt: &(impl Abort + AllocGlobal), column: &mut ArrayBuilder, steps: &[Step]) {
+    column
+        .push(&value(rt, steps))
+        .expect(rt, "a value that fits");
+}
+
 #[test]
 fn grown_after_an_array_was_made(rt: HostRuntime) {
     let first: [&[Step]; 2] = [&[Int(1), Int(2), List(2)], &[Null]];
     let mut column = pushed(&rt, Kind::List, &first);
     let before = array_of(&rt, &column);
-    let again = array_of(&rt, &column);
-    assert!(&rt; are_same(&before, &again));
-    let more = value(&rt, &[Int(3), List(1)]);
-    column.push(&more).expect(&rt, "a value that fits");
-    let after = array_of(&rt, &column);
-    assert!(&rt; !are_same(&before, &after));
-    let text = told(&rt, &before);
-    assert_eq!(&rt; text.as_str(), "[1;2;], null");
-    let grown = told(&rt, &after);
-    assert_eq!(&rt; grown.as_str(), "[1;2;], null, [3;]");
+    is_same(&rt, &before, &column, true);
+    push_one(&rt, &mut column, &[Int(3), List(1)]);
+    is_same(&rt, &before, &column, false);
+    is_told(&rt, 0, &before, "[1;2;], null");
+    is_told(&rt, 1, &array_of(&rt, &column), "[1;2;], null, [3;]");
 }
 
 // An index, how many values there are, and the number of the fault or 0.
@@ -250,17 +263,22 @@ static AMONG_MANY: [(Kind, i128, usize, u8); 6] = [
     (Kind::SignedIndices, -128, 300, 2),
 ];
 
+// The number of the fault of an index into so many letters, or 0.
+fn fault_among(rt: &(impl Abort + AllocGlobal), kind: Kind, index: i128, count: usize) -> u8 {
+    let column = pushed(rt, kind, &[&[Int(index)]]);
+    let mut listed = Vec::new(rt.alloc());
+    listed.push((7, letters(rt, count))).expect(rt, MEMORY);
+    match column.finish(rt.alloc(), &listed) {
+        Ok(_) => 0,
+        Err(other) => other.number(),
+    }
+}
+
 #[test]
 fn indices_of_8_bits_with_and_without_a_sign(rt: HostRuntime) {
     for (row, (kind, index, count, fault)) in AMONG_MANY.iter().enumerate() {
-        let column = pushed(&rt, *kind, &[&[Int(*index)]]);
-        let mut listed = Vec::new(rt.alloc());
-        listed.push((7, letters(&rt, *count))).expect(&rt, MEMORY);
-        let told = match column.finish(rt.alloc(), &listed) {
-            Ok(_) => 0,
-            Err(other) => other.number(),
-        };
-        assert!(&rt; told == *fault, "row {row}");
+        let told = fault_among(&rt, *kind, *index, *count);
+        is_fault(&rt, row, told, *fault);
     }
 }
 
@@ -290,10 +308,10 @@ const ARRAY_FAULTS: [(ArrayFault, &str); 3] = [
 fn faults_are_told(rt: HostRuntime) {
     for &(fault, want) in &PUSH_FAULTS {
         let got = format!(in rt.alloc(); "{} {fault}", fault.number()).expect(&rt, MEMORY);
-        assert_eq!(&rt; got.as_str(), want);
+        is_text(&rt, usize::from(fault.number()), &got, want);
     }
     for &(fault, want) in &ARRAY_FAULTS {
         let got = format!(in rt.alloc(); "{} {fault}", fault.number()).expect(&rt, MEMORY);
-        assert_eq!(&rt; got.as_str(), want);
+        is_text(&rt, usize::from(fault.number()), &got, want);
     }
 }

@@ -216,6 +216,11 @@ fn sum_of(so_far: u32, body: &Body) -> u32 {
         .fold(placed, |so_far, byte| sum(so_far, u32::from(*byte)))
 }
 
+fn sum_stored(rt: &(impl Abort + AllocGlobal), so_far: u32, align: Align, column: &Array) -> u32 {
+    let body = store(rt.alloc(), align, std::slice::from_ref(column));
+    sum_of(so_far, &body.expect(rt, MEMORY).expect(rt, "a body"))
+}
+
 // The sum over how the columns of a kind and a length are laid out.
 fn laid_out(rt: &(impl Abort + AllocGlobal), kind: Kind, length: usize) -> u32 {
     let mut total = 1;
@@ -228,9 +233,7 @@ fn laid_out(rt: &(impl Abort + AllocGlobal), kind: Kind, length: usize) -> u32 {
     ] {
         let column = column(rt, kind, length, nulls);
         for align in [Align::Eight, Align::SixtyFour] {
-            let body = store(rt.alloc(), align, std::slice::from_ref(&column));
-            let body = body.expect(rt, MEMORY).expect(rt, "a body");
-            total = sum_of(total, &body);
+            total = sum_stored(rt, total, align, &column);
         }
     }
     total

@@ -2,7 +2,7 @@
 // of some hundred nulls passes 2^40 bytes of data, and is refused before it takes any.
 
 use super::kinds::{Kind, builder};
-use super::told::told;
+use super::told::{is_number, is_text, told};
 use super::values::Step::{self, Bytes, Int, List, Null, Struct};
 use super::values::value;
 use arrow_array::Value;
@@ -67,17 +67,29 @@ fn row_of(rt: &(impl Abort + AllocGlobal), kind: Kind, wanted: &Items) -> Value 
     Value::Struct(parts)
 }
 
+// That a push is answered with the number of this fault or 0, and that there are so many slots.
+fn is_answered(
+    rt: &impl Abort,
+    row: usize,
+    answer: Result<(), PushFault>,
+    fault: u8,
+    (len, taken): (usize, usize),
+) {
+    let told = match answer {
+        Ok(()) => 0,
+        Err(fault) => fault.number(),
+    };
+    is_number(rt, row, usize::from(told), usize::from(fault));
+    is_number(rt, row, len, taken);
+}
+
 fn is_limited(rt: &(impl Abort + AllocGlobal), row: usize, limit: &Limit) {
     let (kind, wanted, fault) = limit;
     let mut column = builder(rt, *kind);
     column.push(&Value::Null).expect(rt, "a null");
-    let told = match column.push(&row_of(rt, *kind, wanted)) {
-        Ok(()) => 0,
-        Err(fault) => fault.number(),
-    };
-    assert!(rt; told == *fault, "row {row}");
+    let answer = column.push(&row_of(rt, *kind, wanted));
     let taken = if *fault == 0 { 2 } else { 1 };
-    assert!(rt; column.len() == taken, "row {row}");
+    is_answered(rt, row, answer, *fault, (column.len(), taken));
 }
 
 #[test]
@@ -94,15 +106,14 @@ fn refused_values_leave_no_count(rt: HostRuntime) {
     let mut column = builder(&rt, kind);
     for _ in 0..3 {
         let answer = column.push(&items(&rt, &(913, &[Null])));
-        assert!(&rt; answer == Err(PushFault::TooLong));
+        is_answered(&rt, 0, answer, 2, (column.len(), 0));
     }
     column
         .push(&value(&rt, &[List(0)]))
         .expect(&rt, "a list without items");
     column.push(&Value::Null).expect(&rt, "a null");
     let array = column.finish(rt.alloc(), &[]).expect(&rt, "an array");
-    let text = told(&rt, &array);
-    assert_eq!(&rt; text.as_str(), "[], null");
+    is_text(&rt, 0, &told(&rt, &array), "[], null");
 }
 
 // 2^18 * 2^22 is 2^40: all items but the last are counted before the list is refused. What is taken
@@ -110,10 +121,8 @@ fn refused_values_leave_no_count(rt: HostRuntime) {
 #[test]
 fn refused_items_leave_no_count(rt: HostRuntime) {
     let mut column = builder(&rt, Kind::WideList(1 << 22));
-    let answer = column.push(&items(&rt, &(1 << 18, &[Null])));
-    assert!(&rt; answer == Err(PushFault::TooLong));
-    column
-        .push(&value(&rt, &[Null, List(1)]))
-        .expect(&rt, "a list of one item");
-    assert!(&rt; column.len() == 1);
+    let refused = column.push(&items(&rt, &(1 << 18, &[Null])));
+    is_answered(&rt, 0, refused, 2, (column.len(), 0));
+    let taken = column.push(&value(&rt, &[Null, List(1)]));
+    is_answered(&rt, 1, taken, 0, (column.len(), 1));
 }

@@ -2,7 +2,7 @@
 // the end.
 
 use super::kinds::{Kind, builder};
-use super::told::told;
+use super::told::{is_number, is_text, told};
 use super::values::Step::{self, Bool, Bytes, Int, List, Null, Struct, Text};
 use super::values::value;
 use arrow_build::{ArrayBuilder, PushFault};
@@ -273,7 +273,7 @@ fn is_pushed(
     };
     let answer = column.push(&value(rt, steps));
     assert!(rt; answer == wanted, "row {row}");
-    assert!(rt; column.len() == before + usize::from(fits), "row {row}");
+    is_number(rt, row, column.len(), before + usize::from(fits));
 }
 
 fn is_built(rt: &(impl Abort + AllocGlobal), row: usize, kind: Kind, pushes: &[Push], want: &str) {
@@ -282,8 +282,7 @@ fn is_built(rt: &(impl Abort + AllocGlobal), row: usize, kind: Kind, pushes: &[P
         is_pushed(rt, row, &mut column, steps, *fits);
     }
     let array = column.finish(rt.alloc(), &[]).expect(rt, "an array");
-    let text = told(rt, &array);
-    assert_eq!(rt; text.as_str(), want, "row {row}");
+    is_text(rt, row, &told(rt, &array), want);
 }
 
 #[test]

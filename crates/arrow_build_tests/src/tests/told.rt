@@ -86,6 +86,16 @@ fn push_items(rt: &impl Abort, text: &mut String, column: &Array, j: usize)
     text.push_str("]").expect(rt, MEMORY);
 }
 
+// That these are the same number of a row.
+pub(super) fn is_number(rt: &impl Abort, row: usize, number: usize, want: usize) {
+    assert_eq!(rt; number, want, "row {row}");
+}
+
+// That the text that a row shows is this.
+pub(super) fn is_text(rt: &impl Abort, row: usize, text: &str, want: &str) {
+    assert_eq!(rt; text, want, "row {row}");
+}
+
 pub(super) fn told(rt: &(impl Abort + AllocGlobal), column: &Array) -> String {
     let mut text = String::new(rt.alloc());
     for j in 0..column.len() {
