@@ -6,6 +6,7 @@ import os
 import re
 import shutil
 import subprocess
+import time
 
 TOP = os.path.dirname(os.path.dirname(os.path.abspath(__file__)))
 KIT = os.path.dirname(subprocess.run(["rt", "doc"], capture_output=True, text=True, check=True).stdout.strip())
@@ -132,6 +133,7 @@ class Kept:
         self.anew, self.folder = anew, f"{place}/atticoregano-{what}"
         try:
             os.makedirs(self.folder, mode=0o700, exist_ok=True)
+            self.forget()
         except OSError:
             self.folder = None
 
@@ -159,11 +161,8 @@ class Kept:
         except OSError:
             pass
 
-    def forget_old(self, days=30):
+    def forget(self, days=30):
         """Lets go what no run has asked for in so many days."""
-        import time
-        if not self.folder:
-            return
         for it in os.scandir(self.folder):
             if time.time() - it.stat().st_mtime > days * 86400:
                 os.remove(it.path)
