@@ -2,22 +2,23 @@
 use Rattle.std.specs.Prelude.{◌≡◌, ℕ, List, length, Result, Ok, Err, refl, codes}
 use Rattle.std.specs.Coded.{Coded, code_by, coded×, coded_ℕ, coded_list}
 use Rattle.std.specs.List.{AllByRecursion}
-use Rattle.arrow_types.specs.Field.{Fields, width}
+use Rattle.arrow_types.specs.Field.{width}
+use Rattle.arrow_types.specs.Notes.{SchemaShape}
 use Rattle.arrow_types.specs.Schema.{IsSchema}
-use Rattle.arrow_types.specs.Stored.{fields_code}
+use Rattle.arrow_types.specs.Stored.{schema_code}
 use Rattle.arrow_array.specs.Column.{Column, AreOf, column_code}
 use Rattle.arrow_array.specs.declared.batch.BatchFault.{BatchFault}
 use Rattle.arrow_array.specs.declared.batch.BatchFault.TheVariants.{ColumnCount, ColumnType, ColumnLength, IndexRange, Memory}
 
--- What a record batch is to contracts, a table: the fields of a schema, a column of each, and the number of rows.
+-- What a record batch is to contracts, a table: a schema, a column of each, and the number of rows.
 pub record Table : Type 0 where
-  pub schema : Fields
+  pub schema : SchemaShape
   pub columns : List Column
   pub rows : ℕ
 
 -- how the logic stores batches
 abbrev pub table_code : Coded Table
-table_code = code_by (Fields × (List Column × ℕ)) (coded× fields_code (coded× (coded_list column_code) coded_ℕ))
+table_code = code_by (SchemaShape × (List Column × ℕ)) (coded× schema_code (coded× (coded_list column_code) coded_ℕ))
     (λ t. (t.schema, (t.columns, t.rows))) (λ p. record { schema = p.0; columns = p.1.0; rows = p.1.1 }) (λ _. refl)
 
 -- each column has a slot for each row
@@ -26,18 +27,18 @@ HaveRows rows columns = AllByRecursion (λ (c : Column). length c.raw ≡ rows) 
 
 -- what is known of every batch
 pub record IsTable (t : Table) : Type 0 where
-  pub schema : IsSchema t.schema
-  pub typed : AreOf t.schema t.columns
+  pub schema : IsSchema t.schema.fields
+  pub typed : AreOf t.schema.fields t.columns
   pub long : HaveRows t.rows t.columns
 
 -- An answer to a schema, columns and a number of rows: the batch of just these where no fault applies, else the first
 -- fault that does. The last two faults apply to no columns at all: an array with an index that has no value is never
 -- made, and nothing grows.
-abbrev pub Judges : Result Table BatchFault → Fields → List Column → ℕ → Type 0
-Judges (Ok batch) schema columns rows = AreOf schema columns × HaveRows rows columns × (batch ≡ record { schema = schema; columns = columns; rows = rows })
-Judges (Err ColumnCount) schema columns rows = length columns ≡ width schema → ⊥
-Judges (Err ColumnType) schema columns rows = (length columns ≡ width schema) × (AreOf schema columns → ⊥)
-Judges (Err ColumnLength) schema columns rows = AreOf schema columns × (HaveRows rows columns → ⊥)
+abbrev pub Judges : Result Table BatchFault → SchemaShape → List Column → ℕ → Type 0
+Judges (Ok batch) schema columns rows = AreOf schema.fields columns × HaveRows rows columns × (batch ≡ record { schema = schema; columns = columns; rows = rows })
+Judges (Err ColumnCount) schema columns rows = length columns ≡ width schema.fields → ⊥
+Judges (Err ColumnType) schema columns rows = (length columns ≡ width schema.fields) × (AreOf schema.fields columns → ⊥)
+Judges (Err ColumnLength) schema columns rows = AreOf schema.fields columns × (HaveRows rows columns → ⊥)
 Judges (Err IndexRange) schema columns rows = ⊥
 Judges (Err Memory) schema columns rows = ⊥
 

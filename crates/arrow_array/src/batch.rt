@@ -119,7 +119,7 @@ impl Batch {
     /// The batch of these columns, which are known to be those of the schema and to have `rows`
     /// slots each, as those of a body that was looked at are. Nothing is compared.
     pub fn new_unchecked(schema: Rc<Schema>, columns: Vec<Array>, rows: usize) -> Batch
-        requires typed { AreOf schema.value columns.items }
+        requires typed { AreOf schema.value.fields columns.items }
         requires long { HaveRows rows columns.items }
         ensures { result
             ≡ record { schema = schema.value; columns = columns.items; rows = rows } }

@@ -5,6 +5,7 @@ use Rattle.std.specs.Fmt.{decimal}
 use Rattle.std.specs.List.{flat_map, range_with_len}
 use Rattle.csv.specs.Writing.{default_writer, row_text}
 use Rattle.arrow_types.specs.Field.{Fields, none, more}
+use Rattle.arrow_types.specs.Notes.{SchemaShape}
 use Rattle.arrow_array.specs.Batch.{Table, table_code}
 use Rattle.arrow_array.specs.Column.{Column}
 use Rattle.arrow_array.specs.PlainValue.{value_at}
@@ -50,6 +51,6 @@ batches_text number [] = []
 batches_text number (batch ∷ batches) = batch_rows number batch 0 batch.rows ++ batches_text (number + 1) batches
 
 -- the records of a stream: those of its schema and of its batches, none without a schema
-abbrev pub stream_text : Option Fields → List Table → List ℕ
+abbrev pub stream_text : Option SchemaShape → List Table → List ℕ
 stream_text None batches = []
-stream_text (Some schema) batches = header_record schema ++ batches_text 0 batches
+stream_text (Some shape) batches = header_record shape.fields ++ batches_text 0 batches

@@ -20,7 +20,7 @@ use std::marker::Model;
 
 /// The first record: the word `batch` and the names of the columns.
 pub fn header(alloc: Global, schema: &Schema) -> Result<Vec<u8>, AllocError>
-    ensures { IfOk result (λ text. text.items ≡ header_record schema.now) }
+    ensures { IfOk result (λ text. text.items ≡ header_record schema.now.fields) }
 {
     let mut record = ByteRecord::new(alloc);
     record.push_field(b"batch")?;

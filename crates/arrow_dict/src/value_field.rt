@@ -47,6 +47,7 @@ impl ValueField {
             nullable: true,
             data_type: data_type.copy(alloc)?,
             dictionary: None,
+            metadata: Vec::new(alloc),
         };
         let types = shared_types(alloc, slice::from_ref(&field))?;
         Ok(ValueField { field, types })

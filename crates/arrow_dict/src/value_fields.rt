@@ -40,8 +40,8 @@ impl ValueFields {
     /// that of all. The time grows as n log n with the number of fields, and the type of each id is
     /// copied once.
     pub fn of(alloc: Global, schema: &Schema) -> Result<ValueFields, AllocError>
-        ensures names { IfOk result (λ fields. NameSame fields (dictionary_fields schema.now)) }
-        ensures known { IfOk result (λ _. IsSchema schema.now) }
+        ensures names { IfOk result (λ fields. NameSame fields (dictionary_fields schema.now.fields)) }
+        ensures known { IfOk result (λ _. IsSchema schema.now.fields) }
     {
         let mut found = ValueFields {
             fields: BTreeMap::new(alloc),

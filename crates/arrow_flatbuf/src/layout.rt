@@ -61,6 +61,15 @@ pub fn table_end(place: usize, slots: &[Slot]) -> usize
     table_place(place, slots.len()) + slots_end(4, slots)
 }
 
+/// The first place behind a string of these bytes that is laid out from a place on: behind the 0
+/// byte that follows its own.
+pub fn bytes_end(place: usize, bytes: &[u8]) -> usize
+    requires { place < 2 ^ 32 }
+    ensures { result ≡ up 4 place + 4 + length bytes.now + 1 }
+{
+    aligned(place, Width::Four) + 4 + bytes.len() + 1
+}
+
 /// The first place behind a text that is laid out from a place on: behind the 0 byte that follows
 /// its own.
 pub fn text_end(place: usize, text: &str) -> usize

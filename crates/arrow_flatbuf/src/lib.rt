@@ -5,8 +5,8 @@
 //! trusts a number of the bytes: what it answers lies inside them.
 //!
 //! - [`Root::open`] gives the table that the first offset names.
-//! - [`Table`] answers a field by its number: a number, a table, a text, a vector, its absence, or
-//!   [`Unreadable`].
+//! - [`Table`] answers a field by its number: a number, a table, a text, bytes, a vector, its
+//!   absence, or [`Unreadable`].
 //! - [`Vector`] answers an element by its index.
 //!
 //! What stands at a place is defined once, as a function of the whole list of bytes, in the terms
@@ -18,7 +18,7 @@
 //! | number, offset | `specs/Place.antt`: `number_at`, `target_at`, `behind` |
 //! | vtable, entry of a field | `specs/Vtable.antt`: `vtable_at`, `entry` |
 //! | table, place of a field | `specs/Table.antt`: `table_at`, `field_place` |
-//! | text | `specs/Text.antt`: `text_at` |
+//! | text, bytes of a string | `specs/Text.antt`: `text_at`, `bytes_at` |
 //! | vector | `specs/Vector.antt`: `vector_at` |
 //! | answer on a field | `specs/Answers.antt`: `Answers` |
 //!
@@ -40,7 +40,7 @@ mod vector;
 mod vtable;
 mod writer;
 
-pub use layout::{Slot, Width, aligned, table_end, table_place, text_end};
+pub use layout::{Slot, Width, aligned, bytes_end, table_end, table_place, text_end};
 pub use root::Root;
 pub use table::{Table, Unreadable};
 pub use vector::Vector;

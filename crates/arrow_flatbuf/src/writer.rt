@@ -98,13 +98,20 @@ impl TableWriter {
 
     /// Appends a text (FlatBuffers internals, "Strings"): the count of its bytes at a multiple of
     /// 4, its bytes, and a 0 byte.
-    #[tactic(auto, using(crate::proofs::Writing::text_done))]
     pub fn text(&mut self, text: &str) -> Result<(), AllocError>
         ensures { OnOk result (self.new ≡ self.old ++ text_bytes (length self.old) text.now) }
     {
+        self.bytes(text.as_bytes())
+    }
+
+    /// Appends a string of any bytes, as [`TableWriter::text`] does those of a text.
+    #[tactic(auto, using(crate::proofs::Writing::text_done))]
+    pub fn bytes(&mut self, bytes: &[u8]) -> Result<(), AllocError>
+        ensures { OnOk result (self.new ≡ self.old ++ text_bytes (length self.old) bytes.now) }
+    {
         self.pad(4)?;
-        self.number(Width::Four, text.len() as u64)?;
-        self.append(text.as_bytes())?;
+        self.number(Width::Four, bytes.len() as u64)?;
+        self.append(bytes)?;
         self.append(&[0])
     }
 

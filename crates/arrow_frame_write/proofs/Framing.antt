@@ -1,7 +1,8 @@
 -- Why what is appended is a frame.
-use Rattle.std.proofs.Common.{◌≡◌, ℕ, ◌+◌, ◌-◌, ◌*◌, ◌/◌, ◌%◌, ◌≤◌, ◌<◌, ◌^◌, pos, true, List, [], ◌∷◌, ◌++◌, length, replicate, Some, Ok, refl, sym, ap, ◌∙◌, subst, arith, append_assoc, length-append}
+use Rattle.std.proofs.Common.{◌≡◌, ℕ, ◌+◌, ◌-◌, ◌*◌, ◌/◌, ◌%◌, ◌≤◌, ◌<◌, ◌^◌, pos, true, List, [], ◌∷◌, ◌++◌, length, replicate, Some, refl, sym, ap, ◌∙◌, subst, arith, append_assoc, length-append}
 use Rattle.arrow_bits.specs.Numbers.{number_bytes}
 use Rattle.arrow_types.specs.Limits.{LimitNumbers}
+use Rattle.arrow_meta.specs.Judges.{MetadataMeans}
 use Rattle.arrow_meta.specs.Means.{PlainMessage}
 use Rattle.byteorder.specs.Endian.{little_bytes}
 use Rattle.arrow_flatbuf.specs.Layout.{gap, zeros}
@@ -56,6 +57,10 @@ module _ (align : ℕ) (m : PlainMessage) (body : List ℕ) (size n : ℕ) (some
       let s = sized m n sends in
       let text : text_bytes (message_tree m) ≤ metadata_size m = text_short m in
       let allows : Allows limits m = record { text = omega (arith, text, same_size, is_size, high, metadata_fit, s.size, len); body = omega (arith, told, body_fits) } in
+      let means = (written_means m n (replicate (size - length (metadata m)) 0) typed sends limits).1 allows in
+      let v5 : MetadataMeans limits (padded m size) (record { version = pos 4; header = m.header; body_len = length body }) =
+      subst (λ v. MetadataMeans limits (padded m size) (record { version = v; header = m.header; body_len = length body })) s.version
+      (subst (λ k. MetadataMeans limits (padded m size) (record { version = m.version; header = m.header; body_len = k })) told means) in
       subst (λ k. IsFrameOf limits k m.header body (framed m size body)) (sym same_size) (record {
         prefix = prefix_bytes size;
         metadata = padded m size;
@@ -64,7 +69,7 @@ module _ (align : ℕ) (m : PlainMessage) (body : List ℕ) (size n : ℕ) (some
         number = prefix_number size is_low;
         sized = length-append (metadata m) (replicate (size - length (metadata m)) 0) ∙ omega (arith, is_high, length-replicate {A = ℕ} (size - length (metadata m)) 0);
         some = omega (arith, is_high, some_bytes m);
-        means = (m, (written_means m n (replicate (size - length (metadata m)) 0) typed sends limits).1 allows, ap (λ k. record { content = m.header; body_len = k }) (sym told));
+        means = v5;
         bytes = refl;
       })
 

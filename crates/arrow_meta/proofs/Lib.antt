@@ -15,4 +15,5 @@ pub mod Shallow
 pub mod Least
 pub mod OneAnswer
 pub mod Decoding
+pub mod Counting
 pub mod Straight

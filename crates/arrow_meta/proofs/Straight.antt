@@ -1,6 +1,6 @@
 -- The tables of a batch, read field by field, are those of a tree that lies there.
-use Rattle.std.proofs.Common.{◌≡◌, ℕ, ◌≤◌, inl, inr, ℤ, pos, Bool, true, false, not, ◌==◌, List, [], ◌∷◌, map, Option, Some, None, option_map, is_some, arith, refl, sym, ap, subst, ◌∙◌}
-use Rattle.std.specs.Int.{cast_signed, w64}
+use Rattle.std.proofs.Common.{◌≡◌, ℕ, ◌≤◌, inl, inr, ℤ, Bool, true, false, not, ◌==◌, List, [], ◌∷◌, map, Option, Some, None, option_map, is_some, arith, refl, sym, ap, subst, ◌∙◌}
+use Rattle.std.specs.Int.{cast_signed, w16, w64}
 use Rattle.std.proofs.lemmas.Bool.{le-ltb}
 use Rattle.arrow_flatbuf.specs.Place.{behind}
 use Rattle.arrow_flatbuf.specs.Table.{TableAt, table_at, field_place}
@@ -16,14 +16,13 @@ use Rattle.arrow_meta.specs.declared.kinds.TableKind.{TableKind}
 use Rattle.arrow_meta.specs.declared.kinds.TableKind.TheVariants as kinds
 use Rattle.arrow_meta.specs.Conditions.{any, any_in, lacks_table}
 use Rattle.arrow_meta.specs.Codes.{header_kind}
-use Rattle.arrow_meta.specs.Faults.{body_of, fault_of, header_conditions, header_in, header_of, is_bad_length, is_compressed, least, version_of}
+use Rattle.arrow_meta.specs.Faults.{body_of, fault_of, header_conditions, header_in, header_of, is_bad_length, is_compressed, is_read_version, least, version_of}
 use Rattle.arrow_meta.specs.Grows.{root}
-use Rattle.arrow_meta.specs.Judges.{MetadataMeans}
 use Rattle.arrow_meta.specs.Kinds.{Spot, code_at, header_table, opened, spots_of, standing, table_of_header}
 use Rattle.arrow_meta.specs.Lies.{AllStand, Stands, layer, layer_at, leaf_layer, number_layer, pairs_from, table_layer}
 use Rattle.arrow_meta.specs.Means.{PlainBatch, PlainHeader, batch, batch_of, buffer_of, dictionary, node_of}
 use Rattle.arrow_meta.specs.Parts.{leaf_number_or, pairs_in}
-use Rattle.arrow_meta.specs.Straight.{IsBare, HasNumber, HasPairs, IsHeader}
+use Rattle.arrow_meta.specs.Straight.{IsBare, HasNumber, HasPairs, IsHeader, MeansBare}
 use Rattle.arrow_meta.specs.Trees.{Leaf, absent, number, pairs, leaf, table, Trees, none, more}
 use Rattle.arrow_meta.specs.Within.{text_length}
 use Rattle.arrow_types.specs.Limits.{LimitNumbers}
@@ -70,7 +69,7 @@ batch_there t says n nodes buffers length first second absent_3 e f g =
       opens = refl;
       fields = more (leaf a.0) (more (leaf b.0) (more (leaf c.0) (more (leaf absent) none)));
       stand = (a.1, (b.1, (c.1, (d, tt))));
-      bare = record { levels_none = refl; visits_none = refl; text_none = rw (a.3, b.3, c.3) refl };
+      bare = record { levels_none = refl; visits_none = refl; entries_none = refl; text_none = rw (a.3, b.3, c.3) refl };
       whole = refl;
       sound = λ body_len. refl;
       says = rw (a.2, b.2, c.2, ← e, ← f, ← g) refl;
@@ -105,7 +104,7 @@ dictionary_there t rows says p id flag z is_delta first last at there same of e 
       opens = refl;
       fields = more (leaf a.0) (more (table kinds.RecordBatch of.fields) (more (leaf c.0) none));
       stand = (a.1, (table_there t.bytes kinds.RecordBatch (field_place t 1) p rows of.fields at there same stand, (c.1, tt)));
-      bare = record { levels_none = rw bare.levels_none refl; visits_none = rw bare.visits_none refl; text_none = rw (a.3, bare.text_none, c.3) refl };
+      bare = record { levels_none = rw bare.levels_none refl; visits_none = rw bare.visits_none refl; entries_none = rw bare.entries_none refl; text_none = rw (a.3, bare.text_none, c.3) refl };
       whole = rw whole refl;
       sound = λ body_len. rw plain refl;
       says = rw (a.2, c.2, rows_say, e, f) refl;
@@ -126,13 +125,13 @@ good_length : (most n : ℕ) → n ≤ 9223372036854775807 → n ≤ most → is
 good_length most n h k = rw (le-ltb 9223372036854775807 n h, le-ltb most n k) refl
 
 -- the message of a header's table, and of the numbers beside it
-pub message_there : (limits : LimitNumbers) (bytes : List ℕ) (t inner : TableAt) (p code body_len : ℕ) (kind : HeaderKind) (h : PlainHeader)
-    → behind table_at bytes 0 ≡ Some t → t.bytes ≡ bytes → HasNumber 2 t 0 4 → HasNumber 1 t 1 code → HasNumber 8 t 3 body_len
+pub message_there : (limits : LimitNumbers) (bytes : List ℕ) (t inner : TableAt) (p version_number code body_len : ℕ) (z : ℤ) (kind : HeaderKind) (h : PlainHeader)
+    → behind table_at bytes 0 ≡ Some t → t.bytes ≡ bytes → HasNumber 2 t 0 version_number → is_read_version version_number ≡ true → z ≡ cast_signed w16 version_number → HasNumber 1 t 1 code → HasNumber 8 t 3 body_len
     → field_place t 2 ≡ Some p → behind table_at t.bytes p ≡ Some inner → inner.bytes ≡ t.bytes → header_kind code ≡ Some kind → IsHeader kind inner h
     → body_len ≤ 9223372036854775807 → body_len ≤ limits.max_body
-    → MetadataMeans limits bytes (record { version = pos 4; header = h; body_len = body_len })
-message_there limits bytes t inner p code body_len kind h there same version coded length at inside same_bytes named of low high =
-    let a = number_there t forms.Short 2 0 4 (λ q. refl) version in
+    → MeansBare limits bytes (record { version = z; header = h; body_len = body_len })
+message_there limits bytes t inner p version_number code body_len z kind h there same version read signed coded length at inside same_bytes named of low high =
+    let a = number_there t forms.Short 2 0 version_number (λ q. refl) version in
     let b = number_there t forms.Byte 1 1 code (λ q. refl) coded in
     let d = number_there t forms.Long 8 3 body_len (λ q. refl) length in
     let xs = more (leaf a.0) (more (leaf b.0) (more (table of.opened of.fields) (more (leaf d.0) none))) in
@@ -144,15 +143,21 @@ message_there limits bytes t inner p code body_len kind h there same version cod
     let in_header : header_in xs ≡ Some kind = rw b.2 named in
     let own : least (header_conditions (header_in xs) (body_of xs) (header_of xs)) ≡ None = rw in_header (of.sound (body_of xs)) in
     let sound : fault_of limits.max_body xs ≡ None =
-    passed (any_in lacks_table xs) (not (version_of xs == 4)) (not (is_some (header_in xs))) (is_bad_length limits.max_body (body_of xs)) (header_conditions (header_in xs) (body_of xs) (header_of xs))
-    (rw of.whole refl) (rw a.2 refl) (rw in_header refl) (rw d.2 (good_length limits.max_body body_len low high)) own in (
+    passed (any_in lacks_table xs) (not (is_read_version (version_of xs))) (not (is_some (header_in xs))) (is_bad_length limits.max_body (body_of xs)) (header_conditions (header_in xs) (body_of xs) (header_of xs))
+    (rw of.whole refl) (rw (a.2, read) refl) (rw in_header refl) (rw d.2 (good_length limits.max_body body_len low high)) own in (
       table kinds.Message xs,
       record {
         lies = root_lies bytes (table kinds.Message xs) root_stands;
         within = record {
-          shallow = record { levels_within = rw of.bare.levels_none (omega arith); visits_within = rw of.bare.visits_none (omega arith) };
+          shallow = record { levels_within = rw of.bare.levels_none (omega arith); visits_within = rw of.bare.visits_none (omega arith); entries_within = rw of.bare.entries_none (omega arith) };
           text_within = rw (a.3, b.3, of.bare.text_none, d.3) (omega arith);
         };
       },
-      record { sound = sound; same = rw in_header (rw (a.2, d.2, of.says) refl) },
+      record { sound = sound; same = rw in_header (rw (a.2, d.2, of.says, signed) refl) },
+      record {
+        levels_none = rw of.bare.levels_none refl;
+        visits_none = rw of.bare.visits_none refl;
+        entries_none = rw of.bare.entries_none refl;
+        text_none = rw (a.3, b.3, of.bare.text_none, d.3) refl;
+      },
     )

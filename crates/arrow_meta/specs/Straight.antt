@@ -10,9 +10,11 @@ use Rattle.arrow_meta.specs.Conditions.{any, lacks_table}
 use Rattle.arrow_meta.specs.Faults.{header_conditions, least}
 use Rattle.arrow_meta.specs.Kinds.{spots_of, table_of_header}
 use Rattle.arrow_meta.specs.Lies.{AllStand, pairs_from}
-use Rattle.arrow_meta.specs.Means.{PlainHeader, header_by}
+use Rattle.arrow_meta.specs.Judges.{IsTreeOf}
+use Rattle.arrow_meta.specs.Means.{PlainHeader, PlainMessage, Means, header_by}
+use Rattle.arrow_types.specs.Limits.{LimitNumbers}
 use Rattle.arrow_meta.specs.Trees.{Tree, Trees, table}
-use Rattle.arrow_meta.specs.Within.{levels, text_bytes, visits}
+use Rattle.arrow_meta.specs.Within.{levels, entries, text_bytes, visits}
 
 -- field i holds the number n of w bytes, or is absent, which means 0
 abbrev pub HasNumber : ℕ → TableAt → ℕ → ℕ → Type 0
@@ -25,10 +27,11 @@ HasPairs t i ps =
     ((field_place t i ≡ None) × (ps ≡ []))
     ⊎ ((p : ℕ) × (v : VectorAt) × (field_place t i ≡ Some p) × (behind (vector_at 16) t.bytes p ≡ Some v) × (pairs_from t.bytes v.place v.count ≡ ps))
 
--- a table without names, zones and Field tables
+-- a table without names, zones, Field tables and KeyValue tables
 pub record IsBare (x : Tree) : Type 0 where
   pub levels_none : levels x ≡ 0
   pub visits_none : visits x ≡ 0
+  pub entries_none : entries x ≡ 0
   pub text_none : text_bytes x ≡ 0
 
 -- a table is the header of this kind, has none of its faults, and says this
@@ -41,3 +44,7 @@ pub record IsHeader (kind : HeaderKind) (t : TableAt) (h : PlainHeader) : Type 0
   pub whole : any lacks_table (table opened fields) ≡ false
   pub sound : (body_len : ℕ) → least (header_conditions (Some kind) body_len (table opened fields)) ≡ None
   pub says : header_by kind fields ≡ h
+
+-- The bytes of a metadata mean this message, by a tree that is bare.
+abbrev pub MeansBare : LimitNumbers → List ℕ → PlainMessage → Type 0
+MeansBare limits bytes m = (x : Tree) × IsTreeOf bytes limits.max_metadata x × Means limits.max_body x m × IsBare x

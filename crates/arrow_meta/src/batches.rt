@@ -5,15 +5,14 @@
 //! tree.
 ghost use Rattle.std.specs.Prelude.{◌≡◌, ◌≤◌, ℕ, List, IfOk, IfSome, Some, map};
 ghost use Rattle.arrow_meta.specs.Codes.{header_kind};
-ghost use Rattle.arrow_meta.specs.Judges.{MetadataMeans};
 ghost use Rattle.arrow_meta.specs.Lies.{pairs_from};
 ghost use Rattle.arrow_meta.specs.Means.{batch, batch_view, buffer_of, header_view, message_view};
 ghost use Rattle.arrow_meta.specs.Means.{node_of};
-ghost use Rattle.arrow_meta.specs.Straight.{HasNumber, HasPairs, IsHeader};
+ghost use Rattle.arrow_meta.specs.Straight.{HasNumber, HasPairs, IsHeader, MeansBare};
 ghost use Rattle.arrow_meta.specs.declared.codes.HeaderKind.{HeaderKind as Kind};
 ghost use Rattle.arrow_meta.specs.declared.codes.HeaderKind.TheVariants as headers;
 
-use crate::build::V5;
+use crate::build::{is_read_version, version_of};
 use crate::codes::{HeaderKind, header_kind};
 use crate::message::{Header, Message, RecordBatch};
 use arrow_flatbuf::{Root, Table, Vector};
@@ -23,21 +22,21 @@ use std::alloc::{AllocError, Global};
 /// The message where the metadata are those of a batch that has no fault, None where they are not,
 /// or where a growth is refused.
 pub(crate) fn batch_message(alloc: Global, bytes: &[u8], limits: &Limits) -> Option<Message>
-    ensures means { IfSome result (λ m. MetadataMeans limits.now bytes.now (message_view m)) }
+    ensures means { IfSome result (λ m. MeansBare limits.now bytes.now (message_view m)) }
     ensures length { IfSome result (λ m. m.body_len ≤ limits.now.max_body) }
 {
     let table = Root::open(bytes)?;
     let version = number_in(&table, 0, 2)?;
     let code = number_in(&table, 1, 1)?;
     let body_len = number_in(&table, 3, 8)?;
-    if version != 4 || body_len > limits.max_body() {
+    if !is_read_version(version) || body_len > limits.max_body() {
         return None;
     }
     let Ok(Some(inner)) = table.table(2) else {
         return None;
     };
     Some(Message {
-        version: V5,
+        version: version_of(version),
         header: batch_header(alloc, code, &inner)?,
         body_len,
     })

@@ -23,7 +23,7 @@
 //! |---|---|
 //! | tables and their fields | `specs/Kinds.antt`: `forms_of`, `header_table`, `type_table` |
 //! | the tree that lies at a place | `specs/Lies.antt`: `Lies`, `LiesAtRoot` |
-//! | levels, visits, bytes of names | `specs/Within.antt`: `IsWithin` |
+//! | levels, visits, pairs, bytes of names | `specs/Within.antt`: `IsWithin` |
 //! | where reading asks for memory | `specs/Grows.antt`: `Grows`, `GrowsAtRoot` |
 //! | the conditions of faults | `specs/Conditions.antt`; `specs/Faults.antt`: `fault_of` |
 //! | what fields say of their dictionaries | `specs/Sharing.antt`: `type_of`, `encoded_view` |
@@ -31,9 +31,10 @@
 //! | what the tables of a batch say | `specs/Straight.antt`: `HasNumber`, `HasPairs`, `IsHeader` |
 //! | what is answered | `specs/Judges.antt`: `Judges`, `Decodes` |
 //!
-//! However offsets share tables and texts, the work is bounded: each visit of a Field table is
-//! counted in one function before the table is opened, and the bytes of each name or zone in one
-//! before they are copied. Recursion goes no deeper than the levels of fields, and room for the
+//! However offsets share tables and texts, the work is bounded: each visit of a Field table and of a
+//! KeyValue table is counted in one function before the table is opened, and the bytes of each name,
+//! zone, key or value in one before they are copied. [`decode_counted`] tells these counts, as
+//! [`Work`], whatever it answers. Recursion goes no deeper than the levels of fields, and room for the
 //! elements of a vector is made only after all of them were found to lie inside.
 #![tactic(auto)]
 
@@ -41,6 +42,7 @@ mod batches;
 mod build;
 mod codes;
 mod conditions;
+mod counter;
 mod fault;
 mod field_tables;
 mod fields;
@@ -49,14 +51,17 @@ mod kinds;
 pub mod laws;
 mod message;
 mod message_tree;
+mod metadata;
 mod nesting;
 mod own_parts;
 mod parts;
 mod reader;
 mod sharing;
+mod work;
 
 pub use fault::{BatchKind, MetaFault};
-pub use judging::{decode, judge};
+pub use judging::{decode, decode_counted, judge};
 pub use message::{Header, Message, RecordBatch};
 pub use message_tree::MessageTree;
-pub use reader::tree;
+pub use reader::{tree, tree_counted};
+pub use work::Work;

@@ -132,6 +132,7 @@ fn text_of(leaf: &Leaf) -> Option<&str>
         Leaf::Text(text) => Some(text.as_str()),
         Leaf::Absent => None,
         Leaf::Number(_) => None,
+        Leaf::Bytes(_) => None,
         Leaf::Pairs(_) => None,
         Leaf::Present => None,
     }

@@ -9,6 +9,7 @@ use Rattle.arrow_types.specs.DataType as tags
 use Rattle.arrow_types.specs.DataType.{Tag, bits_of, time_width_of}
 use Rattle.arrow_types.specs.Field as columns
 use Rattle.arrow_types.specs.Field.{Head, Fields, width}
+use Rattle.arrow_types.specs.Notes.{KeyValue, Notes, unnoted, noted, SchemaShape}
 use Rattle.arrow_types.specs.Schema.{is_wide, is_too_wide}
 use Rattle.arrow_types.specs.declared.data_type.BitWidth.{BitWidth}
 use Rattle.arrow_types.specs.declared.data_type.BitWidth.TheVariants as widths
@@ -18,15 +19,17 @@ use Rattle.arrow_types.specs.declared.field.Encoding.{Encoding}
 use Rattle.arrow_types.specs.declared.node.FieldNode.{FieldNode}
 use Rattle.arrow_types.specs.declared.node.Buffer.{Buffer}
 use Rattle.arrow_meta.specs.Codes.{type_code, bit_width}
-use Rattle.arrow_meta_write.specs.Layouts.{flag, tag_code, node_pair, buffer_pair}
+use Rattle.arrow_meta_write.specs.Layouts.{flag, tag_code, node_pair, buffer_pair, first_pairs, first_below, first_rest}
 use Rattle.arrow_meta.specs.Means.{PlainBatch, PlainHeader, schema, dictionary, batch, node_of}
 use Rattle.arrow_meta.specs.Means.{buffer_of, batch_of, meaning_of}
 use Rattle.arrow_meta.specs.Parts.{parts}
 use Rattle.arrow_meta.specs.SchemaMeaning.{encoding_in, tag_by, head_of, fields_from}
+use Rattle.arrow_meta.specs.SchemaMeaning.{metadata_from, metadata_in, notes_from, schema_in}
+use Rattle.arrow_meta.specs.Trees.{Trees}
 use Rattle.arrow_meta_write.specs.Writable.{IsLong, HasLongId, AreFields, AreNodes, AreBuffers}
-use Rattle.arrow_meta_write.specs.Writable.{IsBatch, IsHeader}
+use Rattle.arrow_meta_write.specs.Writable.{AreNotesOf, IsBatch, IsHeader}
 use Rattle.arrow_meta_write.specs.Written.{type_tree, encoding_tree, field_parts, field_trees}
-use Rattle.arrow_meta_write.specs.Written.{batch_parts, message_parts}
+use Rattle.arrow_meta_write.specs.Written.{batch_parts, message_parts, pair_trees, metadata_tree, schema_parts}
 
 -- a number that 64 bits hold
 long_again : (z : ℤ) → IsLong z → cast_signed w64 (cast_unsigned w64 z) ≡ z
@@ -87,8 +90,8 @@ encoding_again (Some e) h = λ i. Some (record {
 })
 
 -- a field without its children
-head_again : (head : Head) (children : Fields) → HasLongId head.encoding → is_wide head.tag ≡ false → head_of (field_parts head (field_trees children)) ≡ head
-head_again head children h narrow = λ i. record {
+head_again : (head : Head) (ps : List KeyValue) (below : Trees) → HasLongId head.encoding → is_wide head.tag ≡ false → head_of (field_parts head ps below) ≡ head
+head_again head ps below h narrow = λ i. record {
   name = head.name;
   nullable = flag_again head.nullable i;
   tag = tag_again head.tag narrow i;
@@ -96,12 +99,39 @@ head_again head children h narrow = λ i. record {
 }
 
 -- the fields of a vector
-pub fields_again : (fields : Fields) → AreFields fields → is_too_wide fields ≡ false → fields_from (field_trees fields) ≡ fields
-fields_again columns.none h narrow = refl
-fields_again (columns.more head children rest) h narrow =
+pub fields_again : (fields : Fields) (n : Notes) → AreFields fields → is_too_wide fields ≡ false → fields_from (field_trees fields n) ≡ fields
+fields_again columns.none n h narrow = refl
+fields_again (columns.more head children rest) n h narrow =
     let both = or_parts (is_wide head.tag || is_too_wide children) (is_too_wide rest) narrow in
     let own = or_parts (is_wide head.tag) (is_too_wide children) both.0 in
-    λ i. columns.more (head_again head children h.0.id own.0 i) (fields_again children h.1 own.1 i) (fields_again rest h.2 both.1 i)
+    let below = field_trees children (first_below n) in
+    λ i. columns.more (head_again head (first_pairs n) below h.0.id own.0 i) (fields_again children (first_below n) h.1 own.1 i) (fields_again rest (first_rest n) h.2 both.1 i)
+
+-- the pairs of a vector
+pairs_again : (ps : List KeyValue) → metadata_from (pair_trees ps) ≡ ps
+pairs_again [] = refl
+pairs_again (p ∷ ps) = λ i. p ∷ pairs_again ps i
+
+-- the pairs of a table
+metadata_again : (ps : List KeyValue) → metadata_in (metadata_tree ps) ≡ ps
+metadata_again [] = refl
+metadata_again (p ∷ ps) = pairs_again (p ∷ ps)
+
+-- what is noted at the fields of a vector
+notes_again : (fields : Fields) (n : Notes) → AreNotesOf fields n → notes_from (field_trees fields n) ≡ n
+notes_again columns.none unnoted h = refl
+notes_again columns.none (noted ps below later) h = absurd h
+notes_again (columns.more head children rest) unnoted h = absurd h
+notes_again (columns.more head children rest) (noted ps below later) h =
+    λ i. noted (metadata_again ps i) (notes_again children below h.0 i) (notes_again rest later h.1 i)
+
+-- a schema
+schema_again : (s : SchemaShape) → IsHeader (schema s) → schema_in (schema_parts s) ≡ s
+schema_again s h = λ i. record {
+  fields = fields_again s.fields s.notes h.1.fields_are h.0.schema.bounded.narrow i;
+  pairs = metadata_again s.pairs i;
+  notes = notes_again s.fields s.notes h.1.notes_are i;
+}
 
 nodes_again : (ns : List FieldNode) → AreNodes ns → map node_of (map node_pair ns) ≡ ns
 nodes_again [] h = refl
@@ -122,9 +152,9 @@ batch_again b h = λ i. record {
 -- a message of this header, whose version keeps its sign in 16 bits
 pub message_again : (x : PlainHeader) (version : ℤ) (body_len : ℕ) → IsHeader x → cast_signed w16 (cast_unsigned w16 version) ≡ version
     → meaning_of (message_parts (record { version = version; header = x; body_len = body_len })) ≡ Some (record { version = version; header = x; body_len = body_len })
-message_again (schema fields) version body_len h signed = λ i. Some (record {
+message_again (schema s) version body_len h signed = λ i. Some (record {
   version = signed i;
-  header = schema (fields_again fields h.1 h.0.bounded.narrow i);
+  header = schema (schema_again s h i);
   body_len = body_len;
 })
 message_again (dictionary id delta b) version body_len h signed = λ i. Some (record {

@@ -1,12 +1,13 @@
 -- No fault holds of the tree that a message is written as.
 use Rattle.std.proofs.Common.{◌≡◌, ℕ, ◌^◌, ◌<◌, ◌≤◌, ℤ, pos, Bool, true, false, ◌||◌, ◌&&◌, not, nat_lt}
-use Rattle.std.proofs.Common.{Option, Some, None, is_some, refl, sym, ap, subst, ◌∙◌, arith}
+use Rattle.std.proofs.Common.{List, [], ◌∷◌, Option, Some, None, is_some, refl, sym, ap, subst, ◌∙◌, arith}
 use Rattle.std.specs.Option.{is_none}
 use Rattle.std.proofs.lemmas.Bool.{le-ltb, or_parts}
 use Rattle.arrow_types.specs.DataType as tags
 use Rattle.arrow_types.specs.DataType.{Tag, bits_of, time_width_of}
 use Rattle.arrow_types.specs.Field as columns
 use Rattle.arrow_types.specs.Field.{Head, Fields, width}
+use Rattle.arrow_types.specs.Notes.{KeyValue, Notes}
 use Rattle.arrow_types.specs.Schema.{is_nested, is_wide, is_too_wide, types_differ, dictionary_fields}
 use Rattle.arrow_types.specs.declared.data_type.BitWidth.{BitWidth}
 use Rattle.arrow_types.specs.declared.data_type.BitWidth.TheVariants as widths
@@ -20,21 +21,33 @@ use Rattle.arrow_meta.specs.Conditions.{any, any_in, lacks_table, is_unsupported
 use Rattle.arrow_meta.specs.Conditions.{children_fit}
 use Rattle.arrow_meta.specs.Faults.{fault_of, is_bad_length}
 use Rattle.arrow_meta.specs.Kinds.{type_table}
-use Rattle.arrow_meta_write.specs.Layouts.{tag_code}
+use Rattle.arrow_meta_write.specs.Layouts.{tag_code, first_pairs, first_below, first_rest}
 use Rattle.arrow_meta.specs.Means.{PlainHeader, schema, dictionary, batch, PlainMessage}
-use Rattle.arrow_meta.specs.Parts.{is_table}
+use Rattle.arrow_meta.specs.Parts.{is_table, parts}
 use Rattle.arrow_meta.specs.SchemaMeaning.{fields_from}
 use Rattle.arrow_meta.specs.Trees.{table, Trees}
 use Rattle.arrow_meta_write.specs.Writable.{IsField, AreFields, IsHeader}
 use Rattle.arrow_meta_write.specs.Written.{type_tree, encoding_tree, field_parts, field_trees}
-use Rattle.arrow_meta_write.specs.Written.{message_parts}
+use Rattle.arrow_meta_write.specs.Written.{message_parts, pair_tree, pair_trees, metadata_tree}
 use Rattle.arrow_meta_write.proofs.Again.{fields_again}
 use Rattle.arrow_types.proofs.Clashes.{none_differ}
 
--- A Field table passes a test where it does itself, and its type, its encoding and its children do.
-field_passes : (test : TableKind → Trees → Bool) (head : Head) (children : Fields) → test kinds.Field (field_parts head (field_trees children)) ≡ false → any test (type_tree head.tag) ≡ false → any test (encoding_tree head.encoding) ≡ false
-    → any_in test (field_trees children) ≡ false → any test (table kinds.Field (field_parts head (field_trees children))) ≡ false
-field_passes test head children here type encoding below = rw (here, type, encoding, below) refl
+-- Pairs pass a test that no KeyValue table fails.
+pairs_pass : (test : TableKind → Trees → Bool) → ((xs : Trees) → test kinds.KeyValue xs ≡ false) → (ps : List KeyValue) → any_in test (pair_trees ps) ≡ false
+pairs_pass test none_fails [] = refl
+pairs_pass test none_fails (p ∷ ps) =
+    let here = none_fails (parts (pair_tree p)) in
+    let later = pairs_pass test none_fails ps in
+    rw (here, later) refl
+
+metadata_pass : (test : TableKind → Trees → Bool) → ((xs : Trees) → test kinds.KeyValue xs ≡ false) → (ps : List KeyValue) → any test (metadata_tree ps) ≡ false
+metadata_pass test none_fails [] = refl
+metadata_pass test none_fails (p ∷ ps) = pairs_pass test none_fails (p ∷ ps)
+
+-- A Field table passes a test where it does itself, and its type, its encoding, its children and its pairs do.
+field_passes : (test : TableKind → Trees → Bool) (head : Head) (ps : List KeyValue) (below : Trees) → test kinds.Field (field_parts head ps below) ≡ false → any test (type_tree head.tag) ≡ false → any test (encoding_tree head.encoding) ≡ false
+    → any_in test below ≡ false → any test (metadata_tree ps) ≡ false → any test (table kinds.Field (field_parts head ps below)) ≡ false
+field_passes test head ps below here type encoding children noted = rw (here, type, encoding, children, noted) refl
 
 -- No table is lacking.
 
@@ -78,11 +91,12 @@ has_type tags.large_list = refl
 has_type (tags.fixed_size_binary width) = refl
 has_type (tags.duration unit) = refl
 
-lacks_none : (fields : Fields) → any_in lacks_table (field_trees fields) ≡ false
-lacks_none columns.none = refl
-lacks_none (columns.more head children rest) =
-    let here = field_passes lacks_table head children (has_type head.tag) (whole_type head.tag) (whole_encoding head.encoding) (lacks_none children) in
-    let later = lacks_none rest in
+lacks_none : (fields : Fields) (n : Notes) → any_in lacks_table (field_trees fields n) ≡ false
+lacks_none columns.none n = refl
+lacks_none (columns.more head children rest) n =
+    let below = field_trees children (first_below n) in
+    let here = field_passes lacks_table head (first_pairs n) below (has_type head.tag) (whole_type head.tag) (whole_encoding head.encoding) (lacks_none children (first_below n)) (metadata_pass lacks_table (λ xs. refl) (first_pairs n)) in
+    let later = lacks_none rest (first_rest n) in
     rw (here, later) refl
 
 -- Nothing is unsupported.
@@ -126,11 +140,12 @@ known_type tags.large_list = refl
 known_type (tags.fixed_size_binary width) = refl
 known_type (tags.duration unit) = refl
 
-all_supported : (fields : Fields) → any_in is_unsupported (field_trees fields) ≡ false
-all_supported columns.none = refl
-all_supported (columns.more head children rest) =
-    let here = field_passes is_unsupported head children (known_type head.tag) (supported_type head.tag) (supported_encoding head.encoding) (all_supported children) in
-    let later = all_supported rest in
+all_supported : (fields : Fields) (n : Notes) → any_in is_unsupported (field_trees fields n) ≡ false
+all_supported columns.none n = refl
+all_supported (columns.more head children rest) n =
+    let below = field_trees children (first_below n) in
+    let here = field_passes is_unsupported head (first_pairs n) below (known_type head.tag) (supported_type head.tag) (supported_encoding head.encoding) (all_supported children (first_below n)) (metadata_pass is_unsupported (λ xs. refl) (first_pairs n)) in
+    let later = all_supported rest (first_rest n) in
     rw (here, later) refl
 
 -- Nothing is a misfit.
@@ -179,19 +194,21 @@ fitting_encoding : (e : Option Encoding) → any is_misfit (encoding_tree e) ≡
 fitting_encoding None = refl
 fitting_encoding (Some e) = let known = known_width e.index.bits in rw known refl
 
-fitting_field : (head : Head) (children : Fields) → IsField head children → AreFields children → is_too_wide children ≡ false → is_misfit kinds.Field (field_parts head (field_trees children)) ≡ false
-fitting_field head children h below narrow =
-    let fits : children_fit (type_code (tag_code head.tag)) (width (fields_from (field_trees children))) ≡ true =
-    ap (λ fs. children_fit (type_code (tag_code head.tag)) (width fs)) (fields_again children below narrow) ∙ h.fits in
+fitting_field : (head : Head) (ps : List KeyValue) (children : Fields) (n : Notes) → IsField head children → AreFields children → is_too_wide children ≡ false → is_misfit kinds.Field (field_parts head ps (field_trees children n)) ≡ false
+fitting_field head ps children n h below narrow =
+    let fits : children_fit (type_code (tag_code head.tag)) (width (fields_from (field_trees children n))) ≡ true =
+    ap (λ fs. children_fit (type_code (tag_code head.tag)) (width fs)) (fields_again children n below narrow) ∙ h.fits in
     ap not fits
 
-all_fitting : (fields : Fields) → AreFields fields → is_too_wide fields ≡ false → any_in is_misfit (field_trees fields) ≡ false
-all_fitting columns.none h narrow = refl
-all_fitting (columns.more head children rest) h narrow =
+all_fitting : (fields : Fields) (n : Notes) → AreFields fields → is_too_wide fields ≡ false → any_in is_misfit (field_trees fields n) ≡ false
+all_fitting columns.none n h narrow = refl
+all_fitting (columns.more head children rest) n h narrow =
     let both = or_parts (is_wide head.tag || is_too_wide children) (is_too_wide rest) narrow in
     let own = or_parts (is_wide head.tag) (is_too_wide children) both.0 in
-    let here = field_passes is_misfit head children (fitting_field head children h.0 h.1 own.1) (fitting_type head.tag own.0) (fitting_encoding head.encoding) (all_fitting children h.1 own.1) in
-    let later = all_fitting rest h.2 both.1 in
+    let ps = first_pairs n in
+    let below = first_below n in
+    let here = field_passes is_misfit head ps (field_trees children below) (fitting_field head ps children below h.0 h.1 own.1) (fitting_type head.tag own.0) (fitting_encoding head.encoding) (all_fitting children below h.1 own.1) (metadata_pass is_misfit (λ xs. refl) ps) in
+    let later = all_fitting rest (first_rest n) h.2 both.1 in
     rw (here, later) refl
 
 -- The body's length is neither negative nor over the limit.
@@ -206,15 +223,20 @@ abbrev message_of : PlainHeader → ℕ → PlainMessage
 message_of x n = record { version = pos 4; header = x; body_len = n }
 
 sound_header : (max n : ℕ) (x : PlainHeader) → IsHeader x → n ≤ max → n < 2 ^ 63 → fault_of max (message_parts (message_of x n)) ≡ None
-sound_header max n (schema fields) h low small =
+sound_header max n (schema s) h low small =
+    let fields = s.fields in
+    let is = h.0.schema in
     let length = good_length max n low small in
-    let lacks = lacks_none fields in
-    let supported = all_supported fields in
-    let fitting = all_fitting fields h.1 h.0.bounded.narrow in
-    let again = fields_again fields h.1 h.0.bounded.narrow in
-    let flat : is_nested (fields_from (field_trees fields)) ≡ false = ap is_nested again ∙ h.0.bounded.flat in
-    let shared : types_differ (dictionary_fields (fields_from (field_trees fields))) ≡ false = ap (λ fs. types_differ (dictionary_fields fs)) again ∙ none_differ (dictionary_fields fields) h.0.one_type in
-    rw (length, lacks, supported, fitting, flat, shared) refl
+    let lacks = lacks_none fields s.notes in
+    let supported = all_supported fields s.notes in
+    let fitting = all_fitting fields s.notes h.1.fields_are is.bounded.narrow in
+    let again = fields_again fields s.notes h.1.fields_are is.bounded.narrow in
+    let flat : is_nested (fields_from (field_trees fields s.notes)) ≡ false = ap is_nested again ∙ is.bounded.flat in
+    let shared : types_differ (dictionary_fields (fields_from (field_trees fields s.notes))) ≡ false = ap (λ fs. types_differ (dictionary_fields fs)) again ∙ none_differ (dictionary_fields fields) is.one_type in
+    let lacks_noted = metadata_pass lacks_table (λ xs. refl) s.pairs in
+    let supported_noted = metadata_pass is_unsupported (λ xs. refl) s.pairs in
+    let fitting_noted = metadata_pass is_misfit (λ xs. refl) s.pairs in
+    rw (length, lacks, supported, fitting, flat, shared, lacks_noted, supported_noted, fitting_noted) refl
 sound_header max n (dictionary id delta b) h low small = let length = good_length max n low small in rw length refl
 sound_header max n (batch b) h low small = let length = good_length max n low small in rw length refl
 

@@ -1,5 +1,5 @@
 -- What a message is laid out as can be written.
-use Rattle.std.proofs.Common.{◌≡◌, ◌+◌, ◌^◌, ◌<◌, ℤ, pos, negsuc, Bool, true, false, ◌||◌, List, [], ◌∷◌}
+use Rattle.std.proofs.Common.{◌≡◌, ◌+◌, ◌^◌, ◌<◌, ◌≤◌, ℤ, pos, negsuc, Bool, true, false, ◌||◌, List, [], ◌∷◌}
 use Rattle.std.proofs.Common.{map, Option, Some, None, ap, arith}
 use Rattle.std.specs.Int.{cast_signed, cast_unsigned, w16, w64}
 use Rattle.std.proofs.lemmas.Bool.{or_parts, ltb-false}
@@ -11,6 +11,7 @@ use Rattle.arrow_types.specs.DataType as tags
 use Rattle.arrow_types.specs.DataType.{Tag, bits_of}
 use Rattle.arrow_types.specs.Field as columns
 use Rattle.arrow_types.specs.Field.{Head, Fields}
+use Rattle.arrow_types.specs.Notes.{KeyValue, Notes}
 use Rattle.arrow_types.specs.Schema.{is_wide, is_too_wide}
 use Rattle.arrow_types.specs.declared.data_type.BitWidth.{BitWidth}
 use Rattle.arrow_types.specs.declared.data_type.BitWidth.TheVariants as widths
@@ -22,6 +23,8 @@ use Rattle.arrow_types.specs.declared.node.FieldNode.{FieldNode}
 use Rattle.arrow_types.specs.declared.node.Buffer.{Buffer}
 use Rattle.arrow_meta_write.specs.Layouts.{flag, tag_code, time_number, int_cells, type_cells}
 use Rattle.arrow_meta_write.specs.Layouts.{with_encoding, field_nodes, node_pair, buffer_pair}
+use Rattle.arrow_meta_write.specs.Layouts.{pair_nodes, metadata_cells, first_pairs, first_below}
+use Rattle.arrow_meta_write.specs.Layouts.{first_rest}
 use Rattle.arrow_meta_write.specs.Layouts.{batch_cells, header_code, header_cells, message_node}
 use Rattle.arrow_meta.specs.Means.{PlainBatch, PlainHeader, schema, dictionary, batch, PlainMessage}
 use Rattle.arrow_meta_write.specs.Writable.{IsLong, HasTextZone, HasLongId, AreFields, AreNodes}
@@ -114,14 +117,27 @@ with_encoding_count : (e : Option Encoding) (rest : Cells) → laid.count (with_
 with_encoding_count None rest = omega arith
 with_encoding_count (Some e) rest = omega arith
 
-fields_fit : (fields : Fields) → AreFields fields → is_too_wide fields ≡ false → NodesFit (field_nodes fields)
-fields_fit columns.none h narrow = tt
-fields_fit (columns.more head children rest) h narrow =
+-- the tables of pairs
+pair_nodes_fit : (ps : List KeyValue) → NodesFit (pair_nodes ps)
+pair_nodes_fit [] = tt
+pair_nodes_fit (p ∷ ps) = ((omega arith, (tt, (tt, tt))), pair_nodes_fit ps)
+
+metadata_fits : (ps : List KeyValue) → CellsFit (metadata_cells ps)
+metadata_fits [] = tt
+metadata_fits (p ∷ ps) = (pair_nodes_fit (p ∷ ps), tt)
+
+pub metadata_count : (ps : List KeyValue) → laid.count (metadata_cells ps) ≤ 1
+metadata_count [] = omega arith
+metadata_count (p ∷ ps) = omega arith
+
+fields_fit : (fields : Fields) (n : Notes) → AreFields fields → is_too_wide fields ≡ false → NodesFit (field_nodes fields n)
+fields_fit columns.none n h narrow = tt
+fields_fit (columns.more head children rest) n h narrow =
     let both = or_parts (is_wide head.tag || is_too_wide children) (is_too_wide rest) narrow in
     let own = or_parts (is_wide head.tag) (is_too_wide children) both.0 in
-    let last : Cells = laid.offset (laid.tables (field_nodes children)) laid.last in (
+    let last : Cells = laid.offset (laid.tables (field_nodes children (first_below n))) (metadata_cells (first_pairs n)) in (
       (
-        omega (arith, with_encoding_count head.encoding last),
+        omega (arith, with_encoding_count head.encoding last, metadata_count (first_pairs n)),
         (
           h.0.name,
           (
@@ -130,13 +146,13 @@ fields_fit (columns.more head children rest) h narrow =
               code_fits head.tag,
               (
                 type_fits head.tag h.0.zone own.0,
-                encoding_fits head.encoding last h.0.id (fields_fit children h.1 own.1, tt),
+                encoding_fits head.encoding last h.0.id (fields_fit children (first_below n) h.1 own.1, metadata_fits (first_pairs n)),
               ),
             ),
           ),
         ),
       ),
-      fields_fit rest h.2 both.1,
+      fields_fit rest (first_rest n) h.2 both.1,
     )
 
 nodes_fit : (ns : List FieldNode) → AreNodes ns → PairsFit (map node_pair ns)
@@ -151,12 +167,13 @@ batch_fits : (b : PlainBatch) → IsBatch b → NodeFits (laid.table (batch_cell
 batch_fits b h = (omega arith, (long_fits b.length h.length, (nodes_fit b.nodes h.nodes, (buffers_fit b.buffers h.buffers, tt))))
 
 header_fits : (x : PlainHeader) → IsHeader x → NodeFits (laid.table (header_cells x))
-header_fits (schema fields) h = (omega arith, (omega arith, (fields_fit fields h.1 h.0.bounded.narrow, tt)))
+header_fits (schema s) h =
+    (omega (arith, metadata_count s.pairs), (omega arith, (fields_fit s.fields s.notes h.1.fields_are h.0.schema.bounded.narrow, metadata_fits s.pairs)))
 header_fits (dictionary id delta b) h = (omega arith, (long_fits id h.0, (batch_fits b h.1, (flag_fits delta, tt))))
 header_fits (batch b) h = batch_fits b h
 
 pub header_code_fits : (x : PlainHeader) → header_code x < 256
-header_code_fits (schema fields) = omega arith
+header_code_fits (schema s) = omega arith
 header_code_fits (dictionary id delta b) = omega arith
 header_code_fits (batch b) = omega arith
 

@@ -13,3 +13,4 @@ pub mod Exact
 pub mod PairRows
 pub mod FieldRows
 pub mod FieldSteps
+pub mod Noting

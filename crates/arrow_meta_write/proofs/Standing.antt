@@ -5,13 +5,13 @@ use Rattle.arrow_flatbuf.specs.declared.layout.Width.{Width}
 use Rattle.arrow_flatbuf.specs.declared.layout.Width.TheVariants.{One, Two, Four, Eight}
 use Rattle.arrow_flatbuf.specs.declared.layout.Slot.TheVariants.{Scalar, Target}
 use Rattle.arrow_flatbuf.specs.Nodes.{Node, Cells, last, absent, scalar, offset, count_nodes}
-use Rattle.arrow_flatbuf.specs.Nodes.{TextStands, PairsStand, VectorStands, TableReads, NodeStands}
+use Rattle.arrow_flatbuf.specs.Nodes.{TextStands, BytesStand, PairsStand, VectorStands, TableReads, NodeStands}
 use Rattle.arrow_flatbuf.specs.Nodes.{NodesStand, CellsStand}
 use Rattle.arrow_flatbuf.specs.Nodes as laid
 use Rattle.arrow_flatbuf.specs.Place.{target_at, behind}
 use Rattle.arrow_flatbuf.specs.Stands.{SlotStands}
 use Rattle.arrow_flatbuf.specs.Table.{TableAt, table_at, field_place}
-use Rattle.arrow_flatbuf.specs.Text.{text_at}
+use Rattle.arrow_flatbuf.specs.Text.{bytes_at, text_at}
 use Rattle.arrow_flatbuf.specs.Vector.{VectorAt, vector_at}
 use Rattle.arrow_meta.specs.declared.kinds.TableKind.{TableKind}
 use Rattle.arrow_meta.specs.declared.kinds.FieldForm.{FieldForm}
@@ -21,7 +21,7 @@ use Rattle.arrow_meta.specs.Kinds.{Spot, spot, spots_of, opened, code_at}
 use Rattle.arrow_meta.specs.Lies.{leaf_layer, table_layer, tables_layer, layer, elements}
 use Rattle.arrow_meta.specs.Lies.{pairs_from, Stands, AllStand}
 use Rattle.arrow_meta.specs.Trees as tree
-use Rattle.arrow_meta.specs.Trees.{number, text, pairs, Tree, leaf, table, tables, Trees, none}
+use Rattle.arrow_meta.specs.Trees.{number, text, byte_string, pairs, Tree, leaf, table, tables, Trees, none}
 use Rattle.arrow_meta.specs.Trees.{more}
 use Rattle.arrow_meta.proofs.Layers.{layer_there}
 
@@ -82,6 +82,13 @@ pub text_field : (b : List ℕ) (p i r : ℕ) (s : List ℕ) → SlotStands (at 
 text_field b p i r s h k = (
   layer_there b forms.Text (field_place (at b p) i) h.0 h.1 ∙ ap (option_map (λ t. leaf_layer (text t))) (behind_there text_at b h.0 r s h.3 k.readable),
   (r, offset_field b p i r forms.Text h, k.aligned, k.closed),
+)
+
+-- a string that a field's offset names
+pub bytes_field : (b : List ℕ) (p i r : ℕ) (s : List ℕ) → SlotStands (at b p) i (Target r) → BytesStand b r s → StandsAligned b (spot forms.Bytes (at b p) i) (leaf (byte_string s))
+bytes_field b p i r s h k = (
+  layer_there b forms.Bytes (field_place (at b p) i) h.0 h.1 ∙ ap (option_map (λ t. leaf_layer (byte_string t))) (behind_there bytes_at b h.0 r s h.3 k.readable),
+  (r, offset_field b p i r forms.Bytes h, k.aligned, k.closed),
 )
 
 -- the pairs that stand one after the other

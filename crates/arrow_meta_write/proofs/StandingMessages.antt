@@ -1,5 +1,5 @@
 -- Each table of a message that was laid out stands as its tree, aligned.
-use Rattle.std.proofs.Common.{◌≡◌, ℕ, ◌+◌, ◌%◌, ℤ, Bool, List, Option, Some, None, refl, ap, arith}
+use Rattle.std.proofs.Common.{◌≡◌, ℕ, ◌+◌, ◌%◌, ℤ, Bool, List, [], ◌∷◌, Option, Some, None, refl, ap, arith}
 use Rattle.std.proofs.Common.{map}
 use Rattle.arrow_flatbuf.specs.declared.layout.Width.TheVariants.{One, Two, Four, Eight}
 use Rattle.arrow_flatbuf.specs.declared.layout.Slot.TheVariants.{Target}
@@ -13,6 +13,7 @@ use Rattle.arrow_types.specs.DataType as tags
 use Rattle.arrow_types.specs.DataType.{Tag}
 use Rattle.arrow_types.specs.Field as columns
 use Rattle.arrow_types.specs.Field.{Head, Fields}
+use Rattle.arrow_types.specs.Notes.{KeyValue, Notes, SchemaShape}
 use Rattle.arrow_types.specs.declared.data_type.BitWidth.{BitWidth}
 use Rattle.arrow_types.specs.declared.field.Encoding.{Encoding}
 use Rattle.arrow_meta.specs.declared.kinds.TableKind.TheVariants as kinds
@@ -23,17 +24,18 @@ use Rattle.arrow_meta_write.specs.Layouts.{tag_code, int_cells, zone_cells, type
 use Rattle.arrow_meta_write.specs.Layouts.{encoding_cells, with_encoding, field_cells, field_nodes}
 use Rattle.arrow_meta_write.specs.Layouts.{schema_cells, node_pair, buffer_pair, batch_cells}
 use Rattle.arrow_meta_write.specs.Layouts.{dictionary_cells, header_code, header_cells}
-use Rattle.arrow_meta_write.specs.Layouts.{message_cells, message_node}
+use Rattle.arrow_meta_write.specs.Layouts.{message_cells, message_node, pair_cells, pair_nodes, metadata_cells}
+use Rattle.arrow_meta_write.specs.Layouts.{first_pairs, first_below, first_rest}
 use Rattle.arrow_meta.specs.Lies.{elements}
 use Rattle.arrow_meta.specs.Means.{PlainBatch, PlainHeader, schema, dictionary, batch, PlainMessage}
 use Rattle.arrow_meta.specs.Parts.{parts}
 use Rattle.arrow_meta_write.specs.Written.{int_parts, zone_tree, type_tree, encoding_tree}
 use Rattle.arrow_meta_write.specs.Written.{field_parts, field_trees, schema_parts, batch_parts}
 use Rattle.arrow_meta_write.specs.Written.{dictionary_parts, header_tree, message_parts}
-use Rattle.arrow_meta_write.specs.Written.{message_tree}
+use Rattle.arrow_meta_write.specs.Written.{message_tree, pair_tree, pair_trees, metadata_tree}
 use Rattle.arrow_meta_write.proofs.Standing.{at, absent_spot, closed_spot, number_field, text_field}
 use Rattle.arrow_meta_write.proofs.Standing.{pairs_field, table_spot, table_field, opened_field}
-use Rattle.arrow_meta_write.proofs.Standing.{tables_field, code_there}
+use Rattle.arrow_meta_write.proofs.Standing.{tables_field, code_there, bytes_field}
 
 -- an Int table
 int_stands : (b : List ℕ) (p : ℕ) (bits : BitWidth) (signed : Bool) → CellsStand b p 0 (int_cells bits signed) → AllAligned b (spots_of kinds.Int (at b p)) (int_parts bits signed)
@@ -115,17 +117,37 @@ encoding_stands b p None rest h = (absent_spot b (forms.Table kinds.DictionaryEn
 encoding_stands b p (Some e) rest h =
     (table_field b p 4 h.0 kinds.DictionaryEncoding (parts (encoding_tree (Some e))) h.1 h.2.0 (encoding_parts_stand b h.0 e h.2.1), h.3)
 
+-- a KeyValue table
+pair_stands : (b : List ℕ) (p : ℕ) (x : KeyValue) → CellsStand b p 0 (pair_cells x) → AllAligned b (spots_of kinds.KeyValue (at b p)) (parts (pair_tree x))
+pair_stands b p x h = (bytes_field b p 0 h.0 x.key h.1 h.2, (bytes_field b p 1 h.3.0 x.value h.3.1 h.3.2, tt))
+
+-- the KeyValue tables of a vector
+pairs_stand : (b : List ℕ) (ps : List KeyValue) (p : ℕ) → p % 4 ≡ 0 → NodesStand b p (pair_nodes ps) → AllAligned b (elements kinds.KeyValue p (count_nodes (pair_nodes ps))) (pair_trees ps)
+pairs_stand b [] p aligned h = tt
+pairs_stand b (x ∷ xs) p aligned h = (
+  table_spot b kinds.KeyValue (Some p) p h.0 (parts (pair_tree x)) refl aligned h.1 h.2.0 (pair_stands b h.0 x h.2.1),
+  pairs_stand b xs (p + 4) (omega (arith, aligned)) h.3,
+)
+
+-- the metadata in field i of a table, its last
+metadata_stands : (b : List ℕ) (p i : ℕ) (ps : List KeyValue) → CellsStand b p i (metadata_cells ps) → StandsAligned b (spot (forms.Tables kinds.KeyValue) (at b p) i) (metadata_tree ps)
+metadata_stands b p i [] h = absent_spot b (forms.Tables kinds.KeyValue) (field_place (at b p) i) (h i (omega arith))
+metadata_stands b p i (x ∷ xs) h =
+    tables_field b p i h.0 (count_nodes (pair_nodes (x ∷ xs))) kinds.KeyValue (pair_trees (x ∷ xs)) h.1 h.2.0
+    (pairs_stand b (x ∷ xs) (h.0 + 4) (omega (arith, h.2.0.aligned)) h.2.1)
+
 -- the Field tables of a vector at p stand as the fields' trees
-abbrev FieldsStand : List ℕ → Fields → Type 0
-FieldsStand b fields = (p : ℕ) → p % 4 ≡ 0 → NodesStand b p (field_nodes fields) → AllAligned b (elements kinds.Field p (count_nodes (field_nodes fields))) (field_trees fields)
+abbrev FieldsStand : List ℕ → Fields → Notes → Type 0
+FieldsStand b fields n = (p : ℕ) → p % 4 ≡ 0 → NodesStand b p (field_nodes fields n) → AllAligned b (elements kinds.Field p (count_nodes (field_nodes fields n))) (field_trees fields n)
 
 -- a Field table, whose children do
-field_stands : (b : List ℕ) (p : ℕ) (head : Head) (children : Fields) → FieldsStand b children → CellsStand b p 0 (field_cells head (field_nodes children)) → AllAligned b (spots_of kinds.Field (at b p)) (field_parts head (field_trees children))
-field_stands b p head children children_stand h =
+field_stands : (b : List ℕ) (p : ℕ) (head : Head) (ps : List KeyValue) (children : Fields) (n : Notes) → FieldsStand b children n → CellsStand b p 0 (field_cells head ps (field_nodes children n))
+    → AllAligned b (spots_of kinds.Field (at b p)) (field_parts head ps (field_trees children n))
+field_stands b p head ps children n children_stand h =
     let nullable = h.3 in
     let code = nullable.1 in
     let type = code.1 in
-    let encoding = encoding_stands b p head.encoding (offset (laid.tables (field_nodes children)) last) type.3 in
+    let encoding = encoding_stands b p head.encoding (offset (laid.tables (field_nodes children n)) (metadata_cells ps)) type.3 in
     let below = encoding.1 in (
       text_field b p 0 h.0 head.name h.1 h.2,
       (
@@ -137,9 +159,9 @@ field_stands b p head children children_stand h =
             (
               encoding.0,
               (
-                tables_field b p 5 below.0 (count_nodes (field_nodes children)) kinds.Field (field_trees children) below.1 below.2.0
+                tables_field b p 5 below.0 (count_nodes (field_nodes children n)) kinds.Field (field_trees children n) below.1 below.2.0
                     (children_stand (below.0 + 4) (omega (arith, below.2.0.aligned)) below.2.1),
-                tt,
+                (metadata_stands b p 6 ps below.3, tt),
               ),
             ),
           ),
@@ -148,29 +170,30 @@ field_stands b p head children children_stand h =
     )
 
 -- fields of any depth
-fields_stand : (b : List ℕ) (fields : Fields) → FieldsStand b fields
-fields_stand b columns.none p aligned h = tt
-fields_stand b (columns.more head children rest) p aligned h = (
-  table_spot b kinds.Field (Some p) p h.0 (field_parts head (field_trees children)) refl aligned h.1 h.2.0 (field_stands b h.0 head children (fields_stand b children) h.2.1),
-  fields_stand b rest (p + 4) (omega (arith, aligned)) h.3,
+fields_stand : (b : List ℕ) (fields : Fields) (n : Notes) → FieldsStand b fields n
+fields_stand b columns.none n p aligned h = tt
+fields_stand b (columns.more head children rest) n p aligned h = (
+  table_spot b kinds.Field (Some p) p h.0 (field_parts head (first_pairs n) (field_trees children (first_below n))) refl aligned h.1 h.2.0
+      (field_stands b h.0 head (first_pairs n) children (first_below n) (fields_stand b children (first_below n)) h.2.1),
+  fields_stand b rest (first_rest n) (p + 4) (omega (arith, aligned)) h.3,
 )
 
 -- a Schema table
-schema_stands : (b : List ℕ) (p : ℕ) (fields : Fields) → CellsStand b p 0 (schema_cells fields) → AllAligned b (spots_of kinds.Schema (at b p)) (schema_parts fields)
-schema_stands b p fields h =
+schema_stands : (b : List ℕ) (p : ℕ) (s : SchemaShape) → CellsStand b p 0 (schema_cells s) → AllAligned b (spots_of kinds.Schema (at b p)) (schema_parts s)
+schema_stands b p s h =
     let vector = h.1 in (
       number_field Two b p 0 _ h.0,
       (
-        tables_field b p 1 vector.0 (count_nodes (field_nodes fields)) kinds.Field (field_trees fields) vector.1 vector.2.0
-            (fields_stand b fields (vector.0 + 4) (omega (arith, vector.2.0.aligned)) vector.2.1),
-        tt,
+        tables_field b p 1 vector.0 (count_nodes (field_nodes s.fields s.notes)) kinds.Field (field_trees s.fields s.notes) vector.1 vector.2.0
+            (fields_stand b s.fields s.notes (vector.0 + 4) (omega (arith, vector.2.0.aligned)) vector.2.1),
+        (metadata_stands b p 2 s.pairs vector.3, tt),
       ),
     )
 
 -- the header's table
 header_stands : (b : List ℕ) (p r : ℕ) (x : PlainHeader) → code_at (at b p) 1 ≡ header_code x → SlotStands (at b p) 2 (Target r) → NodeStands b r (laid.table (header_cells x)) → StandsAligned b (spot forms.Header (at b p) 2) (header_tree x)
-header_stands b p r (schema fields) e h k =
-    opened_field b p 2 r (header_table (code_at (at b p) 1)) kinds.Schema (schema_parts fields) (ap header_table e) h k.0 (schema_stands b r fields k.1)
+header_stands b p r (schema s) e h k =
+    opened_field b p 2 r (header_table (code_at (at b p) 1)) kinds.Schema (schema_parts s) (ap header_table e) h k.0 (schema_stands b r s k.1)
 header_stands b p r (dictionary id delta x) e h k =
     opened_field b p 2 r (header_table (code_at (at b p) 1)) kinds.DictionaryBatch (dictionary_parts id delta x) (ap header_table e) h k.0 (dictionary_stands b r id delta x k.1)
 header_stands b p r (batch x) e h k =

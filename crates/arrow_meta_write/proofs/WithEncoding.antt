@@ -1,11 +1,8 @@
 -- A field's encoding, written or left out.
-use Rattle.std.proofs.Common.{◌≡◌, ℕ, ◌≤◌, List, [], ◌∷◌, ◌++◌, length, Option, Some, None, refl}
+use Rattle.std.proofs.Common.{◌≡◌, ℕ, suc, ◌≤◌, List, ◌∷◌, ◌++◌, length, Option, Some, None, refl}
 use Rattle.std.proofs.Common.{sym, subst, ◌∙◌, arith}
 use Rattle.std.proofs.lemmas.List.{append-nil}
-use Rattle.arrow_flatbuf.specs.declared.layout.Slot.TheVariants.{Target}
-use Rattle.arrow_flatbuf.specs.Layout.{up}
-use Rattle.arrow_flatbuf.specs.Nodes.{Node, Nodes, Cells, after, after_cells, slots, table, tables}
-use Rattle.arrow_flatbuf.specs.Nodes.{offset, last, OwnFit}
+use Rattle.arrow_flatbuf.specs.Nodes.{Node, Cells, after_cells, count, slots, table, OwnFit}
 use Rattle.arrow_flatbuf.proofs.Laid.{reaches}
 use Rattle.arrow_flatbuf.proofs.Left.{stepped}
 use Rattle.arrow_types.specs.declared.field.Encoding.{Encoding}
@@ -16,20 +13,25 @@ pub encoding_grows : (q : ℕ) (e : Option Encoding) → q ≤ after_encoding q 
 encoding_grows q None = omega arith
 encoding_grows q (Some e) = omega (arith, reaches q (table (encoding_cells e)))
 
--- the children are laid out from behind it
-pub children_after : (q : ℕ) (e : Option Encoding) (children : Nodes) → after_cells q (with_encoding e (offset (tables children) last)) ≡ after (after_encoding q e) (tables children)
-children_after q None children = refl
-children_after q (Some e) children = refl
+-- the fields after it are laid out from behind it
+pub children_after : (q : ℕ) (e : Option Encoding) (rest : Cells) → after_cells q (with_encoding e rest) ≡ after_cells (after_encoding q e) rest
+children_after q None rest = refl
+children_after q (Some e) rest = refl
 
--- the last two fields of a field's table
-pub last_slots : (q : ℕ) (e : Option Encoding) (children : Nodes) → slots q (with_encoding e (offset (tables children) last)) ≡ encoding_slot q e ∷ Target (up 4 (after_encoding q e)) ∷ []
-last_slots q None children = refl
-last_slots q (Some e) children = refl
+-- the last fields of a field's table
+pub last_slots : (q : ℕ) (e : Option Encoding) (rest : Cells) → slots q (with_encoding e rest) ≡ encoding_slot q e ∷ slots (after_encoding q e) rest
+last_slots q None rest = refl
+last_slots q (Some e) rest = refl
 
--- they hold no numbers
-pub last_fit : (e : Option Encoding) (children : Nodes) → OwnFit (with_encoding e (offset (tables children) last))
-last_fit None children = tt
-last_fit (Some e) children = tt
+-- they are one more than those after it
+pub last_count : (e : Option Encoding) (rest : Cells) → count (with_encoding e rest) ≡ suc (count rest)
+last_count None rest = refl
+last_count (Some e) rest = refl
+
+-- they hold no numbers where those after it do not
+pub last_fit : (e : Option Encoding) (rest : Cells) → OwnFit rest → OwnFit (with_encoding e rest)
+last_fit None rest h = h
+last_fit (Some e) rest h = h
 
 -- the encoding is written, or there is none
 pub encoding_written : (old now next : List ℕ) (e : Option Encoding) (rest : Cells) (whole : Node) → Begins old (with_encoding e rest) whole now → next ≡ now ++ laid_encoding (length now) e → Begins old rest whole next

@@ -7,7 +7,7 @@ use Rattle.arrow_meta.specs.declared.kinds.FieldForm.TheVariants as forms
 use Rattle.arrow_meta.specs.Grows.{root}
 use Rattle.arrow_meta.specs.Kinds.{Spot}
 use Rattle.arrow_meta.specs.Lies.{leaf_layer, table_layer, tables_layer, layer}
-use Rattle.arrow_meta.specs.Trees.{Leaf, absent, number, text, pairs, present, Tree, leaf, table}
+use Rattle.arrow_meta.specs.Trees.{Leaf, absent, number, text, byte_string, pairs, present, Tree, leaf, table}
 use Rattle.arrow_meta.specs.Trees.{tables, Trees, none, more}
 
 -- how many bytes stand in a field of this form: those of a number, or of an offset
@@ -17,6 +17,7 @@ form_size forms.Short = 2
 form_size forms.Int = 4
 form_size forms.Long = 8
 form_size forms.Text = 4
+form_size forms.Bytes = 4
 form_size forms.Pairs = 4
 form_size forms.Presence = 4
 form_size (forms.Table kind) = 4
@@ -37,11 +38,12 @@ pub record Leads (bytes : List ℕ) (s : Spot) (q : ℕ) : Type 0 where
   pub aligned : place % 4 ≡ 0
   pub target : target_at bytes place ≡ Some q
 
--- What stands in a field that holds no table is aligned. The count of a text stands at a multiple of 4, and a 0 byte
+-- What stands in a field that holds no table is aligned. The count of a text or a string stands at a multiple of 4, and a 0 byte
 -- behind its last; the numbers of pairs stand behind their count, at multiples of 8.
 abbrev pub IsLeafAligned : List ℕ → Spot → Leaf → Type 0
 IsLeafAligned bytes s (number n) = IsPlaced s
 IsLeafAligned bytes s (text t) = (q : ℕ) × Leads bytes s q × (q % 4 ≡ 0) × (number_at 1 bytes (q + 4 + length t) ≡ Some 0)
+IsLeafAligned bytes s (byte_string t) = (q : ℕ) × Leads bytes s q × (q % 4 ≡ 0) × (number_at 1 bytes (q + 4 + length t) ≡ Some 0)
 IsLeafAligned bytes s (pairs ps) = (q : ℕ) × Leads bytes s q × ((q + 4) % 8 ≡ 0)
 IsLeafAligned bytes s absent = Unit {0}
 IsLeafAligned bytes s present = Unit {0}

@@ -2,12 +2,12 @@
 use Rattle.std.specs.Prelude.{◌≡◌, ◌≤◌, ℕ, List, [], ◌++◌, length, Option, Some, None}
 use Rattle.arrow_flatbuf.specs.Layout.{table_place}
 use Rattle.arrow_flatbuf.specs.Nodes.{Node, Cells, after, laid, laid_cells, table, tables, offset}
-use Rattle.arrow_flatbuf.specs.Nodes.{last}
 use Rattle.arrow_flatbuf.specs.declared.layout.Slot.{Slot}
 use Rattle.arrow_flatbuf.specs.declared.layout.Slot.TheVariants.{Absent, Target}
-use Rattle.arrow_types.specs.Field.{Fields, FieldShape}
+use Rattle.arrow_types.specs.Field.{FieldShape}
+use Rattle.arrow_types.specs.Notes.{FieldNotes}
 use Rattle.arrow_types.specs.declared.field.Encoding.{Encoding}
-use Rattle.arrow_meta_write.specs.Layouts.{encoding_cells, field_cells, field_nodes}
+use Rattle.arrow_meta_write.specs.Layouts.{encoding_cells, field_cells, field_nodes, metadata_cells}
 
 -- There is room for a node: with it the bytes are no more than metadata can be.
 abbrev pub HasRoom : List ℕ → Node → Type 0
@@ -22,16 +22,16 @@ abbrev pub Begins : List ℕ → Cells → Node → List ℕ → Type 0
 Begins old rest x new = new ++ laid_cells (length new) rest ≡ old ++ laid (length old) x
 
 -- the fields of a field's table
-abbrev pub head_cells : FieldShape → Cells
-head_cells f = field_cells f.head (field_nodes f.children)
+abbrev pub head_cells : FieldShape → FieldNotes → Cells
+head_cells f n = field_cells f.head n.pairs (field_nodes f.children n.below)
 
 -- a field, with all that belongs to it
-abbrev pub field_node : FieldShape → Node
-field_node f = table (head_cells f)
+abbrev pub field_node : FieldShape → FieldNotes → Node
+field_node f n = table (head_cells f n)
 
--- the last field of a field's table: its children
-abbrev pub children_cells : Fields → Cells
-children_cells children = offset (tables (field_nodes children)) last
+-- the last fields of a field's table: its children, and its metadata
+abbrev pub children_cells : FieldShape → FieldNotes → Cells
+children_cells f n = offset (tables (field_nodes f.children n.below)) (metadata_cells n.pairs)
 
 -- the field of a field's table that names an encoding laid out from q on
 abbrev pub encoding_slot : ℕ → Option Encoding → Slot

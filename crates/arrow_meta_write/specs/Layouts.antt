@@ -1,14 +1,15 @@
 -- How a message is laid out: its tables, with the fields that are written in each of them (Message.fbs, Schema.fbs).
-use Rattle.std.specs.Prelude.{ℕ, ℤ, Bool, true, false, List, map, Option, Some, None}
+use Rattle.std.specs.Prelude.{ℕ, ℤ, Bool, true, false, List, [], ◌∷◌, map, Option, Some, None}
 use Rattle.std.specs.Int.{cast_unsigned, w16, w64}
 use Rattle.arrow_flatbuf.specs.declared.layout.Width.TheVariants.{One, Two, Four, Eight}
-use Rattle.arrow_flatbuf.specs.Nodes.{Node, text, pairs, tables, table, Nodes, Cells, last, absent}
+use Rattle.arrow_flatbuf.specs.Nodes.{Node, text, byte_string, pairs, tables, table, Nodes, Cells, last, absent}
 use Rattle.arrow_flatbuf.specs.Nodes.{scalar, offset}
 use Rattle.arrow_flatbuf.specs.Nodes as laid
 use Rattle.arrow_types.specs.DataType as tags
 use Rattle.arrow_types.specs.DataType.{Tag, bits_of, time_width_of}
 use Rattle.arrow_types.specs.Field as columns
 use Rattle.arrow_types.specs.Field.{Head, Fields}
+use Rattle.arrow_types.specs.Notes.{KeyValue, Notes, unnoted, noted, SchemaShape}
 use Rattle.arrow_types.specs.declared.data_type.BitWidth.{BitWidth}
 use Rattle.arrow_types.specs.declared.data_type.DateUnit.{DateUnit}
 use Rattle.arrow_types.specs.declared.data_type.DateUnit.TheVariants as dates
@@ -93,20 +94,49 @@ abbrev pub with_encoding : Option Encoding → Cells → Cells
 with_encoding None rest = absent rest
 with_encoding (Some e) rest = offset (table (encoding_cells e)) rest
 
--- a Field table, whose children are laid out as these: name, nullable, type's code, type, dictionary, children
-abbrev pub field_cells : Head → Nodes → Cells
-field_cells h children =
+-- a KeyValue table: key, value
+abbrev pub pair_cells : KeyValue → Cells
+pair_cells p = offset (byte_string p.key) (offset (byte_string p.value) last)
+
+-- the KeyValue tables of pairs, in their order
+abbrev pub pair_nodes : List KeyValue → Nodes
+pair_nodes [] = laid.none
+pair_nodes (p ∷ ps) = laid.more (table (pair_cells p)) (pair_nodes ps)
+
+-- custom_metadata, the last field of a table, which is there where there are pairs
+abbrev pub metadata_cells : List KeyValue → Cells
+metadata_cells [] = last
+metadata_cells (p ∷ ps) = offset (tables (pair_nodes (p ∷ ps))) last
+
+-- a Field table of these pairs, whose children are laid out as these: name, nullable, type's code, type, dictionary,
+-- children, custom_metadata
+abbrev pub field_cells : Head → List KeyValue → Nodes → Cells
+field_cells h ps children =
     offset (text h.name) (scalar One (flag h.nullable) (scalar One (tag_code h.tag) (offset (table (type_cells h.tag))
-    (with_encoding h.encoding (offset (tables children) last)))))
+    (with_encoding h.encoding (offset (tables children) (metadata_cells ps))))))
 
--- the Field tables of fields side by side
-abbrev pub field_nodes : Fields → Nodes
-field_nodes columns.none = laid.none
-field_nodes (columns.more h children rest) = laid.more (table (field_cells h (field_nodes children))) (field_nodes rest)
+-- Of notes the pairs of the first field, what is noted below it, and at the fields after it.
+abbrev pub first_pairs : Notes → List KeyValue
+first_pairs unnoted = []
+first_pairs (noted ps below rest) = ps
 
--- a Schema table: endianness, fields
-abbrev pub schema_cells : Fields → Cells
-schema_cells fields = scalar Two 0 (offset (tables (field_nodes fields)) last)
+abbrev pub first_below : Notes → Notes
+first_below unnoted = unnoted
+first_below (noted ps below rest) = below
+
+abbrev pub first_rest : Notes → Notes
+first_rest unnoted = unnoted
+first_rest (noted ps below rest) = rest
+
+-- the Field tables of fields side by side, at which this is noted
+abbrev pub field_nodes : Fields → Notes → Nodes
+field_nodes columns.none n = laid.none
+field_nodes (columns.more h children rest) n =
+    laid.more (table (field_cells h (first_pairs n) (field_nodes children (first_below n)))) (field_nodes rest (first_rest n))
+
+-- a Schema table: endianness, fields, custom_metadata
+abbrev pub schema_cells : SchemaShape → Cells
+schema_cells s = scalar Two 0 (offset (tables (field_nodes s.fields s.notes)) (metadata_cells s.pairs))
 
 -- the two numbers of a field node
 abbrev pub node_pair : FieldNode → ℕ × ℕ
@@ -127,13 +157,13 @@ dictionary_cells id delta b = scalar Eight (cast_unsigned w64 id) (offset (table
 
 -- the header's code
 abbrev pub header_code : PlainHeader → ℕ
-header_code (schema fields) = schema_code
+header_code (schema s) = schema_code
 header_code (dictionary id delta b) = dictionary_code
 header_code (batch b) = batch_code
 
 -- the header's table
 abbrev pub header_cells : PlainHeader → Cells
-header_cells (schema fields) = schema_cells fields
+header_cells (schema s) = schema_cells s
 header_cells (dictionary id delta b) = dictionary_cells id delta b
 header_cells (batch b) = batch_cells b
 

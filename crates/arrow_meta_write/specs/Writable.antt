@@ -7,7 +7,8 @@ use Rattle.arrow_types.specs.DataType.{Tag}
 use Rattle.arrow_types.specs.Field as columns
 use Rattle.arrow_types.specs.Field.{Head, Fields, width}
 use Rattle.arrow_types.specs.Limits.{LimitNumbers}
-use Rattle.arrow_types.specs.Schema.{IsSchema}
+use Rattle.arrow_types.specs.Notes.{Notes, unnoted, noted}
+use Rattle.arrow_types.specs.Schema.{IsNoted}
 use Rattle.arrow_types.specs.declared.field.Encoding.{Encoding}
 use Rattle.arrow_types.specs.declared.node.FieldNode.{FieldNode}
 use Rattle.arrow_types.specs.declared.node.Buffer.{Buffer}
@@ -63,6 +64,18 @@ abbrev pub AreFields : Fields → Type 0
 AreFields columns.none = Unit {0}
 AreFields (columns.more head children rest) = IsField head children × AreFields children × AreFields rest
 
+-- Notes stand at fields: as many side by side on each level.
+abbrev pub AreNotesOf : Fields → Notes → Type 0
+AreNotesOf columns.none unnoted = Unit {0}
+AreNotesOf columns.none (noted ps below later) = ⊥
+AreNotesOf (columns.more head children rest) unnoted = ⊥
+AreNotesOf (columns.more head children rest) (noted ps below later) = AreNotesOf children below × AreNotesOf rest later
+
+-- fields with what is noted at them
+pub record AreNotedFields (fields : Fields) (n : Notes) : Type 0 where
+  pub fields_are : AreFields fields
+  pub notes_are : AreNotesOf fields n
+
 -- field nodes of numbers of 64 bits
 abbrev pub AreNodes : List FieldNode → Type 0
 AreNodes [] = Unit {0}
@@ -81,7 +94,7 @@ pub record IsBatch (b : PlainBatch) : Type 0 where
 
 -- a header that the program can hold
 abbrev pub IsHeader : PlainHeader → Type 0
-IsHeader (schema fields) = IsSchema fields × AreFields fields
+IsHeader (schema s) = IsNoted s × AreNotedFields s.fields s.notes
 IsHeader (dictionary id delta b) = IsLong id × IsBatch b
 IsHeader (batch b) = IsBatch b
 

@@ -1,17 +1,18 @@
 -- The tree that a message is written as: what a reader is to find.
-use Rattle.std.specs.Prelude.{ℕ, ℤ, Bool, List, map, Option, Some, None}
+use Rattle.std.specs.Prelude.{ℕ, ℤ, Bool, List, [], ◌∷◌, map, Option, Some, None}
 use Rattle.std.specs.Int.{cast_unsigned, w16, w64}
 use Rattle.arrow_types.specs.DataType as tags
 use Rattle.arrow_types.specs.DataType.{Tag, bits_of, time_width_of}
 use Rattle.arrow_types.specs.Field as columns
 use Rattle.arrow_types.specs.Field.{Head, Fields}
+use Rattle.arrow_types.specs.Notes.{KeyValue, Notes, SchemaShape}
 use Rattle.arrow_types.specs.declared.data_type.BitWidth.{BitWidth}
 use Rattle.arrow_types.specs.declared.field.Encoding.{Encoding}
 use Rattle.arrow_meta.specs.declared.kinds.TableKind.TheVariants as kinds
 use Rattle.arrow_meta_write.specs.Layouts.{flag, tag_code, date_number, time_number, node_pair}
-use Rattle.arrow_meta_write.specs.Layouts.{buffer_pair, header_code}
+use Rattle.arrow_meta_write.specs.Layouts.{buffer_pair, header_code, first_pairs, first_below, first_rest}
 use Rattle.arrow_meta.specs.Means.{PlainBatch, PlainHeader, schema, dictionary, batch, PlainMessage}
-use Rattle.arrow_meta.specs.Trees.{absent, number, text, pairs, Tree, leaf, table, tables, Trees}
+use Rattle.arrow_meta.specs.Trees.{absent, number, text, byte_string, pairs, Tree, leaf, table, tables, Trees}
 use Rattle.arrow_meta.specs.Trees.{none, more}
 
 -- a field that holds a number
@@ -53,20 +54,35 @@ encoding_tree (Some e) =
     table kinds.DictionaryEncoding (more (of_number (cast_unsigned w64 e.id)) (more (table kinds.Int (int_parts e.index.bits e.index.signed))
     (more (of_number (flag e.ordered)) (more (of_number 0) none))))
 
--- the fields of a Field table with these children
-abbrev pub field_parts : Head → Trees → Trees
-field_parts h children =
-    more (leaf (text h.name)) (more (of_number (flag h.nullable)) (more (of_number (tag_code h.tag)) (more (type_tree h.tag)
-    (more (encoding_tree h.encoding) (more (tables children) none)))))
+-- a KeyValue table
+abbrev pub pair_tree : KeyValue → Tree
+pair_tree p = table kinds.KeyValue (more (leaf (byte_string p.key)) (more (leaf (byte_string p.value)) none))
 
--- the Field tables of fields side by side
-abbrev pub field_trees : Fields → Trees
-field_trees columns.none = none
-field_trees (columns.more h children rest) = more (table kinds.Field (field_parts h (field_trees children))) (field_trees rest)
+-- the KeyValue tables of pairs, in their order
+abbrev pub pair_trees : List KeyValue → Trees
+pair_trees [] = none
+pair_trees (p ∷ ps) = more (pair_tree p) (pair_trees ps)
+
+-- the pairs of a table, absent where there are none
+abbrev pub metadata_tree : List KeyValue → Tree
+metadata_tree [] = leaf absent
+metadata_tree (p ∷ ps) = tables (pair_trees (p ∷ ps))
+
+-- the fields of a Field table with these pairs and children
+abbrev pub field_parts : Head → List KeyValue → Trees → Trees
+field_parts h ps children =
+    more (leaf (text h.name)) (more (of_number (flag h.nullable)) (more (of_number (tag_code h.tag)) (more (type_tree h.tag)
+    (more (encoding_tree h.encoding) (more (tables children) (more (metadata_tree ps) none))))))
+
+-- the Field tables of fields side by side, at which this is noted
+abbrev pub field_trees : Fields → Notes → Trees
+field_trees columns.none n = none
+field_trees (columns.more h children rest) n =
+    more (table kinds.Field (field_parts h (first_pairs n) (field_trees children (first_below n)))) (field_trees rest (first_rest n))
 
 -- the fields of a Schema table
-abbrev pub schema_parts : Fields → Trees
-schema_parts fields = more (of_number 0) (more (tables (field_trees fields)) none)
+abbrev pub schema_parts : SchemaShape → Trees
+schema_parts s = more (of_number 0) (more (tables (field_trees s.fields s.notes)) (more (metadata_tree s.pairs) none))
 
 -- the fields of a RecordBatch table
 abbrev pub batch_parts : PlainBatch → Trees
@@ -81,7 +97,7 @@ dictionary_parts id delta b =
 
 -- the header's table
 abbrev pub header_tree : PlainHeader → Tree
-header_tree (schema fields) = table kinds.Schema (schema_parts fields)
+header_tree (schema s) = table kinds.Schema (schema_parts s)
 header_tree (dictionary id delta b) = table kinds.DictionaryBatch (dictionary_parts id delta b)
 header_tree (batch b) = table kinds.RecordBatch (batch_parts b)
 

@@ -28,6 +28,7 @@ mod batches;
 mod encodings;
 mod fields;
 pub mod laws;
+mod metadata;
 mod sizes;
 mod tables;
 mod type_sizes;

@@ -6,15 +6,16 @@
 //! names are, and no call answers an error.
 ghost use Rattle.std.specs.Prelude.{◌≡◌, ◌≤◌, ◌+◌, ◌*◌};
 ghost use Rattle.arrow_flatbuf.specs.Layout.{gap, up};
-ghost use Rattle.arrow_flatbuf.specs.Nodes.{Nodes, after, table, tables, count};
+ghost use Rattle.arrow_flatbuf.specs.Nodes.{Nodes, after, after_cells, offset, table, tables, count};
 ghost use Rattle.arrow_meta.specs.Means.{batch_view, header_view, message_view};
 ghost use Rattle.arrow_meta_write.specs.Appends.{after_encoding};
 ghost use Rattle.arrow_meta_write.specs.Capped.{capped};
 ghost use Rattle.arrow_meta_write.specs.Layouts.{field_cells, field_nodes, batch_cells};
-ghost use Rattle.arrow_meta_write.specs.Layouts.{header_cells, message_node};
+ghost use Rattle.arrow_meta_write.specs.Layouts.{header_cells, message_node, metadata_cells, schema_cells};
 ghost use Rattle.arrow_meta_write.specs.Metadata.{size_of};
-ghost use Rattle.arrow_types.specs.View.{field_view, fields_view};
+ghost use Rattle.arrow_types.specs.View.{field_notes, field_view, fields_view, notes_view};
 
+use crate::metadata::{metadata_end, metadata_fields};
 use crate::tables::{
     TOP, batch_table_end, capped, dictionary_table_end, encoding_table_end, field_table_end,
     message_table_end, schema_table_end, text_after,
@@ -22,7 +23,7 @@ use crate::tables::{
 use crate::type_sizes::{int_end, type_end};
 use arrow_flatbuf::{Width, aligned};
 use arrow_meta::{Header, Message, RecordBatch};
-use arrow_types::{Encoding, Field, Limits};
+use arrow_types::{Encoding, Field, Limits, Schema};
 
 /// The number of bytes that [`crate::encode`] answers for a message: a multiple of 8. Takes no
 /// memory.
@@ -60,10 +61,21 @@ fn header_end(place: usize, header: &Header) -> usize
     ensures near { result ≤ 1073741825 }
 {
     match header {
-        Header::Schema(schema) => fields_end(schema_table_end(place), schema.fields()),
+        Header::Schema(schema) => schema_end(place, schema),
         Header::Dictionary(_, _, batch) => batch_end(dictionary_table_end(place), batch),
         Header::Batch(batch) => batch_end(place, batch),
     }
+}
+
+/// The first place after a schema's table, its fields and its metadata.
+fn schema_end(place: usize, schema: &Schema) -> usize
+    requires { place ≤ 1073741825 }
+    ensures end { result ≡ capped (after place (table (schema_cells schema.now))) }
+    ensures near { result ≤ 1073741825 }
+{
+    let pairs = schema.metadata();
+    let table = schema_table_end(place, metadata_fields(pairs));
+    metadata_end(fields_end(table, schema.fields()), pairs)
 }
 
 /// The first place after a record batch's table and its vectors.
@@ -89,13 +101,15 @@ pub(crate) fn pairs_end(place: usize, count: usize) -> usize
 #[cycle(sizes)]
 pub(crate) fn fields_end(place: usize, fields: &[Field]) -> usize
     requires { place ≤ 1073741825 }
-    ensures end { result ≡ capped (after place (tables (field_nodes (fields_view fields.now)))) }
+    ensures end { result ≡ capped (after place
+        (tables (field_nodes (fields_view fields.now) (notes_view fields.now)))) }
     ensures near { result ≤ 1073741825 }
 {
     let mut end = offsets_end(place, fields.len());
     for field in fields {
         let head = field_head_end(end, field);
-        end = fields_end(head, field.data_type.children());
+        let below = fields_end(head, field.children());
+        end = metadata_end(below, &field.metadata);
     }
     end
 }
@@ -113,13 +127,17 @@ pub(crate) fn offsets_end(place: usize, count: usize) -> usize
 /// are laid out from.
 pub(crate) fn field_head_end(place: usize, field: &Field) -> usize
     requires { place ≤ 1073741825 }
-    ensures end { (children : Nodes)
-        → capped (after result (tables children))
-        ≡ capped (after place (table (field_cells (field_view field.now).head children))) }
+    ensures end { (children : Nodes) → let pairs = (field_notes field.now).pairs in
+        capped (after_cells result (offset (tables children) (metadata_cells pairs)))
+        ≡ capped (after place (table (field_cells (field_view field.now).head pairs children))) }
     ensures near { result ≤ 1073741825 }
 {
     let name = text_after(
-        field_table_end(place, field.dictionary.is_some()),
+        field_table_end(
+            place,
+            field.dictionary.is_some(),
+            metadata_fields(&field.metadata),
+        ),
         &field.name,
     );
     encoding_end(type_end(name, &field.data_type), field.dictionary)

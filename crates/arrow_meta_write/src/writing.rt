@@ -20,6 +20,7 @@ ghost use Rattle.arrow_types.specs.Limits.{LimitNumbers};
 
 use crate::batches::{write_batch, write_dictionary};
 use crate::fields::write_schema;
+use crate::metadata::metadata_fields;
 use crate::sizes::encoded_size;
 use crate::tables::message_table_end;
 use arrow_flatbuf::{Slot, TableWriter, Width, table_place};
@@ -102,7 +103,7 @@ fn header_fields(header: &Header) -> usize
     ensures few { result ≤ 3 }
 {
     match header {
-        Header::Schema(_) => 2,
+        Header::Schema(schema) => 2 + metadata_fields(schema.metadata()),
         Header::Dictionary(..) | Header::Batch(_) => 3,
     }
 }
@@ -115,7 +116,7 @@ fn write_header(writer: &mut TableWriter, header: &Header) -> Result<(), AllocEr
     ensures typed { OnOk result (IsHeader (header_view header.now)) }
 {
     match header {
-        Header::Schema(schema) => write_schema(writer, schema.fields()),
+        Header::Schema(schema) => write_schema(writer, schema),
         Header::Dictionary(id, delta, batch) => write_dictionary(writer, *id, *delta, batch),
         Header::Batch(batch) => write_batch(writer, batch),
     }

@@ -2,8 +2,8 @@
 use Rattle.std.proofs.Common.{zero, suc, ◌≡◌, ℕ, ℤ, ◌-◌, ◌<◌, ◌≤◌, ◌⊎◌, inl, inr, List, [], ◌∷◌, ◌++◌, length, take, drop, map, refl, sym, ap, ◌∙◌, subst, arith, Option, Some, None, Bool, true, false, is_some, length-drop, if◌then◌else◌}
 use Rattle.std.specs.List.{AllByRecursion}
 use Rattle.std.proofs.lemmas.Bool.{cases_lt, le-ltb, lt-ltb}
-use Rattle.arrow_types.specs.Field.{Fields}
 use Rattle.arrow_types.specs.Limits.{LimitNumbers}
+use Rattle.arrow_types.specs.Notes.{SchemaShape}
 use Rattle.arrow_array.specs.Batch.{Table}
 use Rattle.arrow_array.specs.Column.{ValueList}
 use Rattle.arrow_stream.specs.declared.kind.Kind.TheVariants.{Truncated}
@@ -33,29 +33,29 @@ use Rattle.arrow_session.specs.Running.{SentPlain, IsSent}
 
 -- WHAT EACH FRAME LEAVES: the schema
 
-abbrev Keeps : Fields → Frame → Type 0
-Keeps fields f = f.leaves.schema ≡ Some fields
+abbrev Keeps : SchemaShape → Frame → Type 0
+Keeps shape f = f.leaves.schema ≡ Some shape
 
-both_keep : (fields : Fields) (xs ys : List Frame) → AllByRecursion (Keeps fields) xs → AllByRecursion (Keeps fields) ys → AllByRecursion (Keeps fields) (xs ++ ys)
-both_keep fields [] ys h g = g
-both_keep fields (x ∷ xs) ys h g = (h.0, both_keep fields xs ys h.1 g)
+both_keep : (shape : SchemaShape) (xs ys : List Frame) → AllByRecursion (Keeps shape) xs → AllByRecursion (Keeps shape) ys → AllByRecursion (Keeps shape) (xs ++ ys)
+both_keep shape [] ys h g = g
+both_keep shape (x ∷ xs) ys h g = (h.0, both_keep shape xs ys h.1 g)
 
-updates_keep : (l : LimitNumbers) (align : ℕ) (fields : Fields) (ds : List (ℤ × ValueList)) (ws : List Sending) (fs : List Frame) → AreUpdates l align fields ds ws fs → AllByRecursion (Keeps fields) fs
-updates_keep l align fields ds [] fs u = subst (AllByRecursion (Keeps fields)) (sym u) tt
-updates_keep l align fields ds (w ∷ ws) fs u =
-    subst (AllByRecursion (Keeps fields)) (sym u.4) (refl, updates_keep l align fields (with_list fields w ds) ws u.1 u.3)
+updates_keep : (l : LimitNumbers) (align : ℕ) (shape : SchemaShape) (ds : List (ℤ × ValueList)) (ws : List Sending) (fs : List Frame) → AreUpdates l align shape ds ws fs → AllByRecursion (Keeps shape) fs
+updates_keep l align shape ds [] fs u = subst (AllByRecursion (Keeps shape)) (sym u) tt
+updates_keep l align shape ds (w ∷ ws) fs u =
+    subst (AllByRecursion (Keeps shape)) (sym u.4) (refl, updates_keep l align shape (with_list shape.fields w ds) ws u.1 u.3)
 
 -- the last frame leaves the schema, or the state before it has it
-left_keeps : (fields : Fields) (s : StreamState) (fs : List Frame) → s.schema ≡ Some fields → AllByRecursion (Keeps fields) fs → (left_by s fs).schema ≡ Some fields
-left_keeps fields s [] e h = e
-left_keeps fields s (f ∷ fs) e h = left_keeps fields f.leaves fs h.0 h.1
+left_keeps : (shape : SchemaShape) (s : StreamState) (fs : List Frame) → s.schema ≡ Some shape → AllByRecursion (Keeps shape) fs → (left_by s fs).schema ≡ Some shape
+left_keeps shape s [] e h = e
+left_keeps shape s (f ∷ fs) e h = left_keeps shape f.leaves fs h.0 h.1
 
-lying_keep : (fields : Fields) (n : ℕ) (fs : List Frame) → AllByRecursion (Keeps fields) fs → AllByRecursion (Keeps fields) (lying n fs)
-lying_keep fields n [] h = tt
-lying_keep fields n (f ∷ fs) h =
+lying_keep : (shape : SchemaShape) (n : ℕ) (fs : List Frame) → AllByRecursion (Keeps shape) fs → AllByRecursion (Keeps shape) (lying n fs)
+lying_keep shape n [] h = tt
+lying_keep shape n (f ∷ fs) h =
     elim (cases_lt n (length f.bytes)) [
-      | inl k ↦ subst (AllByRecursion (Keeps fields)) (sym (lying-stop n f fs k)) tt
-      | inr k ↦ subst (AllByRecursion (Keeps fields)) (sym (lying-step n f fs k)) (h.0, lying_keep fields (n - length f.bytes) fs h.1)
+      | inl k ↦ subst (AllByRecursion (Keeps shape)) (sym (lying-stop n f fs k)) tt
+      | inr k ↦ subst (AllByRecursion (Keeps shape)) (sym (lying-step n f fs k)) (h.0, lying_keep shape (n - length f.bytes) fs h.1)
     ]
 
 -- whether frames leave a schema: where there are any
@@ -63,57 +63,57 @@ abbrev ShowsSchema : Bool → List Frame → Type 0
 ShowsSchema has [] = has ≡ false
 ShowsSchema has (f ∷ fs) = has ≡ true
 
-shows_schema : (fields : Fields) (fs : List Frame) → AllByRecursion (Keeps fields) fs → ShowsSchema (is_some (left_by nothing_yet fs).schema) fs
-shows_schema fields [] h = refl
-shows_schema fields (f ∷ fs) h = ap is_some (left_keeps fields f.leaves fs h.0 h.1)
+shows_schema : (shape : SchemaShape) (fs : List Frame) → AllByRecursion (Keeps shape) fs → ShowsSchema (is_some (left_by nothing_yet fs).schema) fs
+shows_schema shape [] h = refl
+shows_schema shape (f ∷ fs) h = ap is_some (left_keeps shape f.leaves fs h.0 h.1)
 
-module _ {l : LimitNumbers} {o : Options} {fields : Fields} where
-  part_keeps : {ds : List (ℤ × ValueList)} {place : ℕ} {t : Table} {fs : List Frame} → IsPart l o fields ds place t fs → AllByRecursion (Keeps fields) fs
+module _ {l : LimitNumbers} {o : Options} {shape : SchemaShape} where
+  part_keeps : {ds : List (ℤ × ValueList)} {place : ℕ} {t : Table} {fs : List Frame} → IsPart l o shape ds place t fs → AllByRecursion (Keeps shape) fs
   part_keeps {ds} x =
-      subst (AllByRecursion (Keeps fields)) (sym x.frames) (both_keep fields x.updated _ (updates_keep l o.align fields ds _ x.updated x.updates) (refl, tt))
+      subst (AllByRecursion (Keeps shape)) (sym x.frames) (both_keep shape x.updated _ (updates_keep l o.align shape ds _ x.updated x.updates) (refl, tt))
 
-  text_keeps : {parts : List (List ℕ)} {batches : List Table} {frames : List Frame} → Text l o fields parts batches frames → AllByRecursion (Keeps fields) frames
+  text_keeps : {parts : List (List ℕ)} {batches : List Table} {frames : List Frame} → Text l o shape parts batches frames → AllByRecursion (Keeps shape) frames
   text_keeps (begins b known a f) = (refl, tt)
-  text_keeps (adds parts batches frames t fs text x) = both_keep fields frames fs (text_keeps text) (part_keeps x)
+  text_keeps (adds parts batches frames t fs text x) = both_keep shape frames fs (text_keeps text) (part_keeps x)
 
   -- the state after a text has the schema
-  text_leaves : {parts : List (List ℕ)} {batches : List Table} {frames : List Frame} → Text l o fields parts batches frames → (left_by nothing_yet frames).schema ≡ Some fields
+  text_leaves : {parts : List (List ℕ)} {batches : List Table} {frames : List Frame} → Text l o shape parts batches frames → (left_by nothing_yet frames).schema ≡ Some shape
   text_leaves (begins b known a f) = refl
   text_leaves (adds parts batches frames t fs text x) =
-      ap (λ (s : StreamState). s.schema) (left_by-append nothing_yet frames fs) ∙ left_keeps fields (left_by nothing_yet frames) fs (text_leaves text) (part_keeps x)
+      ap (λ (s : StreamState). s.schema) (left_by-append nothing_yet frames fs) ∙ left_keeps shape (left_by nothing_yet frames) fs (text_leaves text) (part_keeps x)
 
-  written_keeps : {closed : Bool} {parts : List (List ℕ)} {batches : List Table} {frames : List Frame} → Written l o fields closed parts batches frames → AllByRecursion (Keeps fields) frames
+  written_keeps : {closed : Bool} {parts : List (List ℕ)} {batches : List Table} {frames : List Frame} → Written l o shape closed parts batches frames → AllByRecursion (Keeps shape) frames
   written_keeps (unfinished parts batches frames t) = text_keeps t
-  written_keeps (finished parts batches frames b t h m) = both_keep fields frames _ (text_keeps t) (text_leaves t, tt)
+  written_keeps (finished parts batches frames b t h m) = both_keep shape frames _ (text_keeps t) (text_leaves t, tt)
 
 -- SCHEMAS OF BATCHES
 
-abbrev HasSchema : Fields → Table → Type 0
-HasSchema fields t = t.schema ≡ fields
+abbrev HasSchema : SchemaShape → Table → Type 0
+HasSchema shape t = t.schema ≡ shape
 
-one_more_has : (fields : Fields) (ts : List Table) (t : Table) → AllByRecursion (HasSchema fields) ts → t.schema ≡ fields → AllByRecursion (HasSchema fields) (ts ++ t ∷ [])
-one_more_has fields [] t h e = (e, tt)
-one_more_has fields (x ∷ xs) t h e = (h.0, one_more_has fields xs t h.1 e)
+one_more_has : (shape : SchemaShape) (ts : List Table) (t : Table) → AllByRecursion (HasSchema shape) ts → t.schema ≡ shape → AllByRecursion (HasSchema shape) (ts ++ t ∷ [])
+one_more_has shape [] t h e = (e, tt)
+one_more_has shape (x ∷ xs) t h e = (h.0, one_more_has shape xs t h.1 e)
 
-module _ {l : LimitNumbers} {o : Options} {fields : Fields} where
-  text_schemas : {parts : List (List ℕ)} {batches : List Table} {frames : List Frame} → Text l o fields parts batches frames → AllByRecursion (HasSchema fields) batches
+module _ {l : LimitNumbers} {o : Options} {shape : SchemaShape} where
+  text_schemas : {parts : List (List ℕ)} {batches : List Table} {frames : List Frame} → Text l o shape parts batches frames → AllByRecursion (HasSchema shape) batches
   text_schemas (begins b known a f) = tt
   text_schemas (adds parts batches frames t fs text x) =
-      one_more_has fields batches t (text_schemas text) (part_fits_so l o fields _ _ t x.admitted).same_schema
+      one_more_has shape batches t (text_schemas text) (part_fits_so l o shape _ _ t x.admitted).same_schema
 
-  written_schemas : {closed : Bool} {parts : List (List ℕ)} {batches : List Table} {frames : List Frame} → Written l o fields closed parts batches frames → AllByRecursion (HasSchema fields) batches
+  written_schemas : {closed : Bool} {parts : List (List ℕ)} {batches : List Table} {frames : List Frame} → Written l o shape closed parts batches frames → AllByRecursion (HasSchema shape) batches
   written_schemas (unfinished parts batches frames t) = text_schemas t
   written_schemas (finished parts batches frames b t h m) = text_schemas t
 
 -- batches with the rows of the first of others have their schemas
-same_schemas : (fields : Fields) (n : ℕ) (xs ys : List Table) → map rows_of xs ≡ take n (map rows_of ys) → AllByRecursion (HasSchema fields) ys → AllByRecursion (HasSchema fields) xs
-same_schemas fields n [] ys e h = tt
-same_schemas fields zero (x ∷ xs) ys e h = absurd (cc)
-same_schemas fields (suc n) (x ∷ xs) [] e h = absurd (cc)
-same_schemas fields (suc n) (x ∷ xs) (y ∷ ys) e h =
+same_schemas : (shape : SchemaShape) (n : ℕ) (xs ys : List Table) → map rows_of xs ≡ take n (map rows_of ys) → AllByRecursion (HasSchema shape) ys → AllByRecursion (HasSchema shape) xs
+same_schemas shape n [] ys e h = tt
+same_schemas shape zero (x ∷ xs) ys e h = absurd (cc)
+same_schemas shape (suc n) (x ∷ xs) [] e h = absurd (cc)
+same_schemas shape (suc n) (x ∷ xs) (y ∷ ys) e h =
     let first : rows_of x ≡ rows_of y = cc in
     let rest : map rows_of xs ≡ take n (map rows_of ys) = cc in
-    (ap (λ (r : Rows). r.schema) first ∙ h.0, same_schemas fields n xs ys rest h.1)
+    (ap (λ (r : Rows). r.schema) first ∙ h.0, same_schemas shape n xs ys rest h.1)
 
 -- THE ENDING
 
@@ -159,13 +159,13 @@ sent_by r = record { parts = r.parts; refused = r.refused; dictionaries = r.writ
 
 module _ (l : LimitNumbers) (c : Asked) (r : Told) (s : IsSent l c (sent_by r)) (y : IsReceived l c r) where
   -- the schema is admitted
-  module _ (admits : schema_admission l c.options c.fields ≡ None) where
-    written : Written l c.options c.fields (outcome_of l c).closed r.parts (outcome_of l c).admitted s.frames
+  module _ (admits : schema_admission l c.options c.shape ≡ None) where
+    written : Written l c.options c.shape (outcome_of l c).closed r.parts (outcome_of l c).admitted s.frames
     written = subst (λ a. Sends a l c r.parts s.frames) admits s.sends
 
-    stream : IsStream l (joined r.parts) c.fields (map rows_of (outcome_of l c).admitted) r.writer_dictionaries
+    stream : IsStream l (joined r.parts) c.shape (map rows_of (outcome_of l c).admitted) r.writer_dictionaries
     stream =
-        subst (λ ds. IsStream l (joined r.parts) c.fields (map rows_of (outcome_of l c).admitted) ds) (sym (written_is written).dictionaries ∙ sym s.last_are) (text_stream written)
+        subst (λ ds. IsStream l (joined r.parts) c.shape (map rows_of (outcome_of l c).admitted) ds) (sym (written_is written).dictionaries ∙ sym s.last_are) (text_stream written)
 
     at_whole : length (joined r.parts) ≤ c.deliver → (y.entries ≡ stream.entries) × (y.standing ≡ stream.standing)
     at_whole h = one_front (at_bytes (all_taken c.deliver (joined r.parts) h) y.front) stream.front
@@ -176,7 +176,7 @@ module _ (l : LimitNumbers) (c : Asked) (r : Told) (s : IsSent l c (sent_by r)) 
         let d = delivered n written in
         let same = one_front y.front d.front in
         let whole = lying n s.frames in
-        let keeps = lying_keep c.fields n s.frames (written_keeps written) in
+        let keeps = lying_keep c.shape n s.frames (written_keeps written) in
         let handed : map rows_of r.handed ≡ take (whole_batches r.parts (outcome_of l c).admitted n) (map rows_of (outcome_of l c).admitted) =
         ap (map rows_of) (y.tables ∙ ap tables_of same.0) ∙ d.rows in
         record {
@@ -186,16 +186,16 @@ module _ (l : LimitNumbers) (c : Asked) (r : Told) (s : IsSent l c (sent_by r)) 
           is_stream = λ h. stream;
           writer_dictionaries_are = s.dictionaries_are;
           handed_are = handed;
-          schemas_are = same_schemas c.fields (whole_batches r.parts (outcome_of l c).admitted n) r.handed (outcome_of l c).admitted handed (written_schemas written);
+          schemas_are = same_schemas c.shape (whole_batches r.parts (outcome_of l c).admitted n) r.handed (outcome_of l c).admitted handed (written_schemas written);
           reader_dictionaries_are = y.dictionaries_are ∙ ap (λ (e : Standing). e.state.dictionaries) same.1;
           ending_is = y.ended ∙ ap ending_of same.1
-              ∙ ending_is d.verdict (is_some (left_by nothing_yet whole).schema) whole (drop (length (frames_bytes whole)) (take n (joined r.parts))) (take n (joined r.parts)) d.ends d.done refl (shows_schema c.fields whole keeps);
+              ∙ ending_is d.verdict (is_some (left_by nothing_yet whole).schema) whole (drop (length (frames_bytes whole)) (take n (joined r.parts))) (take n (joined r.parts)) d.ends d.done refl (shows_schema c.shape whole keeps);
           all_handed = λ h. ap (map rows_of) (y.tables ∙ ap tables_of (at_whole h).0) ∙ stream.rows;
           same_dictionaries = λ h. y.dictionaries_are ∙ ap (λ (e : Standing). e.state.dictionaries) (at_whole h).1 ∙ stream.dictionaries;
         }
 
   -- the schema is refused
-  module _ (k : WriteFault) (refuses : schema_admission l c.options c.fields ≡ Some k) where
+  module _ (k : WriteFault) (refuses : schema_admission l c.options c.shape ≡ Some k) where
     nothing : (r.parts ≡ []) × (s.frames ≡ [])
     nothing = subst (λ a. Sends a l c r.parts s.frames) refuses s.sends
 
@@ -227,20 +227,20 @@ module _ (l : LimitNumbers) (c : Asked) (r : Told) (s : IsSent l c (sent_by r)) 
           writer_dictionaries_are = s.dictionaries_are;
           handed_are = ap (map rows_of) none_handed ∙ sym (none_taken (whole_batches r.parts (outcome_of l c).admitted n))
               ∙ ap (λ ts. take (whole_batches r.parts (outcome_of l c).admitted n) (map rows_of ts)) (sym none_admitted);
-          schemas_are = subst (AllByRecursion (HasSchema c.fields)) (sym none_handed) tt;
+          schemas_are = subst (AllByRecursion (HasSchema c.shape)) (sym none_handed) tt;
           reader_dictionaries_are = no_dictionaries;
           ending_is = y.ended ∙ ap ending_of at_nothing.1;
           all_handed = λ h. ap (map rows_of) none_handed ∙ ap (map rows_of) (sym none_admitted);
           same_dictionaries = λ h. no_dictionaries ∙ sym (s.dictionaries_are ∙ ap (λ a. (outcome_by a l c).sent) refuses);
         }
 
-  report_by : (a : Option WriteFault) → schema_admission l c.options c.fields ≡ a → IsReport l c r
+  report_by : (a : Option WriteFault) → schema_admission l c.options c.shape ≡ a → IsReport l c r
   report_by None e = text_report e
   report_by (Some k) e = nothing_report k e
 
   -- what was sent, and what was received of the first bytes of it, make a report
   pub report_of : IsReport l c r
-  report_of = report_by (schema_admission l c.options c.fields) refl
+  report_of = report_by (schema_admission l c.options c.shape) refl
 
 -- the same of the bytes of all parts
 pub report_for : (l : LimitNumbers) (c : Asked) (r : Told) (bytes : List ℕ) → IsSent l c (record { parts = r.parts; refused = r.refused; dictionaries = r.writer_dictionaries; bytes = bytes })

@@ -1,8 +1,8 @@
 -- What is asked of a connection, and what the definitions alone say comes of it: which batches are admitted, and which are refused
 -- with what. (This project's own.)
 use Rattle.std.specs.Prelude.{ℕ, ℤ, ◌+◌, ◌&&◌, Bool, true, false, List, [], ◌∷◌, ◌++◌, Option, Some, None}
-use Rattle.arrow_types.specs.Field.{Fields}
 use Rattle.arrow_types.specs.Limits.{LimitNumbers}
+use Rattle.arrow_types.specs.Notes.{SchemaShape}
 use Rattle.arrow_array.specs.Batch.{Table}
 use Rattle.arrow_array.specs.Column.{ValueList}
 use Rattle.arrow_written.specs.declared.write_fault.WriteFault.{WriteFault}
@@ -19,7 +19,7 @@ use Rattle.arrow_session.specs.declared.session.Connection.{Connection}
 -- What is asked of a connection: the schema and the batches to be written, how, whether an end marker too, and how many bytes of
 -- it all are delivered. In which pieces these come is not among it, since nothing hangs on that.
 pub record Asked : Type 0 where
-  pub fields : Fields
+  pub shape : SchemaShape
   pub options : Options
   pub batches : List Table
   pub finish : Bool
@@ -27,7 +27,7 @@ pub record Asked : Type 0 where
 
 -- what a caller asks
 abbrev pub asked_of : Connection → Asked
-asked_of c = record { fields = c.schema; options = options_view c.options; batches = c.batches.items; finish = c.finish; deliver = c.deliver }
+asked_of c = record { shape = c.schema; options = options_view c.options; batches = c.batches.items; finish = c.finish; deliver = c.deliver }
 
 -- How far the writing has come: how many batches were tried, those that were admitted, the refusals of the others, the
 -- dictionaries that were sent, and the place of the next frame.
@@ -39,23 +39,23 @@ pub record Progress : Type 0 where
   pub place : ℕ
 
 -- after the schema's frame
-abbrev pub begun : Options → Fields → Progress
-begun o fields = record { tried = 0; admitted = []; refused = []; sent = []; place = first_place o fields }
+abbrev pub begun : Options → SchemaShape → Progress
+begun o shape = record { tried = 0; admitted = []; refused = []; sent = []; place = first_place o shape }
 
 -- after one batch more: an admitted one is sent with the dictionaries that it needs, a refused one changes nothing of what was sent
-abbrev pub with_batch : Options → Fields → Table → Option WriteFault → Progress → Progress
-with_batch o fields t None p = record p {
+abbrev pub with_batch : Options → SchemaShape → Table → Option WriteFault → Progress → Progress
+with_batch o shape t None p = record p {
   tried = p.tried + 1;
   admitted = p.admitted ++ t ∷ [];
-  sent = lists_after o.updates fields p.sent t;
-  place = p.place + part_size o fields p.sent t;
+  sent = lists_after o.updates shape.fields p.sent t;
+  place = p.place + part_size o shape.fields p.sent t;
 }
-with_batch o fields t (Some k) p = record p { tried = p.tried + 1; refused = p.refused ++ record { what = Batch p.tried; kind = k } ∷ [] }
+with_batch o shape t (Some k) p = record p { tried = p.tried + 1; refused = p.refused ++ record { what = Batch p.tried; kind = k } ∷ [] }
 
 -- after these batches more, each admitted or refused by the dictionaries and the place that the admitted ones before it left
-abbrev pub with_batches : LimitNumbers → Options → Fields → Progress → List Table → Progress
-with_batches limits o fields p [] = p
-with_batches limits o fields p (t ∷ ts) = with_batches limits o fields (with_batch o fields t (admission limits o fields p.sent p.place t) p) ts
+abbrev pub with_batches : LimitNumbers → Options → SchemaShape → Progress → List Table → Progress
+with_batches limits o shape p [] = p
+with_batches limits o shape p (t ∷ ts) = with_batches limits o shape (with_batch o shape t (admission limits o shape p.sent p.place t) p) ts
 
 -- What comes of the writing in all: the batches that are sent, the refusals, the dictionaries that were sent, and whether the end
 -- marker is the last part.
@@ -82,9 +82,9 @@ ended_after finish p = record {
 
 -- with a schema that is refused nothing is sent and no batch is tried
 abbrev pub outcome_by : Option WriteFault → LimitNumbers → Asked → Outcome
-outcome_by None limits c = ended_after c.finish (with_batches limits c.options c.fields (begun c.options c.fields) c.batches)
+outcome_by None limits c = ended_after c.finish (with_batches limits c.options c.shape (begun c.options c.shape) c.batches)
 outcome_by (Some k) limits c = record { admitted = []; refused = record { what = Start; kind = k } ∷ []; sent = []; closed = false }
 
 -- what comes of a connection's writing, by its schema and its batches alone
 abbrev pub outcome_of : LimitNumbers → Asked → Outcome
-outcome_of limits c = outcome_by (schema_admission limits c.options c.fields) limits c
+outcome_of limits c = outcome_by (schema_admission limits c.options c.shape) limits c

@@ -47,7 +47,7 @@ told_by r = record {
 
 -- The parts are the text of the admitted batches, of these frames; with a schema that is refused there are none.
 abbrev pub Sends : Option WriteFault → LimitNumbers → Asked → List (List ℕ) → List Frame → Type 0
-Sends None limits c parts frames = Written limits c.options c.fields (outcome_of limits c).closed parts (outcome_of limits c).admitted frames
+Sends None limits c parts frames = Written limits c.options c.shape (outcome_of limits c).closed parts (outcome_of limits c).admitted frames
 Sends (Some k) limits c parts frames = (parts ≡ []) × (frames ≡ [])
 
 -- the frames that were delivered whole
@@ -69,13 +69,13 @@ pub record IsReport (limits : LimitNumbers) (c : Asked) (r : Told) : Type 0 wher
   pub frames : List Frame
   -- what was sent
   pub refused_are : r.refused ≡ (outcome_of limits c).refused
-  pub sends : Sends (schema_admission limits c.options c.fields) limits c r.parts frames
-  pub is_stream : schema_admission limits c.options c.fields ≡ None →
-      IsStream limits (joined r.parts) c.fields (map rows_of (outcome_of limits c).admitted) r.writer_dictionaries
+  pub sends : Sends (schema_admission limits c.options c.shape) limits c r.parts frames
+  pub is_stream : schema_admission limits c.options c.shape ≡ None →
+      IsStream limits (joined r.parts) c.shape (map rows_of (outcome_of limits c).admitted) r.writer_dictionaries
   pub writer_dictionaries_are : r.writer_dictionaries ≡ (outcome_of limits c).sent
   -- what was received of the delivered bytes
   pub handed_are : map rows_of r.handed ≡ take (whole_batches r.parts (outcome_of limits c).admitted c.deliver) (map rows_of (outcome_of limits c).admitted)
-  pub schemas_are : AllByRecursion (λ (t : Table). t.schema ≡ c.fields) r.handed
+  pub schemas_are : AllByRecursion (λ (t : Table). t.schema ≡ c.shape) r.handed
   pub reader_dictionaries_are : r.reader_dictionaries ≡ (left_by nothing_yet (whole_frames c frames)).dictionaries
   pub ending_is : r.ending ≡ ending_after (whole_frames c frames) (length (take c.deliver (joined r.parts)))
   -- where all was delivered

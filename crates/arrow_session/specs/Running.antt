@@ -1,7 +1,7 @@
 -- How the writing of a connection goes on, call by call.
 use Rattle.std.specs.Prelude.{◌≡◌, ℕ, ℤ, ◌⊎◌, false, List, [], ◌∷◌, ◌++◌, drop, Some}
-use Rattle.arrow_types.specs.Field.{Fields}
 use Rattle.arrow_types.specs.Limits.{LimitNumbers}
+use Rattle.arrow_types.specs.Notes.{SchemaShape}
 use Rattle.arrow_array.specs.Batch.{Table}
 use Rattle.arrow_array.specs.Column.{ValueList}
 use Rattle.arrow_stream.specs.State.{nothing_yet}
@@ -26,9 +26,9 @@ abbrev pub shown_kept : StreamWriter Kept → Shows
 shown_kept w = shown (λ (k : Kept). Some k.bytes.items) (λ (k : Kept). k.count) w
 
 -- why a start into memory is refused: the schema is too large, or a growth was refused
-abbrev pub StartsNot : LimitNumbers → Options → Fields → WriteFault → Type 0
-StartsNot limits o fields TooLarge = schema_admission limits o fields ≡ Some TooLarge
-StartsNot limits o fields k = (k ≡ Memory) ⊎ (k ≡ Sink)
+abbrev pub StartsNot : LimitNumbers → Options → SchemaShape → WriteFault → Type 0
+StartsNot limits o shape TooLarge = schema_admission limits o shape ≡ Some TooLarge
+StartsNot limits o shape k = (k ≡ Memory) ⊎ (k ≡ Sink)
 
 -- the part of a batch was written, and kept
 pub record Keeps (old : Shows) (t : Table) (parts : List (List ℕ)) (refused : List Refusal) (new : Shows) (parts' : List (List ℕ)) (refused' : List Refusal) : Type 0 where
@@ -39,7 +39,7 @@ pub record Keeps (old : Shows) (t : Table) (parts : List (List ℕ)) (refused : 
 -- the batch was refused, and its refusal kept
 pub record Skips (old : Shows) (t : Table) (n : ℕ) (parts : List (List ℕ)) (refused : List Refusal) (new : Shows) (parts' : List (List ℕ)) (refused' : List Refusal) : Type 0 where
   pub kind : WriteFault
-  pub refusal : admission old.limits old.options old.fields old.sent old.place t ≡ Some kind
+  pub refusal : admission old.limits old.options old.shape old.sent old.place t ≡ Some kind
   pub unchanged : new ≡ old
   pub same : parts' ≡ parts
   pub one_more : refused' ≡ refused ++ record { what = Batch n; kind = kind } ∷ []
@@ -58,14 +58,14 @@ pub record SoFar (w : Shows) (all : List Table) (n : ℕ) (parts : List (List �
   pub admitted : List Table
   pub stands : Stands w (Some []) false parts admitted
   pub reliable : w.failures ≡ 0
-  pub goes_on : with_batches w.limits w.options w.fields (progress_at w n admitted refused) (drop n all) ≡
-      with_batches w.limits w.options w.fields (begun w.options w.fields) all
+  pub goes_on : with_batches w.limits w.options w.shape (progress_at w n admitted refused) (drop n all) ≡
+      with_batches w.limits w.options w.shape (begun w.options w.shape) all
 
 -- a writer has the same limits, options and fields as before
 pub record IsOver (old new : Shows) : Type 0 where
   pub limits : new.limits ≡ old.limits
   pub options : new.options ≡ old.options
-  pub fields : new.fields ≡ old.fields
+  pub shape : new.shape ≡ old.shape
 
 -- the end marker was written, and kept as a part
 pub record Marks (old : Shows) (parts : List (List ℕ)) (refused : List Refusal) (new : Shows) (parts' : List (List ℕ)) (refused' : List Refusal) : Type 0 where
@@ -105,7 +105,7 @@ pub record IsNothing (s : Sent) : Type 0 where
 -- it is what comes of the connection
 pub record IsSent (limits : LimitNumbers) (c : Asked) (s : SentPlain) : Type 0 where
   pub frames : List Frame
-  pub sends : Sends (schema_admission limits c.options c.fields) limits c s.parts frames
+  pub sends : Sends (schema_admission limits c.options c.shape) limits c s.parts frames
   pub refused_are : s.refused ≡ (outcome_of limits c).refused
   pub dictionaries_are : s.dictionaries ≡ (outcome_of limits c).sent
   pub last_are : s.dictionaries ≡ (left_by nothing_yet frames).dictionaries

@@ -8,6 +8,7 @@ use Rattle.std.proofs.lemmas.Bool.Decides.{Decides-int_eq}
 use Rattle.std.proofs.lemmas.Bool.{or_parts}
 use Rattle.arrow_types.specs.DataType.{Tag}
 use Rattle.arrow_types.specs.Field.{Fields, none, more, fields_of, FieldShape, TypeShape}
+use Rattle.arrow_types.specs.Notes.{SchemaShape}
 use Rattle.arrow_types.specs.Schema.{DictionaryField, IsSchema, dictionary_fields, dictionary_of, has_encoding, is_nested}
 use Rattle.arrow_types.specs.declared.field.Encoding.{Encoding}
 use Rattle.arrow_array.specs.Column.{ValueList}
@@ -177,7 +178,7 @@ found_field None f e = absurd (cc)
 found_field (Some t) f e = record { type = t; named = refl; is = (cc) }
 
 -- it is the field of the values
-pub one_value_field : (schema : Option Fields) (id : ℤ) (f : FieldShape) → IsFound (value_type_of (dictionary_fields (fields_in schema)) id) f →
+pub one_value_field : (schema : Option SchemaShape) (id : ℤ) (f : FieldShape) → IsFound (value_type_of (dictionary_fields (fields_in schema)) id) f →
     fields_of (f ∷ []) ≡ value_fields schema id
 one_value_field schema id f h = ap (λ x. fields_of (x ∷ [])) h.is ∙ sym (ap field_of_type h.named)
 

@@ -18,7 +18,7 @@ use Rattle.arrow_meta.specs.Means.{PlainBatch, dictionary, batch}
 use Rattle.arrow_stream.specs.declared.kind.Refusal.TheVariants.{NoBase, Rows, UnknownId}
 use Rattle.arrow_stream.specs.declared.message.Stop.{Stop}
 use Rattle.arrow_stream.specs.declared.message.Stop.TheVariants.{Refused, Memory}
-use Rattle.arrow_stream.specs.State.{StreamState, dictionary_given, batch_given, fields_in}
+use Rattle.arrow_stream.specs.State.{StreamState, dictionary_given, batch_given, fields_in, schema_in}
 use Rattle.arrow_stream.specs.Batch.{Holds, columns, base_of, field_of_type, has_bad_length, value_fields}
 use Rattle.arrow_stream.specs.Frame.{BodySays, dictionary_comes, batch_comes}
 use Rattle.arrow_stream.specs.Views.{AreValues, Gives, HasNoColumns, HeldValues, IsApplicable, IsFit, Ready, Updates}
@@ -91,7 +91,7 @@ module _ (s : StreamState) (outline : PlainBatch) (body : List ℕ) where
 
   -- a record batch gives the columns of its body
   pub batch_read : (cs : List Column) (b : Table) → Holds body s.dictionaries (fields_in s.schema) outline (Ok cs) →
-      b ≡ record { schema = fields_in s.schema; columns = cs; rows = count_of outline.length } →
+      b ≡ record { schema = schema_in s.schema; columns = cs; rows = count_of outline.length } →
       BodySays s (batch outline) body (Ok (s, batch_given b))
   batch_read cs b h e = batch_comes h (ap (λ x. Ok (s, batch_given x)) e)
 

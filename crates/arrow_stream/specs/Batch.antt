@@ -3,6 +3,7 @@
 use Rattle.std.specs.Prelude.{◌≡◌, ℕ, ℤ, pos, negsuc, Bool, true, false, ◌||◌, nat_lt, List, [], ◌∷◌, ◌++◌, take, Option, None, Some, Result, Ok, Err}
 use Rattle.std.specs.List.{AllByRecursion, list_any}
 use Rattle.arrow_types.specs.Field.{Fields, none, fields_of, TypeShape}
+use Rattle.arrow_types.specs.Notes.{SchemaShape}
 use Rattle.arrow_types.specs.Schema.{dictionary_fields}
 use Rattle.arrow_types.specs.declared.node.FieldNode.{FieldNode}
 use Rattle.arrow_array.specs.Column.{Column, ValueList}
@@ -16,7 +17,7 @@ use Rattle.arrow_dict.specs.ValueTypes.{value_field, value_type_of}
 use Rattle.arrow_meta.specs.Means.{PlainBatch}
 use Rattle.arrow_stream.specs.declared.kind.Refusal.{Refusal}
 use Rattle.arrow_stream.specs.declared.kind.Refusal.TheVariants.{Layout, Text, Index}
-use Rattle.arrow_stream.specs.State.{StreamState, Given, dictionary_given, batch_given, fields_in}
+use Rattle.arrow_stream.specs.State.{StreamState, Given, dictionary_given, batch_given, fields_in, schema_in}
 
 -- the one field of the values of a dictionary, of which this is known to be the type
 abbrev pub field_of_type : Option TypeShape → Fields
@@ -24,7 +25,7 @@ field_of_type None = none
 field_of_type (Some t) = fields_of (value_field t ∷ [])
 
 -- The field of the values of a dictionary: its type is the value type of the first field that gives the id.
-abbrev pub value_fields : Option Fields → ℤ → Fields
+abbrev pub value_fields : Option SchemaShape → ℤ → Fields
 value_fields schema id = field_of_type (value_type_of (dictionary_fields (fields_in schema)) id)
 
 -- a number of rows that is negative or over the limit
@@ -78,5 +79,5 @@ dictionary_left s id delta (Err k) = Err k
 
 -- what a record batch leaves and gives
 abbrev pub batch_left : StreamState → PlainBatch → Result (List Column) Refusal → Result (StreamState × Given) Refusal
-batch_left s outline (Ok cs) = Ok (s, batch_given (record { schema = fields_in s.schema; columns = cs; rows = count_of outline.length }))
+batch_left s outline (Ok cs) = Ok (s, batch_given (record { schema = schema_in s.schema; columns = cs; rows = count_of outline.length }))
 batch_left s outline (Err k) = Err k

@@ -1,7 +1,7 @@
 -- What stands at the front of bytes: one message, the end marker, a refusal, or less than that (Columnar Format,
 -- "Encapsulated message format").
 use Rattle.std.specs.Prelude.{◌≡◌, ℕ, ℤ, ◌+◌, ◌*◌, ◌^◌, ◌<◌, ◌≤◌, ◌==◌, ◌&&◌, not, nat_lt, if◌then◌else◌, Bool, List, [], length, slice_index, take, drop, Option, Some, None, is_some, Result, Ok, Err}
-use Rattle.arrow_types.specs.Field.{Fields}
+use Rattle.arrow_types.specs.Notes.{SchemaShape}
 use Rattle.arrow_types.specs.Limits.{LimitNumbers}
 use Rattle.arrow_meta.specs.declared.fault.MetaFault.{MetaFault}
 use Rattle.arrow_meta.specs.declared.fault.MetaFault.TheVariants as faults
@@ -110,8 +110,8 @@ pub record MetadataSays (limits : LimitNumbers) (s : StreamState) (start : ℕ) 
 -- decides. A schema begins with no dictionaries, and its body is not looked at. The values of a dictionary have no
 -- dictionaries of their own. The indices of a record batch are looked up in the dictionaries as they stand here.
 pub data BodySays (s : StreamState) : PlainHeader → List ℕ → Result (StreamState × Given) Refusal → Type 0 where
-  schema_comes : {fields : Fields} {body : List ℕ} →
-      BodySays s (schema fields) body (Ok (record { schema = Some fields; dictionaries = [] }, schema_given))
+  schema_comes : {shape : SchemaShape} {body : List ℕ} →
+      BodySays s (schema shape) body (Ok (record { schema = Some shape; dictionaries = [] }, schema_given))
   dictionary_comes : {id : ℤ} {delta : Bool} {outline : PlainBatch} {body : List ℕ} {cs : Result (List Column) Refusal}
       {r : Result (StreamState × Given) Refusal} → Holds body [] (value_fields s.schema id) outline cs →
       r ≡ dictionary_left s id delta cs → BodySays s (dictionary id delta outline) body r

@@ -1,8 +1,8 @@
 -- How the logic stores what a reader shows: as trees of numbers, another one for each other value.
 use Rattle.std.specs.Prelude.{ℕ, ℤ, List, Option, refl}
 use Rattle.std.specs.Coded.{Coded, code_by, coded×, coded_ℕ, coded_ℤ, coded_list, coded_option}
-use Rattle.arrow_types.specs.Field.{Fields}
-use Rattle.arrow_types.specs.Stored.{fields_code}
+use Rattle.arrow_types.specs.Notes.{SchemaShape}
+use Rattle.arrow_types.specs.Stored.{schema_code}
 use Rattle.arrow_array.specs.Column.{ValueList, value_list_code}
 use Rattle.arrow_types.specs.Limits.{LimitNumbers}
 use Rattle.arrow_stream.specs.declared.reader.Verdict.{Verdict}
@@ -20,8 +20,8 @@ limits_code = code_by (ℕ × (ℕ × ℕ)) (coded× coded_ℕ (coded× coded_�
 
 -- a schema and dictionaries
 abbrev state_code : Coded StreamState
-state_code = code_by (Option Fields × List (ℤ × ValueList))
-    (coded× (coded_option fields_code) (coded_list (coded× coded_ℤ value_list_code)))
+state_code = code_by (Option SchemaShape × List (ℤ × ValueList))
+    (coded× (coded_option schema_code) (coded_list (coded× coded_ℤ value_list_code)))
     (λ s. (s.schema, s.dictionaries)) (λ p. record { schema = p.0; dictionaries = p.1 }) (λ _. refl)
 
 -- where a stream stands

@@ -13,8 +13,7 @@ use std::marker::Model;
 use std::rc::Rc;
 
 /// The schema of a stream, the types of the nodes of its fields, which the columns of all batches
-/// share, and for each dictionary id a field of the dictionary's values. A clause sees the fields of
-/// the schema.
+/// share, and for each dictionary id a field of the dictionary's values. A clause sees the schema.
 #[derive(Drop)]
 pub(crate) struct StreamSchema {
     schema: Rc<Schema>,
@@ -25,20 +24,20 @@ pub(crate) struct StreamSchema {
 impl Model for StreamSchema {
     ghost use Rattle.std.specs.Prelude.{◌≡◌};
     ghost use Rattle.arrow_array.specs.Shared.{node_types};
-    ghost use Rattle.arrow_types.specs.Field.{Fields};
-    ghost use Rattle.arrow_types.specs.Stored.{fields_code};
+    ghost use Rattle.arrow_types.specs.Notes.{SchemaShape};
+    ghost use Rattle.arrow_types.specs.Stored.{schema_code};
     ghost use Rattle.arrow_dict.specs.ValueTypes.{NameSame};
     ghost use Rattle.arrow_types.specs.Schema.{IsSchema, dictionary_fields};
 
-    ghost Value = { Fields };
+    ghost Value = { SchemaShape };
 
-    ghost coded = { fields_code };
+    ghost coded = { schema_code };
 
     ghost view = { λ c. c.schema.value };
 
-    ghost invariant = { λ c. IsSchema c.schema.value
-        × (c.types.items ≡ node_types c.schema.value)
-        × NameSame c.value_fields (dictionary_fields c.schema.value) };
+    ghost invariant = { λ c. IsSchema c.schema.value.fields
+        × (c.types.items ≡ node_types c.schema.value.fields)
+        × NameSame c.value_fields (dictionary_fields c.schema.value.fields) };
 }
 
 impl StreamSchema {
@@ -58,14 +57,14 @@ impl StreamSchema {
     /// The schema, which batches share.
     pub(crate) fn shared(&self) -> &Rc<Schema>
         ensures same { result.now.value ≡ self.now }
-        ensures known { IsSchema self.now }
+        ensures known { IsSchema self.now.fields }
     {
         &self.schema
     }
 
     /// The types of the nodes of its fields.
     pub(crate) fn types(&self) -> &[SharedType]
-        ensures same { result.now ≡ node_types self.now }
+        ensures same { result.now ≡ node_types self.now.fields }
     {
         &self.types
     }
@@ -73,8 +72,8 @@ impl StreamSchema {
     /// The field of the values of the dictionary with this id, if a field gives the id.
     pub(crate) fn value_field(&self, id: i64) -> Option<&ValueField>
         ensures field { option_map (λ f. f.now) result
-            ≡ option_map value_field (value_type_of (dictionary_fields self.now) id) }
-        ensures known { IsSchema self.now }
+            ≡ option_map value_field (value_type_of (dictionary_fields self.now.fields) id) }
+        ensures known { IsSchema self.now.fields }
     {
         self.value_fields.get(id)
     }

@@ -4,6 +4,7 @@ pub mod Encodings
 pub mod Fields
 pub mod Ids
 pub mod Look
+pub mod Noted
 pub mod Pairs
 pub mod Places
 pub mod Scan

@@ -1,5 +1,5 @@
 -- Fields as plain values, without where they lie in memory (Schema.fbs, table "Field").
-use Rattle.std.specs.Prelude.{ℕ, ◌+◌, max, Bool, List, [], ◌∷◌, Option}
+use Rattle.std.specs.Prelude.{ℕ, ◌+◌, max, Bool, List, [], ◌∷◌, Option, Some}
 use Rattle.arrow_types.specs.DataType.{Tag}
 use Rattle.arrow_types.specs.declared.field.Encoding.{Encoding}
 
@@ -24,6 +24,20 @@ pub record TypeShape : Type 0 where
 pub record FieldShape : Type 0 where
   pub head : Head
   pub children : Fields
+
+-- the field of a name, nullability, an encoding where it holds indices, and a type
+abbrev pub field_by : List ℕ → Bool → Option Encoding → TypeShape → FieldShape
+field_by name nullable encoding type = record {
+  head = record { name = name; nullable = nullable; tag = type.tag; encoding = encoding };
+  children = type.children;
+}
+
+-- a field as it is with this encoding
+abbrev pub encoded_by : Encoding → FieldShape → FieldShape
+encoded_by encoding f = record {
+  head = record { name = f.head.name; nullable = f.head.nullable; tag = f.head.tag; encoding = Some encoding };
+  children = f.children;
+}
 
 -- the fields of a list, side by side
 abbrev pub fields_of : List FieldShape → Fields

@@ -3,6 +3,7 @@ pub mod Dictionaries
 pub mod Equality
 pub mod Field
 pub mod Limits
+pub mod Notes
 pub mod Room
 pub mod Schema
 pub mod Stored

@@ -5,9 +5,10 @@ use Rattle.std.specs.Ordering.{int_eq}
 use Rattle.arrow_types.specs.DataType.{Tag, null, boolean, int, binary, large_binary, fixed_size_binary, utf8, large_utf8, date, time, timestamp, duration, list, large_list, struct}
 use Rattle.arrow_types.specs.Equality.{is_equal}
 use Rattle.arrow_types.specs.Field.{Head, Fields, none, more, TypeShape, FieldShape, levels, count}
+use Rattle.arrow_types.specs.Notes.{SchemaShape, pair_count}
 use Rattle.arrow_types.specs.Stored.{type_code}
 use Rattle.arrow_types.specs.declared.schema.SchemaFault.{SchemaFault}
-use Rattle.arrow_types.specs.declared.schema.SchemaFault.TheVariants.{TooDeep, TooManyFields, NestedDictionary, SharedIdTypesDiffer, Memory, ByteWidth}
+use Rattle.arrow_types.specs.declared.schema.SchemaFault.TheVariants.{TooDeep, TooManyFields, NestedDictionary, SharedIdTypesDiffer, Memory, ByteWidth, TooManyPairs}
 
 -- whether a field of these, on any level, is dictionary-encoded
 abbrev pub has_encoding : Fields → Bool
@@ -103,15 +104,20 @@ pub record IsBounded (s : Fields) : Type 0 where
   pub flat : is_nested s ≡ false
   pub narrow : is_too_wide s ≡ false
 
--- what is known of every schema
+-- what is known of the fields of every schema
 pub record IsSchema (s : Fields) : Type 0 where
   pub bounded : IsBounded s
   pub one_type : OneType (dictionary_fields s)
 
+-- what is known of every schema: of its fields, and that it has at most 65,536 pairs
+pub record IsNoted (s : SchemaShape) : Type 0 where
+  pub schema : IsSchema s.fields
+  pub few_pairs : pair_count s ≤ 65536
+
 -- the ids that a schema keeps beside its fields
-pub record IsKept (ids : List ℤ) (s : Fields) : Type 0 where
-  pub schema : IsSchema s
-  pub listed : ids ≡ dictionary_ids s
+pub record IsKept (ids : List ℤ) (s : SchemaShape) : Type 0 where
+  pub noted : IsNoted s
+  pub listed : ids ≡ dictionary_ids s.fields
 
 -- the first fault that applies, in the order of the faults' numbers, or this one where none before want of memory does
 abbrev pub fault_or : Option SchemaFault → Fields → Option SchemaFault
@@ -121,16 +127,22 @@ fault_or other s =
     (if is_nested s then Some NestedDictionary else
     (if types_differ (dictionary_fields s) then Some SharedIdTypesDiffer else other)))
 
--- the first of the faults that apply to fields; none where the fields make a schema
-abbrev pub fault_of : Fields → Option SchemaFault
-fault_of s = fault_or (if is_too_wide s then Some ByteWidth else None) s
+-- the faults after want of memory: a width over the limit, and more than 65,536 pairs
+abbrev pub late_fault : SchemaShape → Option SchemaFault
+late_fault s =
+    if is_too_wide s.fields then Some ByteWidth else
+    (if nat_lt 65536 (pair_count s) then Some TooManyPairs else None)
 
--- An answer to fields: the schema of just these where no fault applies, else the first fault that does. Want of
--- memory is told only of fields to which no fault before it applies and one of which, on some level, is
+-- the first of the faults that apply to fields and pairs; none where they make a schema
+abbrev pub fault_of : SchemaShape → Option SchemaFault
+fault_of s = fault_or (late_fault s) s.fields
+
+-- An answer to fields and pairs: the schema of just these where no fault applies, else the first fault that does. Want
+-- of memory is told only of fields to which no fault before it applies and one of which, on some level, is
 -- dictionary-encoded.
-abbrev pub Judges : Result Fields SchemaFault → Fields → Type 0
+abbrev pub Judges : Result SchemaShape SchemaFault → SchemaShape → Type 0
 Judges (Ok schema) s = (fault_of s ≡ None) × (schema ≡ s)
-Judges (Err Memory) s = (fault_or None s ≡ None) × (has_encoding s ≡ true)
+Judges (Err Memory) s = (fault_or None s.fields ≡ None) × (has_encoding s.fields ≡ true)
 Judges (Err fault) s = fault_of s ≡ Some fault
 
 -- the number of a fault
@@ -141,6 +153,7 @@ number_of NestedDictionary = 3
 number_of SharedIdTypesDiffer = 4
 number_of Memory = 5
 number_of ByteWidth = 6
+number_of TooManyPairs = 7
 
 -- the words of a fault
 abbrev pub words_of : SchemaFault → List ℕ
@@ -150,3 +163,4 @@ words_of NestedDictionary = codes "a dictionary below a dictionary"
 words_of SharedIdTypesDiffer = codes "two value types for one dictionary id"
 words_of Memory = codes "out of memory"
 words_of ByteWidth = codes "byte strings of more than 2,147,483,647 bytes"
+words_of TooManyPairs = codes "more than 65,536 pairs of metadata"

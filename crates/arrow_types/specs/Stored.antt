@@ -10,6 +10,7 @@ use Rattle.arrow_types.specs.contracts.data_type.TimeUnit.{the_row as time_row}
 use Rattle.arrow_types.specs.contracts.field.Encoding.{the_row as encoding_row}
 use Rattle.arrow_types.specs.DataType.{Tag, null, boolean, int, binary, large_binary, fixed_size_binary, utf8, large_utf8, date, time, timestamp, duration, list, large_list, struct}
 use Rattle.arrow_types.specs.Field.{Head, Fields, none, more, TypeShape, FieldShape}
+use Rattle.arrow_types.specs.Notes.{KeyValue, Notes, unnoted, noted, FieldNotes, SchemaShape}
 
 -- the name of a time zone, or that there is none
 abbrev zone_code : Coded (Option (List ℕ))
@@ -88,3 +89,45 @@ type_code = code_by (Tag × Fields) (coded× tag_code fields_code)
 abbrev pub field_code : Coded FieldShape
 field_code = code_by (Head × Fields) (coded× head_code fields_code)
     (λ f. (f.head, f.children)) (λ p. record { head = p.0; children = p.1 }) (λ _. refl)
+
+-- a pair is told by its key and its value
+abbrev pub pair_code : Coded KeyValue
+pair_code = code_by (List ℕ × List ℕ) (coded× (coded_list coded_ℕ) (coded_list coded_ℕ))
+    (λ p. (p.key, p.value)) (λ p. record { key = p.0; value = p.1 }) (λ _. refl)
+
+-- so are lists of them
+abbrev pub pairs_code : Coded (List KeyValue)
+pairs_code = coded_list pair_code
+
+-- the tree of notes: the first field's pairs, what is noted below it, and at the fields after it
+abbrev pub notes_gv : Notes → Gv
+notes_gv unnoted = gnil
+notes_gv (noted pairs below rest) = gcons (pairs_code.code pairs) (gcons (notes_gv below) (notes_gv rest))
+
+-- notes with one tree are equal
+pub notes_inj : (x y : Notes) → notes_gv x ≡ notes_gv y → x ≡ y
+notes_inj unnoted unnoted p = refl
+notes_inj (noted n b r) (noted n' b' r') p = λ i. noted (pairs_code.inj n n' (cc) i) (notes_inj b b' (cc) i) (notes_inj r r' (cc) i)
+notes_inj x y p = cc
+
+-- so these trees tell notes apart
+abbrev pub notes_code : Coded Notes
+notes_code = record { code = notes_gv; inj = notes_inj }
+
+-- what is noted at one field is told by its pairs and what is noted below it
+abbrev pub field_notes_code : Coded FieldNotes
+field_notes_code = code_by (List KeyValue × Notes) (coded× pairs_code notes_code)
+    (λ n. (n.pairs, n.below)) (λ p. record { pairs = p.0; below = p.1 }) (λ _. refl)
+
+-- a schema is told by its fields, its pairs and its notes
+abbrev pub schema_code : Coded SchemaShape
+schema_code = code_by (Fields × (List KeyValue × Notes)) (coded× fields_code (coded× pairs_code notes_code))
+    (λ s. (s.fields, (s.pairs, s.notes))) (λ p. record { fields = p.0; pairs = p.1.0; notes = p.1.1 }) (λ _. refl)
+
+-- everything that a type holds
+abbrev pub whole_type_code : Coded (TypeShape × Notes)
+whole_type_code = coded× type_code notes_code
+
+-- everything that a field holds
+abbrev pub whole_field_code : Coded (FieldShape × FieldNotes)
+whole_field_code = coded× field_code field_notes_code

@@ -2,6 +2,7 @@
 use Rattle.std.specs.Prelude.{List, [], ◌∷◌, map, string_bytes, option_map}
 use Rattle.arrow_types.specs.DataType.{Tag, null, boolean, int, binary, large_binary, fixed_size_binary, utf8, large_utf8, date, time, timestamp, duration, list, large_list, struct}
 use Rattle.arrow_types.specs.Field.{Fields, none, TypeShape, FieldShape, fields_of}
+use Rattle.arrow_types.specs.Notes.{Notes, unnoted, FieldNotes, SchemaShape, KeyValue, notes_of, pairs_view}
 use Rattle.arrow_types.specs.declared.data_type.DataType.{DataType, fold-DataType}
 use Rattle.arrow_types.specs.declared.data_type.DataType.TheOpen.{DataType-F, Field-F}
 use Rattle.arrow_types.specs.declared.field.Field.{Field, fold-Field}
@@ -46,3 +47,49 @@ field_view = fold-Field TypeShape FieldShape type_step field_step
 -- what some fields say, side by side
 abbrev pub fields_view : List Field → Fields
 fields_view fs = fields_of (map field_view fs)
+
+-- what is noted below one level of a type, whose children's notes are plain already
+abbrev pub type_notes_step : DataType-F Notes FieldNotes → Notes
+type_notes_step DataType-F.Null = unnoted
+type_notes_step DataType-F.Bool = unnoted
+type_notes_step (DataType-F.Int _ _) = unnoted
+type_notes_step DataType-F.Binary = unnoted
+type_notes_step DataType-F.LargeBinary = unnoted
+type_notes_step (DataType-F.FixedSizeBinary _) = unnoted
+type_notes_step DataType-F.Utf8 = unnoted
+type_notes_step DataType-F.LargeUtf8 = unnoted
+type_notes_step (DataType-F.Date _) = unnoted
+type_notes_step (DataType-F.Time _) = unnoted
+type_notes_step (DataType-F.Timestamp unit _) = unnoted
+type_notes_step (DataType-F.Duration _) = unnoted
+type_notes_step (DataType-F.List item) = notes_of (item.value ∷ [])
+type_notes_step (DataType-F.LargeList item) = notes_of (item.value ∷ [])
+type_notes_step (DataType-F.Struct fields) = notes_of fields.items
+
+-- what is noted at a field, and below its type
+abbrev pub field_notes_step : Field-F Notes FieldNotes → FieldNotes
+field_notes_step f = record { pairs = pairs_view f.metadata.items; below = f.data_type }
+
+-- what is noted at the fields below a type, on all levels
+abbrev pub type_notes : DataType → Notes
+type_notes = fold-DataType Notes FieldNotes type_notes_step field_notes_step
+
+-- what is noted at one field, and at those below it
+abbrev pub field_notes : Field → FieldNotes
+field_notes = fold-Field Notes FieldNotes type_notes_step field_notes_step
+
+-- what is noted at some fields, side by side
+abbrev pub notes_view : List Field → Notes
+notes_view fs = notes_of (map field_notes fs)
+
+-- a schema of these fields and pairs
+abbrev pub schema_view : List Field → List KeyValue → SchemaShape
+schema_view fs pairs = record { fields = fields_view fs; pairs = pairs; notes = notes_view fs }
+
+-- everything that a type holds, what is noted below it too
+abbrev pub whole_type : DataType → TypeShape × Notes
+whole_type t = (type_view t, type_notes t)
+
+-- everything that a field holds, what is noted at it too
+abbrev pub whole_field : Field → FieldShape × FieldNotes
+whole_field f = (field_view f, field_notes f)

@@ -4,12 +4,13 @@
 ghost use Rattle.std.specs.Prelude.{◌≡◌, ◌↔◌, IsTrue, IfOk};
 ghost use Rattle.arrow_types.specs.DataType.{bits_of, time_width_of, date_width_of};
 ghost use Rattle.arrow_types.specs.Equality.{is_equal, is_equal_equivalence};
-ghost use Rattle.arrow_types.specs.Stored.{type_code};
-ghost use Rattle.arrow_types.specs.View.{fields_view, type_view};
+ghost use Rattle.arrow_types.specs.Stored.{type_code, whole_type_code};
+ghost use Rattle.arrow_types.specs.View.{fields_view, notes_view, type_notes, type_view, whole_type};
 ghost use Rattle.std.specs.Cmp.{on_per, on_equiv, partial_equiv_from_equiv};
 ghost use Rattle.std.specs.Ordering.{on};
 
 use crate::field::{Field, copy_fields, same_field, same_fields};
+use crate::notes::have_same_notes_below;
 use std::alloc::{AllocError, Global};
 
 /// How many bits a whole number takes (`Schema.fbs`, table `Int`, field `bitWidth`).
@@ -130,7 +131,8 @@ impl DataType {
     /// The child fields: those of a struct, the one of a list, none of any other type. Takes no
     /// memory.
     pub fn children(&self) -> &[Field]
-        ensures { fields_view result.now ≡ (type_view self.now).children }
+        ensures fields { fields_view result.now ≡ (type_view self.now).children }
+        ensures notes { notes_view result.now ≡ type_notes self.now }
     {
         match self {
             DataType::List(item) => std::slice::from_ref(item),
@@ -154,7 +156,8 @@ impl DataType {
     /// An equal type in memory of its own, or `AllocError` where a growth was refused.
     #[cycle(copy)]
     pub fn copy(&self, alloc: Global) -> Result<DataType, AllocError>
-        ensures { IfOk result (λ t. type_view t ≡ type_view self.now) }
+        ensures same { IfOk result (λ t. type_view t ≡ type_view self.now) }
+        ensures notes { IfOk result (λ t. type_notes t ≡ type_notes self.now) }
     {
         match self {
             DataType::Null => Ok(DataType::Null),
@@ -184,7 +187,8 @@ impl DataType {
     }
 
     /// Whether the types are the same: their widths, units and zones, and of the fields below them
-    /// the names, `nullable`, types and encodings. Takes no memory.
+    /// the names, `nullable`, types and encodings. The metadata of these fields are left out, on
+    /// every level; `==` looks at them too. Takes no memory.
     pub fn same(&self, other: &DataType) -> bool
         ensures gives { result ≡ is_equal type_code (type_view self.now) (type_view other.now) }
         ensures same { IsTrue result ↔ (type_view self.now ≡ type_view other.now) }
@@ -227,21 +231,30 @@ pub(crate) fn same_type(one: &DataType, other: &DataType) -> bool
     }
 }
 
-/// Types are equal where everything that they hold is: widths, units, zones, names, `nullable` and
-/// encodings of the fields below them included. No memory is taken.
+/// Types are equal where everything that they hold is: widths, units, zones, names, `nullable`,
+/// encodings and metadata of the fields below them included. No memory is taken.
 impl PartialEq for DataType {
-    ghost eq = { on type_view (is_equal type_code) };
+    ghost eq = { on whole_type (is_equal whole_type_code) };
 
-    ghost laws = { on_per type_view (partial_equiv_from_equiv (is_equal_equivalence type_code)) };
+    ghost laws = { on_per whole_type
+        (partial_equiv_from_equiv (is_equal_equivalence whole_type_code)) };
 
     fn eq(&self, other: &DataType) -> bool
-        ensures gives { result ≡ is_equal type_code (type_view self.now) (type_view other.now) }
-        ensures same { IsTrue result ↔ (type_view self.now ≡ type_view other.now) }
+        ensures gives { result
+            ≡ is_equal whole_type_code (whole_type self.now) (whole_type other.now) }
+        ensures same { IsTrue result ↔ (whole_type self.now ≡ whole_type other.now) }
     {
-        self.same(other)
+        same_with_notes(self, other)
     }
 }
 
+/// Whether the types are equal, with the metadata of the fields below them.
+fn same_with_notes(one: &DataType, other: &DataType) -> bool
+    ensures { IsTrue result ↔ (whole_type one.now ≡ whole_type other.now) }
+{
+    same_type(one, other) && have_same_notes_below(one, other)
+}
+
 impl Eq for DataType {
-    ghost laws = { on_equiv type_view (is_equal_equivalence type_code) };
+    ghost laws = { on_equiv whole_type (is_equal_equivalence whole_type_code) };
 }

@@ -2,12 +2,14 @@
 
 ghost use Rattle.std.specs.Prelude.{◌≡◌, ◌↔◌, IsTrue, IfOk};
 ghost use Rattle.arrow_types.specs.Equality.{is_equal, is_equal_equivalence};
-ghost use Rattle.arrow_types.specs.Stored.{field_code};
-ghost use Rattle.arrow_types.specs.View.{field_view, fields_view};
+ghost use Rattle.arrow_types.specs.Stored.{whole_field_code};
+ghost use Rattle.arrow_types.specs.View.{field_notes, field_view, fields_view, notes_view};
+ghost use Rattle.arrow_types.specs.View.{whole_field};
 ghost use Rattle.std.specs.Cmp.{on_per, on_equiv, partial_equiv_from_equiv};
 ghost use Rattle.std.specs.Ordering.{on};
 
 use crate::data_type::{BitWidth, DataType, same_type};
+use crate::notes::{copy_pairs, have_same_notes};
 use std::alloc::{AllocError, Global};
 
 /// The type of a dictionary's indices (`Schema.fbs`, table `DictionaryEncoding`, field
@@ -45,12 +47,56 @@ pub struct Field {
     pub data_type: DataType,
     /// The dictionary that the values stand in, if the column holds indices.
     pub dictionary: Option<Encoding>,
+    /// Custom metadata: pairs of a key and a value in their order, each any bytes. Kept, and looked
+    /// at by nothing but equality.
+    pub metadata: Vec<(Vec<u8>, Vec<u8>)>,
 }
 
 impl Field {
+    ghost use Rattle.std.specs.Prelude.{Some, None, [], string_bytes};
+    ghost use Rattle.arrow_types.specs.Field.{encoded_by, field_by};
+    ghost use Rattle.arrow_types.specs.Notes.{pairs_view};
+    ghost use Rattle.arrow_types.specs.View.{type_notes, type_view};
+
+    /// A field that holds its values itself, without metadata. Takes no memory.
+    pub fn new(alloc: Global, name: String, data_type: DataType, nullable: bool) -> Field
+        ensures shape { field_view result
+            ≡ field_by (string_bytes name) nullable None (type_view data_type) }
+        ensures notes { field_notes result ≡ record { pairs = []; below = type_notes data_type } }
+    {
+        Field {
+            name,
+            nullable,
+            data_type,
+            dictionary: None,
+            metadata: Vec::new(alloc),
+        }
+    }
+
+    /// The same field, holding indices into this dictionary in place of its values. Takes no
+    /// memory.
+    pub fn with_dictionary(mut self, encoding: Encoding) -> Field
+        ensures shape { field_view result ≡ encoded_by encoding (field_view self) }
+        ensures notes { field_notes result ≡ field_notes self }
+    {
+        self.dictionary = Some(encoding);
+        self
+    }
+
+    /// The same field with these pairs in place of those that it has. Takes no memory.
+    pub fn with_metadata(mut self, metadata: Vec<(Vec<u8>, Vec<u8>)>) -> Field
+        ensures shape { field_view result ≡ field_view self }
+        ensures notes { field_notes result
+            ≡ record { pairs = pairs_view metadata.items; below = (field_notes self).below } }
+    {
+        self.metadata = metadata;
+        self
+    }
+
     /// The fields below this one: the children of its type. Takes no memory.
     pub fn children(&self) -> &[Field]
-        ensures { fields_view result.now ≡ (field_view self.now).children }
+        ensures fields { fields_view result.now ≡ (field_view self.now).children }
+        ensures notes { notes_view result.now ≡ (field_notes self.now).below }
     {
         self.data_type.children()
     }
@@ -58,13 +104,15 @@ impl Field {
     /// An equal field in memory of its own, or `AllocError` where a growth was refused.
     #[cycle(copy)]
     pub fn copy(&self, alloc: Global) -> Result<Field, AllocError>
-        ensures { IfOk result (λ f. field_view f ≡ field_view self.now) }
+        ensures same { IfOk result (λ f. field_view f ≡ field_view self.now) }
+        ensures notes { IfOk result (λ f. field_notes f ≡ field_notes self.now) }
     {
         Ok(Field {
             name: self.name.clone()?,
             nullable: self.nullable,
             data_type: self.data_type.copy(alloc)?,
             dictionary: self.dictionary,
+            metadata: copy_pairs(alloc, &self.metadata)?,
         })
     }
 }
@@ -72,7 +120,8 @@ impl Field {
 /// Equal fields in memory of their own.
 #[cycle(copy)]
 pub(crate) fn copy_fields(alloc: Global, fields: &[Field]) -> Result<Vec<Field>, AllocError>
-    ensures { IfOk result (λ v. fields_view v.items ≡ fields_view fields.now) }
+    ensures same { IfOk result (λ v. fields_view v.items ≡ fields_view fields.now) }
+    ensures notes { IfOk result (λ v. notes_view v.items ≡ notes_view fields.now) }
 {
     let mut copies = Vec::with_capacity(alloc, fields.len())?;
     for field in fields {
@@ -81,7 +130,7 @@ pub(crate) fn copy_fields(alloc: Global, fields: &[Field]) -> Result<Vec<Field>,
     Ok(copies)
 }
 
-/// Whether the fields are equal, with all that they hold.
+/// Whether the fields are equal, with all that they hold but their metadata.
 #[cycle(same)]
 pub(crate) fn same_field(one: &Field, other: &Field) -> bool
     ensures { IsTrue result ↔ (field_view one.now ≡ field_view other.now) }
@@ -92,7 +141,7 @@ pub(crate) fn same_field(one: &Field, other: &Field) -> bool
         && same_type(&one.data_type, &other.data_type)
 }
 
-/// Whether the fields are as many, and equal one by one.
+/// Whether the fields are as many, and equal one by one but for their metadata.
 #[cycle(same)]
 pub(crate) fn same_fields(fields: &[Field], others: &[Field]) -> bool
     ensures { IsTrue result ↔ (fields_view fields.now ≡ fields_view others.now) }
@@ -108,20 +157,30 @@ pub(crate) fn same_fields(fields: &[Field], others: &[Field]) -> bool
     true
 }
 
-/// Fields are equal where their names, `nullable`, types and encodings are. No memory is taken.
+/// Fields are equal where everything that they hold is, their metadata and that of the fields below
+/// them included. No memory is taken.
 impl PartialEq for Field {
-    ghost eq = { on field_view (is_equal field_code) };
+    ghost eq = { on whole_field (is_equal whole_field_code) };
 
-    ghost laws = { on_per field_view (partial_equiv_from_equiv (is_equal_equivalence field_code)) };
+    ghost laws = { on_per whole_field
+        (partial_equiv_from_equiv (is_equal_equivalence whole_field_code)) };
 
     fn eq(&self, other: &Field) -> bool
-        ensures gives { result ≡ is_equal field_code (field_view self.now) (field_view other.now) }
-        ensures same { IsTrue result ↔ (field_view self.now ≡ field_view other.now) }
+        ensures gives { result
+            ≡ is_equal whole_field_code (whole_field self.now) (whole_field other.now) }
+        ensures same { IsTrue result ↔ (whole_field self.now ≡ whole_field other.now) }
     {
-        same_field(self, other)
+        same_with_notes(self, other)
     }
 }
 
+/// Whether the fields are equal, with all that they hold.
+fn same_with_notes(one: &Field, other: &Field) -> bool
+    ensures { IsTrue result ↔ (whole_field one.now ≡ whole_field other.now) }
+{
+    same_field(one, other) && have_same_notes(one, other)
+}
+
 impl Eq for Field {
-    ghost laws = { on_equiv field_view (is_equal_equivalence field_code) };
+    ghost laws = { on_equiv whole_field (is_equal_equivalence whole_field_code) };
 }

@@ -15,4 +15,5 @@ pub fn fixed_numbers()
     ensures levels { Schema.MAX_LEVELS ≡ 32 }
     ensures fields { Schema.MAX_FIELDS ≡ 65536 }
     ensures width { Schema.MAX_WIDTH ≡ 2 ^ 31 - 1 }
+    ensures pairs { Schema.MAX_PAIRS ≡ 65536 }
 {}

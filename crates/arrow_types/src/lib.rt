@@ -14,6 +14,7 @@
 //! |---|---|
 //! | a type, a field, fields, as plain values | `specs/DataType.antt`: `Tag`; `specs/Field.antt`: `Fields` |
 //! | what those of the program say | `specs/View.antt`: `type_view`, `fields_view` |
+//! | custom metadata: pairs, beside what has them | `specs/Notes.antt`: `Notes`, `SchemaShape` |
 //! | a schema, and which fault applies | `specs/Schema.antt`: `IsSchema`, `fault_of`, `Judges` |
 //! | the dictionaries of fields | `specs/Schema.antt`: `dictionary_fields`, `dictionary_ids` |
 //! | levels and numbers of fields | `specs/Field.antt`: `levels`, `count`; `specs/Room.antt` |
@@ -29,6 +30,7 @@ pub mod laws;
 mod limits;
 mod nesting;
 mod node;
+mod notes;
 mod schema;
 mod size;
 mod widths;

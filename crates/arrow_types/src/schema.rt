@@ -1,13 +1,16 @@
 //! Schemas: fields that keep to the fixed limits.
 
-ghost use Rattle.std.specs.Prelude.{◌≡◌, ◌↔◌, IsTrue, IfOk};
-ghost use Rattle.arrow_types.specs.View.{fields_view};
+ghost use Rattle.std.specs.Prelude.{◌≡◌, ◌↔◌, IsTrue, IfOk, [], nat_lt};
+ghost use Rattle.arrow_types.specs.Notes.{pair_count, pairs_view};
+ghost use Rattle.arrow_types.specs.Schema.{late_fault};
+ghost use Rattle.arrow_types.specs.View.{fields_view, notes_view, schema_view};
 
 use crate::dictionaries::ids_of;
 use crate::differing::types_differ;
 use crate::dismantle::dismantle;
 use crate::field::{Field, copy_fields, same_fields};
 use crate::nesting::are_nested;
+use crate::notes::{after_notes, after_pairs, are_noted_alike, copy_pairs, same_pairs};
 use crate::size::{after_fields, have_levels};
 use crate::widths::are_too_wide;
 use std::alloc::{AllocError, Global};
@@ -31,6 +34,8 @@ pub enum SchemaFault {
     Memory,
     /// Byte strings of a fixed size are to have more than 2,147,483,647 bytes each.
     ByteWidth,
+    /// There are more than 65,536 pairs of custom metadata in the whole schema.
+    TooManyPairs,
 }
 
 impl SchemaFault {
@@ -47,6 +52,7 @@ impl SchemaFault {
             SchemaFault::SharedIdTypesDiffer => 4,
             SchemaFault::Memory => 5,
             SchemaFault::ByteWidth => 6,
+            SchemaFault::TooManyPairs => 7,
         }
     }
 }
@@ -67,6 +73,7 @@ impl fmt::Display for SchemaFault {
             ),
             SchemaFault::Memory => f.write_str("out of memory"),
             SchemaFault::ByteWidth => f.write_str("byte strings of more than 2,147,483,647 bytes"),
+            SchemaFault::TooManyPairs => f.write_str("more than 65,536 pairs of metadata"),
         }
     }
 }
@@ -77,31 +84,34 @@ impl Error for SchemaFault {}
 ///
 /// Its fields keep to the limits of 32 levels and 65,536 fields; none of its dictionaries stands
 /// below another, those of one id have one value type, and no width in bytes is over the greatest
-/// signed 32-bit number. Nobody who holds a schema has to test that again.
+/// signed 32-bit number. It has at most 65,536 pairs of metadata, those of its fields among them.
+/// Nobody who holds a schema has to test that again.
 #[derive(Debug, Drop)]
 pub struct Schema {
     fields: Vec<Field>,
+    metadata: Vec<(Vec<u8>, Vec<u8>)>,
     dictionary_ids: Vec<i64>,
 }
 
 impl Model for Schema {
-    ghost use Rattle.arrow_types.specs.Field.{Fields};
-    ghost use Rattle.arrow_types.specs.Stored.{fields_code};
+    ghost use Rattle.arrow_types.specs.Notes.{SchemaShape, pairs_view};
+    ghost use Rattle.arrow_types.specs.Stored.{schema_code};
 
-    ghost Value = { Fields };
+    ghost Value = { SchemaShape };
 
-    ghost coded = { fields_code };
+    ghost coded = { schema_code };
 
     ghost use Rattle.arrow_types.specs.Schema.{IsKept};
-    ghost use Rattle.arrow_types.specs.View.{fields_view};
+    ghost use Rattle.arrow_types.specs.View.{schema_view};
 
-    ghost view = { λ s. fields_view s.fields.items };
+    ghost view = { λ s. schema_view s.fields.items (pairs_view s.metadata.items) };
 
-    ghost invariant = { λ s. IsKept s.dictionary_ids.items (fields_view s.fields.items) };
+    ghost invariant = { λ s. IsKept s.dictionary_ids.items
+        (schema_view s.fields.items (pairs_view s.metadata.items)) };
 }
 
 impl Schema {
-    ghost use Rattle.arrow_types.specs.Schema.{Judges, IsSchema, dictionary_ids};
+    ghost use Rattle.arrow_types.specs.Schema.{Judges, IsSchema, IsNoted, dictionary_ids};
 
     /// The greatest number of levels of fields, where a column is level 1.
     pub const MAX_LEVELS: u32 = 32;
@@ -112,15 +122,32 @@ impl Schema {
     /// The greatest width of byte strings of a fixed size.
     pub const MAX_WIDTH: u32 = 2_147_483_647;
 
-    /// The schema of these columns, or the fault with the least number of those that apply.
+    /// The greatest number of pairs of metadata, those of the schema and those of its fields on all
+    /// levels together.
+    pub const MAX_PAIRS: u32 = 65_536;
+
+    /// The schema of these columns, without metadata of its own, or the fault with the least number
+    /// of those that apply: what [`Schema::with_metadata`] answers without pairs.
+    pub fn new(alloc: Global, fields: Vec<Field>) -> Result<Schema, SchemaFault>
+        ensures { Judges result (schema_view fields.items []) }
+    {
+        Schema::with_metadata(alloc, fields, Vec::new(alloc))
+    }
+
+    /// The schema of these columns with these pairs of metadata, or the fault with the least number
+    /// of those that apply.
     ///
     /// Fields deeper than 32 levels are not looked at below that, and the time grows as n log n
     /// with the number of fields. Memory is taken for the dictionary ids alone, so for fields none
     /// of which is dictionary-encoded, on any level, there is no `Memory`. Where it is refused, the
     /// types of shared ids are compared without any, in a time that grows with the square of the
     /// number of dictionary-encoded fields.
-    pub fn new(alloc: Global, fields: Vec<Field>) -> Result<Schema, SchemaFault>
-        ensures { Judges result (fields_view fields.items) }
+    pub fn with_metadata(
+        alloc: Global,
+        fields: Vec<Field>,
+        metadata: Vec<(Vec<u8>, Vec<u8>)>,
+    ) -> Result<Schema, SchemaFault>
+        ensures { Judges result (schema_view fields.items (pairs_view metadata.items)) }
     {
         if !have_levels(&fields, Schema::MAX_LEVELS) {
             dismantle(fields);
@@ -133,11 +160,14 @@ impl Schema {
             return Err(SchemaFault::NestedDictionary);
         }
         match ids_of(alloc, &fields) {
-            Ok(Some(dictionary_ids)) if !are_too_wide(&fields) => Ok(Schema {
-                fields,
-                dictionary_ids,
-            }),
-            Ok(Some(_)) => Err(SchemaFault::ByteWidth),
+            Ok(Some(dictionary_ids)) => match late_fault(&fields, &metadata) {
+                Some(fault) => Err(fault),
+                None => Ok(Schema {
+                    fields,
+                    metadata,
+                    dictionary_ids,
+                }),
+            },
             Ok(None) => Err(SchemaFault::SharedIdTypesDiffer),
             Err(_) if types_differ(&fields) => Err(SchemaFault::SharedIdTypesDiffer),
             Err(_) => Err(SchemaFault::Memory),
@@ -146,16 +176,26 @@ impl Schema {
 
     /// The columns, each with what stands below it. Takes no memory.
     pub fn fields(&self) -> &[Field]
-        ensures same { fields_view result.now ≡ self.now }
-        ensures limits { IsSchema self.now }
+        ensures same { fields_view result.now ≡ self.now.fields }
+        ensures limits { IsSchema self.now.fields }
+        ensures notes { notes_view result.now ≡ self.now.notes }
     {
         &self.fields
+    }
+
+    /// The schema's own metadata: pairs of a key and a value in their order, each any bytes. Those
+    /// of a field stand in the field. Takes no memory.
+    pub fn metadata(&self) -> &[(Vec<u8>, Vec<u8>)]
+        ensures same { pairs_view result.now ≡ self.now.pairs }
+        ensures limits { IsNoted self.now }
+    {
+        &self.metadata
     }
 
     /// The ids of the dictionaries, each once, in the order of the fields that give them first: a
     /// field before its children, and these before the field after it. Takes no memory.
     pub fn dictionary_ids(&self) -> &[i64]
-        ensures { result.now ≡ dictionary_ids self.now }
+        ensures { result.now ≡ dictionary_ids self.now.fields }
     {
         &self.dictionary_ids
     }
@@ -165,35 +205,69 @@ impl Schema {
         ensures { IfOk result (λ s. s ≡ self.now) }
     {
         let fields = copy_fields(alloc, &self.fields)?;
+        let metadata = copy_pairs(alloc, &self.metadata)?;
         let dictionary_ids = Vec::from_slice(alloc, &self.dictionary_ids)?;
         Ok(Schema {
             fields,
+            metadata,
             dictionary_ids,
         })
     }
 }
 
-/// Schemas are equal where all their fields are. No memory is taken.
+/// The first of the faults behind `Memory` that apply to these fields and pairs.
+fn late_fault(fields: &[Field], pairs: &[(Vec<u8>, Vec<u8>)]) -> Option<SchemaFault>
+    ensures { result ≡ late_fault (schema_view fields.now (pairs_view pairs.now)) }
+{
+    if are_too_wide(fields) {
+        return Some(SchemaFault::ByteWidth);
+    }
+    if have_too_many_pairs(fields, pairs) {
+        return Some(SchemaFault::TooManyPairs);
+    }
+    None
+}
+
+/// Whether the schema of these fields and pairs would have more pairs than it may.
+fn have_too_many_pairs(fields: &[Field], pairs: &[(Vec<u8>, Vec<u8>)]) -> bool
+    ensures { result ≡ nat_lt 65536 (pair_count (schema_view fields.now (pairs_view pairs.now))) }
+{
+    match after_pairs(pairs, Schema::MAX_PAIRS) {
+        Some(left) => after_notes(fields, left).is_none(),
+        None => true,
+    }
+}
+
+/// Schemas are equal where all their fields and their metadata are. No memory is taken.
 impl PartialEq for Schema {
     ghost use Rattle.arrow_types.specs.Equality.{is_equal, is_equal_equivalence};
-    ghost use Rattle.arrow_types.specs.Stored.{fields_code};
+    ghost use Rattle.arrow_types.specs.Stored.{schema_code};
     ghost use Rattle.std.specs.Cmp.{partial_equiv_from_equiv};
 
-    ghost eq = { is_equal fields_code };
+    ghost eq = { is_equal schema_code };
 
-    ghost laws = { partial_equiv_from_equiv (is_equal_equivalence fields_code) };
+    ghost laws = { partial_equiv_from_equiv (is_equal_equivalence schema_code) };
 
     fn eq(&self, other: &Schema) -> bool
-        ensures gives { result ≡ is_equal fields_code self.now other.now }
+        ensures gives { result ≡ is_equal schema_code self.now other.now }
         ensures same { IsTrue result ↔ (self.now ≡ other.now) }
     {
-        same_fields(&self.fields, &other.fields)
+        same_schema(self, other)
     }
+}
+
+/// Whether the schemas are equal, with all metadata.
+fn same_schema(one: &Schema, other: &Schema) -> bool
+    ensures { IsTrue result ↔ (one.now ≡ other.now) }
+{
+    same_fields(&one.fields, &other.fields)
+        && are_noted_alike(&one.fields, &other.fields)
+        && same_pairs(&one.metadata, &other.metadata)
 }
 
 impl Eq for Schema {
     ghost use Rattle.arrow_types.specs.Equality.{is_equal_equivalence};
-    ghost use Rattle.arrow_types.specs.Stored.{fields_code};
+    ghost use Rattle.arrow_types.specs.Stored.{schema_code};
 
-    ghost laws = { is_equal_equivalence fields_code };
+    ghost laws = { is_equal_equivalence schema_code };
 }

@@ -8,6 +8,7 @@ use Rattle.std.specs.Option.{unwrap_or}
 use Rattle.arrow_types.specs.DataType.{null}
 use Rattle.arrow_types.specs.Field.{Fields, TypeShape, none}
 use Rattle.arrow_types.specs.Limits.{LimitNumbers}
+use Rattle.arrow_types.specs.Notes.{SchemaShape}
 use Rattle.arrow_types.specs.Schema.{dictionary_fields, dictionary_ids}
 use Rattle.arrow_array.specs.Batch.{Table}
 use Rattle.arrow_array.specs.Column.{ValueList}
@@ -56,26 +57,26 @@ not_all_right p (x ∷ xs) ys h = right (p x) (list_all p (xs ++ ys)) (not_all_r
   right false u h = refl
 
 -- the frame of one more dictionary batch after the others
-updates_more : (l : LimitNumbers) (align : ℕ) (fields : Fields) (ds : List (ℤ × ValueList)) (ws : List Sending) (fs : List Frame) (w : Sending) (b : List ℕ)
-    → AreUpdates l align fields ds ws fs → IsUpdate l align fields w b
-    → AreUpdates l align fields ds (ws ++ w ∷ []) (fs ++ update_frame fields (with_lists fields ws ds) w b ∷ [])
-updates_more l align fields ds [] fs w b u x =
-    subst (λ gs. AreUpdates l align fields ds (w ∷ []) (gs ++ update_frame fields ds w b ∷ [])) (sym u) (b, [], x, refl, refl)
-updates_more l align fields ds (v ∷ ws) fs w b u x =
-    let i = updates_more l align fields (with_list fields v ds) ws u.1 w b u.3 x in (
+updates_more : (l : LimitNumbers) (align : ℕ) (shape : SchemaShape) (ds : List (ℤ × ValueList)) (ws : List Sending) (fs : List Frame) (w : Sending) (b : List ℕ)
+    → AreUpdates l align shape ds ws fs → IsUpdate l align shape.fields w b
+    → AreUpdates l align shape ds (ws ++ w ∷ []) (fs ++ update_frame shape (with_lists shape.fields ws ds) w b ∷ [])
+updates_more l align shape ds [] fs w b u x =
+    subst (λ gs. AreUpdates l align shape ds (w ∷ []) (gs ++ update_frame shape ds w b ∷ [])) (sym u) (b, [], x, refl, refl)
+updates_more l align shape ds (v ∷ ws) fs w b u x =
+    let i = updates_more l align shape (with_list shape.fields v ds) ws u.1 w b u.3 x in (
       u.0,
-      u.1 ++ update_frame fields (with_lists fields ws (with_list fields v ds)) w b ∷ [],
+      u.1 ++ update_frame shape (with_lists shape.fields ws (with_list shape.fields v ds)) w b ∷ [],
       u.2,
       i,
-      ap (λ gs. gs ++ update_frame fields (with_lists fields ws (with_list fields v ds)) w b ∷ []) u.4,
+      ap (λ gs. gs ++ update_frame shape (with_lists shape.fields ws (with_list shape.fields v ds)) w b ∷ []) u.4,
     )
 
-one_built : (l : LimitNumbers) (align : ℕ) (fields : Fields) (ds : List (ℤ × ValueList)) (ws : List Sending) (bytes b : List ℕ) (w : Sending)
-    → AreBuilt l align fields ds ws bytes → IsUpdate l align fields w b → AreBuilt l align fields ds (ws ++ w ∷ []) (bytes ++ b)
-one_built l align fields ds ws bytes b w x u = record {
-  frames = x.frames ++ update_frame fields (with_lists fields ws ds) w b ∷ [];
-  updates = updates_more l align fields ds ws x.frames w b x.updates u;
-  same = frames_bytes-append x.frames (update_frame fields (with_lists fields ws ds) w b ∷ []) ∙ ap (λ r. frames_bytes x.frames ++ r) (append-nil b) ∙ ap (λ r. r ++ b) x.same;
+one_built : (l : LimitNumbers) (align : ℕ) (shape : SchemaShape) (ds : List (ℤ × ValueList)) (ws : List Sending) (bytes b : List ℕ) (w : Sending)
+    → AreBuilt l align shape ds ws bytes → IsUpdate l align shape.fields w b → AreBuilt l align shape ds (ws ++ w ∷ []) (bytes ++ b)
+one_built l align shape ds ws bytes b w x u = record {
+  frames = x.frames ++ update_frame shape (with_lists shape.fields ws ds) w b ∷ [];
+  updates = updates_more l align shape ds ws x.frames w b x.updates u;
+  same = frames_bytes-append x.frames (update_frame shape (with_lists shape.fields ws ds) w b ∷ []) ∙ ap (λ r. frames_bytes x.frames ++ r) (append-nil b) ∙ ap (λ r. r ++ b) x.same;
 }
 
 -- the dictionary batches of one id more
@@ -100,18 +101,18 @@ adds_none terms work vs x = subst (λ ws. IsWorkOf terms work.tracked.sent ws wo
 
 -- a frame is appended, and its dictionary is staged
 pub adds_frame : (terms : Terms) (w : Sending) (old new : Work) → PutsFrame terms w old.bytes new.bytes → new.tracked.sent ≡ old.tracked.sent
-    → new.tracked.next ≡ with_list terms.fields w old.tracked.next → AddsOne terms (w ∷ []) old (Ok tt) new
+    → new.tracked.next ≡ with_list terms.shape.fields w old.tracked.next → AddsOne terms (w ∷ []) old (Ok tt) new
 adds_frame terms w old new p s n vs x = record {
-  built = subst (λ b. AreBuilt terms.limits terms.align terms.fields old.tracked.sent (vs ++ w ∷ []) b) (sym p.appended)
-      (one_built terms.limits terms.align terms.fields old.tracked.sent vs old.bytes p.frame w x.built p.is_update);
-  fit = all_true (sending_fits terms.limits terms.align terms.fields) vs (w ∷ []) x.fit (ap (λ t. t && true) p.fits_in);
+  built = subst (λ b. AreBuilt terms.limits terms.align terms.shape old.tracked.sent (vs ++ w ∷ []) b) (sym p.appended)
+      (one_built terms.limits terms.align terms.shape old.tracked.sent vs old.bytes p.frame w x.built p.is_update);
+  fit = all_true (sending_fits terms.limits terms.align terms.shape.fields) vs (w ∷ []) x.fit (ap (λ t. t && true) p.fits_in);
   sent = s;
-  next = n ∙ ap (with_list terms.fields w) x.next ∙ sym (with_lists-append terms.fields vs (w ∷ []) old.tracked.sent);
+  next = n ∙ ap (with_list terms.shape.fields w) x.next ∙ sym (with_lists-append terms.shape.fields vs (w ∷ []) old.tracked.sent);
 }
 
 -- dictionary batches of which some are refused are refused
 refused_all : (terms : Terms) (us ws vs : List Sending) (fault : WriteFault) → IsRefused terms ws fault → IsRefused terms (us ++ ws ++ vs) fault
-refused_all terms us ws vs TooLarge h = not_all_left (sending_fits terms.limits terms.align terms.fields) (us ++ ws) vs (not_all_right (sending_fits terms.limits terms.align terms.fields) us ws h)
+refused_all terms us ws vs TooLarge h = not_all_left (sending_fits terms.limits terms.align terms.shape.fields) (us ++ ws) vs (not_all_right (sending_fits terms.limits terms.align terms.shape.fields) us ws h)
 refused_all terms us ws vs Memory h = h
 refused_all terms us ws vs SchemaDiffers h = h
 refused_all terms us ws vs DictionariesDiffer h = h
@@ -176,14 +177,14 @@ type_is fields id t named = ap (λ o. unwrap_or o (record { tag = null; children
 
 -- what is added for an id of the schema is what is sent of the list that the batch has for it
 pub adds_list : (terms : Terms) (find : ℤ → Option ValueList) (t : Table) (ids : List ℤ) (k : ℕ) (id passed : ℤ) (answer : Result (Unit {0}) WriteFault) (old new : Work)
-    → t.schema ≡ terms.fields → AreListsOf t find → ids ≡ dictionary_ids terms.fields → k < length ids → id ≡ get_or ids k (pos 0) → passed ≡ id
+    → t.schema ≡ terms.shape → AreListsOf t find → ids ≡ dictionary_ids terms.shape.fields → k < length ids → id ≡ get_or ids k (pos 0) → passed ≡ id
     → AddsId terms find passed old answer new → AddsOne terms (sending_for terms.updates old.tracked.sent id (list_of t id)) old answer new
 adds_list terms find t ids k id passed answer old new same lists are h is passes adds =
-    let each = subst (AllByRecursion (λ i. find i ≡ Some (dictionary_for t.schema t i))) (ap dictionary_ids same ∙ sym are) lists.each in
-    let its_list = all_at (λ i. find i ≡ Some (dictionary_for t.schema t i)) ids k (pos 0) id each h is in
-    let d : ValueList = record { data_type = value_type terms.fields id; values = list_of t id } in
-    let there : find id ≡ Some d = subst (λ fields. find id ≡ Some (dictionary_for fields t id)) same its_list in
-    let typed = all_at (HasType (dictionary_fields terms.fields)) ids k (pos 0) id (subst (AllByRecursion (HasType (dictionary_fields terms.fields))) (sym are) (ids_typed terms.fields)) h is in
-    let named : IsNamed terms.fields id d.data_type = typed.named ∙ ap (λ x. Some x) (sym (type_is terms.fields id typed.its_type typed.named)) in
+    let each = subst (AllByRecursion (λ i. find i ≡ Some (dictionary_for t.schema.fields t i))) (ap (λ (shape : SchemaShape). dictionary_ids shape.fields) same ∙ sym are) lists.each in
+    let its_list = all_at (λ i. find i ≡ Some (dictionary_for t.schema.fields t i)) ids k (pos 0) id each h is in
+    let d : ValueList = record { data_type = value_type terms.shape.fields id; values = list_of t id } in
+    let there : find id ≡ Some d = subst (λ (shape : SchemaShape). find id ≡ Some (dictionary_for shape.fields t id)) same its_list in
+    let typed = all_at (HasType (dictionary_fields terms.shape.fields)) ids k (pos 0) id (subst (AllByRecursion (HasType (dictionary_fields terms.shape.fields))) (sym are) (ids_typed terms.shape.fields)) h is in
+    let named : IsNamed terms.shape.fields id d.data_type = typed.named ∙ ap (λ x. Some x) (sym (type_is terms.shape.fields id typed.its_type typed.named)) in
     subst (λ i. AddsOne terms (sending_for terms.updates old.tracked.sent i (list_of t id)) old answer new) passes
-    (adds d (ap find passes ∙ there) (subst (λ i. IsNamed terms.fields i d.data_type) (sym passes) named))
+    (adds d (ap find passes ∙ there) (subst (λ i. IsNamed terms.shape.fields i d.data_type) (sym passes) named))

@@ -5,9 +5,9 @@ use Rattle.std.specs.List.{list_all}
 use Rattle.std.proofs.lemmas.List.{append-nil}
 use Rattle.std.proofs.lemmas.Bool.{and_left, and_right, le-leb, lt-leb}
 use Rattle.arrow_types.specs.Equality.{is_equal}
-use Rattle.arrow_types.specs.Field.{Fields}
+use Rattle.arrow_types.specs.Notes.{SchemaShape}
 use Rattle.arrow_types.specs.Limits.{LimitNumbers}
-use Rattle.arrow_types.specs.Stored.{fields_code}
+use Rattle.arrow_types.specs.Stored.{schema_code}
 use Rattle.arrow_array.specs.Batch.{Table}
 use Rattle.arrow_array.specs.Column.{ValueList}
 use Rattle.arrow_body_written.specs.Laws.{raws_of}
@@ -31,18 +31,18 @@ use Rattle.arrow_writer.specs.Terms.{Terms}
 use Rattle.arrow_writer.specs.Updating.{AddsAll, IsWorkOf, Work}
 
 -- the frames of dictionary batches have their sizes
-updates_sized : (l : LimitNumbers) (align : ℕ) (fields : Fields) (ds : List (ℤ × ValueList)) (ws : List Sending) (fs : List Frame) → AreUpdates l align fields ds ws fs
-    → length (frames_bytes fs) ≡ sendings_size align fields ws
-updates_sized l align fields ds [] fs u = ap (λ gs. length (frames_bytes gs)) u
-updates_sized l align fields ds (w ∷ ws) fs u =
+updates_sized : (l : LimitNumbers) (align : ℕ) (shape : SchemaShape) (ds : List (ℤ × ValueList)) (ws : List Sending) (fs : List Frame) → AreUpdates l align shape ds ws fs
+    → length (frames_bytes fs) ≡ sendings_size align shape.fields ws
+updates_sized l align shape ds [] fs u = ap (λ gs. length (frames_bytes gs)) u
+updates_sized l align shape ds (w ∷ ws) fs u =
     let one = frame_length u.2.frame in
     let own = u.2.built.columns.sized in
-    let others = updates_sized l align fields (with_list fields w ds) ws u.1 u.3 in
+    let others = updates_sized l align shape (with_list shape.fields w ds) ws u.1 u.3 in
     ap (λ gs. length (frames_bytes gs)) u.4 ∙ length-append u.0 (frames_bytes u.1) ∙ omega arith
 
 -- what was added for the dictionaries that were found
 pub puts_updates : (terms : Terms) (t : Table) (find : ℤ → Option ValueList) (old new : Work) (answer : Result (Unit {0}) WriteFault) → AreListsOf t find
-    → AddsAll terms (plan terms.updates terms.fields old.tracked.sent t) old answer new → PutsUpdates terms t old answer new
+    → AddsAll terms (plan terms.updates terms.shape.fields old.tracked.sent t) old answer new → PutsUpdates terms t old answer new
 puts_updates terms t find old new (Ok done) lists x = record { known = lists.known; one = lists.one; is_work = x }
 puts_updates terms t find old new (Err TooLarge) lists x = (record { one = lists.one; large = x.0 }, x.1)
 puts_updates terms t find old new (Err DictionariesDiffer) lists x = let impossible = x.0 in absurd (cc)
@@ -63,13 +63,13 @@ module _ (terms : Terms) (place : ℕ) (t : Table) (ds : List (ℤ × ValueList)
   by_tests true false c d e ha hb hc hd he = absurd (cc)
   by_tests false b c d e ha hb hc hd he = absurd (cc)
 
-  pub admitted_by : is_equal fields_code t.schema terms.fields ≡ true → has_one_list t ≡ true → list_all (sending_fits terms.limits terms.align terms.fields) (plan terms.updates terms.fields ds t) ≡ true
-      → frame_fits terms.limits terms.align (batch_size terms.align terms.fields) terms.fields (raws_of t.columns) t.rows ≡ true → place + part_size (options_of terms) terms.fields ds t ≤ 2 ^ 62
-      → admission terms.limits (options_of terms) terms.fields ds place t ≡ None
+  pub admitted_by : is_equal schema_code t.schema terms.shape ≡ true → has_one_list t ≡ true → list_all (sending_fits terms.limits terms.align terms.shape.fields) (plan terms.updates terms.shape.fields ds t) ≡ true
+      → frame_fits terms.limits terms.align (batch_size terms.align terms.shape.fields) terms.shape.fields (raws_of t.columns) t.rows ≡ true → place + part_size (options_of terms) terms.shape.fields ds t ≤ 2 ^ 62
+      → admission terms.limits (options_of terms) terms.shape ds place t ≡ None
   admitted_by a b c d e =
-      by_tests (is_equal fields_code t.schema terms.fields) (has_one_list t) (list_all (sending_fits terms.limits terms.align terms.fields) (plan terms.updates terms.fields ds t))
-      (frame_fits terms.limits terms.align (batch_size terms.align terms.fields) terms.fields (raws_of t.columns) t.rows) (leb (place + part_size (options_of terms) terms.fields ds t) (2 ^ 62))
-      a b c d (le-leb (place + part_size (options_of terms) terms.fields ds t) (2 ^ 62) e)
+      by_tests (is_equal schema_code t.schema terms.shape) (has_one_list t) (list_all (sending_fits terms.limits terms.align terms.shape.fields) (plan terms.updates terms.shape.fields ds t))
+      (frame_fits terms.limits terms.align (batch_size terms.align terms.shape.fields) terms.shape.fields (raws_of t.columns) t.rows) (leb (place + part_size (options_of terms) terms.shape.fields ds t) (2 ^ 62))
+      a b c d (le-leb (place + part_size (options_of terms) terms.shape.fields ds t) (2 ^ 62) e)
 
   schema_by : (a b c : Bool) → a ≡ false → cond (not a) (Some SchemaDiffers) (cond (not b) (Some DictionariesDiffer) (cond (not c) (Some TooLarge) None)) ≡ Some SchemaDiffers
   schema_by false b c h = refl
@@ -86,23 +86,23 @@ module _ (terms : Terms) (place : ℕ) (t : Table) (ds : List (ℤ × ValueList)
   large_by true false c h g f = absurd (cc)
   large_by false b c h g f = absurd (cc)
 
-  pub schema_differs : is_equal fields_code t.schema terms.fields ≡ false → admission terms.limits (options_of terms) terms.fields ds place t ≡ Some SchemaDiffers
-  schema_differs h = schema_by (is_equal fields_code t.schema terms.fields) (has_one_list t) (part_fits terms.limits (options_of terms) terms.fields ds place t) h
+  pub schema_differs : is_equal schema_code t.schema terms.shape ≡ false → admission terms.limits (options_of terms) terms.shape ds place t ≡ Some SchemaDiffers
+  schema_differs h = schema_by (is_equal schema_code t.schema terms.shape) (has_one_list t) (part_fits terms.limits (options_of terms) terms.shape.fields ds place t) h
 
-  pub lists_differ : is_equal fields_code t.schema terms.fields ≡ true → has_one_list t ≡ false → admission terms.limits (options_of terms) terms.fields ds place t ≡ Some DictionariesDiffer
-  lists_differ h g = lists_by (is_equal fields_code t.schema terms.fields) (has_one_list t) (part_fits terms.limits (options_of terms) terms.fields ds place t) h g
+  pub lists_differ : is_equal schema_code t.schema terms.shape ≡ true → has_one_list t ≡ false → admission terms.limits (options_of terms) terms.shape ds place t ≡ Some DictionariesDiffer
+  lists_differ h g = lists_by (is_equal schema_code t.schema terms.shape) (has_one_list t) (part_fits terms.limits (options_of terms) terms.shape.fields ds place t) h g
 
-  too_large : is_equal fields_code t.schema terms.fields ≡ true → has_one_list t ≡ true → part_fits terms.limits (options_of terms) terms.fields ds place t ≡ false
-      → admission terms.limits (options_of terms) terms.fields ds place t ≡ Some TooLarge
-  too_large h g f = large_by (is_equal fields_code t.schema terms.fields) (has_one_list t) (part_fits terms.limits (options_of terms) terms.fields ds place t) h g f
+  too_large : is_equal schema_code t.schema terms.shape ≡ true → has_one_list t ≡ true → part_fits terms.limits (options_of terms) terms.shape.fields ds place t ≡ false
+      → admission terms.limits (options_of terms) terms.shape ds place t ≡ Some TooLarge
+  too_large h g f = large_by (is_equal schema_code t.schema terms.shape) (has_one_list t) (part_fits terms.limits (options_of terms) terms.shape.fields ds place t) h g f
 
   -- a batch whose dictionary batches were not built is refused
-  pub not_updated : (fault : WriteFault) → is_equal fields_code t.schema terms.fields ≡ true → IsNotUpdated terms t ds fault → IsRefusedWith terms place t ds fault
+  pub not_updated : (fault : WriteFault) → is_equal schema_code t.schema terms.shape ≡ true → IsNotUpdated terms t ds fault → IsRefusedWith terms place t ds fault
   not_updated TooLarge h x =
-      too_large h x.one (and_left (list_all (sending_fits terms.limits terms.align terms.fields) (plan terms.updates terms.fields ds t)
-      && frame_fits terms.limits terms.align (batch_size terms.align terms.fields) terms.fields (raws_of t.columns) t.rows) (leb (place + part_size (options_of terms) terms.fields ds t) (2 ^ 62))
-      (and_left (list_all (sending_fits terms.limits terms.align terms.fields) (plan terms.updates terms.fields ds t))
-      (frame_fits terms.limits terms.align (batch_size terms.align terms.fields) terms.fields (raws_of t.columns) t.rows) x.large))
+      too_large h x.one (and_left (list_all (sending_fits terms.limits terms.align terms.shape.fields) (plan terms.updates terms.shape.fields ds t)
+      && frame_fits terms.limits terms.align (batch_size terms.align terms.shape.fields) terms.shape.fields (raws_of t.columns) t.rows) (leb (place + part_size (options_of terms) terms.shape.fields ds t) (2 ^ 62))
+      (and_left (list_all (sending_fits terms.limits terms.align terms.shape.fields) (plan terms.updates terms.shape.fields ds t))
+      (frame_fits terms.limits terms.align (batch_size terms.align terms.shape.fields) terms.shape.fields (raws_of t.columns) t.rows) x.large))
   not_updated DictionariesDiffer h x = lists_differ h x
   not_updated Memory h x = x
   not_updated SchemaDiffers h x = absurd (cc)
@@ -111,14 +111,14 @@ module _ (terms : Terms) (place : ℕ) (t : Table) (ds : List (ℤ × ValueList)
   not_updated Finished h x = x
 
   -- so is a refused record batch
-  pub record_refused : (fault : WriteFault) (old new : List ℕ) → t.schema ≡ terms.fields → is_equal fields_code t.schema terms.fields ≡ true → has_one_list t ≡ true
+  pub record_refused : (fault : WriteFault) (old new : List ℕ) → t.schema ≡ terms.shape → is_equal schema_code t.schema terms.shape ≡ true → has_one_list t ≡ true
       → Puts terms (record_load t) old (Err fault) new → IsRefusedWith terms place t ds fault
   record_refused TooLarge old new same h g x =
-      too_large h g (and_left (list_all (sending_fits terms.limits terms.align terms.fields) (plan terms.updates terms.fields ds t)
-      && frame_fits terms.limits terms.align (batch_size terms.align terms.fields) terms.fields (raws_of t.columns) t.rows) (leb (place + part_size (options_of terms) terms.fields ds t) (2 ^ 62))
-      (and_right (list_all (sending_fits terms.limits terms.align terms.fields) (plan terms.updates terms.fields ds t))
-      (frame_fits terms.limits terms.align (batch_size terms.align terms.fields) terms.fields (raws_of t.columns) t.rows)
-      (subst (λ (fields : Fields). frame_fits terms.limits terms.align (batch_size terms.align fields) fields (raws_of t.columns) t.rows ≡ false) same x)))
+      too_large h g (and_left (list_all (sending_fits terms.limits terms.align terms.shape.fields) (plan terms.updates terms.shape.fields ds t)
+      && frame_fits terms.limits terms.align (batch_size terms.align terms.shape.fields) terms.shape.fields (raws_of t.columns) t.rows) (leb (place + part_size (options_of terms) terms.shape.fields ds t) (2 ^ 62))
+      (and_right (list_all (sending_fits terms.limits terms.align terms.shape.fields) (plan terms.updates terms.shape.fields ds t))
+      (frame_fits terms.limits terms.align (batch_size terms.align terms.shape.fields) terms.shape.fields (raws_of t.columns) t.rows)
+      (subst (λ (shape : SchemaShape). frame_fits terms.limits terms.align (batch_size terms.align shape.fields) shape.fields (raws_of t.columns) t.rows ≡ false) same x)))
   record_refused Memory old new same h g x = x
   record_refused SchemaDiffers old new same h g x = absurd (cc)
   record_refused DictionariesDiffer old new same h g x = absurd (cc)
@@ -128,37 +128,37 @@ module _ (terms : Terms) (place : ℕ) (t : Table) (ds : List (ℤ × ValueList)
 
   -- THE RECORD'S FRAME BEHIND THOSE OF THE DICTIONARIES MAKES A PART
 
-  module _ (same : t.schema ≡ terms.fields) (work : Work) (bytes : List ℕ) (x : IsWorkOf terms ds (plan terms.updates terms.fields ds t) work) (y : PutsLoad terms (record_load t) work.bytes bytes) where
-    its_built : IsBuilt terms.align terms.fields (raws_of t.columns) t.rows y.record_batch y.body
-    its_built = subst (λ (fields : Fields). IsBuilt terms.align fields (raws_of t.columns) t.rows y.record_batch y.body) same y.built
+  module _ (same : t.schema ≡ terms.shape) (work : Work) (bytes : List ℕ) (x : IsWorkOf terms ds (plan terms.updates terms.shape.fields ds t) work) (y : PutsLoad terms (record_load t) work.bytes bytes) where
+    its_built : IsBuilt terms.align terms.shape.fields (raws_of t.columns) t.rows y.record_batch y.body
+    its_built = subst (λ (shape : SchemaShape). IsBuilt terms.align shape.fields (raws_of t.columns) t.rows y.record_batch y.body) same y.built
 
-    its_frame : IsFrameOf terms.limits (batch_size terms.align terms.fields) (batch y.record_batch) y.body y.frame
-    its_frame = subst (λ (fields : Fields). IsFrameOf terms.limits (batch_size terms.align fields) (batch y.record_batch) y.body y.frame) same y.is_frame
+    its_frame : IsFrameOf terms.limits (batch_size terms.align terms.shape.fields) (batch y.record_batch) y.body y.frame
+    its_frame = subst (λ (shape : SchemaShape). IsFrameOf terms.limits (batch_size terms.align shape.fields) (batch y.record_batch) y.body y.frame) same y.is_frame
 
     -- the part has its size
-    pub part_sized : length bytes ≡ part_size (options_of terms) terms.fields ds t
+    pub part_sized : length bytes ≡ part_size (options_of terms) terms.shape.fields ds t
     part_sized =
-        let updates = ap length (sym x.built.same) ∙ updates_sized terms.limits terms.align terms.fields ds (plan terms.updates terms.fields ds t) x.built.frames x.built.updates in
+        let updates = ap length (sym x.built.same) ∙ updates_sized terms.limits terms.align terms.shape ds (plan terms.updates terms.shape.fields ds t) x.built.frames x.built.updates in
         let last = frame_length its_frame in
         let own = its_built.columns.sized in
         ap length y.appended ∙ length-append work.bytes y.frame ∙ omega arith
 
     -- one that would end past the last place is refused
-    pub place_refused : is_equal fields_code t.schema terms.fields ≡ true → has_one_list t ≡ true → 2 ^ 62 < place + length bytes → admission terms.limits (options_of terms) terms.fields ds place t ≡ Some TooLarge
+    pub place_refused : is_equal schema_code t.schema terms.shape ≡ true → has_one_list t ≡ true → 2 ^ 62 < place + length bytes → admission terms.limits (options_of terms) terms.shape ds place t ≡ Some TooLarge
     place_refused h g over =
         let sized = part_sized in
-        too_large h g (and_right (list_all (sending_fits terms.limits terms.align terms.fields) (plan terms.updates terms.fields ds t)
-        && frame_fits terms.limits terms.align (batch_size terms.align terms.fields) terms.fields (raws_of t.columns) t.rows) (leb (place + part_size (options_of terms) terms.fields ds t) (2 ^ 62))
-        (lt-leb (place + part_size (options_of terms) terms.fields ds t) (2 ^ 62) (omega arith)))
+        too_large h g (and_right (list_all (sending_fits terms.limits terms.align terms.shape.fields) (plan terms.updates terms.shape.fields ds t)
+        && frame_fits terms.limits terms.align (batch_size terms.align terms.shape.fields) terms.shape.fields (raws_of t.columns) t.rows) (leb (place + part_size (options_of terms) terms.shape.fields ds t) (2 ^ 62))
+        (lt-leb (place + part_size (options_of terms) terms.shape.fields ds t) (2 ^ 62) (omega arith)))
 
-    pub part_of : is_equal fields_code t.schema terms.fields ≡ true → has_one_list t ≡ true → IsKnown t → place + length bytes ≤ 2 ^ 62 → IsPartBuilt terms place t ds bytes work.tracked
+    pub part_of : is_equal schema_code t.schema terms.shape ≡ true → has_one_list t ≡ true → IsKnown t → place + length bytes ≤ 2 ^ 62 → IsPartBuilt terms place t ds bytes work.tracked
     part_of h g known near =
-        let f = record_frame terms.fields (lists_after terms.updates terms.fields ds t) y.record_batch y.body t.rows y.frame in
+        let f = record_frame terms.shape (lists_after terms.updates terms.shape.fields ds t) y.record_batch y.body t.rows y.frame in
         let sized = part_sized in
         record {
           frames = x.built.frames ++ f ∷ [];
           is_part = record {
-            admitted = admitted_by h g x.fit (subst (λ (fields : Fields). frame_fits terms.limits terms.align (batch_size terms.align fields) fields (raws_of t.columns) t.rows ≡ true) same y.fits_in) (omega arith);
+            admitted = admitted_by h g x.fit (subst (λ (shape : SchemaShape). frame_fits terms.limits terms.align (batch_size terms.align shape.fields) shape.fields (raws_of t.columns) t.rows ≡ true) same y.fits_in) (omega arith);
             known = known;
             updated = x.built.frames;
             updates = x.built.updates;

@@ -81,10 +81,10 @@ all_by_place P [] f = tt
 all_by_place P (x ∷ xs) f = (f 0 x refl, all_by_place P xs (λ i y h. f (suc i) y h))
 
 -- the fields of a schema name their types
-pub schema_named : (t : Table) → IsTable t → AreNamed (dictionary_fields t.schema) t.columns
+pub schema_named : (t : Table) → IsTable t → AreNamed (dictionary_fields t.schema.fields) t.columns
 schema_named t table =
-    let fields = dictionary_fields t.schema in
-    columns_named fields t.schema t.columns table.typed
+    let fields = dictionary_fields t.schema.fields in
+    columns_named fields t.schema.fields t.columns table.typed
     (all_by_place (λ (d : DictionaryField). value_type_of fields d.id ≡ Some d.value_type) fields (λ i d at. each_named fields i d table.schema.one_type at))
 
 all_mapped : {X Y : Type 0} (f : X → Y) (P : Y → Type 0) (xs : List X) → AllByRecursion (λ x. P (f x)) xs → AllByRecursion P (map f xs)
@@ -97,43 +97,43 @@ all_changed P Q f (x ∷ xs) h = (f x h.0, all_changed P Q f xs h.1)
 
 -- what was found of all columns are the dictionaries of the batch
 pub lists_found : (t : Table) (find : ℤ → Option ValueList) → IsTable t → AllByRecursion IsColumn t.columns
-    → AreFound (dictionary_fields t.schema) (listed_of t.columns) find → AreListsOf t find
+    → AreFound (dictionary_fields t.schema.fields) (listed_of t.columns) find → AreListsOf t find
 lists_found t find table columns found = record {
   known = record { table = table; columns = columns };
   one = all_same all all found.one;
-  each = all_changed (HasFirst all) (λ id. find id ≡ Some (dictionary_for t.schema t id)) (λ id h. its_list id (find id) refl h) (dictionary_ids t.schema) ids_there;
+  each = all_changed (HasFirst all) (λ id. find id ≡ Some (dictionary_for t.schema.fields t id)) (λ id h. its_list id (find id) refl h) (dictionary_ids t.schema.fields) ids_there;
 } where
   all : List (ℤ × ValueList)
   all = listed_of t.columns
 
-  ids_there : AllByRecursion (HasFirst all) (dictionary_ids t.schema)
+  ids_there : AllByRecursion (HasFirst all) (dictionary_ids t.schema.fields)
   ids_there =
-      all_once (HasFirst all) (map (λ (d : DictionaryField). d.id) (dictionary_fields t.schema))
-      (all_mapped (λ (d : DictionaryField). d.id) (HasFirst all) (dictionary_fields t.schema)
-      (subst (AllByRecursion (λ (d : DictionaryField). HasFirst all d.id)) (fields_listed t.schema t.columns table.typed columns)
+      all_once (HasFirst all) (map (λ (d : DictionaryField). d.id) (dictionary_fields t.schema.fields))
+      (all_mapped (λ (d : DictionaryField). d.id) (HasFirst all) (dictionary_fields t.schema.fields)
+      (subst (AllByRecursion (λ (d : DictionaryField). HasFirst all d.id)) (fields_listed t.schema.fields t.columns table.typed columns)
       (all_mapped field_of_listed (λ (d : DictionaryField). HasFirst all d.id) all (all_there all))))
 
-  its_list : (id : ℤ) (o : Option ValueList) → find id ≡ o → HasFirst all id → o ≡ Some (dictionary_for t.schema t id)
+  its_list : (id : ℤ) (o : Option ValueList) → find id ≡ o → HasFirst all id → o ≡ Some (dictionary_for t.schema.fields t id)
   its_list id None is h =
       let clash : None ≡ Some h.values = ap (option_map (λ (d : ValueList). d.values)) (sym is) ∙ found.first id ∙ h.first in
       absurd (cc)
   its_list id (Some d) is h =
       let first : first_values all id ≡ Some d.values = sym (found.first id) ∙ ap (option_map (λ (x : ValueList). x.values)) is in
       let values : d.values ≡ list_of t id = sym (list_is all id d.values first) in
-      let its_type : d.data_type ≡ value_type t.schema id = sym (ap (λ o. unwrap_or o (record { tag = null; children = none })) (found.typed id d is)) in
+      let its_type : d.data_type ≡ value_type t.schema.fields id = sym (ap (λ o. unwrap_or o (record { tag = null; children = none })) (found.typed id d is)) in
       λ i. Some (record { data_type = its_type i; values = values i })
 
 -- after nothing was found, what all columns give are the dictionaries of the batch
 pub all_found : (t : Table) (before after : ℤ → Option ValueList) → IsTable t → AllByRecursion IsColumn t.columns → ((id : ℤ) → before id ≡ None)
     → Gathers t.columns before (Ok tt) after → AreListsOf t after
 all_found t before after table columns empty gathered =
-    let fields = dictionary_fields t.schema in
+    let fields = dictionary_fields t.schema.fields in
     lists_found t after table columns (gathered fields [] (schema_named t table) (nothing_found fields before empty))
 
 -- and a fault at them is one of the batch
 pub not_found : (t : Table) (fault : ListsFault) (before after : ℤ → Option ValueList) → IsTable t → ((id : ℤ) → before id ≡ None)
     → Gathers t.columns before (Err fault) after → FindsLists (Err fault) t
 not_found t DictionariesDiffer before after table empty gathered =
-    let fields = dictionary_fields t.schema in
+    let fields = dictionary_fields t.schema.fields in
     lists_differ t (gathered fields [] (schema_named t table) (nothing_found fields before empty))
 not_found t Memory before after table empty gathered = tt

@@ -185,36 +185,36 @@ raws_long rows (c ∷ cs) h = (h.0, raws_long rows cs h.1)
 pub stored_of : (align : ℕ) (t : Table) (cs : List Column) (b : PlainBody) → IsTable t → cs ≡ t.columns → AreRaws (fields_of_columns cs) (raws_of cs) → AreSmall (fields_of_columns cs) (raws_of cs)
     → b ≡ stored align (fields_of_columns cs) (raws_of cs) → IsStored align (record_load t) b
 stored_of align t cs b known same raws small is =
-    let are : AreOf t.schema cs = subst (AreOf t.schema) (sym same) known.typed in
-    let can = raws_by_fields t.schema cs (raws_of cs) are raws in
-    let few = small_by_fields t.schema cs (raws_of cs) are small in
-    let body = is ∙ same_body align t.schema cs (raws_of cs) are in
+    let are : AreOf t.schema.fields cs = subst (AreOf t.schema.fields) (sym same) known.typed in
+    let can = raws_by_fields t.schema.fields cs (raws_of cs) are raws in
+    let few = small_by_fields t.schema.fields cs (raws_of cs) are small in
+    let body = is ∙ same_body align t.schema.fields cs (raws_of cs) are in
     record {
-      can = subst (λ (ds : List Column). AreRaws t.schema (raws_of ds)) same can;
-      small = subst (λ (ds : List Column). AreSmall t.schema (raws_of ds)) same few;
+      can = subst (λ (ds : List Column). AreRaws t.schema.fields (raws_of ds)) same can;
+      small = subst (λ (ds : List Column). AreSmall t.schema.fields (raws_of ds)) same few;
       long = raws_long t.rows t.columns known.long;
-      same = body ∙ ap (λ (ds : List Column). stored align t.schema (raws_of ds)) same;
+      same = body ∙ ap (λ (ds : List Column). stored align t.schema.fields (raws_of ds)) same;
     }
 
 module _ (terms : Terms) (t : Table) (cs : List Column) (known : IsTable t) (same : cs ≡ t.columns) where
-  are_of : AreOf t.schema cs
-  are_of = subst (AreOf t.schema) (sym same) known.typed
+  are_of : AreOf t.schema.fields cs
+  are_of = subst (AreOf t.schema.fields) (sym same) known.typed
 
   -- columns that cannot be stored are too large
   pub never_stored : terms.limits.max_body ≤ 2 ^ 40 → terms.limits.max_rows ≤ 2147483647 → (CanBeStored terms.align cs → ⊥) → IsTooLarge terms (record_load t)
   never_stored bodies ceiling cannot =
-      subst (λ (ds : List Column). frame_fits terms.limits terms.align (batch_size terms.align t.schema) t.schema (raws_of ds) t.rows ≡ false) same
-      (cannot_store terms.limits terms.align (batch_size terms.align t.schema) t.schema cs t.rows bodies ceiling known.schema are_of cannot)
+      subst (λ (ds : List Column). frame_fits terms.limits terms.align (batch_size terms.align t.schema.fields) t.schema.fields (raws_of ds) t.rows ≡ false) same
+      (cannot_store terms.limits terms.align (batch_size terms.align t.schema.fields) t.schema.fields cs t.rows bodies ceiling known.schema are_of cannot)
 
   -- so are those with a body over the limit
   pub long_body : terms.limits.max_body < columns_size terms.align cs → IsTooLarge terms (record_load t)
   long_body over =
-      let size = size_by_fields terms.align t.schema cs (raws_of cs) are_of ∙ ap (λ (ds : List Column). size_of terms.align t.schema (raws_of ds)) same in
-      fails terms.limits terms.align (batch_size terms.align t.schema) t.schema (raws_of t.columns) t.rows (λ x. let fit = x.body_fits in omega arith)
+      let size = size_by_fields terms.align t.schema.fields cs (raws_of cs) are_of ∙ ap (λ (ds : List Column). size_of terms.align t.schema.fields (raws_of ds)) same in
+      fails terms.limits terms.align (batch_size terms.align t.schema.fields) t.schema.fields (raws_of t.columns) t.rows (λ x. let fit = x.body_fits in omega arith)
 
   -- and those with too many rows
   pub many_rows : terms.limits.max_rows < t.rows → IsTooLarge terms (record_load t)
-  many_rows over = fails terms.limits terms.align (batch_size terms.align t.schema) t.schema (raws_of t.columns) t.rows (λ x. let fit = x.rows_fit in omega arith)
+  many_rows over = fails terms.limits terms.align (batch_size terms.align t.schema.fields) t.schema.fields (raws_of t.columns) t.rows (λ x. let fit = x.rows_fit in omega arith)
 
 -- over the ceiling is over each limit
 pub past_ceiling : (limit size : ℕ) → limit ≤ 2 ^ 30 → 2 ^ 30 < size → limit < size

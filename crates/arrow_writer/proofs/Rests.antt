@@ -57,18 +57,18 @@ few_named n (d ∷ ds) id t h named = by_test (int_eq d.id id) (λ e. few_named 
 
 -- A DICTIONARY BATCH
 
-module _ (terms : Terms) (id : ℤ) (is_delta : Bool) (from : ℕ) (d : ValueList) (named : IsNamed terms.fields id d.data_type) where
+module _ (terms : Terms) (id : ℤ) (is_delta : Bool) (from : ℕ) (d : ValueList) (named : IsNamed terms.shape.fields id d.data_type) where
   -- what it brings
   abbrev pub brought : Sending
   brought = record { id = id; is_delta = is_delta; carried = drop from d.values; whole = d.values }
 
   -- the field of its values
-  same_fields : fields_of_columns (rest_of d from ∷ []) ≡ fields_for terms.fields id
+  same_fields : fields_of_columns (rest_of d from ∷ []) ≡ fields_for terms.shape.fields id
   same_fields = sym (ap field_of_type named)
 
   -- what was stored of the values is a batch of them
   pub stored_rest : (b : PlainBody) → AreRaws (fields_of_columns (rest_of d from ∷ [])) (raws_of (rest_of d from ∷ [])) → AreSmall (fields_of_columns (rest_of d from ∷ [])) (raws_of (rest_of d from ∷ []))
-      → b ≡ stored terms.align (fields_of_columns (rest_of d from ∷ [])) (raws_of (rest_of d from ∷ [])) → IsStored terms.align (update_load terms.fields brought) b
+      → b ≡ stored terms.align (fields_of_columns (rest_of d from ∷ [])) (raws_of (rest_of d from ∷ [])) → IsStored terms.align (update_load terms.shape.fields brought) b
   stored_rest b raws small is = record {
     can = subst (λ (fields : Fields). AreRaws fields (drop from d.values ∷ [])) same_fields raws;
     small = subst (λ (fields : Fields). AreSmall fields (drop from d.values ∷ [])) same_fields small;
@@ -77,17 +77,17 @@ module _ (terms : Terms) (id : ℤ) (is_delta : Bool) (from : ℕ) (d : ValueLis
   }
 
   -- what was answered to the batch is the answer to the update
-  pub puts_update : (answer : Result (Unit {0}) WriteFault) (old new : List ℕ) → length d.values ≤ terms.limits.max_rows → Puts terms (update_load terms.fields brought) old answer new
+  pub puts_update : (answer : Result (Unit {0}) WriteFault) (old new : List ℕ) → length d.values ≤ terms.limits.max_rows → Puts terms (update_load terms.shape.fields brought) old answer new
       → PutsUpdate terms brought old answer new
   puts_update (Ok done) old new few x = record {
     frame = x.frame;
-    fits_in = and_from (frame_fits terms.limits terms.align (dictionary_size terms.align (fields_for terms.fields id)) (fields_for terms.fields id) (drop from d.values ∷ []) (length (drop from d.values)))
+    fits_in = and_from (frame_fits terms.limits terms.align (dictionary_size terms.align (fields_for terms.shape.fields id)) (fields_for terms.shape.fields id) (drop from d.values ∷ []) (length (drop from d.values)))
         (leb (length d.values) terms.limits.max_rows) x.fits_in (le-leb (length d.values) terms.limits.max_rows few);
     is_update = record { record_batch = x.record_batch; body = x.body; built = x.built; frame = x.is_frame };
     appended = x.appended;
   }
   puts_update (Err TooLarge) old new few x =
-      and_left (frame_fits terms.limits terms.align (dictionary_size terms.align (fields_for terms.fields id)) (fields_for terms.fields id) (drop from d.values ∷ []) (length (drop from d.values)))
+      and_left (frame_fits terms.limits terms.align (dictionary_size terms.align (fields_for terms.shape.fields id)) (fields_for terms.shape.fields id) (drop from d.values ∷ []) (length (drop from d.values)))
       (leb (length d.values) terms.limits.max_rows) x
   puts_update (Err Memory) old new few x = x
   puts_update (Err SchemaDiffers) old new few x = x
@@ -97,20 +97,20 @@ module _ (terms : Terms) (id : ℤ) (is_delta : Bool) (from : ℕ) (d : ValueLis
   puts_update (Err Finished) old new few x = x
 
   -- a dictionary of too many values is refused
-  pub whole_over : terms.limits.max_rows < length d.values → sending_fits terms.limits terms.align terms.fields brought ≡ false
+  pub whole_over : terms.limits.max_rows < length d.values → sending_fits terms.limits terms.align terms.shape.fields brought ≡ false
   whole_over over =
-      and_right (frame_fits terms.limits terms.align (dictionary_size terms.align (fields_for terms.fields id)) (fields_for terms.fields id) (drop from d.values ∷ []) (length (drop from d.values)))
+      and_right (frame_fits terms.limits terms.align (dictionary_size terms.align (fields_for terms.shape.fields id)) (fields_for terms.shape.fields id) (drop from d.values ∷ []) (length (drop from d.values)))
       (leb (length d.values) terms.limits.max_rows) (lt-leb (length d.values) terms.limits.max_rows over)
 
   -- so are values that cannot be stored
-  pub never_rest : terms.limits.max_body ≤ 2 ^ 40 → terms.limits.max_rows ≤ 2147483647 → IsSchema terms.fields → (CanBeStored terms.align (rest_of d from ∷ []) → ⊥)
-      → sending_fits terms.limits terms.align terms.fields brought ≡ false
+  pub never_rest : terms.limits.max_body ≤ 2 ^ 40 → terms.limits.max_rows ≤ 2147483647 → IsSchema terms.shape.fields → (CanBeStored terms.align (rest_of d from ∷ []) → ⊥)
+      → sending_fits terms.limits terms.align terms.shape.fields brought ≡ false
   never_rest bodies ceiling known cannot =
-      let own = fields_for terms.fields id in
+      let own = fields_for terms.shape.fields id in
       let raws = drop from d.values ∷ [] in
       and_left (frame_fits terms.limits terms.align (dictionary_size terms.align own) own raws (length (drop from d.values))) (leb (length d.values) terms.limits.max_rows)
       (fails terms.limits terms.align (dictionary_size terms.align own) own raws (length (drop from d.values)) (λ t.
-      let few = few_named 65536 (dictionary_fields terms.fields) id d.data_type (all_few 65536 terms.fields known.bounded.few) named in
+      let few = few_named 65536 (dictionary_fields terms.shape.fields) id d.data_type (all_few 65536 terms.shape.fields known.bounded.few) named in
       let nodes = nodes_few d.data_type None in
       let fits = t.body_fits in
       let size = ap (λ (fields : Fields). size_of terms.align fields raws) same_fields in
@@ -123,9 +123,9 @@ module _ (terms : Terms) (id : ℤ) (is_delta : Bool) (from : ℕ) (d : ValueLis
       })))
 
   -- and those with a body over the limit
-  pub long_rest : terms.limits.max_body < columns_size terms.align (rest_of d from ∷ []) → sending_fits terms.limits terms.align terms.fields brought ≡ false
+  pub long_rest : terms.limits.max_body < columns_size terms.align (rest_of d from ∷ []) → sending_fits terms.limits terms.align terms.shape.fields brought ≡ false
   long_rest over =
-      let own = fields_for terms.fields id in
+      let own = fields_for terms.shape.fields id in
       let raws = drop from d.values ∷ [] in
       and_left (frame_fits terms.limits terms.align (dictionary_size terms.align own) own raws (length (drop from d.values))) (leb (length d.values) terms.limits.max_rows)
       (fails terms.limits terms.align (dictionary_size terms.align own) own raws (length (drop from d.values)) (λ t.

@@ -10,7 +10,7 @@ use Rattle.arrow_written.specs.Writer.{Shows, Stands}
 -- These bytes give the rows of these batches, in their order, and leave what the writer shows: the schema and the dictionaries.
 pub record GivesAll (w : Shows) (batches : List Table) (entries : List Entry) (standing : Standing) : Type 0 where
   pub rows : map rows_of (tables_of entries) ≡ map rows_of batches
-  pub schema : standing.state.schema ≡ Some w.fields
+  pub schema : standing.state.schema ≡ Some w.shape
   pub dictionaries : standing.state.dictionaries ≡ w.sent
   pub nothing_left : standing.rest ≡ []
 

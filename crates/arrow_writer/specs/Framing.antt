@@ -29,7 +29,7 @@ pub record Load : Type 0 where
 
 -- that of the record batch of a table
 abbrev pub record_load : Table → Load
-record_load t = record { kind = Record; fields = t.schema; raws = raws_of t.columns; rows = t.rows }
+record_load t = record { kind = Record; fields = t.schema.fields; raws = raws_of t.columns; rows = t.rows }
 
 -- that of a dictionary batch
 abbrev pub update_load : Fields → Sending → Load

@@ -79,7 +79,7 @@ dictionary_for fields t id = record { data_type = value_type fields id; values =
 pub record AreListsOf (t : Table) (find : ℤ → Option ValueList) : Type 0 where
   pub known : IsKnown t
   pub one : has_one_list t ≡ true
-  pub each : AllByRecursion (λ id. find id ≡ Some (dictionary_for t.schema t id)) (dictionary_ids t.schema)
+  pub each : AllByRecursion (λ id. find id ≡ Some (dictionary_for t.schema.fields t id)) (dictionary_ids t.schema.fields)
 
 -- an answer to a batch: its dictionaries, or that two of one id differ
 abbrev pub FindsLists : Result BatchLists ListsFault → Table → Type 0

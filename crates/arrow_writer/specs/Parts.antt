@@ -23,12 +23,12 @@ options_of terms = record { updates = terms.updates; align = terms.align }
 pub record HasUpdates (terms : Terms) (t : Table) (sent : List (ℤ × ValueList)) (work : Work) : Type 0 where
   pub known : IsKnown t
   pub one : has_one_list t ≡ true
-  pub is_work : IsWorkOf terms sent (plan terms.updates terms.fields sent t) work
+  pub is_work : IsWorkOf terms sent (plan terms.updates terms.shape.fields sent t) work
 
 -- Why it is not, where it has one list for each id.
 pub record UpdatesRefused (terms : Terms) (t : Table) (sent : List (ℤ × ValueList)) : Type 0 where
   pub one : has_one_list t ≡ true
-  pub large : list_all (sending_fits terms.limits terms.align terms.fields) (plan terms.updates terms.fields sent t) ≡ false
+  pub large : list_all (sending_fits terms.limits terms.align terms.shape.fields) (plan terms.updates terms.shape.fields sent t) ≡ false
 
 -- why a batch's dictionary batches were not built
 abbrev pub IsNotUpdated : Terms → Table → List (ℤ × ValueList) → WriteFault → Type 0
@@ -46,17 +46,17 @@ PutsUpdates terms t old (Err fault) new = IsNotUpdated terms t old.tracked.sent 
 -- are staged.
 pub record IsPartBuilt (terms : Terms) (place : ℕ) (t : Table) (sent : List (ℤ × ValueList)) (bytes : List ℕ) (now : Tracked) : Type 0 where
   pub frames : List Frame
-  pub is_part : IsPart terms.limits (options_of terms) terms.fields sent place t frames
+  pub is_part : IsPart terms.limits (options_of terms) terms.shape sent place t frames
   pub same : frames_bytes frames ≡ bytes
-  pub sized : length bytes ≡ part_size (options_of terms) terms.fields sent t
+  pub sized : length bytes ≡ part_size (options_of terms) terms.shape.fields sent t
   pub kept : now.sent ≡ sent
-  pub staged : now.next ≡ lists_after terms.updates terms.fields sent t
+  pub staged : now.next ≡ lists_after terms.updates terms.shape.fields sent t
 
 -- the batch is refused with this fault
 abbrev pub IsRefusedWith : Terms → ℕ → Table → List (ℤ × ValueList) → WriteFault → Type 0
-IsRefusedWith terms place t sent TooLarge = admission terms.limits (options_of terms) terms.fields sent place t ≡ Some TooLarge
-IsRefusedWith terms place t sent SchemaDiffers = admission terms.limits (options_of terms) terms.fields sent place t ≡ Some SchemaDiffers
-IsRefusedWith terms place t sent DictionariesDiffer = admission terms.limits (options_of terms) terms.fields sent place t ≡ Some DictionariesDiffer
+IsRefusedWith terms place t sent TooLarge = admission terms.limits (options_of terms) terms.shape sent place t ≡ Some TooLarge
+IsRefusedWith terms place t sent SchemaDiffers = admission terms.limits (options_of terms) terms.shape sent place t ≡ Some SchemaDiffers
+IsRefusedWith terms place t sent DictionariesDiffer = admission terms.limits (options_of terms) terms.shape sent place t ≡ Some DictionariesDiffer
 IsRefusedWith terms place t sent fault = fault ≡ Memory
 
 -- An answer to a batch: its part was built, or it is refused, or a growth was refused. What was sent stays.

@@ -15,7 +15,7 @@ abbrev pub shown : {S : Type 0} → (S → Option (List ℕ)) → (S → ℕ) �
 shown contents failed w = record {
   limits = w.builder.settings.limits;
   options = record { updates = w.builder.settings.updates; align = alignment_of w.builder.settings.align };
-  fields = w.builder.settings.schema.value;
+  shape = w.builder.settings.schema.value;
   sent = w.builder.tracker.sent;
   place = w.place;
   status = w.status;

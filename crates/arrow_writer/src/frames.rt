@@ -200,7 +200,7 @@ impl Settings {
         out: &mut Vec<u8>,
     ) -> Result<(), WriteFault>
         requires { update.now.from ≤ length update.now.dictionary.now.values }
-        ensures { IsNamed self.now.schema.value update.now.id update.now.dictionary.now.data_type
+        ensures { IsNamed self.now.schema.value.fields update.now.id update.now.dictionary.now.data_type
             → PutsUpdate (terms_of self.now) (sending_of update.now) out.old.items result
             out.new.items }
     {

@@ -3,7 +3,7 @@
 ghost use Rattle.std.specs.Prelude.{◌≡◌, ◌≤◌, ◌^◌, [], IfOk};
 ghost use Rattle.arrow_body_write.specs.Align.{alignment_of};
 ghost use Rattle.arrow_meta.specs.Means.{schema};
-ghost use Rattle.arrow_types.specs.Schema.{IsSchema};
+ghost use Rattle.arrow_types.specs.Schema.{IsNoted};
 ghost use Rattle.arrow_writer.specs.Framing.{PutsMessage};
 ghost use Rattle.arrow_writer.specs.Parts.{BuildsOrDrops, BuildsPart, PutsUpdates};
 ghost use Rattle.arrow_writer.specs.Terms.{terms_of};
@@ -43,7 +43,7 @@ impl PartBuilder {
         ensures settings { IfOk result (λ b. terms_of b.settings ≡ record {
           limits = limits;
           align = alignment_of options.align;
-          fields = schema.now;
+          shape = schema.now;
           updates = options.updates;
         }) }
         ensures nothing_sent { IfOk result (λ b. b.tracker ≡ record { sent = []; next = [] }) }
@@ -67,14 +67,14 @@ impl PartBuilder {
     pub(crate) fn put_schema(&mut self) -> Result<(), WriteFault>
         ensures settings { self.new.settings ≡ self.old.settings }
         ensures tracker { self.new.tracker ≡ self.old.tracker }
-        ensures known { IsSchema self.old.settings.schema.value }
+        ensures known { IsNoted self.old.settings.schema.value }
         ensures ceiling { self.old.settings.limits.max_metadata ≤ 2 ^ 30 }
         ensures put { PutsMessage (terms_of self.old.settings)
             (schema self.old.settings.schema.value) [] [] result self.new.part.items }
     {
         // The proof has by it at hand what is known of every schema, and of all limits.
         let _ = self.settings.limits.max_metadata();
-        let _ = self.settings.schema.fields();
+        let _ = self.settings.schema.metadata();
         self.part.clear();
         let message = match self.settings.schema.copy(self.settings.alloc) {
             Ok(copy) => Message {

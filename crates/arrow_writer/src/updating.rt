@@ -84,7 +84,7 @@ impl<'s, 'l, 'd> Updater<'s, 'l, 'd> {
         bytes: &mut Vec<u8>,
     ) -> Result<(), WriteFault>
         requires inside { update.now.from ≤ length update.now.dictionary.now.values }
-        ensures { IsNamed self.now.settings.now.schema.value update.now.id
+        ensures { IsNamed self.now.settings.now.schema.value.fields update.now.id
             update.now.dictionary.now.data_type
             → AddsOne (terms_of self.now.settings.now) (sending_of update.now ∷ [])
             (work_of bytes.old.items tracker.old) result

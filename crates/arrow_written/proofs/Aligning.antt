@@ -6,6 +6,7 @@ use Rattle.std.specs.Int.{div_ceil}
 use Rattle.std.specs.List.{AllByRecursion, sum_by}
 use Rattle.arrow_types.specs.Field.{Fields}
 use Rattle.arrow_types.specs.Limits.{LimitNumbers}
+use Rattle.arrow_types.specs.Notes.{SchemaShape}
 use Rattle.arrow_array.specs.Batch.{Table}
 use Rattle.arrow_array.specs.Column.{ValueList}
 use Rattle.arrow_array.specs.PlainValue.{PlainValue}
@@ -40,28 +41,28 @@ frame_aligned {body = body} {b = b} align header some f multiple =
     let long : length b ≡ rounded align m + length body = frame_length f ∙ omega (arith, high) in
     ap (λ n. n % align) long ∙ mul-add-mod_self_right (div_ceil m align) align (length body) ∙ multiple
 
-module _ (l : LimitNumbers) (align : ℕ) (some : 0 < align) (fields : Fields) where
+module _ (l : LimitNumbers) (align : ℕ) (some : 0 < align) (shape : SchemaShape) where
   -- the frames of dictionary batches
-  updates_aligned : (ds : List (ℤ × ValueList)) (ws : List Sending) (fs : List Frame) → AreUpdates l align fields ds ws fs → AreAligned align fs
+  updates_aligned : (ds : List (ℤ × ValueList)) (ws : List Sending) (fs : List Frame) → AreUpdates l align shape ds ws fs → AreAligned align fs
   updates_aligned ds [] fs u = subst (AreAligned align) (sym u) tt
   updates_aligned ds (w ∷ ws) fs u =
       let one = u.2 in
-      let here = frame_aligned align (dictionary (pos 0) false (blank_batch (fields_for fields w.id))) some one.frame (ap (λ n. n % align) one.built.columns.sized ∙ size_multiple align (fields_for fields w.id) (w.carried ∷ [])) in
-      subst (AreAligned align) (sym u.4) (here, updates_aligned (with_list fields w ds) ws u.1 u.3)
+      let here = frame_aligned align (dictionary (pos 0) false (blank_batch (fields_for shape.fields w.id))) some one.frame (ap (λ n. n % align) one.built.columns.sized ∙ size_multiple align (fields_for shape.fields w.id) (w.carried ∷ [])) in
+      subst (AreAligned align) (sym u.4) (here, updates_aligned (with_list shape.fields w ds) ws u.1 u.3)
 
 all_both : (P : Frame → Type 0) (xs ys : List Frame) → AllByRecursion P xs → AllByRecursion P ys → AllByRecursion P (xs ++ ys)
 all_both P [] ys h k = k
 all_both P (x ∷ xs) ys h k = (h.0, all_both P xs ys h.1 k)
 
 -- those of a batch
-part_aligned : {l : LimitNumbers} {o : Options} {fields : Fields} {ds : List (ℤ × ValueList)} {place : ℕ} {t : Table} {fs : List Frame} → 0 < o.align → IsPart l o fields ds place t fs → AreAligned o.align fs
-part_aligned {l = l} {o = o} {fields = fields} {ds = ds} {t = t} some x =
-    let updated = updates_aligned l o.align some fields ds (plan o.updates fields ds t) x.updated x.updates in
-    let last = frame_aligned o.align (batch (blank_batch fields)) some x.frame (ap (λ n. n % o.align) x.built.columns.sized ∙ size_multiple o.align fields (raws_of t.columns)) in
-    subst (AreAligned o.align) (sym x.frames) (all_both (λ (f : Frame). length f.bytes % o.align ≡ 0) x.updated (record_frame fields (lists_after o.updates fields ds t) x.record_batch x.body t.rows x.last ∷ []) updated (last, tt))
+part_aligned : {l : LimitNumbers} {o : Options} {shape : SchemaShape} {ds : List (ℤ × ValueList)} {place : ℕ} {t : Table} {fs : List Frame} → 0 < o.align → IsPart l o shape ds place t fs → AreAligned o.align fs
+part_aligned {l = l} {o = o} {shape = shape} {ds = ds} {t = t} some x =
+    let updated = updates_aligned l o.align some shape ds (plan o.updates shape.fields ds t) x.updated x.updates in
+    let last = frame_aligned o.align (batch (blank_batch shape.fields)) some x.frame (ap (λ n. n % o.align) x.built.columns.sized ∙ size_multiple o.align shape.fields (raws_of t.columns)) in
+    subst (AreAligned o.align) (sym x.frames) (all_both (λ (f : Frame). length f.bytes % o.align ≡ 0) x.updated (record_frame shape (lists_after o.updates shape.fields ds t) x.record_batch x.body t.rows x.last ∷ []) updated (last, tt))
 
 -- and those of a text
-pub text_aligned : {l : LimitNumbers} {o : Options} {fields : Fields} {parts : List (List ℕ)} {batches : List Table} {frames : List Frame} → 0 < o.align → Text l o fields parts batches frames → AreAligned o.align frames
-text_aligned {o = o} {fields = fields} some (begins b known admitted f) = (frame_aligned o.align (schema fields) some f (zero-mod o.align), tt)
+pub text_aligned : {l : LimitNumbers} {o : Options} {shape : SchemaShape} {parts : List (List ℕ)} {batches : List Table} {frames : List Frame} → 0 < o.align → Text l o shape parts batches frames → AreAligned o.align frames
+text_aligned {o = o} {shape = shape} some (begins b known admitted f) = (frame_aligned o.align (schema shape) some f (zero-mod o.align), tt)
 text_aligned {o = o} some (adds parts batches frames t fs text part) =
     all_both (λ (f : Frame). length f.bytes % o.align ≡ 0) frames fs (text_aligned some text) (part_aligned some part)

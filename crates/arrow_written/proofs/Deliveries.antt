@@ -5,8 +5,8 @@ use Rattle.std.proofs.lemmas.List.{take-append-le, append-nil, map-append, take_
 use Rattle.std.proofs.Math.Seq.{take-append-add, drop-append_seam}
 use Rattle.std.proofs.Math.ListN.{drop_of_length-le}
 use Rattle.std.proofs.lemmas.Bool.{cases_lt}
-use Rattle.arrow_types.specs.Field.{Fields}
 use Rattle.arrow_types.specs.Limits.{LimitNumbers}
+use Rattle.arrow_types.specs.Notes.{SchemaShape}
 use Rattle.arrow_array.specs.Batch.{Table}
 use Rattle.arrow_stream.specs.declared.reader.Verdict.{Verdict}
 use Rattle.arrow_stream.specs.declared.reader.Verdict.TheVariants.{Open, Done}
@@ -47,8 +47,8 @@ rows_count : (batches : List Table) → length (map rows_of batches) ≡ length 
 rows_count [] = refl
 rows_count (b ∷ bs) = ap suc (rows_count bs)
 
-module _ {l : LimitNumbers} {o : Options} {fields : Fields} where
-  pub text_rows : {parts : List (List ℕ)} {batches : List Table} {frames : List Frame} (n : ℕ) → Text l o fields parts batches frames → rows_in (lying n frames) ≡ take (later_parts parts n) (map rows_of batches)
+module _ {l : LimitNumbers} {o : Options} {shape : SchemaShape} where
+  pub text_rows : {parts : List (List ℕ)} {batches : List Table} {frames : List Frame} (n : ℕ) → Text l o shape parts batches frames → rows_in (lying n frames) ≡ take (later_parts parts n) (map rows_of batches)
   text_rows n (begins b known a f) =
       elim (cases_lt n (length b)) [
         | inl k ↦ ap rows_in (lying-stop n _ [] k) ∙ sym (take_no_rows (later_parts (b ∷ []) n))
@@ -163,8 +163,8 @@ entries_rows p (x ∷ xs) =
     map-append rows_of (table_in x.gives) (tables_of (entries_from (p + length x.bytes) xs))
     ∙ ap (λ r. map rows_of (table_in x.gives) ++ r) (entries_rows (p + length x.bytes) xs)
 
-module _ {l : LimitNumbers} {o : Options} {fields : Fields} where
-  pub written_read : {finish : Bool} {parts : List (List ℕ)} {batches : List Table} {frames : List Frame} (n : ℕ) → Written l o fields finish parts batches frames → ReadAs l (take n (joined parts)) (lying n frames)
+module _ {l : LimitNumbers} {o : Options} {shape : SchemaShape} where
+  pub written_read : {finish : Bool} {parts : List (List ℕ)} {batches : List Table} {frames : List Frame} (n : ℕ) → Written l o shape finish parts batches frames → ReadAs l (take n (joined parts)) (lying n frames)
   written_read n (unfinished parts batches frames t) =
       let x = text_is t in read_at l _ _ _ _ (ap (take n) x.bytes) refl (chain_read l frames n x.chain)
   written_read n (finished parts batches frames b t h m) =
@@ -172,7 +172,7 @@ module _ {l : LimitNumbers} {o : Options} {fields : Fields} where
       let last = marker_frame (left_by nothing_yet frames) b in
       let all : joined (parts ++ b ∷ []) ≡ frames_bytes frames ++ b = joined_more parts b ∙ ap (λ r. r ++ b) (sym x.bytes) in
       let end : length (joined parts) ≡ length (frames_bytes frames) = sym (ap length x.bytes) in
-      let first = subst (λ p. First l (left_by nothing_yet frames) p b marker) end (marker_first l fields x.lists (left_by nothing_yet frames) (length (joined parts)) b x.state m h) in
+      let first = subst (λ p. First l (left_by nothing_yet frames) p b marker) end (marker_first l shape x.lists (left_by nothing_yet frames) (length (joined parts)) b x.state m h) in
       let two = m.eight in
       elim (cases_lt n (length (frames_bytes frames))) [
         | inl k ↦ read_at l _ _ _ _ (sym (take-append-le n (frames_bytes frames) b (omega arith)) ∙ ap (take n) (sym all)) (sym (lying_within n frames (last ∷ []) k)) (chain_read l frames n x.chain)
@@ -186,7 +186,7 @@ module _ {l : LimitNumbers} {o : Options} {fields : Fields} where
             ]
       ]
 
-  pub written_rows : {finish : Bool} {parts : List (List ℕ)} {batches : List Table} {frames : List Frame} (n : ℕ) → Written l o fields finish parts batches frames → rows_in (lying n frames) ≡ take (later_parts parts n) (map rows_of batches)
+  pub written_rows : {finish : Bool} {parts : List (List ℕ)} {batches : List Table} {frames : List Frame} (n : ℕ) → Written l o shape finish parts batches frames → rows_in (lying n frames) ≡ take (later_parts parts n) (map rows_of batches)
   written_rows n (unfinished parts batches frames t) = text_rows n t
   written_rows n (finished parts batches frames b t h m) =
       let x = text_is t in
@@ -205,7 +205,7 @@ module _ {l : LimitNumbers} {o : Options} {fields : Fields} where
       ]
 
   -- what a reader has of the first n bytes of a text
-  pub delivered : {finish : Bool} {parts : List (List ℕ)} {batches : List Table} {frames : List Frame} (n : ℕ) → Written l o fields finish parts batches frames → Delivered l parts batches frames n
+  pub delivered : {finish : Bool} {parts : List (List ℕ)} {batches : List Table} {frames : List Frame} (n : ℕ) → Written l o shape finish parts batches frames → Delivered l parts batches frames n
   delivered {parts = parts} {batches = batches} {frames = frames} n w =
       let r = written_read n w in
       record {
@@ -218,14 +218,14 @@ module _ {l : LimitNumbers} {o : Options} {fields : Fields} where
       }
 
 -- what the frames of a whole text are
-pub record WrittenIs (o : Options) (fields : Fields) (parts : List (List ℕ)) (batches : List Table) (frames : List Frame) : Type 0 where
+pub record WrittenIs (o : Options) (shape : SchemaShape) (parts : List (List ℕ)) (batches : List Table) (frames : List Frame) : Type 0 where
   pub bytes : frames_bytes frames ≡ joined parts
   pub rows : rows_in frames ≡ map rows_of batches
-  pub schema : (left_by nothing_yet frames).schema ≡ Some fields
-  pub dictionaries : (left_by nothing_yet frames).dictionaries ≡ lists_sent o.updates fields [] batches
+  pub schema : (left_by nothing_yet frames).schema ≡ Some shape
+  pub dictionaries : (left_by nothing_yet frames).dictionaries ≡ lists_sent o.updates shape.fields [] batches
 
-module _ {l : LimitNumbers} {o : Options} {fields : Fields} where
-  pub written_is : {finish : Bool} {parts : List (List ℕ)} {batches : List Table} {frames : List Frame} → Written l o fields finish parts batches frames → WrittenIs o fields parts batches frames
+module _ {l : LimitNumbers} {o : Options} {shape : SchemaShape} where
+  pub written_is : {finish : Bool} {parts : List (List ℕ)} {batches : List Table} {frames : List Frame} → Written l o shape finish parts batches frames → WrittenIs o shape parts batches frames
   written_is (unfinished parts batches frames t) =
       let x = text_is t in record { bytes = x.bytes; rows = x.rows; schema = ap (λ (s : StreamState). s.schema) x.state; dictionaries = ap (λ (s : StreamState). s.dictionaries) x.state ∙ x.sent }
   written_is (finished parts batches frames b t h m) =
@@ -239,15 +239,15 @@ module _ {l : LimitNumbers} {o : Options} {fields : Fields} where
       }
 
   -- where all bytes lie in the first n, so do all batches
-  pub whole_rows : {finish : Bool} {parts : List (List ℕ)} {batches : List Table} {frames : List Frame} (n : ℕ) → Written l o fields finish parts batches frames → length (joined parts) ≤ n
+  pub whole_rows : {finish : Bool} {parts : List (List ℕ)} {batches : List Table} {frames : List Frame} (n : ℕ) → Written l o shape finish parts batches frames → length (joined parts) ≤ n
       → take (later_parts parts n) (map rows_of batches) ≡ map rows_of batches
   whole_rows {frames = frames} n w h =
       let x = written_is w in
       sym (written_rows n w) ∙ ap rows_in (lying_all n frames (omega (arith, ap length x.bytes))) ∙ x.rows
 
   -- a text is a stream
-  pub text_stream : {finish : Bool} {parts : List (List ℕ)} {batches : List Table} {frames : List Frame} → Written l o fields finish parts batches frames
-      → IsStream l (joined parts) fields (map rows_of batches) (lists_sent o.updates fields [] batches)
+  pub text_stream : {finish : Bool} {parts : List (List ℕ)} {batches : List Table} {frames : List Frame} → Written l o shape finish parts batches frames
+      → IsStream l (joined parts) shape (map rows_of batches) (lists_sent o.updates shape.fields [] batches)
   text_stream {parts = parts} {batches = batches} {frames = frames} w =
       let x = written_is w in
       let n = length (joined parts) in

@@ -9,7 +9,8 @@ use Rattle.arrow_types.specs.DataType.{utf8}
 use Rattle.arrow_types.specs.Equality.{is_equal, is_equal_decides}
 use Rattle.arrow_types.specs.Field.{Fields, none, more, Head}
 use Rattle.arrow_types.specs.Limits.{LimitNumbers, standard_numbers}
-use Rattle.arrow_types.specs.Stored.{fields_code}
+use Rattle.arrow_types.specs.Notes.{KeyValue, Notes, unnoted, noted, SchemaShape}
+use Rattle.arrow_types.specs.Stored.{schema_code}
 use Rattle.arrow_types.specs.declared.data_type.BitWidth.TheVariants.{ThirtyTwo}
 use Rattle.arrow_types.specs.declared.field.Encoding.{Encoding}
 use Rattle.arrow_array.specs.Batch.{Table}
@@ -126,12 +127,24 @@ field = record { name = 107 ∷ []; nullable = true; tag = utf8; encoding = Some
 abbrev one_column : Fields
 one_column = more field none none
 
+-- no pairs at any of these fields
+abbrev blank : Fields → Notes
+blank none = unnoted
+blank (more head children rest) = noted [] (blank children) (blank rest)
+
+-- fields as a schema without pairs
+abbrev plain : Fields → SchemaShape
+plain fields = record { fields = fields; pairs = []; notes = blank fields }
+
+abbrev one : SchemaShape
+one = plain one_column
+
 -- a column of these indices, which stand for these values of these
 abbrev column : List PlainValue → List PlainValue → List PlainValue → Column
 column indices resolved values = record { data_type = record { tag = utf8; children = none }; encoding = Some encoding; raw = indices; resolved = resolved; dictionaries = (pos 0, record { data_type = record { tag = utf8; children = none }; values = values }) ∷ []; offsets = []; below = [] }
 
 abbrev batch_of : List Column → ℕ → Table
-batch_of columns rows = record { schema = one_column; columns = columns; rows = rows }
+batch_of columns rows = record { schema = one; columns = columns; rows = rows }
 
 abbrev index : ℕ → PlainValue
 index n = int_value (pos n)
@@ -189,7 +202,7 @@ empty_sends_nothing = ap (λ u. sending (pos 0) u [] ++ []) empty_again_is_none
 -- SIZES, at an alignment of 8
 
 -- the metadata of a schema, of a dictionary batch of texts, and of a record batch of one column of indices
-schema_takes : schema_size 8 one_column ≡ 192
+schema_takes : schema_size 8 one ≡ 192
 unfolding gap
 schema_takes = refl
 
@@ -240,16 +253,16 @@ abbrev options : Updates → Options
 options mode = record { updates = mode; align = 8 }
 
 -- the first refusal that applies, by its tests
-by_tests : (l : LimitNumbers) (o : Options) (fields : Fields) (ds : List (ℤ × ValueList)) (p : ℕ) (t : Table) (x y z : Bool)
-    → is_equal fields_code t.schema fields ≡ x → has_one_list t ≡ y → part_fits l o fields ds p t ≡ z
-    → admission l o fields ds p t ≡ cond (not x) (Some SchemaDiffers) (cond (not y) (Some DictionariesDiffer) (cond (not z) (Some TooLarge) None))
-by_tests l o fields ds p t x y z schema one fits =
-    ap (λ v. cond (not v) (Some SchemaDiffers) (cond (not (has_one_list t)) (Some DictionariesDiffer) (cond (not (part_fits l o fields ds p t)) (Some TooLarge) None))) schema
-    ∙ ap (λ v. cond (not x) (Some SchemaDiffers) (cond (not v) (Some DictionariesDiffer) (cond (not (part_fits l o fields ds p t)) (Some TooLarge) None))) one
+by_tests : (l : LimitNumbers) (o : Options) (shape : SchemaShape) (ds : List (ℤ × ValueList)) (p : ℕ) (t : Table) (x y z : Bool)
+    → is_equal schema_code t.schema shape ≡ x → has_one_list t ≡ y → part_fits l o shape.fields ds p t ≡ z
+    → admission l o shape ds p t ≡ cond (not x) (Some SchemaDiffers) (cond (not y) (Some DictionariesDiffer) (cond (not z) (Some TooLarge) None))
+by_tests l o shape ds p t x y z schema one fits =
+    ap (λ v. cond (not v) (Some SchemaDiffers) (cond (not (has_one_list t)) (Some DictionariesDiffer) (cond (not (part_fits l o shape.fields ds p t)) (Some TooLarge) None))) schema
+    ∙ ap (λ v. cond (not x) (Some SchemaDiffers) (cond (not v) (Some DictionariesDiffer) (cond (not (part_fits l o shape.fields ds p t)) (Some TooLarge) None))) one
     ∙ ap (λ v. cond (not x) (Some SchemaDiffers) (cond (not y) (Some DictionariesDiffer) (cond (not v) (Some TooLarge) None))) fits
 
-same_schema : (fields : Fields) → is_equal fields_code fields fields ≡ true
-same_schema fields = (is_equal_decides fields_code fields fields).1 refl
+same_schema : (shape : SchemaShape) → is_equal schema_code shape shape ≡ true
+same_schema shape = (is_equal_decides schema_code shape shape).1 refl
 
 -- a batch of one column has one dictionary
 one_list : (values : List PlainValue) → same_list values values && true ≡ true
@@ -261,55 +274,55 @@ fits_by l p t ws =
     list_all (sending_fits l 8 one_column) ws && frame_fits l 8 (batch_size 8 one_column) one_column (raws_of t.columns) t.rows
     && nat_le (p + (sendings_size 8 one_column ws + record_size 8 one_column t)) (2 ^ 62)
 
-first_admitted : admission standard_numbers (options modes.Delta) one_column [] 200 first ≡ None
+first_admitted : admission standard_numbers (options modes.Delta) one [] 200 first ≡ None
 unfolding gap
-first_admitted = by_tests standard_numbers (options modes.Delta) one_column [] 200 first true true true (same_schema one_column) (one_list abc) refl
+first_admitted = by_tests standard_numbers (options modes.Delta) one [] 200 first true true true (same_schema one) (one_list abc) refl
 
-second_admitted : admission standard_numbers (options modes.Delta) one_column (having abc) 592 second ≡ None
+second_admitted : admission standard_numbers (options modes.Delta) one (having abc) 592 second ≡ None
 unfolding gap
-second_admitted = by_tests standard_numbers (options modes.Delta) one_column (having abc) 592 second true true true (same_schema one_column) (one_list abcde) (ap (fits_by standard_numbers 592 second) second_sends)
+second_admitted = by_tests standard_numbers (options modes.Delta) one (having abc) 592 second true true true (same_schema one) (one_list abcde) (ap (fits_by standard_numbers 592 second) second_sends)
 
-third_admitted : admission standard_numbers (options modes.Delta) one_column (having abcde) 976 third ≡ None
+third_admitted : admission standard_numbers (options modes.Delta) one (having abcde) 976 third ≡ None
 unfolding gap
-third_admitted = by_tests standard_numbers (options modes.Delta) one_column (having abcde) 976 third true true true (same_schema one_column) (one_list acde) (ap (fits_by standard_numbers 976 third) third_sends)
+third_admitted = by_tests standard_numbers (options modes.Delta) one (having abcde) 976 third true true true (same_schema one) (one_list acde) (ap (fits_by standard_numbers 976 third) third_sends)
 
 -- at most four rows: the list of five values is refused, though only two of them would be sent
 abbrev four_rows : LimitNumbers
 four_rows = record { max_metadata = 2 ^ 26; max_body = 2 ^ 36; max_rows = 4 }
 
-second_too_large : admission four_rows (options modes.Delta) one_column (having abc) 592 second ≡ Some TooLarge
+second_too_large : admission four_rows (options modes.Delta) one (having abc) 592 second ≡ Some TooLarge
 unfolding gap
-second_too_large = by_tests four_rows (options modes.Delta) one_column (having abc) 592 second true true false (same_schema one_column) (one_list abcde) (ap (fits_by four_rows 592 second) second_sends)
+second_too_large = by_tests four_rows (options modes.Delta) one (having abc) 592 second true true false (same_schema one) (one_list abcde) (ap (fits_by four_rows 592 second) second_sends)
 
 -- the third batch is then compared with what was sent before the refused one
 third_sends_instead : plan modes.Delta one_column (having abc) third ≡ whole_list acde ∷ []
 third_sends_instead = ap (λ u. sending (pos 0) u acde ++ []) (changed_is_replace abc acde (λ h. cc) (λ h. cc))
 
-third_admitted_instead : admission four_rows (options modes.Delta) one_column (having abc) 592 third ≡ None
+third_admitted_instead : admission four_rows (options modes.Delta) one (having abc) 592 third ≡ None
 unfolding gap
-third_admitted_instead = by_tests four_rows (options modes.Delta) one_column (having abc) 592 third true true true (same_schema one_column) (one_list acde) (ap (fits_by four_rows 592 third) third_sends_instead)
+third_admitted_instead = by_tests four_rows (options modes.Delta) one (having abc) 592 third true true true (same_schema one) (one_list acde) (ap (fits_by four_rows 592 third) third_sends_instead)
 
 third_ends_instead : ends modes.Delta (having abc) 592 third ≡ 824 ∷ 984 ∷ []
 unfolding gap
 third_ends_instead = ap (ends_by 592 third) third_sends_instead
 
 -- one byte past the last place
-past_the_last_place : admission standard_numbers (options modes.Delta) one_column [] (2 ^ 62 - 391) first ≡ Some TooLarge
+past_the_last_place : admission standard_numbers (options modes.Delta) one [] (2 ^ 62 - 391) first ≡ Some TooLarge
 unfolding gap
-past_the_last_place = by_tests standard_numbers (options modes.Delta) one_column [] (2 ^ 62 - 391) first true true false (same_schema one_column) (one_list abc) refl
+past_the_last_place = by_tests standard_numbers (options modes.Delta) one [] (2 ^ 62 - 391) first true true false (same_schema one) (one_list abc) refl
 
-up_to_the_last_place : admission standard_numbers (options modes.Delta) one_column [] (2 ^ 62 - 392) first ≡ None
+up_to_the_last_place : admission standard_numbers (options modes.Delta) one [] (2 ^ 62 - 392) first ≡ None
 unfolding gap
-up_to_the_last_place = by_tests standard_numbers (options modes.Delta) one_column [] (2 ^ 62 - 392) first true true true (same_schema one_column) (one_list abc) refl
+up_to_the_last_place = by_tests standard_numbers (options modes.Delta) one [] (2 ^ 62 - 392) first true true true (same_schema one) (one_list abc) refl
 
 no_marker_there : marker_fits (2 ^ 62 - 7) ≡ false
 no_marker_there = refl
 
-schema_admitted : schema_admission standard_numbers (options modes.Delta) one_column ≡ None
+schema_admitted : schema_admission standard_numbers (options modes.Delta) one ≡ None
 unfolding gap
 schema_admitted = refl
 
-schema_too_large : schema_admission (record { max_metadata = 191; max_body = 0; max_rows = 0 }) (options modes.Delta) one_column ≡ Some TooLarge
+schema_too_large : schema_admission (record { max_metadata = 191; max_body = 0; max_rows = 0 }) (options modes.Delta) one ≡ Some TooLarge
 unfolding gap
 schema_too_large = refl
 
@@ -318,48 +331,72 @@ schema_too_large = refl
 abbrev two_columns : Fields
 two_columns = more field none one_column
 
+abbrev two : SchemaShape
+two = plain two_columns
+
 abbrev side_by_side : List PlainValue → List PlainValue → Table
-side_by_side xs ys = record { schema = two_columns; columns = column [] [] xs ∷ column [] [] ys ∷ []; rows = 0 }
+side_by_side xs ys = record { schema = two; columns = column [] [] xs ∷ column [] [] ys ∷ []; rows = 0 }
 
 two_lists : has_one_list (side_by_side (a ∷ []) (b ∷ [])) ≡ false
 two_lists = ap (λ t. t && (same_list (a ∷ []) (b ∷ []) && true)) (same_yes (a ∷ []) (a ∷ []) refl) ∙ ap (λ t. t && true) (same_no (a ∷ []) (b ∷ []) (λ h. cc))
 
-two_lists_refused : admission standard_numbers (options modes.Delta) two_columns [] 200 (side_by_side (a ∷ []) (b ∷ [])) ≡ Some DictionariesDiffer
+two_lists_refused : admission standard_numbers (options modes.Delta) two [] 200 (side_by_side (a ∷ []) (b ∷ [])) ≡ Some DictionariesDiffer
 two_lists_refused =
-    by_tests standard_numbers (options modes.Delta) two_columns [] 200 (side_by_side (a ∷ []) (b ∷ [])) true false
-    (part_fits standard_numbers (options modes.Delta) two_columns [] 200 (side_by_side (a ∷ []) (b ∷ []))) (same_schema two_columns) two_lists refl
+    by_tests standard_numbers (options modes.Delta) two [] 200 (side_by_side (a ∷ []) (b ∷ [])) true false
+    (part_fits standard_numbers (options modes.Delta) two_columns [] 200 (side_by_side (a ∷ []) (b ∷ []))) (same_schema two) two_lists refl
 
 same_lists : has_one_list (side_by_side (a ∷ []) (a ∷ [])) ≡ true
 same_lists = ap (λ t. t && (t && true)) (same_yes (a ∷ []) (a ∷ []) refl)
 
-same_lists_admitted : admission standard_numbers (options modes.Delta) two_columns [] 200 (side_by_side (a ∷ []) (a ∷ [])) ≡ None
+same_lists_admitted : admission standard_numbers (options modes.Delta) two [] 200 (side_by_side (a ∷ []) (a ∷ [])) ≡ None
 unfolding gap
-same_lists_admitted = by_tests standard_numbers (options modes.Delta) two_columns [] 200 (side_by_side (a ∷ []) (a ∷ [])) true true true (same_schema two_columns) same_lists refl
+same_lists_admitted = by_tests standard_numbers (options modes.Delta) two [] 200 (side_by_side (a ∷ []) (a ∷ [])) true true true (same_schema two) same_lists refl
 
 sent_once : plan modes.Delta two_columns [] (side_by_side (a ∷ []) (a ∷ [])) ≡ whole_list (a ∷ []) ∷ []
 sent_once = refl
 
 -- another schema is told first
-schema_differs : admission four_rows (options modes.Delta) one_column [] 200 (side_by_side (a ∷ []) (b ∷ [])) ≡ Some SchemaDiffers
+schema_differs : admission four_rows (options modes.Delta) one [] 200 (side_by_side (a ∷ []) (b ∷ [])) ≡ Some SchemaDiffers
 schema_differs =
-    by_tests four_rows (options modes.Delta) one_column [] 200 (side_by_side (a ∷ []) (b ∷ [])) false (has_one_list (side_by_side (a ∷ []) (b ∷ [])))
+    by_tests four_rows (options modes.Delta) one [] 200 (side_by_side (a ∷ []) (b ∷ [])) false (has_one_list (side_by_side (a ∷ []) (b ∷ [])))
     (part_fits four_rows (options modes.Delta) one_column [] 200 (side_by_side (a ∷ []) (b ∷ []))) other refl refl
   where
-    other : is_equal fields_code two_columns one_column ≡ false
-    other = untrue (is_equal fields_code two_columns one_column) (λ h. let same = (is_equal_decides fields_code two_columns one_column).0 h in cc)
+    other : is_equal schema_code two one ≡ false
+    other = untrue (is_equal schema_code two one) (λ h. let same : two_columns ≡ one_column = ap (λ (s : SchemaShape). s.fields) ((is_equal_decides schema_code two one).0 h) in cc)
+
+-- so is one that lacks a pair of a key k and a value v, or has it at its field
+abbrev pair : KeyValue
+pair = record { key = 107 ∷ []; value = 118 ∷ [] }
+
+abbrev with_pair : SchemaShape
+with_pair = record { fields = one_column; pairs = pair ∷ []; notes = blank one_column }
+
+abbrev noted_field : SchemaShape
+noted_field = record { fields = one_column; pairs = []; notes = noted (pair ∷ []) unnoted unnoted }
+
+differs : (shape : SchemaShape) → (one ≡ shape → ⊥) → admission standard_numbers (options modes.Delta) shape [] 200 first ≡ Some SchemaDiffers
+differs shape n =
+    by_tests standard_numbers (options modes.Delta) shape [] 200 first false (has_one_list first) (part_fits standard_numbers (options modes.Delta) shape.fields [] 200 first)
+    (untrue (is_equal schema_code one shape) (λ h. n ((is_equal_decides schema_code one shape).0 h))) refl refl
+
+pair_lacks : admission standard_numbers (options modes.Delta) with_pair [] 200 first ≡ Some SchemaDiffers
+pair_lacks = differs with_pair (λ h. let same : ◌≡◌ {A = List KeyValue} [] (pair ∷ []) = ap (λ (s : SchemaShape). s.pairs) h in cc)
+
+pair_of_a_field_lacks : admission standard_numbers (options modes.Delta) noted_field [] 200 first ≡ Some SchemaDiffers
+pair_of_a_field_lacks = differs noted_field (λ h. let same : noted [] unnoted unnoted ≡ noted (pair ∷ []) unnoted unnoted = ap (λ (s : SchemaShape). s.notes) h in cc)
 
 -- NO COLUMNS
 
 abbrev no_columns : Table
-no_columns = record { schema = none; columns = []; rows = 3 }
+no_columns = record { schema = plain none; columns = []; rows = 3 }
 
 -- nothing but the record batch is sent
 no_columns_plan : plan modes.Delta none [] no_columns ≡ []
 no_columns_plan = refl
 
-no_columns_admitted : admission standard_numbers (options modes.Delta) none [] 200 no_columns ≡ None
+no_columns_admitted : admission standard_numbers (options modes.Delta) (plain none) [] 200 no_columns ≡ None
 unfolding gap
-no_columns_admitted = by_tests standard_numbers (options modes.Delta) none [] 200 no_columns true true true (same_schema none) refl refl
+no_columns_admitted = by_tests standard_numbers (options modes.Delta) (plain none) [] 200 no_columns true true true (same_schema (plain none)) refl refl
 
 -- FIRST BYTES, of the parts of the dictionary that grows as deltas
 

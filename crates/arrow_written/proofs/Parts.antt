@@ -10,8 +10,9 @@ use Rattle.std.specs.Option.{unwrap_or}
 use Rattle.arrow_types.specs.DataType.{null}
 use Rattle.arrow_types.specs.Field.{Fields, none, more, TypeShape}
 use Rattle.arrow_types.specs.Limits.{LimitNumbers}
-use Rattle.arrow_types.specs.Schema.{IsSchema, dictionary_fields, has_encoding}
-use Rattle.arrow_types.specs.Stored.{fields_code}
+use Rattle.arrow_types.specs.Notes.{SchemaShape}
+use Rattle.arrow_types.specs.Schema.{IsNoted, dictionary_fields, has_encoding}
+use Rattle.arrow_types.specs.Stored.{schema_code}
 use Rattle.arrow_types.specs.declared.field.Encoding.{Encoding}
 use Rattle.arrow_types.specs.declared.node.FieldNode.{FieldNode}
 use Rattle.arrow_types.specs.declared.node.Buffer.{Buffer}
@@ -87,12 +88,12 @@ frame_fits_so l z metadata fields raws rows e =
     }
 
 -- what a batch that is admitted keeps to
-pub record PartFits (l : LimitNumbers) (o : Options) (fields : Fields) (ds : List (ℤ × ValueList)) (place : ℕ) (t : Table) : Type 0 where
-  pub same_schema : t.schema ≡ fields
+pub record PartFits (l : LimitNumbers) (o : Options) (shape : SchemaShape) (ds : List (ℤ × ValueList)) (place : ℕ) (t : Table) : Type 0 where
+  pub same_schema : t.schema ≡ shape
   pub one_list : Agree (listed_of t.columns) (list_of t)
-  pub updates_fit : list_all (sending_fits l o.align fields) (plan o.updates fields ds t) ≡ true
-  pub record_fits : FrameFits l o.align (batch_size o.align fields) fields (raws_of t.columns) t.rows
-  pub near : place + part_size o fields ds t ≤ 2 ^ 62
+  pub updates_fit : list_all (sending_fits l o.align shape.fields) (plan o.updates shape.fields ds t) ≡ true
+  pub record_fits : FrameFits l o.align (batch_size o.align shape.fields) shape.fields (raws_of t.columns) t.rows
+  pub near : place + part_size o shape.fields ds t ≤ 2 ^ 62
 
 agree_so : (lists : ℤ → List PlainValue) (es : List (ℤ × ValueList)) → list_all (λ (d : ℤ × ValueList). same_list (lists d.0) d.1.values) es ≡ true → Agree es lists
 agree_so lists [] e = tt
@@ -100,21 +101,21 @@ agree_so lists (d ∷ es) e =
     let w = both (same_list (lists d.0) d.1.values) (list_all (λ (d : ℤ × ValueList). same_list (lists d.0) d.1.values) es) e in
     ((is_equal_decides (coded_list value_code) (lists d.0) d.1.values).0 w.0, agree_so lists es w.1)
 
-pub part_fits_so : (l : LimitNumbers) (o : Options) (fields : Fields) (ds : List (ℤ × ValueList)) (place : ℕ) (t : Table) → admission l o fields ds place t ≡ None → PartFits l o fields ds place t
-part_fits_so l o fields ds place t e =
-    let w = refused (is_equal fields_code t.schema fields) SchemaDiffers _ e in
+pub part_fits_so : (l : LimitNumbers) (o : Options) (shape : SchemaShape) (ds : List (ℤ × ValueList)) (place : ℕ) (t : Table) → admission l o shape ds place t ≡ None → PartFits l o shape ds place t
+part_fits_so l o shape ds place t e =
+    let w = refused (is_equal schema_code t.schema shape) SchemaDiffers _ e in
     let x = refused (has_one_list t) DictionariesDiffer _ w.1 in
-    let y = refused (part_fits l o fields ds place t) TooLarge None x.1 in
-    let t1 = list_all (sending_fits l o.align fields) (plan o.updates fields ds t) in
-    let t2 = frame_fits l o.align (batch_size o.align fields) fields (raws_of t.columns) t.rows in
-    let u = both (t1 && t2) (leb (place + part_size o fields ds t) (2 ^ 62)) y.0 in
+    let y = refused (part_fits l o shape.fields ds place t) TooLarge None x.1 in
+    let t1 = list_all (sending_fits l o.align shape.fields) (plan o.updates shape.fields ds t) in
+    let t2 = frame_fits l o.align (batch_size o.align shape.fields) shape.fields (raws_of t.columns) t.rows in
+    let u = both (t1 && t2) (leb (place + part_size o shape.fields ds t) (2 ^ 62)) y.0 in
     let v = both t1 t2 u.0 in
     record {
-      same_schema = (is_equal_decides fields_code t.schema fields).0 w.0;
+      same_schema = (is_equal_decides schema_code t.schema shape).0 w.0;
       one_list = agree_so (list_of t) (listed_of t.columns) x.0;
       updates_fit = v.0;
-      record_fits = frame_fits_so l o.align (batch_size o.align fields) fields (raws_of t.columns) t.rows v.1;
-      near = leb-true (place + part_size o fields ds t) (2 ^ 62) u.1;
+      record_fits = frame_fits_so l o.align (batch_size o.align shape.fields) shape.fields (raws_of t.columns) t.rows v.1;
+      near = leb-true (place + part_size o shape.fields ds t) (2 ^ 62) u.1;
     }
 
 -- ONE FRAME
@@ -128,7 +129,7 @@ pub frame_first : (l : LimitNumbers) (s : StreamState) (p size : ℕ) (content :
     → size ≤ l.max_metadata → p + length b ≤ 2 ^ 62 → is_out_of_order (is_some s.schema) content ≡ false → against l.max_rows s content ≡ None
     → BodySays s content body (Ok (s', g)) → First l s p b (whole (length b) s' g)
 frame_first l s p size content body b s' g f small near order free says =
-    frame_whole l s p size content f.prefix f.metadata body b s' g f.eight f.continued f.number f.sized f.some f.bytes f.means small near order free says
+    frame_whole l s p size content f.prefix f.metadata body b s' g f.eight f.continued f.number f.sized f.some f.bytes (_, f.means, refl) small near order free says
 
 -- what is built is laid out as a reader asks for
 pub layout_of : {align : ℕ} {fields : Fields} {raws : List (List PlainValue)} {rows : ℕ} {record_batch : PlainBatch} {body : List ℕ} → IsBuilt align fields raws rows record_batch body → IsLayout body fields record_batch
@@ -221,14 +222,14 @@ abbrev pub NoTables : List Frame → Type 0
 NoTables [] = ⊤
 NoTables (f ∷ fs) = (table_in f.gives ≡ []) × NoTables fs
 
-module _ (l : LimitNumbers) (z : ℕ) (fields : Fields) where
+module _ (l : LimitNumbers) (z : ℕ) (shape : SchemaShape) where
   -- the frame of an update is one whole message
-  pub update_first : (ds : List (ℤ × ValueList)) (w : Sending) (b : List ℕ) (p : ℕ) → IsSchema fields → IsChosen fields ds w → IsUpdate l z fields w b → sending_fits l z fields w ≡ true → p + length b ≤ 2 ^ 62
-      → First l (state_of fields ds) p b (whole (length b) (state_of fields (with_list fields w ds)) (dictionary_given w.id))
+  pub update_first : (ds : List (ℤ × ValueList)) (w : Sending) (b : List ℕ) (p : ℕ) → IsNoted shape → IsChosen shape.fields ds w → IsUpdate l z shape.fields w b → sending_fits l z shape.fields w ≡ true → p + length b ≤ 2 ^ 62
+      → First l (state_of shape ds) p b (whole (length b) (state_of shape (with_list shape.fields w ds)) (dictionary_given w.id))
   update_first ds w b p known chosen u fits near =
-      let s = state_of fields ds in
-      let own = fields_for fields w.id in
-      let o = value_type_of (dictionary_fields fields) w.id in
+      let s = state_of shape ds in
+      let own = fields_for shape.fields w.id in
+      let o = value_type_of (dictionary_fields shape.fields) w.id in
       let t = chosen.typed.its_type in
       let named = chosen.typed.named in
       let x = u.built in
@@ -241,32 +242,32 @@ module _ (l : LimitNumbers) (z : ℕ) (fields : Fields) where
       allowed_if (is_some o) (w.is_delta && not (is_some (listed ds w.id))) (has_bad_length l.max_rows own u.record_batch) (ltb l.max_rows (length base + count_of u.record_batch.length))
       (ap is_some named) chosen.there (lengths_good l z (dictionary_size z own) own (w.carried ∷ []) (length w.carried) u.record_batch u.body x f)
       (le-ltb l.max_rows (length base + count_of u.record_batch.length) (let few = leb-true (length w.whole) l.max_rows two.1 in omega arith)) in
-      let indexed = flat_indexed u.body [] own u.record_batch.nodes u.record_batch.buffers (flat_values o t named (values_flat fields w.id t known named)) in
+      let indexed = flat_indexed u.body [] own u.record_batch.nodes u.record_batch.buffers (flat_values o t named (values_flat shape.fields w.id t known.schema named)) in
       let left = values_left u.body s w.id w.is_delta o t w.carried u.record_batch.nodes u.record_batch.buffers named (x.columns.raw [])
-      ∙ ap (λ vs. state_of fields (placed w.id (record { data_type = t; values = vs }) ds)) chosen.behind
-      ∙ ap (λ y. state_of fields (placed w.id (record { data_type = y; values = w.whole }) ds)) (sym (type_is fields w.id t named)) in
-      frame_first l s p (dictionary_size z own) (dictionary w.id w.is_delta u.record_batch) u.body b (state_of fields (with_list fields w ds)) (dictionary_given w.id) u.frame f.metadata_fits near refl none_against
+      ∙ ap (λ vs. state_of shape (placed w.id (record { data_type = t; values = vs }) ds)) chosen.behind
+      ∙ ap (λ y. state_of shape (placed w.id (record { data_type = y; values = w.whole }) ds)) (sym (type_is shape.fields w.id t named)) in
+      frame_first l s p (dictionary_size z own) (dictionary w.id w.is_delta u.record_batch) u.body b (state_of shape (with_list shape.fields w ds)) (dictionary_given w.id) u.frame f.metadata_fits near refl none_against
       (dictionary_comes (columns (layout_of x) x.columns.text indexed) (ap (λ y. Ok (y, dictionary_given w.id)) (sym left)))
 
   -- what the frames of the updates are
   pub record Updated (ds : List (ℤ × ValueList)) (ws : List Sending) (p : ℕ) (fs : List Frame) : Type 0 where
-    pub chain : Chain l (state_of fields ds) p fs
-    pub leaves : left_by (state_of fields ds) fs ≡ state_of fields (with_lists fields ws ds)
+    pub chain : Chain l (state_of shape ds) p fs
+    pub leaves : left_by (state_of shape ds) fs ≡ state_of shape (with_lists shape.fields ws ds)
     pub none : NoTables fs
-    pub sized : length (frames_bytes fs) ≡ sendings_size z fields ws
+    pub sized : length (frames_bytes fs) ≡ sendings_size z shape.fields ws
 
-  pub updates_chain : (ds : List (ℤ × ValueList)) (ws : List Sending) (p : ℕ) (fs : List Frame) → IsSchema fields → AreChosen fields ds ws → AreUpdates l z fields ds ws fs → list_all (sending_fits l z fields) ws ≡ true
-      → p + sendings_size z fields ws ≤ 2 ^ 62 → Updated ds ws p fs
+  pub updates_chain : (ds : List (ℤ × ValueList)) (ws : List Sending) (p : ℕ) (fs : List Frame) → IsNoted shape → AreChosen shape.fields ds ws → AreUpdates l z shape ds ws fs → list_all (sending_fits l z shape.fields) ws ≡ true
+      → p + sendings_size z shape.fields ws ≤ 2 ^ 62 → Updated ds ws p fs
   updates_chain ds [] p fs known chosen u fits near =
       subst (λ gs. Updated ds [] p gs) (sym u) (record { chain = tt; leaves = refl; none = tt; sized = refl })
   updates_chain ds (w ∷ ws) p fs known chosen u fits near =
       let b = u.0 in
       let rest = u.1 in
       let one = u.2 in
-      let two = both (sending_fits l z fields w) (list_all (sending_fits l z fields) ws) fits in
-      let len : length b ≡ sending_size z fields w = frame_length one.frame ∙ ap (λ n. 8 + dictionary_size z (fields_for fields w.id) + n) one.built.columns.sized in
+      let two = both (sending_fits l z shape.fields w) (list_all (sending_fits l z shape.fields) ws) fits in
+      let len : length b ≡ sending_size z shape.fields w = frame_length one.frame ∙ ap (λ n. 8 + dictionary_size z (fields_for shape.fields w.id) + n) one.built.columns.sized in
       let first = update_first ds w b p known chosen.0 one two.0 (omega arith) in
-      let i = updates_chain (with_list fields w ds) ws (p + length b) rest known chosen.1 u.3 two.1 (omega arith) in
+      let i = updates_chain (with_list shape.fields w ds) ws (p + length b) rest known chosen.1 u.3 two.1 (omega arith) in
       subst (λ gs. Updated ds (w ∷ ws) p gs) (sym u.4) (record {
         chain = (first, i.chain);
         leaves = i.leaves;

@@ -4,9 +4,9 @@ use Rattle.std.proofs.lemmas.List.{append-nil}
 use Rattle.std.proofs.Math.Seq.{take-append-add}
 use Rattle.std.proofs.KnownBytes.{Appends-trans}
 use Rattle.std.specs.Io.KnownBytes.{Appends}
-use Rattle.arrow_types.specs.Field.{Fields}
 use Rattle.arrow_types.specs.Limits.{LimitNumbers}
-use Rattle.arrow_types.specs.Schema.{IsSchema}
+use Rattle.arrow_types.specs.Notes.{SchemaShape}
+use Rattle.arrow_types.specs.Schema.{IsNoted}
 use Rattle.arrow_array.specs.Batch.{Table}
 use Rattle.arrow_meta.specs.Means.{schema}
 use Rattle.arrow_sink.specs.Sinks.{AcceptsBeginning}
@@ -25,30 +25,30 @@ use Rattle.arrow_written.proofs.Chains.{left_by-append}
 use Rattle.arrow_written.proofs.Parts.{frame_length}
 use Rattle.arrow_written.proofs.Texts.{text_is, text_part, joined_more}
 
-unfinished_text : {l : LimitNumbers} {o : Options} {fields : Fields} {parts : List (List ℕ)} {batches : List Table} {frames : List Frame} → Written l o fields false parts batches frames → Text l o fields parts batches frames
+unfinished_text : {l : LimitNumbers} {o : Options} {shape : SchemaShape} {parts : List (List ℕ)} {batches : List Table} {frames : List Frame} → Written l o shape false parts batches frames → Text l o shape parts batches frames
 unfinished_text (unfinished parts batches frames t) = t
 
 -- an accepted part leaves the writer at one part and one batch more
-module _ (old : Shows) (t : Table) (fs : List Frame) (part : IsPart old.limits old.options old.fields old.sent old.place t fs) where
+module _ (old : Shows) (t : Table) (fs : List Frame) (part : IsPart old.limits old.options old.shape old.sent old.place t fs) where
   module _ (base : Option (List ℕ)) (parts : List (List ℕ)) (batches : List Table) (s : Stands old base false parts batches) where
-    pub own_part : IsPart old.limits old.options old.fields (left_by nothing_yet s.frames).dictionaries (length (joined parts)) t fs
+    pub own_part : IsPart old.limits old.options old.shape (left_by nothing_yet s.frames).dictionaries (length (joined parts)) t fs
     own_part =
-        subst (λ n. IsPart old.limits old.options old.fields (left_by nothing_yet s.frames).dictionaries n t fs) s.place_is
-        (subst (λ ds. IsPart old.limits old.options old.fields ds old.place t fs) s.sent_are part)
+        subst (λ n. IsPart old.limits old.options old.shape (left_by nothing_yet s.frames).dictionaries n t fs) s.place_is
+        (subst (λ ds. IsPart old.limits old.options old.shape ds old.place t fs) s.sent_are part)
 
     pub stands_by : (contents : Option (List ℕ)) → Appends old.contents contents (frames_bytes fs)
-        → Stands (record old { sent = lists_after old.options.updates old.fields old.sent t; place = old.place + part_size old.options old.fields old.sent t; contents = contents; status = statuses.Writing }) base false (parts ++ frames_bytes fs ∷ []) (batches ++ t ∷ [])
+        → Stands (record old { sent = lists_after old.options.updates old.shape.fields old.sent t; place = old.place + part_size old.options old.shape.fields old.sent t; contents = contents; status = statuses.Writing }) base false (parts ++ frames_bytes fs ∷ []) (batches ++ t ∷ [])
     stands_by contents more =
         let text = unfinished_text s.written in
         let x = text_is text in
         let q = text_part parts batches s.frames t fs x own_part in
         let bytes = frames_bytes fs in
         let lists : old.sent ≡ x.lists = s.sent_are ∙ ap (λ (z : StreamState). z.dictionaries) x.state in
-        let size : part_size old.options old.fields old.sent t ≡ length bytes = ap (λ ds. part_size old.options old.fields ds t) lists ∙ sym q.sized in
+        let size : part_size old.options old.shape.fields old.sent t ≡ length bytes = ap (λ ds. part_size old.options old.shape.fields ds t) lists ∙ sym q.sized in
         record {
           frames = s.frames ++ fs;
           written = unfinished _ _ _ (adds parts batches s.frames t fs text own_part);
-          sent_are = ap (λ ds. lists_after old.options.updates old.fields ds t) lists
+          sent_are = ap (λ ds. lists_after old.options.updates old.shape.fields ds t) lists
               ∙ sym (ap (λ (z : StreamState). z.dictionaries) (left_by-append nothing_yet s.frames fs ∙ ap (λ z. left_by z fs) x.state ∙ q.leaves));
           place_is = omega (arith, s.place_is, size, ap length (joined_more parts bytes), length-append (joined parts) bytes);
           accepted = subst (λ b. Appends base contents b) (sym (joined_more parts bytes)) (Appends-trans base old.contents contents (joined parts) bytes s.accepted more);
@@ -81,16 +81,16 @@ closed_by old base parts batches b contents s m h more =
     }
 
 -- a started writer stands at its schema
-pub starts_of : (l : LimitNumbers) (o : Options) (fields : Fields) (base contents : Option (List ℕ)) (failures : ℕ) (b : List ℕ) → IsSchema fields → schema_admission l o fields ≡ None → IsFrameOf l (schema_size o.align fields) (schema fields) [] b
+pub starts_of : (l : LimitNumbers) (o : Options) (shape : SchemaShape) (base contents : Option (List ℕ)) (failures : ℕ) (b : List ℕ) → IsNoted shape → schema_admission l o shape ≡ None → IsFrameOf l (schema_size o.align shape) (schema shape) [] b
     → Appends base contents b
-    → Starts l o fields base failures (record { limits = l; options = o; fields = fields; sent = []; place = first_place o fields; status = statuses.Writing; contents = contents; failures = failures })
-starts_of l o fields base contents failures b known admitted f more =
+    → Starts l o shape base failures (record { limits = l; options = o; shape = shape; sent = []; place = first_place o shape; status = statuses.Writing; contents = contents; failures = failures })
+starts_of l o shape base contents failures b known admitted f more =
     let all : joined (b ∷ []) ≡ b = append-nil b in
     record {
       part = b;
       new_is = refl;
       stands = record {
-        frames = schema_frame fields b ∷ [];
+        frames = schema_frame shape b ∷ [];
         written = unfinished _ _ _ (begins b known admitted f);
         sent_are = refl;
         place_is = let len = frame_length f in omega (arith, ap length all);
@@ -101,8 +101,8 @@ starts_of l o fields base contents failures b known admitted f more =
 
 -- WHAT A CALL DID, by what was sent
 
-pub accepts_of : (old : Shows) (t : Table) (fs : List Frame) (contents : Option (List ℕ)) → old.status ≡ statuses.Writing → IsPart old.limits old.options old.fields old.sent old.place t fs → Appends old.contents contents (frames_bytes fs)
-    → Accepts old t (record old { sent = lists_after old.options.updates old.fields old.sent t; place = old.place + part_size old.options old.fields old.sent t; contents = contents })
+pub accepts_of : (old : Shows) (t : Table) (fs : List Frame) (contents : Option (List ℕ)) → old.status ≡ statuses.Writing → IsPart old.limits old.options old.shape old.sent old.place t fs → Appends old.contents contents (frames_bytes fs)
+    → Accepts old t (record old { sent = lists_after old.options.updates old.shape.fields old.sent t; place = old.place + part_size old.options old.shape.fields old.sent t; contents = contents })
 accepts_of old t fs contents open_before part more = record {
   open_before = open_before;
   frames = fs;
@@ -110,11 +110,11 @@ accepts_of old t fs contents open_before part more = record {
   accepted = more;
   new_is = refl;
   stands = λ base parts batches s.
-      subst (λ status. Stands (record old { sent = lists_after old.options.updates old.fields old.sent t; place = old.place + part_size old.options old.fields old.sent t; contents = contents; status = status }) base false (parts ++ frames_bytes fs ∷ []) (batches ++ t ∷ [])) (sym open_before)
+      subst (λ status. Stands (record old { sent = lists_after old.options.updates old.shape.fields old.sent t; place = old.place + part_size old.options old.shape.fields old.sent t; contents = contents; status = status }) base false (parts ++ frames_bytes fs ∷ []) (batches ++ t ∷ [])) (sym open_before)
       (stands_by old t fs part base parts batches s contents more);
 }
 
-pub fails_of : (old : Shows) (t : Table) (fs : List Frame) (contents : Option (List ℕ)) → old.status ≡ statuses.Writing → IsPart old.limits old.options old.fields old.sent old.place t fs → AcceptsBeginning old.contents contents (frames_bytes fs)
+pub fails_of : (old : Shows) (t : Table) (fs : List Frame) (contents : Option (List ℕ)) → old.status ≡ statuses.Writing → IsPart old.limits old.options old.shape old.sent old.place t fs → AcceptsBeginning old.contents contents (frames_bytes fs)
     → Fails old t (record old { status = statuses.Broken; contents = contents; failures = old.failures + 1 })
 fails_of old t fs contents open_before part some = record {
   open_before = open_before;
@@ -152,11 +152,11 @@ fails_at_end old b contents open_before m h some = record {
 -- WHAT WAS SENT IN ALL
 
 pub stream_sent : (w : Shows) (closed : Bool) (parts : List (List ℕ)) (batches : List Table) (before now : List ℕ) → Stands w (Some before) closed parts batches → w.contents ≡ Some now
-    → (now ≡ before ++ joined parts) × IsStream w.limits (joined parts) w.fields (map rows_of batches) w.sent
+    → (now ≡ before ++ joined parts) × IsStream w.limits (joined parts) w.shape (map rows_of batches) w.sent
 stream_sent w closed parts batches before now s told =
     let accepted = subst (λ c. Appends (Some before) c (joined parts)) told s.accepted in
     let last = s.sent_are ∙ (written_is s.written).dictionaries in
-    (accepted, subst (λ ds. IsStream w.limits (joined parts) w.fields (map rows_of batches) ds) (sym last) (text_stream s.written))
+    (accepted, subst (λ ds. IsStream w.limits (joined parts) w.shape (map rows_of batches) ds) (sym last) (text_stream s.written))
 
 pub broken_delivered : (old new : Shows) (t : Table) (parts : List (List ℕ)) (batches : List Table) (before now : List ℕ) → Stands old (Some before) false parts batches → (f : Fails old t new) → new.contents ≡ Some now
     → SendsBeginning old.limits before now (parts ++ frames_bytes f.frames ∷ []) (batches ++ t ∷ [])

@@ -4,11 +4,14 @@ use Rattle.std.specs.List.{list_all}
 use Rattle.arrow_types.specs.Equality.{is_equal}
 use Rattle.arrow_types.specs.Field.{Fields}
 use Rattle.arrow_types.specs.Limits.{LimitNumbers}
-use Rattle.arrow_types.specs.Stored.{fields_code}
+use Rattle.arrow_types.specs.Notes.{SchemaShape}
+use Rattle.arrow_types.specs.Schema.{dictionary_fields}
+use Rattle.arrow_types.specs.Stored.{schema_code}
 use Rattle.arrow_array.specs.Batch.{Table}
 use Rattle.arrow_array.specs.Column.{ValueList}
 use Rattle.arrow_array.specs.PlainValue.{PlainValue}
-use Rattle.arrow_stream.specs.Batch.{value_fields}
+use Rattle.arrow_dict.specs.ValueTypes.{value_type_of}
+use Rattle.arrow_stream.specs.Batch.{field_of_type}
 use Rattle.arrow_written.specs.declared.write_fault.WriteFault.{WriteFault}
 use Rattle.arrow_written.specs.declared.write_fault.WriteFault.TheVariants.{SchemaDiffers, TooLarge, DictionariesDiffer}
 use Rattle.arrow_body_written.specs.Size.{size_of}
@@ -26,7 +29,7 @@ frame_fits limits align metadata fields raws rows =
 
 -- the field of the values of an id's dictionary
 abbrev pub fields_for : Fields → ℤ → Fields
-fields_for fields id = value_fields (Some fields) id
+fields_for fields id = field_of_type (value_type_of (dictionary_fields fields) id)
 
 -- how many bytes the frame of a dictionary batch has
 abbrev pub sending_size : ℕ → Fields → Sending → ℕ
@@ -58,17 +61,17 @@ part_fits limits o fields ds place t =
     && frame_fits limits o.align (batch_size o.align fields) fields (raws_of t.columns) t.rows
     && nat_le (place + part_size o fields ds t) (2 ^ 62)
 
--- the first refusal that applies to a batch, none where it is admitted
-abbrev pub admission : LimitNumbers → Options → Fields → List (ℤ × ValueList) → ℕ → Table → Option WriteFault
-admission limits o fields ds place t =
-    if not (is_equal fields_code t.schema fields) then Some SchemaDiffers else
+-- the first refusal that applies to a batch, none where it is admitted; a schema differs where its fields, or its pairs or theirs do
+abbrev pub admission : LimitNumbers → Options → SchemaShape → List (ℤ × ValueList) → ℕ → Table → Option WriteFault
+admission limits o shape ds place t =
+    if not (is_equal schema_code t.schema shape) then Some SchemaDiffers else
     (if not (has_one_list t) then Some DictionariesDiffer else
-    (if not (part_fits limits o fields ds place t) then Some TooLarge else None))
+    (if not (part_fits limits o shape.fields ds place t) then Some TooLarge else None))
 
 -- the refusal of a schema, none where it is admitted: its frame is the first one and has no body
-abbrev pub schema_admission : LimitNumbers → Options → Fields → Option WriteFault
-schema_admission limits o fields =
-    if nat_le (schema_size o.align fields) limits.max_metadata && nat_le (8 + schema_size o.align fields) (2 ^ 62) then None else Some TooLarge
+abbrev pub schema_admission : LimitNumbers → Options → SchemaShape → Option WriteFault
+schema_admission limits o shape =
+    if nat_le (schema_size o.align shape) limits.max_metadata && nat_le (8 + schema_size o.align shape) (2 ^ 62) then None else Some TooLarge
 
 -- whether an end marker may begin at this place
 abbrev pub marker_fits : ℕ → Bool

@@ -1,14 +1,14 @@
 -- Frames one after another, with what each gives and leaves (Columnar Format, "Encapsulated message format", "IPC Streaming
 -- Format").
-use Rattle.std.specs.Prelude.{◌≡◌, ℕ, ℤ, ◌-◌, ◌<◌, ◌⊎◌, nat_lt, true, if◌then◌else◌, List, [], ◌∷◌, ◌++◌, length, map, Some, Ok}
-use Rattle.arrow_types.specs.Field.{Fields}
+use Rattle.std.specs.Prelude.{◌≡◌, ℕ, ℤ, ◌-◌, ◌<◌, ◌⊎◌, nat_lt, true, if◌then◌else◌, List, [], ◌∷◌, ◌++◌, length, map, pos, Some}
 use Rattle.arrow_types.specs.Limits.{LimitNumbers}
+use Rattle.arrow_types.specs.Notes.{SchemaShape}
 use Rattle.arrow_array.specs.Column.{ValueList}
+use Rattle.arrow_meta.specs.Judges.{MetadataMeans}
 use Rattle.arrow_meta.specs.Means.{PlainHeader}
 use Rattle.arrow_stream.specs.declared.reader.Verdict.TheVariants.{Open, Done}
 use Rattle.arrow_stream.specs.Frame.{has_continuation, number_at}
 use Rattle.arrow_stream.specs.Front.{Entry, Standing, FrontOf}
-use Rattle.arrow_stream.specs.Meaning.{Means}
 use Rattle.arrow_stream.specs.State.{StreamState, Given}
 use Rattle.arrow_stream.specs.Tables.{tables_of}
 use Rattle.arrow_written.specs.Rows.{Rows, rows_of}
@@ -45,7 +45,8 @@ last_end p [] = p
 last_end p (e ∷ es) = last_end e.end es
 
 -- b is a frame of this content and this body: the continuation and the size of the metadata, which is not 0, in eight bytes; the
--- metadata, which mean the content and the length of the body; the body (Columnar Format, "Encapsulated message format").
+-- metadata, which mean a message of version V5, whose number is 4, with the content and the length of the body; the body (Columnar
+-- Format, "Encapsulated message format"; Schema.fbs, enum "MetadataVersion").
 pub record IsFrameOf (limits : LimitNumbers) (size : ℕ) (content : PlainHeader) (body b : List ℕ) : Type 0 where
   pub prefix : List ℕ
   pub metadata : List ℕ
@@ -54,7 +55,7 @@ pub record IsFrameOf (limits : LimitNumbers) (size : ℕ) (content : PlainHeader
   pub number : number_at prefix 4 ≡ size
   pub sized : length metadata ≡ size
   pub some : 0 < size
-  pub means : Means limits metadata (Ok (record { content = content; body_len = length body }))
+  pub means : MetadataMeans limits metadata (record { version = pos 4; header = content; body_len = length body })
   pub bytes : b ≡ prefix ++ metadata ++ body
 
 -- b is the end marker: the continuation and the size 0 (Columnar Format, "IPC Streaming Format")
@@ -65,13 +66,13 @@ pub record IsMarker (b : List ℕ) : Type 0 where
 
 -- b is a stream: whole messages, perhaps closed by the end marker, and nothing after them; they set the schema, give these rows in
 -- their order and leave these dictionaries (Columnar Format, "IPC Streaming Format").
-pub record IsStream (limits : LimitNumbers) (b : List ℕ) (fields : Fields) (given : List Rows) (last : List (ℤ × ValueList)) : Type 0 where
+pub record IsStream (limits : LimitNumbers) (b : List ℕ) (shape : SchemaShape) (given : List Rows) (last : List (ℤ × ValueList)) : Type 0 where
   pub entries : List Entry
   pub standing : Standing
   pub front : FrontOf limits b entries standing
   pub ends : (standing.verdict ≡ Open) ⊎ (standing.verdict ≡ Done)
   pub nothing_left : standing.rest ≡ []
   pub place : standing.place ≡ length b
-  pub schema : standing.state.schema ≡ Some fields
+  pub schema : standing.state.schema ≡ Some shape
   pub rows : map rows_of (tables_of entries) ≡ given
   pub dictionaries : standing.state.dictionaries ≡ last

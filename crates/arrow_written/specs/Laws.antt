@@ -1,8 +1,8 @@
 -- Laws of streams and of what a writer sends.
 use Rattle.std.specs.Prelude.{◌≡◌, ℕ, ◌<◌, ◌≤◌, ◌%◌, ◌⊎◌, Bool, List, [], length, take, drop, map, is_some, true}
 use Rattle.std.specs.List.{AllByRecursion}
-use Rattle.arrow_types.specs.Field.{Fields}
 use Rattle.arrow_types.specs.Limits.{LimitNumbers}
+use Rattle.arrow_types.specs.Notes.{SchemaShape}
 use Rattle.arrow_array.specs.Batch.{Table}
 use Rattle.arrow_stream.specs.declared.kind.Refusal.{Refusal}
 use Rattle.arrow_stream.specs.declared.reader.Verdict.{Verdict}
@@ -33,9 +33,9 @@ FramesOfABeginning =
 -- The text of a connection is a stream of the rows of its batches, and its last dictionaries are those that were sent for these.
 abbrev pub TextIsAStream : Type 0
 TextIsAStream =
-    (limits : LimitNumbers) (o : Options) (fields : Fields) (finish : Bool) (parts : List (List ℕ)) (batches : List Table) (frames : List Frame) →
-    Written limits o fields finish parts batches frames →
-    IsStream limits (joined parts) fields (map rows_of batches) (lists_sent o.updates fields [] batches)
+    (limits : LimitNumbers) (o : Options) (shape : SchemaShape) (finish : Bool) (parts : List (List ℕ)) (batches : List Table) (frames : List Frame) →
+    Written limits o shape finish parts batches frames →
+    IsStream limits (joined parts) shape (map rows_of batches) (lists_sent o.updates shape.fields [] batches)
 
 -- What a reader has of the first n bytes of these parts: no refusal; the state after the frames that lie there wholly, and a rest
 -- that begins where the last of them ends; the rows of just the batches whose parts lie there wholly. Where an end marker
@@ -57,8 +57,8 @@ pub record Delivered (limits : LimitNumbers) (parts : List (List ℕ)) (batches 
 -- `one_front` of `arrow_stream`.)
 abbrev pub DeliveredBeginning : Type 0
 DeliveredBeginning =
-    (limits : LimitNumbers) (o : Options) (fields : Fields) (finish : Bool) (parts : List (List ℕ)) (batches : List Table) (frames : List Frame) →
-    Written limits o fields finish parts batches frames → (n : ℕ) → Delivered limits parts batches frames n
+    (limits : LimitNumbers) (o : Options) (shape : SchemaShape) (finish : Bool) (parts : List (List ℕ)) (batches : List Table) (frames : List Frame) →
+    Written limits o shape finish parts batches frames → (n : ℕ) → Delivered limits parts batches frames n
 
 -- the bytes of each frame are a multiple of the alignment
 abbrev pub AreAligned : ℕ → List Frame → Type 0
@@ -68,5 +68,5 @@ AreAligned align frames = AllByRecursion (λ (f : Frame). length f.bytes % align
 -- Padding", "Encapsulated message format"). The end marker has eight bytes.
 abbrev pub FramesAreAligned : Type 0
 FramesAreAligned =
-    (limits : LimitNumbers) (o : Options) (fields : Fields) (parts : List (List ℕ)) (batches : List Table) (frames : List Frame) → 0 < o.align →
-    Text limits o fields parts batches frames → AreAligned o.align frames
+    (limits : LimitNumbers) (o : Options) (shape : SchemaShape) (parts : List (List ℕ)) (batches : List Table) (frames : List Frame) → 0 < o.align →
+    Text limits o shape parts batches frames → AreAligned o.align frames

@@ -1,7 +1,7 @@
 -- What the rows of a batch are, and the dictionaries that its columns refer to (Columnar Format, "Dictionary-encoded Layout").
 use Rattle.std.specs.Prelude.{ℕ, ℤ, Bool, List, map}
 use Rattle.std.specs.List.{AllByRecursion, list_all}
-use Rattle.arrow_types.specs.Field.{Fields}
+use Rattle.arrow_types.specs.Notes.{SchemaShape}
 use Rattle.arrow_array.specs.Batch.{Table, IsTable}
 use Rattle.arrow_array.specs.Column.{Column, ValueList, IsColumn, listed_of}
 use Rattle.arrow_array.specs.Listed.{values_by}
@@ -16,7 +16,7 @@ resolved_of cs = map (λ (c : Column). c.resolved) cs
 -- The rows of a batch: its schema, the raw values of each column, these with every index looked up, and how many rows there
 -- are.
 pub record Rows : Type 0 where
-  pub schema : Fields
+  pub schema : SchemaShape
   pub raw : List (List PlainValue)
   pub resolved : List (List PlainValue)
   pub count : ℕ

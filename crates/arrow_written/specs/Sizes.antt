@@ -1,6 +1,7 @@
 -- How large what a writer builds is (FlatBuffers internals, "Format Details"; Columnar Format, "Buffer Alignment and Padding").
 use Rattle.std.specs.Prelude.{ℕ, ◌+◌, ◌-◌, pos, Bool, true, false, ◌&&◌, nat_le, List, [], ◌∷◌, ◌++◌, length, replicate}
 use Rattle.arrow_types.specs.Field.{Fields, none, more}
+use Rattle.arrow_types.specs.Notes.{SchemaShape}
 use Rattle.arrow_array.specs.Form.{node_form}
 use Rattle.arrow_array.specs.PlainValue.{PlainValue}
 use Rattle.arrow_body.specs.Taken.{taken_nodes, taken_buffers}
@@ -28,8 +29,8 @@ blank_batch fields = record {
 }
 
 -- the bytes of a schema's metadata
-abbrev pub schema_size : ℕ → Fields → ℕ
-schema_size align fields = header_size align (schema fields)
+abbrev pub schema_size : ℕ → SchemaShape → ℕ
+schema_size align shape = header_size align (schema shape)
 
 -- of those of a dictionary batch whose values are of this field
 abbrev pub dictionary_size : ℕ → Fields → ℕ

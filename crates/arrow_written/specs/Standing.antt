@@ -1,9 +1,9 @@
 -- Laws of where a writer stands after its calls.
 use Rattle.std.specs.Prelude.{◌≡◌, ℕ, ◌+◌, ◌≤◌, true, false, Bool, List, [], ◌∷◌, ◌++◌, length, take, map, Option, Some, None}
 use Rattle.std.specs.Io.KnownBytes.{Appends}
-use Rattle.arrow_types.specs.Field.{Fields}
 use Rattle.arrow_types.specs.Limits.{LimitNumbers}
-use Rattle.arrow_types.specs.Schema.{IsSchema}
+use Rattle.arrow_types.specs.Notes.{SchemaShape}
+use Rattle.arrow_types.specs.Schema.{IsNoted}
 use Rattle.arrow_array.specs.Batch.{Table}
 use Rattle.arrow_meta.specs.Means.{schema}
 use Rattle.arrow_sink.specs.Sinks.{AcceptsBeginning}
@@ -20,14 +20,14 @@ use Rattle.arrow_written.specs.Writer.{Shows, Stands, Starts, Accepts, Fails, En
 -- a writer whose sink accepted the frame of an admitted schema stands at it
 abbrev pub SchemaSent : Type 0
 SchemaSent =
-    (limits : LimitNumbers) (o : Options) (fields : Fields) (base contents : Option (List ℕ)) (failures : ℕ) (b : List ℕ) →
-    IsSchema fields → schema_admission limits o fields ≡ None → IsFrameOf limits (schema_size o.align fields) (schema fields) [] b → Appends base contents b →
-    Starts limits o fields base failures (record {
+    (limits : LimitNumbers) (o : Options) (shape : SchemaShape) (base contents : Option (List ℕ)) (failures : ℕ) (b : List ℕ) →
+    IsNoted shape → schema_admission limits o shape ≡ None → IsFrameOf limits (schema_size o.align shape) (schema shape) [] b → Appends base contents b →
+    Starts limits o shape base failures (record {
       limits = limits;
       options = o;
-      fields = fields;
+      shape = shape;
       sent = [];
-      place = first_place o fields;
+      place = first_place o shape;
       status = statuses.Writing;
       contents = contents;
       failures = failures;
@@ -37,10 +37,10 @@ SchemaSent =
 abbrev pub PartSent : Type 0
 PartSent =
     (old : Shows) (t : Table) (frames : List Frame) (contents : Option (List ℕ)) → old.status ≡ statuses.Writing →
-    IsPart old.limits old.options old.fields old.sent old.place t frames → Appends old.contents contents (frames_bytes frames) →
+    IsPart old.limits old.options old.shape old.sent old.place t frames → Appends old.contents contents (frames_bytes frames) →
     Accepts old t (record old {
-      sent = lists_after old.options.updates old.fields old.sent t;
-      place = old.place + part_size old.options old.fields old.sent t;
+      sent = lists_after old.options.updates old.shape.fields old.sent t;
+      place = old.place + part_size old.options old.shape.fields old.sent t;
       contents = contents;
     })
 
@@ -48,7 +48,7 @@ PartSent =
 abbrev pub PartBroken : Type 0
 PartBroken =
     (old : Shows) (t : Table) (frames : List Frame) (contents : Option (List ℕ)) → old.status ≡ statuses.Writing →
-    IsPart old.limits old.options old.fields old.sent old.place t frames → AcceptsBeginning old.contents contents (frames_bytes frames) →
+    IsPart old.limits old.options old.shape old.sent old.place t frames → AcceptsBeginning old.contents contents (frames_bytes frames) →
     Fails old t (record old { status = statuses.Broken; contents = contents; failures = old.failures + 1 })
 
 -- one whose sink accepted the end marker is finished
@@ -70,7 +70,7 @@ abbrev pub SentIsAStream : Type 0
 SentIsAStream =
     (w : Shows) (closed : Bool) (parts : List (List ℕ)) (batches : List Table) (before now : List ℕ) →
     Stands w (Some before) closed parts batches → w.contents ≡ Some now →
-    (now ≡ before ++ joined parts) × IsStream w.limits (joined parts) w.fields (map rows_of batches) w.sent
+    (now ≡ before ++ joined parts) × IsStream w.limits (joined parts) w.shape (map rows_of batches) w.sent
 
 -- What a sink that failed in the part of a batch accepted: the first n bytes of the parts, that of the batch the last, of which
 -- a reader has what is delivered with n bytes.

@@ -3,7 +3,8 @@
 use Rattle.std.specs.Prelude.{◌≡◌, ℕ, ℤ, ◌+◌, ◌-◌, min, nat_lt, true, false, Bool, if◌then◌else◌, List, [], ◌∷◌, ◌++◌, length, Some, None}
 use Rattle.arrow_types.specs.Field.{Fields}
 use Rattle.arrow_types.specs.Limits.{LimitNumbers}
-use Rattle.arrow_types.specs.Schema.{IsSchema}
+use Rattle.arrow_types.specs.Notes.{SchemaShape}
+use Rattle.arrow_types.specs.Schema.{IsNoted}
 use Rattle.arrow_array.specs.Batch.{Table}
 use Rattle.arrow_array.specs.Column.{ValueList}
 use Rattle.arrow_body.specs.Sound.{columns_of}
@@ -18,8 +19,8 @@ use Rattle.arrow_written.specs.Admission.{admission, schema_admission, marker_fi
 use Rattle.arrow_written.specs.Frames.{Frame, frames_bytes, left_by, IsFrameOf, IsMarker}
 
 -- the state with this schema and these dictionaries
-abbrev pub state_of : Fields → List (ℤ × ValueList) → StreamState
-state_of fields ds = record { schema = Some fields; dictionaries = ds }
+abbrev pub state_of : SchemaShape → List (ℤ × ValueList) → StreamState
+state_of shape ds = record { schema = Some shape; dictionaries = ds }
 
 -- b is the frame of a dictionary batch: its length is the number of values that it carries, its one column is these values
 pub record IsUpdate (limits : LimitNumbers) (align : ℕ) (fields : Fields) (w : Sending) (b : List ℕ) : Type 0 where
@@ -29,44 +30,44 @@ pub record IsUpdate (limits : LimitNumbers) (align : ℕ) (fields : Fields) (w :
   pub frame : IsFrameOf limits (dictionary_size align (fields_for fields w.id)) (dictionary w.id w.is_delta record_batch) body b
 
 -- the frame of a dictionary batch, with what it gives and leaves
-abbrev pub update_frame : Fields → List (ℤ × ValueList) → Sending → List ℕ → Frame
-update_frame fields ds w b = record { bytes = b; gives = dictionary_given w.id; leaves = state_of fields (with_list fields w ds) }
+abbrev pub update_frame : SchemaShape → List (ℤ × ValueList) → Sending → List ℕ → Frame
+update_frame shape ds w b = record { bytes = b; gives = dictionary_given w.id; leaves = state_of shape (with_list shape.fields w ds) }
 
 -- these are the frames of the dictionary batches, one after another
-abbrev pub AreUpdates : LimitNumbers → ℕ → Fields → List (ℤ × ValueList) → List Sending → List Frame → Type 0
-AreUpdates limits align fields ds [] fs = fs ≡ []
-AreUpdates limits align fields ds (w ∷ ws) fs =
-    (b : List ℕ) × (rest : List Frame) × IsUpdate limits align fields w b × AreUpdates limits align fields (with_list fields w ds) ws rest
-    × (fs ≡ update_frame fields ds w b ∷ rest)
+abbrev pub AreUpdates : LimitNumbers → ℕ → SchemaShape → List (ℤ × ValueList) → List Sending → List Frame → Type 0
+AreUpdates limits align shape ds [] fs = fs ≡ []
+AreUpdates limits align shape ds (w ∷ ws) fs =
+    (b : List ℕ) × (rest : List Frame) × IsUpdate limits align shape.fields w b × AreUpdates limits align shape (with_list shape.fields w ds) ws rest
+    × (fs ≡ update_frame shape ds w b ∷ rest)
 
 -- These bytes are the frames of the dictionary batches, one after another, where these dictionaries were sent before.
-pub record AreBuilt (limits : LimitNumbers) (align : ℕ) (fields : Fields) (ds : List (ℤ × ValueList)) (ws : List Sending) (bytes : List ℕ) : Type 0 where
+pub record AreBuilt (limits : LimitNumbers) (align : ℕ) (shape : SchemaShape) (ds : List (ℤ × ValueList)) (ws : List Sending) (bytes : List ℕ) : Type 0 where
   pub frames : List Frame
-  pub updates : AreUpdates limits align fields ds ws frames
+  pub updates : AreUpdates limits align shape ds ws frames
   pub same : frames_bytes frames ≡ bytes
 
 -- the batch that a reader has of a record batch's frame, with these dictionaries
-abbrev pub table_read : Fields → List (ℤ × ValueList) → PlainBatch → List ℕ → ℕ → Table
-table_read fields ds record_batch body rows = record { schema = fields; columns = columns_of body ds fields record_batch.nodes record_batch.buffers; rows = rows }
+abbrev pub table_read : SchemaShape → List (ℤ × ValueList) → PlainBatch → List ℕ → ℕ → Table
+table_read shape ds record_batch body rows = record { schema = shape; columns = columns_of body ds shape.fields record_batch.nodes record_batch.buffers; rows = rows }
 
 -- the frame of a record batch, with what it gives and leaves
-abbrev pub record_frame : Fields → List (ℤ × ValueList) → PlainBatch → List ℕ → ℕ → List ℕ → Frame
-record_frame fields ds record_batch body rows b = record { bytes = b; gives = batch_given (table_read fields ds record_batch body rows); leaves = state_of fields ds }
+abbrev pub record_frame : SchemaShape → List (ℤ × ValueList) → PlainBatch → List ℕ → ℕ → List ℕ → Frame
+record_frame shape ds record_batch body rows b = record { bytes = b; gives = batch_given (table_read shape ds record_batch body rows); leaves = state_of shape ds }
 
 -- These are the frames of the part of a batch, where these dictionaries were sent before and the part begins at this place. The
 -- batch is admitted; first come the dictionary batches of its plan, then its record batch, with the batch's number of rows and raw
 -- values.
-pub record IsPart (limits : LimitNumbers) (o : Options) (fields : Fields) (ds : List (ℤ × ValueList)) (place : ℕ) (t : Table) (fs : List Frame) : Type 0 where
-  pub admitted : admission limits o fields ds place t ≡ None
+pub record IsPart (limits : LimitNumbers) (o : Options) (shape : SchemaShape) (ds : List (ℤ × ValueList)) (place : ℕ) (t : Table) (fs : List Frame) : Type 0 where
+  pub admitted : admission limits o shape ds place t ≡ None
   pub known : IsKnown t
   pub updated : List Frame
-  pub updates : AreUpdates limits o.align fields ds (plan o.updates fields ds t) updated
+  pub updates : AreUpdates limits o.align shape ds (plan o.updates shape.fields ds t) updated
   pub record_batch : PlainBatch
   pub body : List ℕ
-  pub built : IsBuilt o.align fields (raws_of t.columns) t.rows record_batch body
+  pub built : IsBuilt o.align shape.fields (raws_of t.columns) t.rows record_batch body
   pub last : List ℕ
-  pub frame : IsFrameOf limits (batch_size o.align fields) (batch record_batch) body last
-  pub frames : fs ≡ updated ++ record_frame fields (lists_after o.updates fields ds t) record_batch body t.rows last ∷ []
+  pub frame : IsFrameOf limits (batch_size o.align shape.fields) (batch record_batch) body last
+  pub frames : fs ≡ updated ++ record_frame shape (lists_after o.updates shape.fields ds t) record_batch body t.rows last ∷ []
 
 -- the bytes of parts, one after another
 abbrev pub joined : List (List ℕ) → List ℕ
@@ -74,31 +75,31 @@ joined [] = []
 joined (p ∷ ps) = p ++ joined ps
 
 -- the frame of a schema, with what it gives and leaves
-abbrev pub schema_frame : Fields → List ℕ → Frame
-schema_frame fields b = record { bytes = b; gives = schema_given; leaves = state_of fields [] }
+abbrev pub schema_frame : SchemaShape → List ℕ → Frame
+schema_frame shape b = record { bytes = b; gives = schema_given; leaves = state_of shape [] }
 
 -- These are the parts, the batches and the frames of a connection that is not closed: an admitted schema's frame, then a part for
 -- each batch, by the dictionaries that the parts before it left.
-pub data Text (limits : LimitNumbers) (o : Options) (fields : Fields) : List (List ℕ) → List Table → List Frame → Type 0 where
-  begins : (b : List ℕ) → IsSchema fields → schema_admission limits o fields ≡ None →
-      IsFrameOf limits (schema_size o.align fields) (schema fields) [] b →
-      Text limits o fields (b ∷ []) [] (schema_frame fields b ∷ [])
+pub data Text (limits : LimitNumbers) (o : Options) (shape : SchemaShape) : List (List ℕ) → List Table → List Frame → Type 0 where
+  begins : (b : List ℕ) → IsNoted shape → schema_admission limits o shape ≡ None →
+      IsFrameOf limits (schema_size o.align shape) (schema shape) [] b →
+      Text limits o shape (b ∷ []) [] (schema_frame shape b ∷ [])
   adds : (parts : List (List ℕ)) (batches : List Table) (frames : List Frame) (t : Table) (fs : List Frame) →
-      Text limits o fields parts batches frames →
-      IsPart limits o fields (left_by nothing_yet frames).dictionaries (length (joined parts)) t fs →
-      Text limits o fields (parts ++ frames_bytes fs ∷ []) (batches ++ t ∷ []) (frames ++ fs)
+      Text limits o shape parts batches frames →
+      IsPart limits o shape (left_by nothing_yet frames).dictionaries (length (joined parts)) t fs →
+      Text limits o shape (parts ++ frames_bytes fs ∷ []) (batches ++ t ∷ []) (frames ++ fs)
 
 -- the end marker, with what it gives and leaves
 abbrev pub marker_frame : StreamState → List ℕ → Frame
 marker_frame s b = record { bytes = b; gives = ended; leaves = s }
 
 -- The same of a connection as it ends: where it is finished, the end marker is the last part.
-pub data Written (limits : LimitNumbers) (o : Options) (fields : Fields) : Bool → List (List ℕ) → List Table → List Frame → Type 0 where
-  unfinished : (parts : List (List ℕ)) (batches : List Table) (frames : List Frame) → Text limits o fields parts batches frames →
-      Written limits o fields false parts batches frames
-  finished : (parts : List (List ℕ)) (batches : List Table) (frames : List Frame) (b : List ℕ) → Text limits o fields parts batches frames →
+pub data Written (limits : LimitNumbers) (o : Options) (shape : SchemaShape) : Bool → List (List ℕ) → List Table → List Frame → Type 0 where
+  unfinished : (parts : List (List ℕ)) (batches : List Table) (frames : List Frame) → Text limits o shape parts batches frames →
+      Written limits o shape false parts batches frames
+  finished : (parts : List (List ℕ)) (batches : List Table) (frames : List Frame) (b : List ℕ) → Text limits o shape parts batches frames →
       marker_fits (length (joined parts)) ≡ true → IsMarker b →
-      Written limits o fields true (parts ++ b ∷ []) batches (frames ++ marker_frame (left_by nothing_yet frames) b ∷ [])
+      Written limits o shape true (parts ++ b ∷ []) batches (frames ++ marker_frame (left_by nothing_yet frames) b ∷ [])
 
 -- how many parts lie wholly in the first n bytes
 abbrev pub lying_parts : ℕ → List (List ℕ) → ℕ

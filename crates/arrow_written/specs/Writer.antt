@@ -1,8 +1,8 @@
 -- What a writer shows, and what its calls answer.
 use Rattle.std.specs.Prelude.{◌≡◌, ℕ, ℤ, ◌+◌, true, false, Bool, List, [], ◌∷◌, ◌++◌, length, Option, Some, None, Result, Ok, Err}
 use Rattle.std.specs.Io.KnownBytes.{Appends}
-use Rattle.arrow_types.specs.Field.{Fields}
 use Rattle.arrow_types.specs.Limits.{LimitNumbers}
+use Rattle.arrow_types.specs.Notes.{SchemaShape}
 use Rattle.arrow_array.specs.Batch.{Table}
 use Rattle.arrow_array.specs.Column.{ValueList}
 use Rattle.arrow_meta.specs.Means.{schema}
@@ -23,7 +23,7 @@ use Rattle.arrow_written.specs.Text.{IsPart, Written, joined}
 pub record Shows : Type 0 where
   pub limits : LimitNumbers
   pub options : Options
-  pub fields : Fields
+  pub shape : SchemaShape
   pub sent : List (ℤ × ValueList)
   pub place : ℕ
   pub status : Status
@@ -38,7 +38,7 @@ status_of true = statuses.Finished
 -- A writer, whose sink held base at its start, stands at these parts and these batches, closed or not.
 pub record Stands (w : Shows) (base : Option (List ℕ)) (closed : Bool) (parts : List (List ℕ)) (batches : List Table) : Type 0 where
   pub frames : List Frame
-  pub written : Written w.limits w.options w.fields closed parts batches frames
+  pub written : Written w.limits w.options w.shape closed parts batches frames
   pub sent_are : w.sent ≡ (left_by nothing_yet frames).dictionaries
   pub place_is : w.place ≡ length (joined parts)
   pub accepted : Appends base w.contents (joined parts)
@@ -48,11 +48,11 @@ pub record Stands (w : Shows) (base : Option (List ℕ)) (closed : Bool) (parts 
 pub record Accepts (old : Shows) (t : Table) (new : Shows) : Type 0 where
   pub open_before : old.status ≡ statuses.Writing
   pub frames : List Frame
-  pub is_part : IsPart old.limits old.options old.fields old.sent old.place t frames
+  pub is_part : IsPart old.limits old.options old.shape old.sent old.place t frames
   pub accepted : Appends old.contents new.contents (frames_bytes frames)
   pub new_is : new ≡ record old {
-    sent = lists_after old.options.updates old.fields old.sent t;
-    place = old.place + part_size old.options old.fields old.sent t;
+    sent = lists_after old.options.updates old.shape.fields old.sent t;
+    place = old.place + part_size old.options old.shape.fields old.sent t;
     contents = new.contents;
   }
   pub stands : (base : Option (List ℕ)) (parts : List (List ℕ)) (batches : List Table) → Stands old base false parts batches →
@@ -62,7 +62,7 @@ pub record Accepts (old : Shows) (t : Table) (new : Shows) : Type 0 where
 pub record Fails (old : Shows) (t : Table) (new : Shows) : Type 0 where
   pub open_before : old.status ≡ statuses.Writing
   pub frames : List Frame
-  pub is_part : IsPart old.limits old.options old.fields old.sent old.place t frames
+  pub is_part : IsPart old.limits old.options old.shape old.sent old.place t frames
   pub accepted : AcceptsBeginning old.contents new.contents (frames_bytes frames)
   pub new_is : new ≡ record old { status = statuses.Broken; contents = new.contents; failures = old.failures + 1 }
   pub in_all : (base : Option (List ℕ)) (parts : List (List ℕ)) (batches : List Table) → Stands old base false parts batches →
@@ -71,7 +71,7 @@ pub record Fails (old : Shows) (t : Table) (new : Shows) : Type 0 where
 -- an open writer refused the batch, and nothing has changed
 pub record Refuses (old : Shows) (t : Table) (k : WriteFault) (new : Shows) : Type 0 where
   pub open_before : old.status ≡ statuses.Writing
-  pub refusal : admission old.limits old.options old.fields old.sent old.place t ≡ Some k
+  pub refusal : admission old.limits old.options old.shape old.sent old.place t ≡ Some k
   pub unchanged : new ≡ old
 
 -- nothing has changed of a writer with this status
@@ -91,18 +91,18 @@ Writes old t (Err Finished) new = Stays old statuses.Finished new
 Writes old t (Err Memory) new = Stays old statuses.Writing new
 
 -- the place behind a schema's frame
-abbrev pub first_place : Options → Fields → ℕ
-first_place o fields = 8 + schema_size o.align fields
+abbrev pub first_place : Options → SchemaShape → ℕ
+first_place o shape = 8 + schema_size o.align shape
 
 -- where a start leaves a writer: the schema's frame is accepted
-pub record Starts (limits : LimitNumbers) (o : Options) (fields : Fields) (base : Option (List ℕ)) (failures : ℕ) (new : Shows) : Type 0 where
+pub record Starts (limits : LimitNumbers) (o : Options) (shape : SchemaShape) (base : Option (List ℕ)) (failures : ℕ) (new : Shows) : Type 0 where
   pub part : List ℕ
   pub new_is : new ≡ record {
     limits = limits;
     options = o;
-    fields = fields;
+    shape = shape;
     sent = [];
-    place = first_place o fields;
+    place = first_place o shape;
     status = statuses.Writing;
     contents = new.contents;
     failures = failures;
@@ -110,19 +110,19 @@ pub record Starts (limits : LimitNumbers) (o : Options) (fields : Fields) (base 
   pub stands : Stands new base false (part ∷ []) []
 
 -- the sink failed in the schema's frame
-pub record FailsAtStart (limits : LimitNumbers) (o : Options) (fields : Fields) (base : Option (List ℕ)) (failures : ℕ) (contents : Option (List ℕ)) (now : ℕ) : Type 0 where
-  pub admitted : schema_admission limits o fields ≡ None
+pub record FailsAtStart (limits : LimitNumbers) (o : Options) (shape : SchemaShape) (base : Option (List ℕ)) (failures : ℕ) (contents : Option (List ℕ)) (now : ℕ) : Type 0 where
+  pub admitted : schema_admission limits o shape ≡ None
   pub part : List ℕ
-  pub is_frame : IsFrameOf limits (schema_size o.align fields) (schema fields) [] part
+  pub is_frame : IsFrameOf limits (schema_size o.align shape) (schema shape) [] part
   pub accepted : AcceptsBeginning base contents part
   pub failed : now ≡ failures + 1
 
 -- what a start that is refused leaves of the sink, which held base
-abbrev pub StartFails : LimitNumbers → Options → Fields → Option (List ℕ) → ℕ → WriteFault → Option (List ℕ) → ℕ → Type 0
-StartFails limits o fields base failures TooLarge contents now = (schema_admission limits o fields ≡ Some TooLarge) × (contents ≡ base) × (now ≡ failures)
-StartFails limits o fields base failures Memory contents now = (contents ≡ base) × (now ≡ failures)
-StartFails limits o fields base failures Sink contents now = FailsAtStart limits o fields base failures contents now
-StartFails limits o fields base failures k contents now = ⊥
+abbrev pub StartFails : LimitNumbers → Options → SchemaShape → Option (List ℕ) → ℕ → WriteFault → Option (List ℕ) → ℕ → Type 0
+StartFails limits o shape base failures TooLarge contents now = (schema_admission limits o shape ≡ Some TooLarge) × (contents ≡ base) × (now ≡ failures)
+StartFails limits o shape base failures Memory contents now = (contents ≡ base) × (now ≡ failures)
+StartFails limits o shape base failures Sink contents now = FailsAtStart limits o shape base failures contents now
+StartFails limits o shape base failures k contents now = ⊥
 
 -- the end marker was accepted
 pub record Ends (old new : Shows) : Type 0 where

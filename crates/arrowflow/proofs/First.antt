@@ -1,7 +1,7 @@
 -- What a stream's front says of its first message.
 use Rattle.std.proofs.Common.{◌≡◌, ℕ, ◌+◌, ◌^◌, ◌==◌, nat_lt, not, Bool, true, false, cond, List, [], ◌∷◌, Some, refl, sym, ap, subst, ◌∙◌, is_some, take, ◌⊎◌, inl, inr}
-use Rattle.arrow_types.specs.Field.{Fields}
 use Rattle.arrow_types.specs.Limits.{LimitNumbers}
+use Rattle.arrow_types.specs.Notes.{SchemaShape}
 use Rattle.arrow_stream.specs.declared.kind.Refusal.{Refusal}
 use Rattle.arrow_stream.specs.declared.reader.Verdict.TheVariants.{Open, Bad}
 use Rattle.arrow_stream.specs.Frame.{number_at, has_continuation, prefix_says, Outcome, First, whole, marker, refused, waits, short_prefix, short_metadata, short_body, bad_prefix, bad_metadata, bad_body, end_marker, message_comes}
@@ -60,10 +60,10 @@ not_marker (message_comes h) n e = absurd (cc)
 
 -- the first message is a schema, whole
 pub record Opens (l : LimitNumbers) (s : StreamState) (p : ℕ) (b : List ℕ) (e : Standing) : Type 0 where
-  pub fields : Fields
+  pub shape : SchemaShape
   pub size : ℕ
-  pub comes : First l s p b (whole size (record { schema = Some fields; dictionaries = [] }) schema_given)
-  pub shown : e.state.schema ≡ Some fields
+  pub comes : First l s p b (whole size (record { schema = Some shape; dictionaries = [] }) schema_given)
+  pub shown : e.state.schema ≡ Some shape
 
 -- a front with one entry, before which there was none, is a whole schema message
 pub one_entry : {l : LimitNumbers} {s : StreamState} {p : ℕ} {b : List ℕ} {es : List Entry} {e : Standing} → Front l s p b es e → s ≡ nothing_yet → (x : Entry) → es ≡ x ∷ [] → Opens l s p b e
@@ -74,7 +74,7 @@ one_entry {l} {s} {p} {b} {e = e} (goes_on {n = m} {s' = s'} {g = g} {es = fs} f
     let w = whole_gives f n m s' g refl in
     let none : fs ≡ [] = cc in
     record {
-      fields = w.fields;
+      shape = w.shape;
       size = m;
       comes = subst (λ t. First l s p b (whole m t schema_given)) w.state (subst (λ t. First l s p b (whole m s' t)) w.given f);
       shown = ap (λ t. t.schema) (state_stays xs none ∙ w.state);

@@ -2,7 +2,7 @@
 use Rattle.std.proofs.Common.{◌≡◌, ℕ, List, [], ◌++◌, take, drop, Option, Some, Err, ◌⊎◌, inl, inr, refl, sym, ap, ◌∙◌, subst, append_assoc, take-append-drop, is_some, length, arith}
 use Rattle.std.proofs.lemmas.List.{take_all}
 use Rattle.std.specs.Io.KnownBytes.{IsAtEnd}
-use Rattle.arrow_types.specs.Field.{Fields}
+use Rattle.arrow_types.specs.Notes.{SchemaShape}
 use Rattle.arrow_stream.specs.declared.fault.Fault.{Fault}
 use Rattle.arrow_stream.specs.declared.item.Item.{Item}
 use Rattle.arrow_stream.specs.declared.kind.Kind.TheVariants.{NoSchema}
@@ -50,20 +50,20 @@ ended_early r bytes s o =
     ∙ ap (λ p. ended_by Open (is_some nothing_yet.schema) r.at.rest p) w.2
 
 -- so it finds the end of the input too early
-pub end_found : (r : Shows) (bytes : List ℕ) (left : Option (List ℕ)) (schema : Option Fields) → Stands r bytes [] → r.at.verdict ≡ Open → IsAtEnd left → Finds r.limits bytes left schema (told_end (ended_so r.at))
+pub end_found : (r : Shows) (bytes : List ℕ) (left : Option (List ℕ)) (schema : Option SchemaShape) → Stands r bytes [] → r.at.verdict ≡ Open → IsAtEnd left → Finds r.limits bytes left schema (told_end (ended_so r.at))
 end_found r bytes left schema s o end =
     subst (λ a. Finds r.limits bytes left schema (told_end a)) (sym (ended_early r bytes s o))
     (inr (record { waiting = still_waits r bytes s o; over = end; told = refl }))
 
 -- the first item is a schema
-pub item_found : (new : Shows) (bytes piece : List ℕ) (n : ℕ) (item : Item) → GivesNext piece n item new bytes [] → (fields : Fields) × BeginWithSchema new.limits (bytes ++ piece) fields × (new.at.state.schema ≡ Some fields)
+pub item_found : (new : Shows) (bytes piece : List ℕ) (n : ℕ) (item : Item) → GivesNext piece n item new bytes [] → (shape : SchemaShape) × BeginWithSchema new.limits (bytes ++ piece) shape × (new.at.state.schema ≡ Some shape)
 item_found new bytes piece n item gives =
     let w = one_entry gives.stands.front refl _ refl in
     let joined : bytes ++ piece ≡ (bytes ++ take n piece) ++ drop n piece = ap (λ x. bytes ++ x) (sym (take-append-drop n piece)) ∙ sym (append_assoc bytes (take n piece) (drop n piece)) in
-    (w.fields, record { message = bytes ++ take n piece; behind = drop n piece; joined = joined; size = w.size; comes = w.comes }, w.shown)
+    (w.shape, record { message = bytes ++ take n piece; behind = drop n piece; joined = joined; size = w.size; comes = w.comes }, w.shown)
 
 -- a fault is a refusal of the bytes, or says nothing of them
-pub fault_found : (old new : Shows) (bytes piece : List ℕ) (left : Option (List ℕ)) (schema : Option Fields) (f : Fault) → WantsMemory old f new ⊎ Refuses piece f new bytes [] → Finds new.limits (bytes ++ piece) left schema (Err (told f))
+pub fault_found : (old new : Shows) (bytes piece : List ℕ) (left : Option (List ℕ)) (schema : Option SchemaShape) (f : Fault) → WantsMemory old f new ⊎ Refuses piece f new bytes [] → Finds new.limits (bytes ++ piece) left schema (Err (told f))
 fault_found old new bytes piece left schema f (inl m) = subst (λ g. Finds new.limits (bytes ++ piece) left schema (Err (told g))) (sym m.fault_is) tt
 fault_found old new bytes piece left schema f (inr r) =
     let w = bad_refused r.stands.front refl r.refusal r.verdict in

@@ -1,8 +1,8 @@
 -- How the text of a stream grows with its messages.
 use Rattle.std.proofs.Common.{◌≡◌, ◌+◌, ℕ, suc, List, [], ◌∷◌, ◌++◌, length, Option, None, Some, refl, sym, ap, ◌∙◌, subst, arith, append_assoc, append-nil}
 use Rattle.std.specs.List.{AllByRecursion}
-use Rattle.arrow_types.specs.Field.{Fields}
 use Rattle.arrow_types.specs.Limits.{LimitNumbers}
+use Rattle.arrow_types.specs.Notes.{SchemaShape}
 use Rattle.arrow_array.specs.Batch.{Table}
 use Rattle.arrow_csv.specs.Records.{batch_rows, batches_text, header_record, stream_text}
 use Rattle.arrow_stream.specs.declared.reader.Verdict.TheVariants.{Open}
@@ -23,7 +23,7 @@ batches_join n (t ∷ ts) us =
     ∙ sym (append_assoc first (batches_text (n + 1) ts) (batches_text (n + suc (length ts)) us))
 
 -- what a message behind the schema adds
-given_text : (schema : Fields) (n : ℕ) (g : Given) → (g ≡ schema_given → ⊥) → batches_text n (table_in g) ≡ text_in (Some schema) n g
+given_text : (schema : SchemaShape) (n : ℕ) (g : Given) → (g ≡ schema_given → ⊥) → batches_text n (table_in g) ≡ text_in (Some schema) n g
 given_text schema n schema_given h = absurd (h refl)
 given_text schema n (dictionary_given id) h = refl
 given_text schema n (batch_given b) h = append-nil (batch_rows n b 0 b.rows)
@@ -42,19 +42,19 @@ pub text_grows : {l : LimitNumbers} {b : List ℕ} (c : List ℕ) {es : List Ent
     → stream_text f.state.schema (tables_of (es ++ x ∷ [])) ≡ stream_text e.state.schema (tables_of es) ++ text_in f.state.schema (length (tables_of es)) x.given
 text_grows {l} {b} c {es} {e} {f} x old o new = by e.state.schema refl
   where
-    behind_schema : (fields : Fields) → e.state.schema ≡ Some fields → stream_text f.state.schema (tables_of (es ++ x ∷ [])) ≡ stream_text e.state.schema (tables_of es) ++ text_in f.state.schema (length (tables_of es)) x.given
-    behind_schema fields k =
+    behind_schema : (shape : SchemaShape) → e.state.schema ≡ Some shape → stream_text f.state.schema (tables_of (es ++ x ∷ [])) ≡ stream_text e.state.schema (tables_of es) ++ text_in f.state.schema (length (tables_of es)) x.given
+    behind_schema shape k =
         let w = front_behind c old o new in
-        let keep = front_keeps w.behind fields k in
+        let keep = front_keeps w.behind shape k in
         let other = (subst (λ more. AllByRecursion (λ (y : Entry). y.given ≡ schema_given → ⊥) more) (sym (same_rest es x w.more w.joined)) keep.others).0 in
         let ts = tables_of es in
-        let head = header_record fields in
+        let head = header_record shape.fields in
         let n = length ts in
-        let added = text_in (Some fields) n x.given in
+        let added = text_in (Some shape) n x.given in
         let zero_plus : 0 + n ≡ n = omega arith in
         let texts : batches_text 0 (tables_of (es ++ x ∷ [])) ≡ batches_text 0 ts ++ added =
         ap (batches_text 0) (one_table es x) ∙ batches_join 0 ts (table_in x.given) ∙ ap (λ k. batches_text 0 ts ++ batches_text k (table_in x.given)) zero_plus
-        ∙ ap (λ t. batches_text 0 ts ++ t) (given_text fields n x.given other) in
+        ∙ ap (λ t. batches_text 0 ts ++ t) (given_text shape n x.given other) in
         ap (λ s. stream_text s (tables_of (es ++ x ∷ []))) keep.schema ∙ ap (λ t. head ++ t) texts ∙ sym (append_assoc head (batches_text 0 ts) added)
         ∙ ap (λ s. stream_text s ts ++ added) (sym k) ∙ ap (λ s. stream_text e.state.schema ts ++ text_in s n x.given) (sym keep.schema)
 
@@ -65,14 +65,14 @@ text_grows {l} {b} c {es} {e} {f} x old o new = by e.state.schema refl
         let first : w.first ≡ x = let q = w.joined in cc in
         let is : x.given ≡ schema_given = ap (λ (y : Entry). y.given) (sym first) ∙ w.given in
         let none : table_in x.given ≡ [] = ap table_in is in
-        let head = header_record w.fields in
+        let head = header_record w.shape.fields in
         ap (λ s. stream_text s (table_in x.given ++ [])) w.schema ∙ ap (λ ts. head ++ batches_text 0 (ts ++ [])) none ∙ append-nil head
-        ∙ ap (λ g. text_in (Some w.fields) 0 g) (sym is) ∙ ap (λ s. text_in s 0 x.given) (sym w.schema) ∙ ap (λ s. stream_text s [] ++ text_in f.state.schema 0 x.given) (sym k)
-    before_schema (y ∷ ys) k old new = let w = front_begins old refl (λ q. cc) in let q : Some w.fields ≡ None = sym w.schema ∙ k in absurd (cc)
+        ∙ ap (λ g. text_in (Some w.shape) 0 g) (sym is) ∙ ap (λ s. text_in s 0 x.given) (sym w.schema) ∙ ap (λ s. stream_text s [] ++ text_in f.state.schema 0 x.given) (sym k)
+    before_schema (y ∷ ys) k old new = let w = front_begins old refl (λ q. cc) in let q : Some w.shape ≡ None = sym w.schema ∙ k in absurd (cc)
 
-    by : (s : Option Fields) → e.state.schema ≡ s → stream_text f.state.schema (tables_of (es ++ x ∷ [])) ≡ stream_text e.state.schema (tables_of es) ++ text_in f.state.schema (length (tables_of es)) x.given
+    by : (s : Option SchemaShape) → e.state.schema ≡ s → stream_text f.state.schema (tables_of (es ++ x ∷ [])) ≡ stream_text e.state.schema (tables_of es) ++ text_in f.state.schema (length (tables_of es)) x.given
     by None k = before_schema es k old new
-    by (Some fields) k = behind_schema fields k
+    by (Some shape) k = behind_schema shape k
 
 -- the same for all fronts, as the law says it
 pub text_grows_law : TextGrows

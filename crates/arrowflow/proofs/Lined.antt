@@ -1,8 +1,8 @@
 -- The lines of messages, one message more.
 use Rattle.std.proofs.Common.{◌≡◌, ℕ, ◌+◌, List, [], ◌∷◌, ◌++◌, length, Option, refl, sym, ap, ◌∙◌, subst, arith, append_assoc, append-nil}
 use Rattle.std.proofs.lemmas.List.{length-append}
-use Rattle.arrow_types.specs.Field.{Fields}
 use Rattle.arrow_types.specs.Limits.{LimitNumbers}
+use Rattle.arrow_types.specs.Notes.{SchemaShape}
 use Rattle.arrow_stream.specs.declared.reader.Verdict.TheVariants.{Open}
 use Rattle.arrow_stream.specs.Front.{Entry, Standing, Front, FrontOf, rests, fails, closes, goes_on}
 use Rattle.arrow_stream.specs.State.{StreamState}
@@ -23,7 +23,7 @@ front_end (closes f) = refl
 front_end (goes_on f rest) = front_end rest
 
 -- one line more
-pub lines_more : (schema : Option Fields) (p n : ℕ) (es : List Entry) (x : Entry) (text line : List ℕ) → AreLines schema p n es text → IsLine schema (end_of p es) (n + length (tables_of es)) x.given line
+pub lines_more : (schema : Option SchemaShape) (p n : ℕ) (es : List Entry) (x : Entry) (text line : List ℕ) → AreLines schema p n es text → IsLine schema (end_of p es) (n + length (tables_of es)) x.given line
     → AreLines schema p n (es ++ x ∷ []) (text ++ line)
 lines_more schema p n [] x text line is more =
     let zero : n + 0 ≡ n = omega arith in
@@ -44,5 +44,5 @@ pub lines_kept : {l : LimitNumbers} {b : List ℕ} (c : List ℕ) {e f : Standin
 lines_kept c x text [] old o new is = is
 lines_kept c {e} {f} x text (y ∷ es) old o new is =
     let w = front_begins old refl (λ q. cc) in
-    let keep = front_keeps (front_behind c old o new).behind w.fields w.schema in
+    let keep = front_keeps (front_behind c old o new).behind w.shape w.schema in
     subst (λ s. AreLines s 0 0 (y ∷ es) text) (w.schema ∙ sym keep.schema) is

@@ -2,8 +2,8 @@
 use Rattle.std.proofs.Common.{◌≡◌, ◌+◌, ℕ, ℤ, List, [], ◌∷◌, ◌++◌, Bool, true, false, Some, Result, Ok, Err, refl, sym, ap, ◌∙◌, is_some}
 use Rattle.std.proofs.lemmas.Bool.{false≢true}
 use Rattle.std.proofs.lemmas.List.{drop-append-le}
-use Rattle.arrow_types.specs.Field.{Fields}
 use Rattle.arrow_types.specs.Limits.{LimitNumbers}
+use Rattle.arrow_types.specs.Notes.{SchemaShape}
 use Rattle.std.specs.List.{AllByRecursion}
 use Rattle.arrow_array.specs.Column.{Column}
 use Rattle.arrow_stream.specs.declared.kind.Refusal.{Refusal}
@@ -35,8 +35,8 @@ front_behind {p = p} {b = b} c (goes_on {n = n} {g = g} x xs) o y =
     record { more = i.more; joined = w.1 ∙ ap (λ r. record { given = g; end = p + n } ∷ r) i.joined; behind = i.behind }
 
 -- what is left by a message behind a schema, which gives none
-pub record Keeps (fields : Fields) (s : StreamState) (g : Given) : Type 0 where
-  pub schema : s.schema ≡ Some fields
+pub record Keeps (shape : SchemaShape) (s : StreamState) (g : Given) : Type 0 where
+  pub schema : s.schema ≡ Some shape
   pub other : g ≡ schema_given → ⊥
 
 -- what an answer leaves, where it is one
@@ -56,48 +56,48 @@ is_schema (batch_given b) = false
 is_schema ended = false
 
 -- a body behind a schema
-body_keeps : {s : StreamState} {c : _} {b : List ℕ} {r : Result (StreamState × Given) Refusal} → BodySays s c b r → (fields : Fields) → s.schema ≡ Some fields → is_out_of_order (is_some s.schema) c ≡ false
-    → (s' : StreamState) (g : Given) → r ≡ Ok (s', g) → Keeps fields s' g
-body_keeps (schema_comes) fields known o s' g e = absurd (false≢true (sym o ∙ ap is_some known))
-body_keeps (dictionary_comes {cs = Err k} h i) fields known o s' g e = let q = sym i ∙ e in absurd (cc)
-body_keeps {s} (dictionary_comes {id = id} {delta = delta} {cs = Ok cs} h i) fields known o s' g e =
+body_keeps : {s : StreamState} {c : _} {b : List ℕ} {r : Result (StreamState × Given) Refusal} → BodySays s c b r → (shape : SchemaShape) → s.schema ≡ Some shape → is_out_of_order (is_some s.schema) c ≡ false
+    → (s' : StreamState) (g : Given) → r ≡ Ok (s', g) → Keeps shape s' g
+body_keeps (schema_comes) shape known o s' g e = absurd (false≢true (sym o ∙ ap is_some known))
+body_keeps (dictionary_comes {cs = Err k} h i) shape known o s' g e = let q = sym i ∙ e in absurd (cc)
+body_keeps {s} (dictionary_comes {id = id} {delta = delta} {cs = Ok cs} h i) shape known o s' g e =
     let q = sym i ∙ e in
     record { schema = ap (λ t. t.schema) (sym (ap state_in q)) ∙ same s id delta cs ∙ known; other = λ z. false≢true (ap is_schema (ap given_in q ∙ z)) }
   where
     same : (s : StreamState) (id : ℤ) (delta : Bool) (cs : List Column) → (with_values s id delta cs).schema ≡ s.schema
     same s id delta [] = refl
     same s id delta (c ∷ cs) = refl
-body_keeps (batch_comes {cs = Err k} h i) fields known o s' g e = let q = sym i ∙ e in absurd (cc)
-body_keeps {s} (batch_comes {cs = Ok cs} h i) fields known o s' g e =
+body_keeps (batch_comes {cs = Err k} h i) shape known o s' g e = let q = sym i ∙ e in absurd (cc)
+body_keeps {s} (batch_comes {cs = Ok cs} h i) shape known o s' g e =
     let q = sym i ∙ e in
     record { schema = ap (λ t. t.schema) (sym (ap state_in q)) ∙ known; other = λ z. false≢true (ap is_schema (ap given_in q ∙ z)) }
 
 -- a whole message behind a schema
-pub whole_keeps : {l : LimitNumbers} {s : StreamState} {p : ℕ} {b : List ℕ} {o : Outcome} → First l s p b o → (fields : Fields) → s.schema ≡ Some fields
-    → (n : ℕ) (s' : StreamState) (g : Given) → o ≡ whole n s' g → Keeps fields s' g
-whole_keeps first fields k n s' g e =
+pub whole_keeps : {l : LimitNumbers} {s : StreamState} {p : ℕ} {b : List ℕ} {o : Outcome} → First l s p b o → (shape : SchemaShape) → s.schema ≡ Some shape
+    → (n : ℕ) (s' : StreamState) (g : Given) → o ≡ whole n s' g → Keeps shape s' g
+whole_keeps first shape k n s' g e =
     let frame = whole_says first n s' g e in
-    body_keeps frame.body.says fields k (message_in_order frame.body.metadata) s' g refl
+    body_keeps frame.body.says shape k (message_in_order frame.body.metadata) s' g refl
 
 -- a front behind a schema leaves it, and gives no other
-pub record Keep (fields : Fields) (es : List Entry) (e : Standing) : Type 0 where
-  pub schema : e.state.schema ≡ Some fields
+pub record Keep (shape : SchemaShape) (es : List Entry) (e : Standing) : Type 0 where
+  pub schema : e.state.schema ≡ Some shape
   pub others : AllByRecursion (λ (x : Entry). x.given ≡ schema_given → ⊥) es
 
 -- no message behind a schema changes it
-pub front_keeps : {l : LimitNumbers} {s : StreamState} {p : ℕ} {b : List ℕ} {es : List Entry} {e : Standing} → Front l s p b es e → (fields : Fields) → s.schema ≡ Some fields → Keep fields es e
-front_keeps (rests x) fields k = record { schema = k; others = tt }
-front_keeps (fails x) fields k = record { schema = k; others = tt }
-front_keeps (closes x) fields k = record { schema = k; others = ((λ q. false≢true (ap is_schema q)), tt) }
-front_keeps (goes_on {n = n} {s' = s'} {g = g} x xs) fields k =
-    let w = whole_keeps x fields k n s' g refl in
-    let i = front_keeps xs fields w.schema in
+pub front_keeps : {l : LimitNumbers} {s : StreamState} {p : ℕ} {b : List ℕ} {es : List Entry} {e : Standing} → Front l s p b es e → (shape : SchemaShape) → s.schema ≡ Some shape → Keep shape es e
+front_keeps (rests x) shape k = record { schema = k; others = tt }
+front_keeps (fails x) shape k = record { schema = k; others = tt }
+front_keeps (closes x) shape k = record { schema = k; others = ((λ q. false≢true (ap is_schema q)), tt) }
+front_keeps (goes_on {n = n} {s' = s'} {g = g} x xs) shape k =
+    let w = whole_keeps x shape k n s' g refl in
+    let i = front_keeps xs shape w.schema in
     record { schema = i.schema; others = (w.other, i.others) }
 
 -- a stream that gave something began with its schema, and gave no other
 pub record Begins (es : List Entry) (e : Standing) : Type 0 where
-  pub fields : Fields
-  pub schema : e.state.schema ≡ Some fields
+  pub shape : SchemaShape
+  pub schema : e.state.schema ≡ Some shape
   pub first : Entry
   pub rest : List Entry
   pub joined : es ≡ first ∷ rest
@@ -111,5 +111,5 @@ front_begins (fails x) n some = absurd (some refl)
 front_begins (closes x) n some = absurd (not_marker x n refl)
 front_begins {p = p} (goes_on {n = m} {s' = s'} {g = g} {es = es} x xs) n some =
     let w = whole_gives x n m s' g refl in
-    let k = front_keeps xs w.fields (ap (λ t. t.schema) w.state) in
-    record { fields = w.fields; schema = k.schema; first = record { given = g; end = p + m }; rest = es; joined = refl; given = w.given; others = k.others }
+    let k = front_keeps xs w.shape (ap (λ t. t.schema) w.state) in
+    record { shape = w.shape; schema = k.schema; first = record { given = g; end = p + m }; rest = es; joined = refl; given = w.given; others = k.others }

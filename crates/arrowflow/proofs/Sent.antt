@@ -10,7 +10,7 @@ use Rattle.arrow_csv.specs.Records.{batch_rows, row_record}
 use Rattle.arrow_csv.proofs.Written.{rows_next}
 use Rattle.arrow_sink.specs.Sinks.{AcceptsBeginning}
 use Rattle.arrow_stream.specs.State.{StreamState, Given}
-use Rattle.arrow_types.specs.Field.{Fields}
+use Rattle.arrow_types.specs.Notes.{SchemaShape}
 use Rattle.arrowflow.specs.Lines.{message_line}
 use Rattle.arrowflow.specs.Reports.{IsAdded, Sends}
 use Rattle.arrowflow.specs.Shown.{text_in}
@@ -63,7 +63,7 @@ cut_between Memory a b c n m k s t u whole h same e sent =
     (subst (AcceptsBeginning a c) e (begun_longer a c (s ++ t) u (begun_behind a b c s t h sent.0)), sent.1 ∙ same)
 
 -- each message has a text
-pub some_added : (report : Report) (schema : Option Fields) (place number : ℕ) (given : Given) → (text : List ℕ) × IsAdded report schema place number given text
+pub some_added : (report : Report) (schema : Option SchemaShape) (place number : ℕ) (given : Given) → (text : List ℕ) × IsAdded report schema place number given text
 some_added Messages schema place number given =
     let state : StreamState = record { schema = schema; dictionaries = [] } in
     (message_line place number state given, (state, refl, refl))

@@ -1,7 +1,8 @@
 -- The lines that tell of a stream's messages and of where its input ends. (This project's own.)
 use Rattle.std.specs.Prelude.{◌≡◌, ℕ, ◌+◌, List, [], ◌∷◌, ◌++◌, length, Option, codes}
 use Rattle.std.specs.Fmt.{decimal, signed_decimal}
-use Rattle.arrow_types.specs.Field.{Fields, width}
+use Rattle.arrow_types.specs.Field.{width}
+use Rattle.arrow_types.specs.Notes.{SchemaShape}
 use Rattle.arrow_array.specs.Listed.{values_by}
 use Rattle.arrow_stream.specs.Front.{Entry}
 use Rattle.arrow_stream.specs.State.{StreamState, Given, fields_in, schema_given, dictionary_given, batch_given, ended}
@@ -23,12 +24,12 @@ abbrev pub end_line : ℕ → List ℕ
 end_line place = codes "at " ++ decimal place ++ codes ": end of input\n"
 
 -- the line of a message behind this schema: of some dictionaries that it left
-abbrev pub IsLine : Option Fields → ℕ → ℕ → Given → List ℕ → Type 0
+abbrev pub IsLine : Option SchemaShape → ℕ → ℕ → Given → List ℕ → Type 0
 IsLine schema place number given line = (state : StreamState) × (state.schema ≡ schema) × (line ≡ message_line place number state given)
 
 -- The lines of messages one behind the other, the first of which begins at this place, behind so many batches: each begins
 -- where the one before it ends.
-abbrev pub AreLines : Option Fields → ℕ → ℕ → List Entry → List ℕ → Type 0
+abbrev pub AreLines : Option SchemaShape → ℕ → ℕ → List Entry → List ℕ → Type 0
 AreLines schema place number [] text = text ≡ []
 AreLines schema place number (x ∷ xs) text =
     (line : List ℕ) × (rest : List ℕ) × IsLine schema place number x.given line

@@ -1,8 +1,8 @@
 -- What is written of a stream, and how that ends (Columnar Format, "IPC Streaming Format").
 use Rattle.std.specs.Prelude.{◌≡◌, ℕ, ◌+◌, ◌⊎◌, List, [], ◌++◌, length, Bool, IsTrue, Option, Result, Ok, Err}
 use Rattle.std.specs.Io.KnownBytes.{Appends, Consumes, IsAtEnd, Keeps}
-use Rattle.arrow_types.specs.Field.{Fields}
 use Rattle.arrow_types.specs.Limits.{LimitNumbers}
+use Rattle.arrow_types.specs.Notes.{SchemaShape}
 use Rattle.arrow_csv.specs.Records.{stream_text}
 use Rattle.arrow_sink.specs.Sinks.{AcceptsBeginning}
 use Rattle.arrow_stream.specs.declared.fault.Fault.{Fault}
@@ -23,12 +23,12 @@ use Rattle.arrowflow.specs.declared.tool_fault.ToolFault.{ToolFault}
 use Rattle.arrowflow.specs.declared.tool_fault.ToolFault.TheVariants.{Input, Output, Stream, Refused, Memory}
 
 -- the text of a stream's messages by the schema that they left: their lines, or the records of their rows
-abbrev pub IsTextOf : Report → Option Fields → List Entry → List ℕ → Type 0
+abbrev pub IsTextOf : Report → Option SchemaShape → List Entry → List ℕ → Type 0
 IsTextOf Messages schema entries text = AreLines schema 0 0 entries text
 IsTextOf Rows schema entries text = text ≡ stream_text schema (tables_of entries)
 
 -- what one message adds to it that begins at this place, behind so many batches
-abbrev pub IsAdded : Report → Option Fields → ℕ → ℕ → Given → List ℕ → Type 0
+abbrev pub IsAdded : Report → Option SchemaShape → ℕ → ℕ → Given → List ℕ → Type 0
 IsAdded Messages schema place number given text = IsLine schema place number given text
 IsAdded Rows schema place number given text = text ≡ text_in schema number given
 

@@ -4,8 +4,8 @@ use Rattle.std.specs.Prelude.{◌≡◌, ℕ, List, [], ◌++◌, Option, Some, 
 use Rattle.std.specs.Io.KnownBytes.{Consumes, IsAtEnd}
 use Rattle.std.specs.declared.string.String.{String}
 use Rattle.std.specs.declared.alloc.Global.{Global}
-use Rattle.arrow_types.specs.Field.{Fields}
 use Rattle.arrow_types.specs.Limits.{LimitNumbers}
+use Rattle.arrow_types.specs.Notes.{SchemaShape}
 use Rattle.arrow_stream.specs.declared.fault.Fault.{Fault}
 use Rattle.arrow_stream.specs.declared.kind.Kind.TheVariants.{NoSchema}
 use Rattle.arrow_stream.specs.declared.kind.Refusal.{Refusal}
@@ -17,13 +17,13 @@ use Rattle.arrowflow.specs.SchemaText.{schema_lines}
 use Rattle.arrowflow.specs.declared.tool_fault.ToolFault.{ToolFault}
 use Rattle.arrowflow.specs.declared.tool_fault.ToolFault.TheVariants.{Input, Output, Stream, Refused, Memory}
 
--- the bytes begin with a whole schema message, which gives these fields
-pub record BeginWithSchema (limits : LimitNumbers) (bytes : List ℕ) (fields : Fields) : Type 0 where
+-- the bytes begin with a whole schema message, which gives this schema
+pub record BeginWithSchema (limits : LimitNumbers) (bytes : List ℕ) (shape : SchemaShape) : Type 0 where
   pub message : List ℕ
   pub behind : List ℕ
   pub joined : bytes ≡ message ++ behind
   pub size : ℕ
-  pub comes : First limits nothing_yet 0 message (whole size (record { schema = Some fields; dictionaries = [] }) schema_given)
+  pub comes : First limits nothing_yet 0 message (whole size (record { schema = Some shape; dictionaries = [] }) schema_given)
 
 -- the bytes begin with a message that is refused
 pub record AreRefused (limits : LimitNumbers) (bytes : List ℕ) (fault : Fault) : Type 0 where
@@ -43,9 +43,9 @@ pub record EndEarly (limits : LimitNumbers) (bytes : List ℕ) (left : Option (L
 
 -- the bytes begin with a schema, of which this is the text
 pub record BeginWithText (limits : LimitNumbers) (bytes : List ℕ) (text : List ℕ) : Type 0 where
-  pub fields : Fields
-  pub begins : BeginWithSchema limits bytes fields
-  pub lines : text ≡ schema_lines fields
+  pub shape : SchemaShape
+  pub begins : BeginWithSchema limits bytes shape
+  pub lines : text ≡ schema_lines shape
 
 -- What is answered when these bytes were read of an input and these are left. The input fails where the bytes read are
 -- less than a message; want of memory may come at any time.
@@ -64,8 +64,8 @@ AnswersInput limits before left result =
     (bytes : List ℕ) × Consumes before left bytes × IsReadWhile (AreNoMessage limits) bytes × Answers limits bytes left result
 
 -- the same of the reader, which shows the schema once its message was whole
-abbrev pub Finds : LimitNumbers → List ℕ → Option (List ℕ) → Option Fields → Result (Unit {0}) ToolFault → Type 0
-Finds limits bytes left schema (Ok done) = (fields : Fields) × BeginWithSchema limits bytes fields × (schema ≡ Some fields)
+abbrev pub Finds : LimitNumbers → List ℕ → Option (List ℕ) → Option SchemaShape → Result (Unit {0}) ToolFault → Type 0
+Finds limits bytes left schema (Ok done) = (shape : SchemaShape) × BeginWithSchema limits bytes shape × (schema ≡ Some shape)
 Finds limits bytes left schema (Err (Stream fault)) = AreRefused limits bytes fault ⊎ EndEarly limits bytes left fault
 Finds limits bytes left schema (Err (Input number)) = (number ≡ 0) × AreNoMessage limits bytes
 Finds limits bytes left schema (Err Output) = ⊥
@@ -73,6 +73,6 @@ Finds limits bytes left schema (Err (Refused what kind)) = ⊥
 Finds limits bytes left schema (Err Memory) = ⊤
 
 -- what it has found in an input that had these bytes before the call and has these behind it
-abbrev pub FindsIn : LimitNumbers → Option (List ℕ) → Option (List ℕ) → Option Fields → Result (Unit {0}) ToolFault → Type 0
+abbrev pub FindsIn : LimitNumbers → Option (List ℕ) → Option (List ℕ) → Option SchemaShape → Result (Unit {0}) ToolFault → Type 0
 FindsIn limits before left schema result =
     (bytes : List ℕ) × Consumes before left bytes × IsReadWhile (AreNoMessage limits) bytes × Finds limits bytes left schema result

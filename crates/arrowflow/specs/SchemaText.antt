@@ -2,6 +2,7 @@
 -- order; the text is this project's own).
 use Rattle.std.specs.Prelude.{ℕ, ◌+◌, suc, zero, if◌then◌else◌, List, [], ◌∷◌, ◌++◌, codes}
 use Rattle.arrow_types.specs.Field.{Head, Fields, none, more}
+use Rattle.arrow_types.specs.Notes.{SchemaShape}
 use Rattle.arrowflow.specs.Escapes.{escaped}
 use Rattle.arrowflow.specs.TypeNames.{column_type}
 
@@ -23,5 +24,5 @@ fields_text level (more head children rest) =
     field_line level head ++ fields_text (level + 1) children ++ fields_text level rest
 
 -- a schema: its columns stand at the margin
-abbrev pub schema_lines : Fields → List ℕ
-schema_lines schema = fields_text 0 schema
+abbrev pub schema_lines : SchemaShape → List ℕ
+schema_lines shape = fields_text 0 shape.fields

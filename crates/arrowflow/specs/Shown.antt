@@ -1,7 +1,7 @@
 -- What messages add to the text of a stream's rows.
 use Rattle.std.specs.Prelude.{◌≡◌, ℕ, List, [], ◌∷◌, ◌++◌, length, Option, None, Some}
-use Rattle.arrow_types.specs.Field.{Fields}
 use Rattle.arrow_types.specs.Limits.{LimitNumbers}
+use Rattle.arrow_types.specs.Notes.{SchemaShape}
 use Rattle.arrow_csv.specs.Records.{batch_rows, header_record, stream_text}
 use Rattle.arrow_stream.specs.declared.reader.Verdict.TheVariants.{Open}
 use Rattle.arrow_stream.specs.Front.{Entry, Standing, FrontOf}
@@ -9,12 +9,12 @@ use Rattle.arrow_stream.specs.State.{Given, schema_given, dictionary_given, batc
 use Rattle.arrow_stream.specs.Tables.{tables_of}
 
 -- what a schema adds to the text
-abbrev pub header_in : Option Fields → List ℕ
+abbrev pub header_in : Option SchemaShape → List ℕ
 header_in None = []
-header_in (Some schema) = header_record schema
+header_in (Some shape) = header_record shape.fields
 
 -- what a message adds to the text behind so many batches
-abbrev pub text_in : Option Fields → ℕ → Given → List ℕ
+abbrev pub text_in : Option SchemaShape → ℕ → Given → List ℕ
 text_in schema number schema_given = header_in schema
 text_in schema number (dictionary_given id) = []
 text_in schema number (batch_given batch) = batch_rows number batch 0 batch.rows

@@ -4,9 +4,9 @@ use Rattle.std.specs.Io.KnownBytes.{Appends, IsAtEnd}
 use Rattle.std.proofs.KnownBytes.{Appends-nil}
 use Rattle.std.proofs.lemmas.Bool.{false≢true}
 use Rattle.std.proofs.lemmas.List.{length-append}
-use Rattle.arrow_types.specs.Field.{Fields}
 use Rattle.arrow_types.specs.Limits.{LimitNumbers}
-use Rattle.arrow_types.specs.Schema.{IsSchema}
+use Rattle.arrow_types.specs.Notes.{SchemaShape}
+use Rattle.arrow_types.specs.Schema.{IsNoted}
 use Rattle.arrow_array.specs.Batch.{Table}
 use Rattle.arrow_sink.specs.Sinks.{AcceptsBeginning}
 use Rattle.arrow_stream.specs.declared.fault.Fault.{Fault}
@@ -50,15 +50,15 @@ use Rattle.arrowflow_copy.specs.Copying.{Adds, At, Begins, Closes, HasWritten, I
 -- ---- what was written
 
 -- the text of a writer that writes
-abbrev writing_text : (limits : LimitNumbers) (o : Options) (first : Option (List ℕ)) (start : ℕ) (schema : Option Fields) (batches : List Table) (w : writers.Shows) (x : IsWritingOn limits o first start schema batches w)
-    → Written limits o w.fields false x.parts batches x.stands.frames
+abbrev writing_text : (limits : LimitNumbers) (o : Options) (first : Option (List ℕ)) (start : ℕ) (schema : Option SchemaShape) (batches : List Table) (w : writers.Shows) (x : IsWritingOn limits o first start schema batches w)
+    → Written limits o w.shape false x.parts batches x.stands.frames
 writing_text limits o first start schema batches w x =
-    subst (λ l. Written l o w.fields false x.parts batches x.stands.frames) x.limits_are
-    (subst (λ p. Written w.limits p w.fields false x.parts batches x.stands.frames) x.options_are x.stands.written)
+    subst (λ l. Written l o w.shape false x.parts batches x.stands.frames) x.limits_are
+    (subst (λ p. Written w.limits p w.shape false x.parts batches x.stands.frames) x.options_are x.stands.written)
 
 -- what it has sent
-abbrev writing_sent : (limits : LimitNumbers) (o : Options) (first : Option (List ℕ)) (start : ℕ) (schema : Option Fields) (batches : List Table) (w : writers.Shows) → IsWritingOn limits o first start schema batches w
-    → IsSent limits o w.fields false batches first w.contents
+abbrev writing_sent : (limits : LimitNumbers) (o : Options) (first : Option (List ℕ)) (start : ℕ) (schema : Option SchemaShape) (batches : List Table) (w : writers.Shows) → IsWritingOn limits o first start schema batches w
+    → IsSent limits o w.shape false batches first w.contents
 writing_sent limits o first start schema batches w x = record {
   parts = x.parts;
   frames = x.stands.frames;
@@ -67,24 +67,24 @@ writing_sent limits o first start schema batches w x = record {
 }
 
 -- what was sent of batches that were written
-pub sent_of : (limits : LimitNumbers) (o : Options) (first : Option (List ℕ)) (start : ℕ) (schema : Option Fields) (batches : List Table) (at : At) → HasWritten limits o first start schema batches at
+pub sent_of : (limits : LimitNumbers) (o : Options) (first : Option (List ℕ)) (start : ℕ) (schema : Option SchemaShape) (batches : List Table) (at : At) → HasWritten limits o first start schema batches at
     → IsSentOf limits o schema batches first (held_at at)
 sent_of limits o first start schema batches (waiting held failed) x =
     subst (λ s. IsSentOf limits o s batches first held) (sym x.0) (subst (λ h. Appends first h []) (sym x.1) (Appends-nil first))
 sent_of limits o first start schema batches (writing w) x =
-    subst (λ s. IsSentOf limits o s batches first w.contents) (sym x.fields_are) (writing_sent limits o first start schema batches w x)
+    subst (λ s. IsSentOf limits o s batches first w.contents) (sym x.shape_is) (writing_sent limits o first start schema batches w x)
 
 -- no call of the output failed
-pub failed_of : (limits : LimitNumbers) (o : Options) (first : Option (List ℕ)) (start : ℕ) (schema : Option Fields) (batches : List Table) (at : At) → HasWritten limits o first start schema batches at
+pub failed_of : (limits : LimitNumbers) (o : Options) (first : Option (List ℕ)) (start : ℕ) (schema : Option SchemaShape) (batches : List Table) (at : At) → HasWritten limits o first start schema batches at
     → failures_at at ≡ start
 failed_of limits o first start schema batches (waiting held failed) x = x.2
 failed_of limits o first start schema batches (writing w) x = x.failures_are
 
 -- all that was sent is a beginning of it, for the first of more batches
-part_of : (limits : LimitNumbers) (o : Options) (schema : Option Fields) (batches later all : List Table) (before after : Option (List ℕ)) → batches ++ later ≡ all → IsSentOf limits o schema batches before after
+part_of : (limits : LimitNumbers) (o : Options) (schema : Option SchemaShape) (batches later all : List Table) (before after : Option (List ℕ)) → batches ++ later ≡ all → IsSentOf limits o schema batches before after
     → IsSentInPartOf limits o schema all before after
 part_of limits o None batches later all before after whole s = s
-part_of limits o (Some fields) batches later all before after whole s = inr (record {
+part_of limits o (Some shape) batches later all before after whole s = inr (record {
   closed = false;
   first = batches;
   later = later;
@@ -96,8 +96,8 @@ part_of limits o (Some fields) batches later all before after whole s = inr (rec
 })
 
 -- the text of a connection that is not closed
-open_text : {limits : LimitNumbers} {o : Options} {fields : Fields} {closed : Bool} {parts : List (List ℕ)} {batches : List Table} {frames : List Frame}
-    → Written limits o fields closed parts batches frames → closed ≡ false → Text limits o fields parts batches frames
+open_text : {limits : LimitNumbers} {o : Options} {shape : SchemaShape} {closed : Bool} {parts : List (List ℕ)} {batches : List Table} {frames : List Frame}
+    → Written limits o shape closed parts batches frames → closed ≡ false → Text limits o shape parts batches frames
 open_text (unfinished parts batches frames text) c = text
 open_text (finished parts batches frames b text fits marker) c = absurd (false≢true (sym c))
 
@@ -114,8 +114,8 @@ nothing_given {es = x ∷ es} front none = let b = front_begins front refl (λ q
 
 -- its first message is the schema
 pub record ComesFirst (x : Entry) (es : List Entry) (f : Standing) : Type 0 where
-  pub fields : Fields
-  pub schema : f.state.schema ≡ Some fields
+  pub shape : SchemaShape
+  pub schema : f.state.schema ≡ Some shape
   pub none : es ≡ []
   pub is_schema : x.given ≡ schema_given
 
@@ -123,7 +123,7 @@ comes_first : {l : LimitNumbers} {t : List ℕ} {es : List Entry} {e f : Standin
 comes_first {es = []} {f = f} c x old none new =
     let b = front_begins new refl (λ q. cc) in
     let same : x ≡ b.first = cc in
-    record { fields = b.fields; schema = b.schema; none = refl; is_schema = ap (λ (y : Entry). y.given) same ∙ b.given }
+    record { shape = b.shape; schema = b.schema; none = refl; is_schema = ap (λ (y : Entry). y.given) same ∙ b.given }
 comes_first {es = y ∷ es} c x old none new = let q = nothing_given old none in absurd (cc)
 
 last_of : (es more : List Entry) (x : Entry) → es ++ x ∷ [] ≡ es ++ more → more ≡ x ∷ []
@@ -131,9 +131,9 @@ last_of [] more x q = sym q
 last_of (e ∷ es) more x q = let rest : es ++ x ∷ [] ≡ es ++ more = cc in last_of es more x rest
 
 -- no later one changes the schema
-schema_stays : {l : LimitNumbers} {t : List ℕ} {es : List Entry} {e f : Standing} (c : List ℕ) (x : Entry) (fields : Fields) → FrontOf l t es e → e.verdict ≡ Open → e.state.schema ≡ Some fields
-    → FrontOf l (t ++ c) (es ++ x ∷ []) f → f.state.schema ≡ Some fields
-schema_stays c x fields old o known new = let w = front_behind c old o new in (front_keeps w.behind fields known).schema
+schema_stays : {l : LimitNumbers} {t : List ℕ} {es : List Entry} {e f : Standing} (c : List ℕ) (x : Entry) (shape : SchemaShape) → FrontOf l t es e → e.verdict ≡ Open → e.state.schema ≡ Some shape
+    → FrontOf l (t ++ c) (es ++ x ∷ []) f → f.state.schema ≡ Some shape
+schema_stays c x shape old o known new = let w = front_behind c old o new in (front_keeps w.behind shape known).schema
 
 -- ---- one message more
 
@@ -176,7 +176,7 @@ module _ (limits : LimitNumbers) (o : Options) (first : Option (List ℕ)) (star
   Goes (Ok done) at' number' = IsCopying limits o first start at' number' new taken entries
   Goes (Err f) at' number' = BlamesNoInput (Err f) × ((left : Option (List ℕ)) → Copies limits o (u ++ rest) left first start (Err f) (held_at at') (failures_at at'))
 
-  module _ (fields : Fields) (schema : new.at.state.schema ≡ Some fields) (known : IsSchema fields) (none : es ≡ []) (is_schema : given item ≡ schema_given) where
+  module _ (shape : SchemaShape) (schema : new.at.state.schema ≡ Some shape) (known : IsNoted shape) (none : es ≡ []) (is_schema : given item ≡ schema_given) where
     no_tables : tables_of entries ≡ []
     no_tables = tables ∙ ap (λ e. tables_of e ++ table_in (given item)) none ∙ ap table_in is_schema
 
@@ -186,14 +186,14 @@ module _ (limits : LimitNumbers) (o : Options) (first : Option (List ℕ)) (star
     nothing_sent : (held : Option (List ℕ)) → held ≡ first → IsSentInPartOf limits o new.at.state.schema (tables_of entries) first held
     nothing_sent held h = subst (λ s. IsSentInPartOf limits o s (tables_of entries) first held) (sym schema) (inl (subst (λ y. Appends first y []) (sym h) (Appends-nil first)))
 
-    begins_so : (answer : Result (Unit {0}) ToolFault) (at' : At) (number' : ℕ) → Begins limits o fields first start answer at' → number' ≡ number → Goes answer at' number'
+    begins_so : (answer : Result (Unit {0}) ToolFault) (at' : At) (number' : ℕ) → Begins limits o shape first start answer at' → number' ≡ number → Goes answer at' number'
     begins_so (Ok done) at' number' b k =
         let w = b.0 in
         let s = b.2 in
         subst (λ a. Goes (Ok done) a number') (sym b.1) (copying (writing w) number' (no_number number' k) (record {
           parts = s.part ∷ [];
           stands = subst (λ ts. writers.Stands w first false (s.part ∷ []) ts) (sym no_tables) s.stands;
-          fields_are = schema ∙ ap Some (sym (ap (λ (v : writers.Shows). v.fields) s.new_is));
+          shape_is = schema ∙ ap Some (sym (ap (λ (v : writers.Shows). v.shape) s.new_is));
           limits_are = ap (λ (v : writers.Shows). v.limits) s.new_is;
           options_are = ap (λ (v : writers.Shows). v.options) s.new_is;
           failures_are = ap (λ (v : writers.Shows). v.failures) s.new_is;
@@ -201,7 +201,7 @@ module _ (limits : LimitNumbers) (o : Options) (first : Option (List ℕ)) (star
     begins_so (Err f) at' number' b k =
         subst (λ a. Goes (Err f) a number') (sym b.4) (subst (λ g. Goes (Err g) (waiting b.1 b.2) number') (sym b.3) (by b.0 b.1 b.2 b.5))
       where
-        by : (kind : WriteFault) (held : Option (List ℕ)) (failed : ℕ) → writers.StartFails limits o fields first start kind held failed → Goes (Err (fault_of Start kind)) (waiting held failed) number'
+        by : (kind : WriteFault) (held : Option (List ℕ)) (failed : ℕ) → writers.StartFails limits o shape first start kind held failed → Goes (Err (fault_of Start kind)) (waiting held failed) number'
         by kinds.TooLarge held failed s = (
           tt,
           λ left. (
@@ -213,7 +213,7 @@ module _ (limits : LimitNumbers) (o : Options) (first : Option (List ℕ)) (star
               standing = standing;
               front = subst (λ e. FrontOf limits taken (e ++ entry ∷ []) standing) none new_front;
               is_schema = is_schema;
-              fields = fields;
+              shape = shape;
               schema = schema;
               refusal = s.0;
               wrote = subst (λ y. Appends first y []) (sym s.1) (Appends-nil first);
@@ -231,8 +231,8 @@ module _ (limits : LimitNumbers) (o : Options) (first : Option (List ℕ)) (star
               later = tables_of entries;
               all = refl;
               parts = s.part ∷ [];
-              frames = schema_frame fields s.part ∷ [];
-              text = unfinished (s.part ∷ []) [] (schema_frame fields s.part ∷ []) (begins s.part known s.admitted s.is_frame);
+              frames = schema_frame shape s.part ∷ [];
+              text = unfinished (s.part ∷ []) [] (schema_frame shape s.part ∷ []) (begins s.part known s.admitted s.is_frame);
               wrote = subst (AcceptsBeginning first held) (sym (append-nil s.part)) s.accepted;
             }))),
             s.failed,
@@ -244,13 +244,13 @@ module _ (limits : LimitNumbers) (o : Options) (first : Option (List ℕ)) (star
         by kinds.Finished held failed s = absurd s
 
   module _ (w : writers.Shows) (y : IsWritingOn limits o first start now.at.state.schema (tables_of es) w) where
-    stays_open : new.at.state.schema ≡ Some w.fields
-    stays_open = schema_stays (take n rest) entry w.fields old_front is_open y.fields_are new_front
+    stays_open : new.at.state.schema ≡ Some w.shape
+    stays_open = schema_stays (take n rest) entry w.shape old_front is_open y.shape_is new_front
 
     sent_before : IsSentInPartOf limits o new.at.state.schema (tables_of entries) first w.contents
     sent_before =
         subst (λ z. IsSentInPartOf limits o z (tables_of entries) first w.contents) (sym stays_open)
-        (part_of limits o (Some w.fields) (tables_of es) (table_in (given item)) (tables_of entries) first w.contents (sym tables) (writing_sent limits o first start now.at.state.schema (tables_of es) w y))
+        (part_of limits o (Some w.shape) (tables_of es) (table_in (given item)) (tables_of entries) first w.contents (sym tables) (writing_sent limits o first start now.at.state.schema (tables_of es) w y))
 
     -- a message that is no batch changes nothing
     passes : (answer : Result (Unit {0}) ToolFault) (at' : At) (number' : ℕ) → table_in (given item) ≡ [] → (answer ≡ Ok tt) × (at' ≡ writing w) × (number' ≡ number) → Goes answer at' number'
@@ -260,7 +260,7 @@ module _ (limits : LimitNumbers) (o : Options) (first : Option (List ℕ)) (star
         (subst (λ a. Goes (Ok tt) a number') (sym z.1) (copying (writing w) number' (z.2 ∙ x.counted ∙ ap length all) (record {
           parts = y.parts;
           stands = subst (λ ts. writers.Stands w first false y.parts ts) all y.stands;
-          fields_are = stays_open;
+          shape_is = stays_open;
           limits_are = y.limits_are;
           options_are = y.options_are;
           failures_are = y.failures_are;
@@ -284,20 +284,20 @@ module _ (limits : LimitNumbers) (o : Options) (first : Option (List ℕ)) (star
               table = t;
               is_batch = is;
               numbered = x.counted;
-              fields = w.fields;
+              shape = w.shape;
               schema = stays_open;
               sent = writing_sent limits o first start now.at.state.schema (tables_of es) w y;
-              refusal = sym (λ i. admission (y.limits_are i) (y.options_are i) w.fields (y.stands.sent_are i) (y.stands.place_is i) t) ∙ r.refusal;
+              refusal = sym (λ i. admission (y.limits_are i) (y.options_are i) w.shape (y.stands.sent_are i) (y.stands.place_is i) t) ∙ r.refusal;
             },
             y.failures_are,
           )
 
       -- the part is one of this text
-      part_here : (fs : List Frame) → IsPart w.limits w.options w.fields w.sent w.place t fs → IsPart limits o w.fields (left_by nothing_yet y.stands.frames).dictionaries (length (joined y.parts)) t fs
+      part_here : (fs : List Frame) → IsPart w.limits w.options w.shape w.sent w.place t fs → IsPart limits o w.shape (left_by nothing_yet y.stands.frames).dictionaries (length (joined y.parts)) t fs
       part_here fs p =
-          subst (λ l. IsPart l o w.fields (left_by nothing_yet y.stands.frames).dictionaries (length (joined y.parts)) t fs) y.limits_are
-          (subst (λ q. IsPart w.limits q w.fields (left_by nothing_yet y.stands.frames).dictionaries (length (joined y.parts)) t fs) y.options_are
-          (subst (λ d. IsPart w.limits w.options w.fields d (length (joined y.parts)) t fs) y.stands.sent_are (subst (λ m. IsPart w.limits w.options w.fields w.sent m t fs) y.stands.place_is p)))
+          subst (λ l. IsPart l o w.shape (left_by nothing_yet y.stands.frames).dictionaries (length (joined y.parts)) t fs) y.limits_are
+          (subst (λ q. IsPart w.limits q w.shape (left_by nothing_yet y.stands.frames).dictionaries (length (joined y.parts)) t fs) y.options_are
+          (subst (λ d. IsPart w.limits w.options w.shape d (length (joined y.parts)) t fs) y.stands.sent_are (subst (λ m. IsPart w.limits w.options w.shape w.sent m t fs) y.stands.place_is p)))
 
       breaks : (w' : writers.Shows) → writers.Fails w t w' → IsSentInPartOf limits o new.at.state.schema (tables_of entries) first w'.contents
       breaks w' f = subst (λ z. IsSentInPartOf limits o z (tables_of entries) first w'.contents) (sym stays_open) (inr (record {
@@ -329,7 +329,7 @@ module _ (limits : LimitNumbers) (o : Options) (first : Option (List ℕ)) (star
           subst (λ b. Goes (Ok done) b number') (sym z.1) (copying (writing w') number' (z.3 ∙ ap (λ m. m + 1) x.counted ∙ sym (ap length with_batch ∙ length-append (tables_of es) (t ∷ []))) (record {
             parts = y.parts ++ frames_bytes a.frames ∷ [];
             stands = subst (λ ts. writers.Stands w' first false (y.parts ++ frames_bytes a.frames ∷ []) ts) (sym with_batch) (a.stands first y.parts (tables_of es) y.stands);
-            fields_are = stays_open ∙ ap Some (sym (ap (λ (v : writers.Shows). v.fields) a.new_is));
+            shape_is = stays_open ∙ ap Some (sym (ap (λ (v : writers.Shows). v.shape) a.new_is));
             limits_are = ap (λ (v : writers.Shows). v.limits) a.new_is ∙ y.limits_are;
             options_are = ap (λ (v : writers.Shows). v.options) a.new_is ∙ y.options_are;
             failures_are = ap (λ (v : writers.Shows). v.failures) a.new_is ∙ y.failures_are;
@@ -351,7 +351,7 @@ module _ (limits : LimitNumbers) (o : Options) (first : Option (List ℕ)) (star
       by (waiting held failed) h z =
           let c = comes_first (take n rest) entry old_front h.0 new_front in
           let b = subst (λ s. TakesFirst limits o s held failed answer at') c.schema z.0 in
-          begins_so c.fields c.schema b.0 c.none c.is_schema answer at' number' (subst (λ m. Begins limits o c.fields first m answer at') h.2 (subst (λ k. Begins limits o c.fields k failed answer at') h.1 b.1)) z.1
+          begins_so c.shape c.schema b.0 c.none c.is_schema answer at' number' (subst (λ m. Begins limits o c.shape first m answer at') h.2 (subst (λ k. Begins limits o c.shape k failed answer at') h.1 b.1)) z.1
       by (writing w) h z = takes_one w h (given item) refl answer at' number' z
 
 -- bytes without a message leave what was written
@@ -412,17 +412,17 @@ module _ (limits : LimitNumbers) (o : Options) (first : Option (List ℕ)) (star
         let parts = y.parts ++ e.marker ∷ [] in
         let limits_are : w'.limits ≡ limits = ap (λ (v : writers.Shows). v.limits) e.new_is ∙ y.limits_are in
         let options_are : w'.options ≡ o = ap (λ (v : writers.Shows). v.options) e.new_is ∙ y.options_are in
-        let fields_are : w'.fields ≡ w.fields = ap (λ (v : writers.Shows). v.fields) e.new_is in
+        let shape_is : w'.shape ≡ w.shape = ap (λ (v : writers.Shows). v.shape) e.new_is in
         record {
           entries = es;
           front = front;
-          fields = w.fields;
-          schema = y.fields_are;
+          shape = w.shape;
+          schema = y.shape_is;
           sent = record {
             parts = parts;
             frames = s.frames;
-            text = subst (λ l. Written l o w.fields true parts (tables_of es) s.frames) limits_are
-                (subst (λ p. Written w'.limits p w.fields true parts (tables_of es) s.frames) options_are (subst (λ f. Written w'.limits w'.options f true parts (tables_of es) s.frames) fields_are s.written));
+            text = subst (λ l. Written l o w.shape true parts (tables_of es) s.frames) limits_are
+                (subst (λ p. Written w'.limits p w.shape true parts (tables_of es) s.frames) options_are (subst (λ f. Written w'.limits w'.options f true parts (tables_of es) s.frames) shape_is s.written));
             wrote = s.accepted;
           };
         }
@@ -435,7 +435,7 @@ module _ (limits : LimitNumbers) (o : Options) (first : Option (List ℕ)) (star
       standing = standing_of r x.stands.rest;
       entries = es;
       front = front;
-      sent = subst (λ z. IsSentInPartOf limits o z (tables_of es) first w'.contents) (sym y.fields_are) (inr (record {
+      sent = subst (λ z. IsSentInPartOf limits o z (tables_of es) first w'.contents) (sym y.shape_is) (inr (record {
         closed = true;
         first = tables_of es;
         later = [];
@@ -455,8 +455,8 @@ module _ (limits : LimitNumbers) (o : Options) (first : Option (List ℕ)) (star
             record {
               entries = es;
               front = front;
-              fields = w.fields;
-              schema = y.fields_are;
+              shape = w.shape;
+              schema = y.shape_is;
               sent = writing_sent limits o first start r.at.state.schema (tables_of es) w y;
               refusal = sym (ap marker_fits y.stands.place_is) ∙ p.passes;
               is_large = refl;
@@ -517,9 +517,9 @@ writes_by limits o first start (waiting held failed) number r t es x some = absu
 writes_by limits o first start (writing w) number r t es x some = tt
 
 -- a message that is made something of leaves the count of failures
-pub takes_failures : (limits : LimitNumbers) (o : Options) (schema : Option Fields) (g : Given) (at at' : At) (number number' : ℕ) → Takes limits o schema g at number (Ok tt) at' number' → failures_at at' ≡ failures_at at
+pub takes_failures : (limits : LimitNumbers) (o : Options) (schema : Option SchemaShape) (g : Given) (at at' : At) (number number' : ℕ) → Takes limits o schema g at number (Ok tt) at' number' → failures_at at' ≡ failures_at at
 takes_failures limits o None g (waiting held failed) at' number number' z = ap failures_at z.0.1
-takes_failures limits o (Some fields) g (waiting held failed) at' number number' z =
+takes_failures limits o (Some shape) g (waiting held failed) at' number number' z =
     let b = z.0.1 in
     ap failures_at b.1 ∙ ap (λ (v : writers.Shows). v.failures) b.2.new_is
 takes_failures limits o schema schema_given (writing w) at' number number' z = ap failures_at z.1

@@ -1,8 +1,8 @@
 -- What is written of a stream that is copied, and how that ends (Columnar Format, "IPC Streaming Format").
 use Rattle.std.specs.Prelude.{◌≡◌, ◌⊎◌, ℕ, ◌+◌, false, true, Bool, List, [], ◌∷◌, ◌++◌, length, Option, None, Some, Result, Ok, Err}
 use Rattle.std.specs.Io.KnownBytes.{Appends, Consumes}
-use Rattle.arrow_types.specs.Field.{Fields}
 use Rattle.arrow_types.specs.Limits.{LimitNumbers}
+use Rattle.arrow_types.specs.Notes.{SchemaShape}
 use Rattle.arrow_array.specs.Batch.{Table}
 use Rattle.arrow_sink.specs.Sinks.{AcceptsBeginning}
 use Rattle.arrow_stream.specs.declared.reader.Verdict.TheVariants.{Open}
@@ -23,16 +23,16 @@ use Rattle.arrowflow.specs.declared.tool_fault.ToolFault.{ToolFault}
 use Rattle.arrowflow.specs.declared.tool_fault.ToolFault.TheVariants.{Input, Output, Stream, Refused, Memory}
 
 -- The text of a connection with these batches, closed by the end marker or not, and its parts, one after another, were written.
-pub record IsSent (limits : LimitNumbers) (o : Options) (fields : Fields) (closed : Bool) (batches : List Table) (before after : Option (List ℕ)) : Type 0 where
+pub record IsSent (limits : LimitNumbers) (o : Options) (shape : SchemaShape) (closed : Bool) (batches : List Table) (before after : Option (List ℕ)) : Type 0 where
   pub parts : List (List ℕ)
   pub frames : List Frame
-  pub text : Written limits o fields closed parts batches frames
+  pub text : Written limits o shape closed parts batches frames
   pub wrote : Appends before after (joined parts)
 
 -- The same without end marker, of a stream that has this schema: nothing where it has none yet.
-abbrev pub IsSentOf : LimitNumbers → Options → Option Fields → List Table → Option (List ℕ) → Option (List ℕ) → Type 0
+abbrev pub IsSentOf : LimitNumbers → Options → Option SchemaShape → List Table → Option (List ℕ) → Option (List ℕ) → Type 0
 IsSentOf limits o None batches before after = Appends before after []
-IsSentOf limits o (Some fields) batches before after = IsSent limits o fields false batches before after
+IsSentOf limits o (Some shape) batches before after = IsSent limits o shape false batches before after
 
 -- the batches of the messages at the front of these bytes were written, without end marker
 pub record IsCopied (limits : LimitNumbers) (o : Options) (bytes : List ℕ) (e : Standing) (before after : Option (List ℕ)) : Type 0 where
@@ -44,9 +44,9 @@ pub record IsCopied (limits : LimitNumbers) (o : Options) (bytes : List ℕ) (e 
 pub record IsClosed (limits : LimitNumbers) (o : Options) (bytes : List ℕ) (e : Standing) (before after : Option (List ℕ)) : Type 0 where
   pub entries : List Entry
   pub front : FrontOf limits bytes entries e
-  pub fields : Fields
-  pub schema : e.state.schema ≡ Some fields
-  pub sent : IsSent limits o fields true (tables_of entries) before after
+  pub shape : SchemaShape
+  pub schema : e.state.schema ≡ Some shape
+  pub sent : IsSent limits o shape true (tables_of entries) before after
 
 -- The first message of these bytes, the schema, is refused, and nothing was written.
 pub record RefusesSchema (limits : LimitNumbers) (o : Options) (bytes : List ℕ) (kind : WriteFault) (before after : Option (List ℕ)) : Type 0 where
@@ -57,9 +57,9 @@ pub record RefusesSchema (limits : LimitNumbers) (o : Options) (bytes : List ℕ
   pub standing : Standing
   pub front : FrontOf limits taken (entry ∷ []) standing
   pub is_schema : entry.given ≡ schema_given
-  pub fields : Fields
-  pub schema : standing.state.schema ≡ Some fields
-  pub refusal : schema_admission limits o fields ≡ Some kind
+  pub shape : SchemaShape
+  pub schema : standing.state.schema ≡ Some shape
+  pub refusal : schema_admission limits o shape ≡ Some kind
   pub wrote : Appends before after []
 
 -- The batch of this number among these bytes is refused, behind the text of those before it, which was written.
@@ -74,18 +74,18 @@ pub record RefusesBatch (limits : LimitNumbers) (o : Options) (bytes : List ℕ)
   pub table : Table
   pub is_batch : entry.given ≡ batch_given table
   pub numbered : number ≡ length (tables_of entries)
-  pub fields : Fields
-  pub schema : standing.state.schema ≡ Some fields
-  pub sent : IsSent limits o fields false (tables_of entries) before after
-  pub refusal : admission limits o fields (left_by nothing_yet sent.frames).dictionaries (length (joined sent.parts)) table ≡ Some kind
+  pub shape : SchemaShape
+  pub schema : standing.state.schema ≡ Some shape
+  pub sent : IsSent limits o shape false (tables_of entries) before after
+  pub refusal : admission limits o shape (left_by nothing_yet sent.frames).dictionaries (length (joined sent.parts)) table ≡ Some kind
 
 -- The end marker is refused, behind the text of all batches, which was written.
 pub record RefusesEnd (limits : LimitNumbers) (o : Options) (bytes : List ℕ) (e : Standing) (kind : WriteFault) (before after : Option (List ℕ)) : Type 0 where
   pub entries : List Entry
   pub front : FrontOf limits bytes entries e
-  pub fields : Fields
-  pub schema : e.state.schema ≡ Some fields
-  pub sent : IsSent limits o fields false (tables_of entries) before after
+  pub shape : SchemaShape
+  pub schema : e.state.schema ≡ Some shape
+  pub sent : IsSent limits o shape false (tables_of entries) before after
   pub refusal : marker_fits (length (joined sent.parts)) ≡ false
   pub is_large : kind ≡ TooLarge
 
@@ -96,20 +96,20 @@ Refuses limits o bytes left (parts.Batch number) kind before after = RefusesBatc
 Refuses limits o bytes left parts.Finish kind before after = (e : Standing) × RefusesEnd limits o bytes e kind before after × EndsWell left e
 
 -- a beginning was written of the text of a connection with the first of these batches, closed or not
-pub record IsSentInPart (limits : LimitNumbers) (o : Options) (fields : Fields) (batches : List Table) (before after : Option (List ℕ)) : Type 0 where
+pub record IsSentInPart (limits : LimitNumbers) (o : Options) (shape : SchemaShape) (batches : List Table) (before after : Option (List ℕ)) : Type 0 where
   pub closed : Bool
   pub first : List Table
   pub later : List Table
   pub all : first ++ later ≡ batches
   pub parts : List (List ℕ)
   pub frames : List Frame
-  pub text : Written limits o fields closed parts first frames
+  pub text : Written limits o shape closed parts first frames
   pub wrote : AcceptsBeginning before after (joined parts)
 
 -- nothing was written, or such a beginning for a stream that has this schema
-abbrev pub IsSentInPartOf : LimitNumbers → Options → Option Fields → List Table → Option (List ℕ) → Option (List ℕ) → Type 0
+abbrev pub IsSentInPartOf : LimitNumbers → Options → Option SchemaShape → List Table → Option (List ℕ) → Option (List ℕ) → Type 0
 IsSentInPartOf limits o None batches before after = Appends before after []
-IsSentInPartOf limits o (Some fields) batches before after = Appends before after [] ⊎ IsSentInPart limits o fields batches before after
+IsSentInPartOf limits o (Some shape) batches before after = Appends before after [] ⊎ IsSentInPart limits o shape batches before after
 
 -- a beginning was written of what the messages at the front of a beginning of these bytes are copied as
 pub record IsBegun (limits : LimitNumbers) (o : Options) (bytes : List ℕ) (before after : Option (List ℕ)) : Type 0 where

@@ -1,9 +1,9 @@
 -- Where a copy stands between two messages, and what it makes of the next one.
 use Rattle.std.specs.Prelude.{◌≡◌, ◌⊎◌, ℕ, ◌+◌, false, Bool, IsTrue, List, [], ◌++◌, length, Option, None, Some, Result, Ok, Err}
 use Rattle.std.specs.Io.KnownBytes.{IsAtEnd}
-use Rattle.arrow_types.specs.Field.{Fields}
 use Rattle.arrow_types.specs.Limits.{LimitNumbers}
-use Rattle.arrow_types.specs.Schema.{IsSchema}
+use Rattle.arrow_types.specs.Notes.{SchemaShape}
+use Rattle.arrow_types.specs.Schema.{IsNoted}
 use Rattle.arrow_array.specs.Batch.{Table}
 use Rattle.arrow_stream.specs.declared.reader.Verdict.TheVariants.{Done}
 use Rattle.arrow_stream.specs.Front.{Entry}
@@ -53,10 +53,10 @@ IsWriting (waiting held failed) = ⊥
 IsWriting (writing w) = Unit {0}
 
 -- The writer was started, or its start failed.
-abbrev pub Begins : LimitNumbers → Options → Fields → Option (List ℕ) → ℕ → Result (Unit {0}) ToolFault → At → Type 0
-Begins limits o fields held failed (Ok done) at' = (w : writers.Shows) × (at' ≡ writing w) × writers.Starts limits o fields held failed w
-Begins limits o fields held failed (Err f) at' =
-    (kind : WriteFault) × (held' : Option (List ℕ)) × (failed' : ℕ) × (f ≡ fault_of Start kind) × (at' ≡ waiting held' failed') × writers.StartFails limits o fields held failed kind held' failed'
+abbrev pub Begins : LimitNumbers → Options → SchemaShape → Option (List ℕ) → ℕ → Result (Unit {0}) ToolFault → At → Type 0
+Begins limits o shape held failed (Ok done) at' = (w : writers.Shows) × (at' ≡ writing w) × writers.Starts limits o shape held failed w
+Begins limits o shape held failed (Err f) at' =
+    (kind : WriteFault) × (held' : Option (List ℕ)) × (failed' : ℕ) × (f ≡ fault_of Start kind) × (at' ≡ waiting held' failed') × writers.StartFails limits o shape held failed kind held' failed'
 
 -- The batch of this number was written, or not.
 abbrev pub Adds : writers.Shows → Table → ℕ → Result (Unit {0}) ToolFault → At → ℕ → Type 0
@@ -72,12 +72,12 @@ TakesOne w (batch_given t) number answer at' number' = Adds w t number answer at
 TakesOne w ended number answer at' number' = (answer ≡ Ok tt) × (at' ≡ writing w) × (number' ≡ number)
 
 -- What is made of the first message: the writer is started, once there is a schema.
-abbrev pub TakesFirst : LimitNumbers → Options → Option Fields → Option (List ℕ) → ℕ → Result (Unit {0}) ToolFault → At → Type 0
+abbrev pub TakesFirst : LimitNumbers → Options → Option SchemaShape → Option (List ℕ) → ℕ → Result (Unit {0}) ToolFault → At → Type 0
 TakesFirst limits o None held failed answer at' = (answer ≡ Ok tt) × (at' ≡ waiting held failed)
-TakesFirst limits o (Some fields) held failed answer at' = IsSchema fields × Begins limits o fields held failed answer at'
+TakesFirst limits o (Some shape) held failed answer at' = IsNoted shape × Begins limits o shape held failed answer at'
 
 -- What is made of a message, where the stream has this schema after it.
-abbrev pub Takes : LimitNumbers → Options → Option Fields → Given → At → ℕ → Result (Unit {0}) ToolFault → At → ℕ → Type 0
+abbrev pub Takes : LimitNumbers → Options → Option SchemaShape → Given → At → ℕ → Result (Unit {0}) ToolFault → At → ℕ → Type 0
 Takes limits o schema given (waiting held failed) number answer at' number' = TakesFirst limits o schema held failed answer at' × (number' ≡ number)
 Takes limits o schema given (writing w) number answer at' number' = TakesOne w given number answer at' number'
 
@@ -88,16 +88,16 @@ Closes (writing w) (Ok done) at' = (w' : writers.Shows) × (at' ≡ writing w') 
 Closes (writing w) (Err f) at' = (kind : WriteFault) × (w' : writers.Shows) × (f ≡ fault_of Finish kind) × (at' ≡ writing w') × writers.Finishes w (Err kind) w'
 
 -- A writer stands at the text of these batches, which went to an output that held and failed so at first.
-pub record IsWritingOn (limits : LimitNumbers) (o : Options) (first : Option (List ℕ)) (start : ℕ) (schema : Option Fields) (batches : List Table) (w : writers.Shows) : Type 0 where
+pub record IsWritingOn (limits : LimitNumbers) (o : Options) (first : Option (List ℕ)) (start : ℕ) (schema : Option SchemaShape) (batches : List Table) (w : writers.Shows) : Type 0 where
   pub parts : List (List ℕ)
   pub stands : writers.Stands w first false parts batches
-  pub fields_are : schema ≡ Some w.fields
+  pub shape_is : schema ≡ Some w.shape
   pub limits_are : w.limits ≡ limits
   pub options_are : w.options ≡ o
   pub failures_are : w.failures ≡ start
 
 -- All of these batches, of a stream with this schema, were written.
-abbrev pub HasWritten : LimitNumbers → Options → Option (List ℕ) → ℕ → Option Fields → List Table → At → Type 0
+abbrev pub HasWritten : LimitNumbers → Options → Option (List ℕ) → ℕ → Option SchemaShape → List Table → At → Type 0
 HasWritten limits o first start schema batches (waiting held failed) = (schema ≡ None) × (held ≡ first) × (failed ≡ start)
 HasWritten limits o first start schema batches (writing w) = IsWritingOn limits o first start schema batches w
 

@@ -2,7 +2,7 @@
 
 ghost use Rattle.std.specs.Prelude.{◌≡◌, ◌<◌, ◌-◌, ◌^◌, OnOk};
 ghost use Rattle.arrow_stream.specs.Views.{given};
-ghost use Rattle.arrow_types.specs.Schema.{IsSchema};
+ghost use Rattle.arrow_types.specs.Schema.{IsNoted};
 ghost use Rattle.arrow_writer.specs.Shown.{options_view, shown};
 ghost use Rattle.arrowflow_copy.specs.Copying.{Adds, Begins, Closes, IsWriting, Takes, TakesOne};
 ghost use Rattle.arrowflow_copy.specs.Copying.{failures_at, fault_of, writing};
@@ -36,12 +36,12 @@ pub(crate) struct Terms {
 /// Starts a writer of the schema.
 fn begin<S: Sink>(terms: &Terms, sink: S, schema: &Schema) -> (Target<S>, Result<(), ToolFault>)
     requires { S.failed sink < 2 ^ 64 - 1 }
-    ensures known { IsSchema schema.now }
+    ensures known { IsNoted schema.now }
     ensures begins { Begins terms.now.limits (options_view terms.now.options) schema.now (S.contents sink)
         (S.failed sink) result.1 (at_of S.contents S.failed result.0) }
 {
     // what is known of each schema is known of this one, also where its frame is cut off
-    let _fields = schema.fields();
+    let _metadata = schema.metadata();
     match StreamWriter::start(terms.alloc, sink, schema, terms.options, terms.limits) {
         Ok(writer) => (Target::Writing(writer), Ok(())),
         Err((kind, sink)) => (Target::Waiting(sink), Err(fault_of(What::Start, kind))),

@@ -1,8 +1,8 @@
 -- How a stream ends of which the batches were kept.
 use Rattle.std.proofs.Common.{◌≡◌, ℕ, true, false, Bool, List, [], ◌∷◌, Option, None, Result, Ok, Err, inl, inr, refl, sym, ap, ◌∙◌, subst, is_some}
 use Rattle.std.specs.Io.KnownBytes.{IsAtEnd}
-use Rattle.arrow_types.specs.Field.{Fields}
 use Rattle.arrow_types.specs.Limits.{LimitNumbers}
+use Rattle.arrow_types.specs.Notes.{SchemaShape}
 use Rattle.arrow_array.specs.Batch.{Table}
 use Rattle.arrow_stream.specs.declared.fault.Fault.{Fault}
 use Rattle.arrow_stream.specs.declared.kind.Kind.TheVariants.{NoSchema, Truncated}
@@ -103,5 +103,5 @@ well_schema {e = e} front well none = by e.verdict refl
         let q : ended_by (Bad k) false e.rest e.place ≡ Ok tt = sym (λ i. ended_by (v i) (is_some (none i)) e.rest e.place) ∙ well in
         absurd (cc)
 
-pub whole_schema : (limits : LimitNumbers) (bytes : List ℕ) (left : Option (List ℕ)) (schema : Option Fields) (batches : List Table) → IsWhole limits bytes left schema batches → schema ≡ None → ⊥
+pub whole_schema : (limits : LimitNumbers) (bytes : List ℕ) (left : Option (List ℕ)) (schema : Option SchemaShape) (batches : List Table) → IsWhole limits bytes left schema batches → schema ≡ None → ⊥
 whole_schema limits bytes left schema batches x none = well_schema x.front x.ends.0 (sym x.schema_is ∙ none)

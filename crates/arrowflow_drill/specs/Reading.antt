@@ -2,8 +2,8 @@
 use Rattle.std.specs.Prelude.{◌≡◌, ◌⊎◌, ℕ, ◌+◌, true, Bool, IsTrue, List, [], ◌∷◌, ◌++◌, map, Option, Some, Result, Ok, Err, Vec, ⊤}
 use Rattle.std.specs.Io.KnownBytes.{Consumes}
 use Rattle.std.specs.declared.alloc.Global.{Global}
-use Rattle.arrow_types.specs.Field.{Fields}
 use Rattle.arrow_types.specs.Limits.{LimitNumbers}
+use Rattle.arrow_types.specs.Notes.{SchemaShape}
 use Rattle.arrow_array.specs.Batch.{Table}
 use Rattle.arrow_stream.specs.declared.fault.Fault.{Fault}
 use Rattle.arrow_stream.specs.declared.reader.Verdict.TheVariants.{Done}
@@ -39,7 +39,7 @@ KeepsPiece old kept piece answer new kept' = (t : List ℕ) → HandsOut t kept 
 -- ---- a stream
 
 -- These bytes are a stream that ends well, of this schema and these batches.
-pub record IsWhole (limits : LimitNumbers) (bytes : List ℕ) (left : Option (List ℕ)) (schema : Option Fields) (batches : List Table) : Type 0 where
+pub record IsWhole (limits : LimitNumbers) (bytes : List ℕ) (left : Option (List ℕ)) (schema : Option SchemaShape) (batches : List Table) : Type 0 where
   pub entries : List Entry
   pub standing : Standing
   pub front : FrontOf limits bytes entries standing
@@ -55,7 +55,7 @@ pub record IsRefused (limits : LimitNumbers) (bytes : List ℕ) (left : Option (
   pub ends : EndsBadly left standing fault
 
 -- what these bytes decided of an input of which this is left: nothing of them holds the input to have failed
-abbrev pub Decides : LimitNumbers → List ℕ → Option (List ℕ) → Result (Unit {0}) ToolFault → Option Fields → List Table → Type 0
+abbrev pub Decides : LimitNumbers → List ℕ → Option (List ℕ) → Result (Unit {0}) ToolFault → Option SchemaShape → List Table → Type 0
 Decides limits bytes left (Ok done) schema batches = IsWhole limits bytes left schema batches
 Decides limits bytes left (Err (Stream fault)) schema batches = IsRefused limits bytes left fault
 Decides limits bytes left (Err Memory) schema batches = ⊤
@@ -64,13 +64,13 @@ Decides limits bytes left (Err Output) schema batches = ⊥
 Decides limits bytes left (Err (Refused what kind)) schema batches = ⊥
 
 -- the same, or that a read failed where the bytes before it call for more
-abbrev pub DecidesOrFails : LimitNumbers → List ℕ → Option (List ℕ) → Result (Result (Unit {0}) ToolFault) ReadFailed → Option Fields → List Table → Type 0
+abbrev pub DecidesOrFails : LimitNumbers → List ℕ → Option (List ℕ) → Result (Result (Unit {0}) ToolFault) ReadFailed → Option SchemaShape → List Table → Type 0
 DecidesOrFails limits bytes left (Ok answer) schema batches = Decides limits bytes left answer schema batches
 DecidesOrFails limits bytes left (Err failed) schema batches = IsOpenAt limits bytes
 
 -- The same of an input that had these bytes before and has these after it. No piece was read after the one in which the stream is
 -- refused or ends with its marker.
-abbrev pub ReadsStream : LimitNumbers → Option (List ℕ) → Option (List ℕ) → Result (Result (Unit {0}) ToolFault) ReadFailed → Option Fields → List Table → Type 0
+abbrev pub ReadsStream : LimitNumbers → Option (List ℕ) → Option (List ℕ) → Result (Result (Unit {0}) ToolFault) ReadFailed → Option SchemaShape → List Table → Type 0
 ReadsStream limits had left answer schema batches =
     (bytes : List ℕ) × Consumes had left bytes × IsReadWhile (IsOpenAt limits) bytes × DecidesOrFails limits bytes left answer schema batches
 
@@ -84,7 +84,7 @@ pub record Asks : Type 0 where
 
 -- The connection of a stream: its schema and its batches, with an end marker.
 pub record IsConnectionOf (asks : Asks) (bytes : List ℕ) (left : Option (List ℕ)) (c : Asked) : Type 0 where
-  pub stream : IsWhole asks.limits bytes left (Some c.fields) c.batches
+  pub stream : IsWhole asks.limits bytes left (Some c.shape) c.batches
   pub options_are : c.options ≡ asks.options
   pub finishes : c.finish ≡ true
   pub delivers : c.deliver ≡ asks.deliver

@@ -1,6 +1,6 @@
 -- What is asked of the connections of streams.
 use Rattle.std.specs.Prelude.{◌≡◌, true, List, Option, Some}
-use Rattle.arrow_types.specs.Field.{Fields}
+use Rattle.arrow_types.specs.Notes.{SchemaShape}
 use Rattle.arrow_array.specs.Batch.{Table}
 use Rattle.arrow_session.specs.declared.session.Connection.{Connection}
 use Rattle.arrow_writer.specs.Shown.{options_view}
@@ -12,7 +12,7 @@ abbrev pub asks_of : Terms → Asks
 asks_of terms = record { limits = terms.limits; options = options_view terms.options; deliver = terms.deliver }
 
 -- A connection was made, by these terms, of a schema and batches.
-pub record IsMadeOf (terms : Terms) (schema : Option Fields) (batches : List Table) (c : Connection) : Type 0 where
+pub record IsMadeOf (terms : Terms) (schema : Option SchemaShape) (batches : List Table) (c : Connection) : Type 0 where
   pub schema_is : Some c.schema ≡ schema
   pub batches_are : c.batches.items ≡ batches
   pub options_are : options_view c.options ≡ options_view terms.options

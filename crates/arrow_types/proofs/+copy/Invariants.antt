@@ -1,7 +1,9 @@
 use Rattle.std.proofs.Common.{◌≡◌, take, map}
-use Rattle.arrow_types.specs.View.{field_view}
+use Rattle.arrow_types.specs.View.{field_notes, field_view}
 use Rattle.arrow_types.proofs.+copy.Given as goal
 
--- the copies so far are of the fields so far
+-- the copies so far are of the fields so far, and noted alike
 abbrev pub invariant-field::copy_fields-loop-field : goal.invariant-field::copy_fields-loop-field
-invariant-field::copy_fields-loop-field l = map field_view l.copies.items ≡ map field_view (take l.field-index l.fields)
+invariant-field::copy_fields-loop-field l =
+    (map field_view l.copies.items ≡ map field_view (take l.field-index l.fields))
+    × (map field_notes l.copies.items ≡ map field_notes (take l.field-index l.fields))

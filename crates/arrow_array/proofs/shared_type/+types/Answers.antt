@@ -7,4 +7,4 @@ use Rattle.arrow_array.proofs.shared_type.+types.Goals as goal
 pub push_types-requires : goal.push_types-requires
 push_types-requires t c =
     let fewer = fewer_below c.args.fields.now c.loop-field.field-index c.field-item.result c.loop-field-test.true c.field-item.is in
-    (omega (arith, c.decreases, fewer, ap count c.children.ensures), tt)
+    (omega (arith, c.decreases, fewer, ap count c.children.ensures.fields), tt)

@@ -15,7 +15,7 @@ form_below-requires t c =
     let f = c.index-fields-found.result in
     let typed = field_typed fields c.in-Some.found.field f c.in-Some.ensures.inside c.index-fields-found.is in
     let there = node_there (fields_view fields) c.args.node c.in-Some.found.field c.in-Some.found.node (type_in f) (field_view f).head.encoding c.in-Some.ensures.node typed in
-    let same = c.children.ensures ∙ ap (λ (s : TypeShape). s.children) (same_type f) in (
+    let same = c.children.ensures.fields ∙ ap (λ (s : TypeShape). s.children) (same_type f) in (
       omega (arith, c.decreases, fewer_below fields c.in-Some.found.field f c.in-Some.ensures.inside c.index-fields-found.is, ap count same),
       omega (arith, there, c.if-found-eq0.false, flattened-le (field_view f).head.encoding (taken_nodes (field_view f).children), ap taken_nodes same),
     )
@@ -39,7 +39,7 @@ returns-else-found-eq0 t c =
     let e = (field_view f).head.encoding in
     let typed = field_typed fields c.in-Some.found.field f c.in-Some.ensures.inside c.index-fields-found.is in
     let there = node_there (fields_view fields) c.args.node c.in-Some.found.field m (type_in f) e c.in-Some.ensures.node typed in
-    let same = c.children.ensures ∙ ap (λ (s : TypeShape). s.children) (same_type f) in
+    let same = c.children.ensures.fields ∙ ap (λ (s : TypeShape). s.children) (same_type f) in
     let lower : m ≡ suc (m - 1) = omega (arith, c.if-found-eq0.false) in
     c.form_below.ensures ∙ ap (λ fs. form_in fs (m - 1)) same
     ∙ sym (form_at (fields_view fields) c.args.node c.in-Some.found.field m (type_in f) e c.in-Some.ensures.node typed ∙ ap (form_by (type_in f) e) lower

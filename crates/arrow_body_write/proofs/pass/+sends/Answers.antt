@@ -23,7 +23,7 @@ sends_null-requires t c =
     let f = c.index-fields-found.result in
     let typed = field_typed fields c.in-Some.found.field f c.in-Some.ensures.inside c.index-fields-found.is in
     let there = node_there (fields_view fields) c.args.node c.in-Some.found.field c.in-Some.found.node (type_in f) (field_view f).head.encoding c.in-Some.ensures.node typed in
-    let same = c.children.ensures ∙ ap (λ (s : TypeShape). s.children) (same_type f) in (
+    let same = c.children.ensures.fields ∙ ap (λ (s : TypeShape). s.children) (same_type f) in (
       omega (arith, c.decreases, fewer_below fields c.in-Some.found.field f c.in-Some.ensures.inside c.index-fields-found.is, ap count same),
       omega (arith, there, c.if-found-eq0.false, flattened-le (field_view f).head.encoding (taken_nodes (field_view f).children), ap taken_nodes same),
     )
@@ -38,7 +38,7 @@ returns-in-Structs t c =
     let e = (field_view f).head.encoding in
     let typed = field_typed fields k f c.in-Some.ensures.inside c.index-fields-found.is in
     let there = node_there (fields_view fields) c.args.node k m (type_in f) e c.in-Some.ensures.node typed in
-    let same = c.children.ensures ∙ ap (λ (s : TypeShape). s.children) (same_type f) in
+    let same = c.children.ensures.fields ∙ ap (λ (s : TypeShape). s.children) (same_type f) in
     let lower : m ≡ suc (m - 1) = omega (arith, c.if-found-eq0.false) in
     let structs = sym (same_form f) ∙ sym c.node_form.ensures ∙ c.in-Structs.is in
     null_to_field (fields_view fields) c.args.node k m (type_in f) e c.in-Some.ensures.node typed

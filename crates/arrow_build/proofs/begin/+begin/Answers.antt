@@ -35,7 +35,7 @@ begin-invariant_of-result t c =
       kept = kept (counts_in c.in_ok-children.children.items);
       fits = tt;
       own = own;
-      below = subst (λ f. AreBelow f.head.encoding f.children c.in_ok-children.children.items) (sym c.in_ok-copy.ensures) c.in_ok-children.ensures;
+      below = subst (λ f. AreBelow f.head.encoding f.children c.in_ok-children.children.items) (sym c.in_ok-copy.ensures.same) c.in_ok-children.ensures;
       held = held_none (field_form field) c.in_ok-children.children.items;
       counted = counted_none (field_form field) b kept;
     }
@@ -45,4 +45,4 @@ begin_below-returns-in-None t c =
     let plain : (field_view c.args.field.now).head.encoding ≡ None = search (rules, the_lemmas) in
     IfOk-weaker c.begin_all.result (λ v. v.items ≡ map (λ f. no_values_of (field_view f)) c.children.result.now)
     (λ v. AreBelow (field_view c.args.field.now).head.encoding (field_view c.args.field.now).children v.items)
-    (λ v e. below_begun (field_view c.args.field.now).head.encoding (field_view c.args.field.now).children c.children.result.now v.items plain c.children.ensures e) c.begin_all.ensures
+    (λ v e. below_begun (field_view c.args.field.now).head.encoding (field_view c.args.field.now).children c.children.result.now v.items plain c.children.ensures.fields e) c.begin_all.ensures

@@ -24,7 +24,7 @@ pub push_value-push_parts-requires : goal.push_value-push_parts-requires
 push_value-push_parts-requires t c =
     let h = subst (HoldsValue c.args.column.now c.args.i) c.in-Struct.is c.requires.holds in
     let m = parts_smaller c.args.column.now c.in-Struct.children.now h.typed in
-    let same = c.children.ensures ∙ ap (λ x. x.children) c.data_type.ensures in
+    let same = c.children.ensures.fields ∙ ap (λ x. x.children) c.data_type.ensures in
     (omega (arith, c.decreases, m), (subst (λ f. AreOf f c.in-Struct.children.now) (sym same) h.typed, h.inside))
 
 -- what the items make is the text of the list

@@ -1,19 +1,10 @@
-use Rattle.std.proofs.Common.{arith, ap, ◌∙◌}
-use Rattle.arrow_flatbuf.specs.Nodes.{after, table, tables}
+use Rattle.std.proofs.Common.{arith}
+use Rattle.arrow_flatbuf.specs.Nodes.{after, table}
 use Rattle.arrow_flatbuf.proofs.Laid.{reaches}
-use Rattle.arrow_types.specs.Field.{Fields}
-use Rattle.arrow_meta_write.specs.Capped.{capped}
-use Rattle.arrow_meta_write.specs.Layouts.{batch_cells, field_nodes}
+use Rattle.arrow_meta_write.specs.Layouts.{batch_cells}
 use Rattle.arrow_meta.specs.Means.{batch_view}
 use Rattle.arrow_meta_write.proofs.Capping.{caps}
 use Rattle.arrow_meta_write.proofs.sizes.header_end.Goals as goal
-
-pub returns-in-Schema-clause-end : goal.returns-in-Schema-clause-end
-returns-in-Schema-clause-end c =
-    let fields = tables (field_nodes c.in-Schema.schema) in
-    let t = c.schema_table_end.result in
-    let wrote = c.fields_end.ensures.end ∙ ap (λ (fs : Fields). capped (after t (tables (field_nodes fs)))) c.fields.ensures.same in
-    rw c.in-Schema.is (caps (λ q. after q fields) (λ q. omega (arith, reaches q fields)) t c.fields_end.result _ (c.schema_table_end.ensures.end c.in-Schema.schema) wrote)
 
 pub returns-in-Dictionary-clause-end : goal.returns-in-Dictionary-clause-end
 returns-in-Dictionary-clause-end c =

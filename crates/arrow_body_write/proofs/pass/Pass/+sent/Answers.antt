@@ -59,7 +59,7 @@ take_items-loop-i-preserved t c =
 -- each field has its child
 pub take_parts-bounds-children-found : goal.take_parts-bounds-children-found
 take_parts-bounds-children-found t c =
-    let same = c.children-fields.ensures ∙ ap (λ (s : TypeShape). s.children) c.data_type.ensures in
+    let same = c.children-fields.ensures.fields ∙ ap (λ (s : TypeShape). s.children) c.data_type.ensures in
     omega (arith, c.in-Some.ensures.inside, width-fields_view c.children-fields.result.now, ap width same, as_many c.args.array.now.data_type.children c.args.children.now c.requires.fields.typed)
 
 -- no struct so far
@@ -79,7 +79,7 @@ take_parts-take_sent-requires t c =
     let k = c.in-Some.found.field in
     let m = c.in-Some.found.node in
     let high : end ≤ length a.raw = omega (arith, before.high, c.requires.inside) in
-    let same = c.children-fields.ensures ∙ ap (λ (s : TypeShape). s.children) c.data_type.ensures in
+    let same = c.children-fields.ensures.fields ∙ ap (λ (s : TypeShape). s.children) c.data_type.ensures in
     let at = subst (λ fs. IsNodeOf fs c.args.node k m) same c.in-Some.ensures.node in
     let inside : k < length children = omega (arith, c.in-Some.ensures.inside, width-fields_view c.children-fields.result.now, ap width same, as_many a.data_type.children children c.requires.fields.typed) in
     let field = c.requires.fields.each k child (column_found children k child inside c.index-children-found.is) in
@@ -104,7 +104,7 @@ take_parts-loop-i-preserved t c =
     let m = c.in-Some.found.node in
     let n = suc c.args.node in
     let high : end ≤ length a.raw = omega (arith, before.high, c.requires.inside) in
-    let same = c.children-fields.ensures ∙ ap (λ (s : TypeShape). s.children) c.data_type.ensures in
+    let same = c.children-fields.ensures.fields ∙ ap (λ (s : TypeShape). s.children) c.data_type.ensures in
     let at = subst (λ fs. IsNodeOf fs c.args.node k m) same c.in-Some.ensures.node in
     let inside : k < length children = omega (arith, c.in-Some.ensures.inside, width-fields_view c.children-fields.result.now, ap width same, as_many a.data_type.children children c.requires.fields.typed) in
     let field = c.requires.fields.each k child (column_found children k child inside c.index-children-found.is) in
@@ -126,7 +126,7 @@ take_parts-loop-i-preserved-then-i-stop t c =
     let m = c.in-Some.found.node in
     let n = suc c.args.node in
     let high : end ≤ length a.raw = omega (arith, before.high, c.requires.inside) in
-    let same = c.children-fields.ensures ∙ ap (λ (s : TypeShape). s.children) c.data_type.ensures in
+    let same = c.children-fields.ensures.fields ∙ ap (λ (s : TypeShape). s.children) c.data_type.ensures in
     let at = subst (λ fs. IsNodeOf fs c.args.node k m) same c.in-Some.ensures.node in
     let inside : k < length children = omega (arith, c.in-Some.ensures.inside, width-fields_view c.children-fields.result.now, ap width same, as_many a.data_type.children children c.requires.fields.typed) in
     let field = c.requires.fields.each k child (column_found children k child inside c.index-children-found.is) in

@@ -2,6 +2,7 @@ use Rattle.std.proofs.Common.{◌+◌, ◌≤◌, length, take, refl, sym, subst
 use Rattle.arrow_stream.specs.Views.{plain}
 use Rattle.arrow_stream.specs.Work.{Shown}
 use Rattle.arrow_stream.proofs.Firsts.{HasPrefix-take, HasMetadata-take}
+use Rattle.arrow_stream.proofs.Works.{size_small}
 use Rattle.arrow_stream.proofs.work.Work.rewind.Goals as goal
 
 pub returns-else-count-size : goal.returns-else-count-size
@@ -39,3 +40,10 @@ returns-then-count-size c =
         };
       };
     }
+
+-- metadata end by the last place
+pub overflow_add-size : goal.overflow_add-size
+overflow_add-size c =
+    let old = c.args.self.now in
+    let shown = subst (λ f. Shown old.limits (plain old.state) old.place old.held.items f) c.in-Body.is c.requires.at.shown in
+    omega (arith, (size_small shown.0.prefix).1)

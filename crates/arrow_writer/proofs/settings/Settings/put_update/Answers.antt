@@ -1,5 +1,6 @@
 use Rattle.std.proofs.Common.{◌≡◌, ◌≤◌, ◌<◌, ◌-◌, ◌^◌, List, length, drop, ap, sym, ◌∙◌, subst, arith, rules, refl, length-drop, w64, to_z, of_z}
 use Rattle.arrow_body_write.specs.Storing.{body_view}
+use Rattle.arrow_types.specs.Notes.{SchemaShape}
 use Rattle.arrow_types.specs.Schema.{IsSchema}
 use Rattle.arrow_writer.specs.Framing.{update_load}
 use Rattle.arrow_writer.specs.Terms.{terms_of}
@@ -16,7 +17,7 @@ returns-in-None c named =
     let body_ceiling = c.max_body-max_body.ensures.ceiling in
     let row_limit = c.max_rows-max_rows.ensures.value in
     let row_ceiling = c.max_rows-max_rows.ensures.ceiling in
-    let known = subst IsSchema c.deref.ensures c.fields.ensures.limits in
+    let known = subst (λ (shape : SchemaShape). IsSchema shape.fields) c.deref.ensures c.fields.ensures.limits in
     never_rest terms update.id update.is_delta update.from update.dictionary.now named (omega arith) (omega arith) known c.in-None.ensures.size
 
 -- they were stored
@@ -32,4 +33,4 @@ returns-in-Ok-Some c named =
     let long = c.len-len.ensures in
     let few_rows = c.if-len-max_rows.false in
     puts_update terms update.id update.is_delta update.from d named c.put_stored.result c.args.out.now.items c.put_stored.new.out.items (omega arith)
-    (c.put_stored.ensures (update_load terms.fields (sending_of update)) (search rules) rows stored)
+    (c.put_stored.ensures (update_load terms.shape.fields (sending_of update)) (search rules) rows stored)

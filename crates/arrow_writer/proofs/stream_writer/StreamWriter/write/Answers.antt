@@ -1,4 +1,4 @@
-use Rattle.std.proofs.Common.{◌≡◌, ◌+◌, List, Err, refl, sym, ap, ◌∙◌, subst, length}
+use Rattle.std.proofs.Common.{◌≡◌, ◌+◌, List, Err, refl, sym, ap, ◌∙◌, subst, length, arith}
 use Rattle.std.specs.Io.KnownBytes.{Appends}
 use Rattle.arrow_sink.specs.Sinks.{AcceptsBeginning}
 use Rattle.arrow_written.specs.Writer.{Shows, Writes}
@@ -6,7 +6,7 @@ use Rattle.arrow_written.specs.declared.status.Status.TheVariants as statuses
 use Rattle.arrow_writer.specs.Parts.{options_of}
 use Rattle.arrow_writer.specs.Shown.{shown}
 use Rattle.arrow_writer.specs.Terms.{Terms, terms_of}
-use Rattle.arrow_writer.proofs.Showing.{HasTerms, writes_accepted, writes_failed, writing}
+use Rattle.arrow_writer.proofs.Showing.{HasTerms, part_near, writes_accepted, writes_failed, writing}
 use Rattle.arrow_writer.proofs.stream_writer.StreamWriter.write.Goals as goal
 
 -- the part was accepted
@@ -20,15 +20,15 @@ returns-in-Ok-send_part g c =
     let new : Shows = record {
       limits = settings.limits;
       options = options_of (terms_of settings);
-      fields = settings.schema.value;
+      shape = settings.schema.value;
       sent = c.send_part.new.tracker.sent;
       place = old.place + c.len.result;
       status = c.args.self.now.status;
       contents = g.S.Sink.contents c.send_part.new.sink;
       failures = g.S.Sink.failed c.send_part.new.sink;
     } in
-    let was : HasTerms terms old = record { limits = refl; options = refl; fields = refl } in
-    let has : HasTerms terms new = record { limits = ap (λ (u : Terms). u.limits) kept; options = ap options_of kept; fields = ap (λ (u : Terms). u.fields) kept } in
+    let was : HasTerms terms old = record { limits = refl; options = refl; shape = refl } in
+    let has : HasTerms terms new = record { limits = ap (λ (u : Terms). u.limits) kept; options = ap options_of kept; shape = ap (λ (u : Terms). u.shape) kept } in
     let open_before = writing old.status (sym c.in-Ok.ensures) in
     let more = subst (λ (xs : List _). Appends old.contents new.contents xs) (c.deref.ensures.value ∙ sym built.same) c.in-Ok-send_part.ensures.all in
     let long = c.len.ensures ∙ sym c.deref.ensures.len ∙ ap length c.deref.ensures.value ∙ built.sized in
@@ -45,16 +45,25 @@ returns-in-Err-send_part g c =
     let new : Shows = record {
       limits = settings.limits;
       options = options_of (terms_of settings);
-      fields = settings.schema.value;
+      shape = settings.schema.value;
       sent = c.send_part.new.tracker.sent;
       place = old.place;
       status = statuses.Broken;
       contents = g.S.Sink.contents c.send_part.new.sink;
       failures = g.S.Sink.failed c.send_part.new.sink;
     } in
-    let was : HasTerms terms old = record { limits = refl; options = refl; fields = refl } in
-    let has : HasTerms terms new = record { limits = ap (λ (u : Terms). u.limits) kept; options = ap options_of kept; fields = ap (λ (u : Terms). u.fields) kept } in
+    let was : HasTerms terms old = record { limits = refl; options = refl; shape = refl } in
+    let has : HasTerms terms new = record { limits = ap (λ (u : Terms). u.limits) kept; options = ap options_of kept; shape = ap (λ (u : Terms). u.shape) kept } in
     let open_before = writing old.status (sym c.in-Ok.ensures) in
     let some = subst (λ (xs : List _). AcceptsBeginning old.contents new.contents xs) (c.deref.ensures.value ∙ sym built.same) c.in-Err-send_part.ensures.beginning in
     subst (λ k. Writes old c.args.batch.now (Err k) new) (sym c.in-Err-send_part.ensures.fault)
     (writes_failed terms c.args.batch.now old new was has open_before built.frames built.is_part some (c.in-Err-send_part.ensures.discarded ∙ built.kept) refl refl c.in-Err-send_part.ensures.failed)
+
+-- the part ends before the last place
+pub invariant_of-self-in-Ok-send_part-clause-near : goal.invariant_of-self-in-Ok-send_part-clause-near
+invariant_of-self-in-Ok-send_part-clause-near g c =
+    let old = c.args.self.now in
+    let terms = terms_of old.builder.settings in
+    let built = c.in-Ok-build.ensures.built in
+    let long = c.len.ensures ∙ sym c.deref.ensures.len ∙ ap length c.deref.ensures.value ∙ built.sized in
+    omega (arith, long, part_near terms old.place c.args.batch.now old.builder.tracker.sent built.frames built.is_part)

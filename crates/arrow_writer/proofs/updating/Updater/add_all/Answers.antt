@@ -1,4 +1,5 @@
 use Rattle.std.proofs.Common.{◌≡◌, ◌<◌, ◌+◌, length, sym, refl, rules, ap, ◌∙◌, subst, Ok, Err, w64, to_z, of_z, slice_index_or, pos, take}
+use Rattle.arrow_types.specs.Notes.{SchemaShape}
 use Rattle.arrow_types.specs.Schema.{dictionary_ids}
 use Rattle.arrow_written.specs.Plan.{sendings}
 use Rattle.arrow_written.specs.Rows.{list_of}
@@ -18,7 +19,7 @@ returns-in-Err c t same lists =
     let id = slice_index_or ids c.loop-k.k (pos 0) in
     let h : c.loop-k.k < length ids = search rules in
     let passed : to_z w64 (of_z w64 id) ≡ id = search rules in
-    let are : ids ≡ dictionary_ids terms.fields = c.dictionary_ids-ids.ensures ∙ ap dictionary_ids c.deref.ensures in
+    let are : ids ≡ dictionary_ids terms.shape.fields = c.dictionary_ids-ids.ensures ∙ ap (λ (shape : SchemaShape). dictionary_ids shape.fields) c.deref.ensures in
     let old = work_of c.loop-k.bytes.items c.loop-k.tracker in
     let new = work_of c.add_one.new.bytes.items c.add_one.new.tracker in
     let so_far = c.loop-k.invariant t same lists in
@@ -37,7 +38,7 @@ loop-k-preserved c t same lists =
     let id = slice_index_or ids c.loop-k.k (pos 0) in
     let h : c.loop-k.k < length ids = search rules in
     let passed : to_z w64 (of_z w64 id) ≡ id = search rules in
-    let are : ids ≡ dictionary_ids terms.fields = c.dictionary_ids-ids.ensures ∙ ap dictionary_ids c.deref.ensures in
+    let are : ids ≡ dictionary_ids terms.shape.fields = c.dictionary_ids-ids.ensures ∙ ap (λ (shape : SchemaShape). dictionary_ids shape.fields) c.deref.ensures in
     let old = work_of c.loop-k.bytes.items c.loop-k.tracker in
     let new = work_of c.add_one.new.bytes.items c.add_one.new.tracker in
     let sent = c.args.tracker.now.sent in

@@ -1,0 +1,14 @@
+use Rattle.std.proofs.Common.{◌≤◌, rules}
+use Rattle.arrow_types.proofs.Schemas.{schema_kept}
+use Rattle.arrow_types.specs.Notes.{pair_count, pairs_view}
+use Rattle.arrow_types.specs.Schema.{IsBounded}
+use Rattle.arrow_types.specs.View.{fields_view, schema_view}
+use Rattle.arrow_types.proofs.schema.Schema.with_metadata.Goals as goal
+
+-- fields and pairs that pass all tests keep what a schema keeps
+pub invariant_of-result : goal.invariant_of-result
+invariant_of-result c =
+    let shape = schema_view c.args.fields.items (pairs_view c.args.metadata.items) in
+    let bounded : IsBounded (fields_view c.args.fields.items) = search rules in
+    let few : pair_count shape ≤ 65536 = search rules in
+    schema_kept shape c.in-Ok-Some.dictionary_ids.items bounded (rw (c.in-Ok-Some.field-0-is, c.deref-4.ensures.value) at c.in-Ok-Some.ensures.gives) few
