@@ -42,13 +42,7 @@ impl ValueField {
     pub(crate) fn of(alloc: Global, data_type: &DataType) -> Result<ValueField, AllocError>
         ensures { IfOk result (λ f. f ≡ value_field (type_view data_type.now)) }
     {
-        let field = Field {
-            name: String::new(alloc),
-            nullable: true,
-            data_type: data_type.copy(alloc)?,
-            dictionary: None,
-            metadata: Vec::new(alloc),
-        };
+        let field = Field::new(alloc, String::new(alloc), data_type.copy(alloc)?, true);
         let types = shared_types(alloc, slice::from_ref(&field))?;
         Ok(ValueField { field, types })
     }

@@ -46,15 +46,11 @@ const OPTIONS: Options = Options {
 fn number_field(alloc: Global) -> Result<Field, AllocError>
     ensures { IfOk result (λ f. field_is_nested (field_view f) ≡ false) }
 {
-    Ok(Field {
-        name: String::from_str(alloc, "n")?,
-        nullable: true,
-        data_type: DataType::Int {
-            bits: BitWidth::SixtyFour,
-            signed: true,
-        },
-        dictionary: None,
-    })
+    let data_type = DataType::Int {
+        bits: BitWidth::SixtyFour,
+        signed: true,
+    };
+    Ok(Field::new(alloc, String::from_str(alloc, "n")?, data_type, true))
 }
 
 /// Writes numbers, some of them null, as a stream of one batch with one column.

@@ -66,16 +66,16 @@ fn schema(
 ) -> Option<Schema> {
     let mut fields = Vec::new(alloc);
     fields
-        .push(Field {
-            name: String::from_str(alloc, "n").ok()?,
-            nullable: true,
-            data_type: DataType::Int {
+        .push(Field::new(
+            alloc,
+            String::from_str(alloc, "n").ok()?,
+            DataType::Int {
                 bits: BitWidth::ThirtyTwo,
                 signed: true,
             },
-            dictionary: None,
-            metadata,
-        })
+            true,
+        )
+        .with_metadata(metadata))
         .ok()?;
     Schema::with_metadata(alloc, fields, own).ok()
 }

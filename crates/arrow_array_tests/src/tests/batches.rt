@@ -169,10 +169,13 @@ fn encoding(by: Option<By>) -> Option<Encoding> {
 
 fn fault_by(rt: &(impl Abort + AllocGlobal), form: Form, by: Option<By>) -> Option<BatchFault> {
     let texts = Field {
-        name: String::new(rt.alloc()),
-        nullable: true,
-        data_type: data_type(rt, form),
         dictionary: encoding(by),
+        ..Field::new(
+            rt.alloc(),
+            String::new(rt.alloc()),
+            data_type(rt, form),
+            true,
+        )
     };
     let schema = shared(rt, one(rt, texts));
     let column = referring(rt, Form::Utf8, &[0], &[0], None).expect(rt, "a null");

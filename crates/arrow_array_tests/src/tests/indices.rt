@@ -180,19 +180,16 @@ fn an_index_by_its_width_and_sign(rt: HostRuntime) {
 
 // A field of indices of 8 bits to nulls.
 fn indices_to_nulls(rt: &(impl Abort + AllocGlobal), signed: bool) -> Field {
-    Field {
-        name: String::new(rt.alloc()),
-        nullable: true,
-        data_type: DataType::Null,
-        dictionary: Some(Encoding {
+    Field::new(rt.alloc(), String::new(rt.alloc()), DataType::Null, true).with_dictionary(
+        Encoding {
             id: 0,
             index: IndexType {
                 bits: BitWidth::Eight,
                 signed,
             },
             ordered: false,
-        }),
-    }
+        },
+    )
 }
 
 fn nulls(rt: &(impl Abort + AllocGlobal)) -> Dictionary {

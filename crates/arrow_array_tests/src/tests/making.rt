@@ -39,29 +39,30 @@ pub(super) fn one<T: Drop>(rt: &(impl Abort + AllocGlobal), element: T) -> Vec<T
 
 // A nullable field without an encoding.
 pub(super) fn field(rt: &(impl Abort + AllocGlobal), name: &str, data_type: DataType) -> Field {
-    Field {
-        name: String::from_str(rt.alloc(), name).expect(rt, "memory"),
-        nullable: true,
+    Field::new(
+        rt.alloc(),
+        String::from_str(rt.alloc(), name).expect(rt, "memory"),
         data_type,
-        dictionary: None,
-    }
+        true,
+    )
 }
 
 // A field of signed indices of 8 bits into dictionary 0.
 pub(super) fn indices(rt: &(impl Abort + AllocGlobal), name: &str, data_type: DataType) -> Field {
-    Field {
-        name: String::from_str(rt.alloc(), name).expect(rt, "memory"),
-        nullable: true,
+    Field::new(
+        rt.alloc(),
+        String::from_str(rt.alloc(), name).expect(rt, "memory"),
         data_type,
-        dictionary: Some(Encoding {
-            id: 0,
-            index: IndexType {
-                bits: BitWidth::Eight,
-                signed: true,
-            },
-            ordered: false,
-        }),
-    }
+        true,
+    )
+    .with_dictionary(Encoding {
+        id: 0,
+        index: IndexType {
+            bits: BitWidth::Eight,
+            signed: true,
+        },
+        ordered: false,
+    })
 }
 
 // The column of one node, where its parts are as they should be.

@@ -71,12 +71,12 @@ fn field_of(rt: &(impl Abort + AllocGlobal), kind: Kind, behind: &mut Vec<Field>
 }
 
 fn field(rt: &(impl Abort + AllocGlobal), data_type: DataType) -> Field {
-    Field {
-        name: String::from_str(rt.alloc(), "x").expect(rt, "memory"),
-        nullable: true,
+    Field::new(
+        rt.alloc(),
+        String::from_str(rt.alloc(), "x").expect(rt, "memory"),
         data_type,
-        dictionary: None,
-    }
+        true,
+    )
 }
 
 fn last(rt: &impl Abort, fields: &mut Vec<Field>) -> Field {

@@ -41,10 +41,13 @@ pub(super) fn fields_of(
     only(
         rt,
         Field {
-            name: String::new(rt.alloc()),
-            nullable: true,
-            data_type: data_type(rt, form),
             dictionary: encoding(by),
+            ..Field::new(
+                rt.alloc(),
+                String::new(rt.alloc()),
+                data_type(rt, form),
+                true,
+            )
         },
     )
 }
@@ -80,15 +83,15 @@ fn data_type(rt: &(impl Abort + AllocGlobal), form: Form) -> DataType {
 
 // A child of signed numbers of 8 bits.
 fn number(rt: &impl AllocGlobal) -> Field {
-    Field {
-        name: String::new(rt.alloc()),
-        nullable: true,
-        data_type: DataType::Int {
+    Field::new(
+        rt.alloc(),
+        String::new(rt.alloc()),
+        DataType::Int {
             bits: BitWidth::Eight,
             signed: true,
         },
-        dictionary: None,
-    }
+        true,
+    )
 }
 
 fn boxed(rt: &(impl Abort + AllocGlobal), item: Field) -> Box<Field> {

@@ -58,12 +58,7 @@ fn int8() -> DataType {
 }
 
 fn plain(rt: &(impl Abort + AllocGlobal), data_type: DataType) -> Field {
-    Field {
-        name: String::new(rt.alloc()),
-        nullable: true,
-        data_type,
-        dictionary: None,
-    }
+    Field::new(rt.alloc(), String::new(rt.alloc()), data_type, true)
 }
 
 fn required(rt: &(impl Abort + AllocGlobal)) -> Field {
@@ -74,19 +69,16 @@ fn required(rt: &(impl Abort + AllocGlobal)) -> Field {
 }
 
 fn encoded(rt: &(impl Abort + AllocGlobal), signed: bool) -> Field {
-    Field {
-        name: String::new(rt.alloc()),
-        nullable: true,
-        data_type: DataType::Utf8,
-        dictionary: Some(Encoding {
+    Field::new(rt.alloc(), String::new(rt.alloc()), DataType::Utf8, true).with_dictionary(
+        Encoding {
             id: 7,
             index: IndexType {
                 bits: BitWidth::Eight,
                 signed,
             },
             ordered: false,
-        }),
-    }
+        },
+    )
 }
 
 fn boxed(rt: &(impl Abort + AllocGlobal), field: Field) -> Box<Field> {

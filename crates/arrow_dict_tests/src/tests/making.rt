@@ -28,12 +28,7 @@ pub(super) fn int8() -> DataType {
 pub(super) fn field(alloc: Global, data_type: DataType) -> Field
     ensures { (result.dictionary ≡ None) × (type_view result.data_type ≡ type_view data_type) }
 {
-    Field {
-        name: String::new(alloc),
-        nullable: true,
-        data_type,
-        dictionary: None,
-    }
+    Field::new(alloc, String::new(alloc), data_type, true)
 }
 
 // Whether the type is one of numbers or of nothing.

@@ -8,19 +8,20 @@ use std::process::Abort;
 
 // A named field whose values stand in the dictionary `id`.
 fn encoded(rt: &impl Abort, alloc: Global, id: i64, data_type: DataType) -> Field {
-    Field {
-        name: String::from_str(alloc, "k").expect(rt, "memory"),
-        nullable: false,
+    Field::new(
+        alloc,
+        String::from_str(alloc, "k").expect(rt, "memory"),
         data_type,
-        dictionary: Some(Encoding {
-            id,
-            index: IndexType {
-                bits: BitWidth::Sixteen,
-                signed: false,
-            },
-            ordered: true,
-        }),
-    }
+        false,
+    )
+    .with_dictionary(Encoding {
+        id,
+        index: IndexType {
+            bits: BitWidth::Sixteen,
+            signed: false,
+        },
+        ordered: true,
+    })
 }
 
 fn list(rt: &impl Abort, alloc: Global, item: Field) -> DataType {
@@ -63,18 +64,18 @@ fn value_fields(rt: &(impl Abort + AllocGlobal), columns: Vec<Field>) -> ValueFi
 static NAMED: [(i64, &str); 8] = [
     (
         5,
-        "1: [Field { name: \"\", nullable: true, data_type: Utf8, dictionary: None }]",
+        "1: [Field { name: \"\", nullable: true, data_type: Utf8, dictionary: None, metadata: [] }]",
     ),
     (
         -2,
         "1: [Field { name: \"\", nullable: true, data_type: \
-         Int { bits: Eight, signed: true }, dictionary: None }]",
+         Int { bits: Eight, signed: true }, dictionary: None, metadata: [] }]",
     ),
     (
         9,
         "2: [Field { name: \"\", nullable: true, data_type: List(Field { \
          name: \"\", nullable: true, data_type: Int { bits: Eight, signed: true }, \
-         dictionary: None }), dictionary: None }]",
+         dictionary: None, metadata: [] }), dictionary: None, metadata: [] }]",
     ),
     (0, "none"),
     (2, "none"),

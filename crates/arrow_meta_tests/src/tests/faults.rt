@@ -27,9 +27,9 @@ static FAULTS: [(&str, &[u8], Edits, Option<MetaFault>); 49] = [
         METADATA,
     ),
     (
-        "version V4",
+        "version V3",
         ONE_FIELD,
-        &[(20, 3)],
+        &[(20, 2)],
         Some(MetaFault::Version),
     ),
     (
@@ -41,7 +41,7 @@ static FAULTS: [(&str, &[u8], Edits, Option<MetaFault>); 49] = [
     (
         "version before type",
         ONE_FIELD,
-        &[(20, 3), (97, 3)],
+        &[(20, 2), (97, 3)],
         Some(MetaFault::Version),
     ),
     (
@@ -192,7 +192,7 @@ static FAULTS: [(&str, &[u8], Edits, Option<MetaFault>); 49] = [
     (
         "version before compression",
         ONE_BATCH,
-        &[(20, 3), (40, 12), (50, 1)],
+        &[(20, 2), (40, 12), (50, 1)],
         Some(MetaFault::Version),
     ),
     (

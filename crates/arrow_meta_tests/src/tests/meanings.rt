@@ -133,9 +133,9 @@ static MESSAGES: [(&[u8], Edits, &str); 8] = [
         &[],
         "4 0 schema k: Utf8 by Encoding { id: 0, index: IndexType { bits: ThirtyTwo, signed: true }, ordered: false }; \
         l: List(Field { name: \"item\", nullable: true, data_type: Int { bits: ThirtyTwo, signed: true }, \
-        dictionary: None }) not null; \
+        dictionary: None, metadata: [] }) not null; \
         s: Struct([Field { name: \"m\", nullable: false, data_type: Int { bits: Eight, signed: false }, \
-        dictionary: None }]); \
+        dictionary: None, metadata: [] }]); \
         t: Timestamp(Microsecond, Some(\"UTC\")); 0",
     ),
     // The texts large, and the list.
@@ -144,9 +144,9 @@ static MESSAGES: [(&[u8], Edits, &str); 8] = [
         &[(105, 20), (225, 21)],
         "4 0 schema k: LargeUtf8 by Encoding { id: 0, index: IndexType { bits: ThirtyTwo, signed: true }, ordered: false }; \
         l: LargeList(Field { name: \"item\", nullable: true, data_type: Int { bits: ThirtyTwo, signed: true }, \
-        dictionary: None }) not null; \
+        dictionary: None, metadata: [] }) not null; \
         s: Struct([Field { name: \"m\", nullable: false, data_type: Int { bits: Eight, signed: false }, \
-        dictionary: None }]); \
+        dictionary: None, metadata: [] }]); \
         t: Timestamp(Microsecond, Some(\"UTC\")); 0",
     ),
     // One type for the id: both fields Utf8, the second one's index type absent, and its dictionary

@@ -53,6 +53,7 @@ fn push_field(rt: &impl Abort, text: &mut String, field: &Field) {
         data_type,
         nullable,
         dictionary,
+        ..
     } = field;
     write!(text, " {name}: {data_type:?}").expect(rt, MEMORY);
     if !*nullable {

@@ -86,7 +86,7 @@ static BEFORE: [(&str, Edits, MetaFault); 3] = [
         &[(1348, 16), (39, 0x80)],
         MetaFault::BodyLength,
     ),
-    ("version V4", &[(1348, 16), (20, 3)], MetaFault::Version),
+    ("version V3", &[(1348, 16), (20, 2)], MetaFault::Version),
 ];
 
 fn is_answered(rt: &(impl Abort + AllocGlobal), what: &str, edits: Edits, want: Option<MetaFault>) {

@@ -14,12 +14,7 @@ fn field(
     nullable: bool,
     data_type: DataType,
 ) -> Result<Field, AllocError> {
-    Ok(Field {
-        name: String::from_str(alloc, name)?,
-        nullable,
-        data_type,
-        dictionary: None,
-    })
+    Ok(Field::new(alloc, String::from_str(alloc, name)?, data_type, nullable))
 }
 
 // A schema message of these columns.

@@ -98,15 +98,15 @@ fn fill(text: &mut String, count: usize) -> Option<()> {
 // The size of the message of a column of numbers whose name has so many letters.
 fn size_of_name(alloc: Global, count: usize) -> Option<u64> {
     let mut fields = Vec::new(alloc);
-    let column = Field {
-        name: letters(alloc, count)?,
-        nullable: true,
-        data_type: DataType::Int {
+    let column = Field::new(
+        alloc,
+        letters(alloc, count)?,
+        DataType::Int {
             bits: BitWidth::ThirtyTwo,
             signed: true,
         },
-        dictionary: None,
-    };
+        true,
+    );
     fields.push(column).ok()?;
     encoded_size(&Message {
         version: 4,

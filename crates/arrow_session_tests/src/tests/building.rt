@@ -12,12 +12,7 @@ pub(super) const MEMORY: &str = "memory";
 
 /// A schema of one column of texts.
 fn texts(rt: &(impl Abort + AllocGlobal)) -> Schema {
-    let field = Field {
-        name: String::new(rt.alloc()),
-        nullable: true,
-        data_type: DataType::Utf8,
-        dictionary: None,
-    };
+    let field = Field::new(rt.alloc(), String::new(rt.alloc()), DataType::Utf8, true);
     let mut fields = Vec::new(rt.alloc());
     fields.push(field).expect(rt, MEMORY);
     Schema::new(rt.alloc(), fields).expect(rt, "a schema")

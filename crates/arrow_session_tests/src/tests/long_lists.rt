@@ -12,12 +12,7 @@ use arrow_written::WriteFault::{self, TooLarge};
 use std::process::Abort;
 
 fn field(rt: &(impl Abort + AllocGlobal), data_type: DataType) -> Field {
-    Field {
-        name: String::new(rt.alloc()),
-        nullable: true,
-        data_type,
-        dictionary: None,
-    }
+    Field::new(rt.alloc(), String::new(rt.alloc()), data_type, true)
 }
 
 /// The schema of one column of lists of nulls.

@@ -37,10 +37,8 @@ fn field(
     dictionary: Option<Encoding>,
 ) -> Field {
     Field {
-        name: String::new(rt.alloc()),
-        nullable: true,
-        data_type,
         dictionary,
+        ..Field::new(rt.alloc(), String::new(rt.alloc()), data_type, true)
     }
 }
 

@@ -20,6 +20,12 @@ const INDICES: Indices = (0, BitWidth::ThirtyTwo, true, false);
 
 const LETTERS: Column = ("k", true, true, Some(INDICES));
 
+/// How often the pair of `k` and `v` is noted at the schema, and how often at its column.
+type Noted = (usize, usize);
+
+// What can be noted at a schema of one column.
+static NOTED: [Noted; 5] = [(0, 0), (1, 0), (0, 1), (2, 0), (1, 1)];
+
 // The columns that differ from it in one thing each.
 static OTHERS: [Column; 8] = [
     ("K", true, true, Some(INDICES)),
@@ -46,29 +52,43 @@ fn encoding(indices: Indices) -> Encoding {
     }
 }
 
-fn field_of(rt: &(impl Abort + AllocGlobal), column: Column) -> Field {
+/// The pair of `k` and `v`, so many times.
+fn pairs(rt: &(impl Abort + AllocGlobal), count: usize) -> Vec<(Vec<u8>, Vec<u8>)> {
+    let mut pairs = Vec::new(rt.alloc());
+    for _ in 0..count {
+        let key = Vec::from_slice(rt.alloc(), b"k").expect(rt, MEMORY);
+        let value = Vec::from_slice(rt.alloc(), b"v").expect(rt, MEMORY);
+        pairs.push((key, value)).expect(rt, MEMORY);
+    }
+    pairs
+}
+
+fn field_of(rt: &(impl Abort + AllocGlobal), column: Column, noted: usize) -> Field {
     let (name, nullable, is_text, indices) = column;
     let data_type = if is_text {
         DataType::Utf8
     } else {
         DataType::Binary
     };
+    let name = String::from_str(rt.alloc(), name).expect(rt, MEMORY);
     Field {
-        name: String::from_str(rt.alloc(), name).expect(rt, MEMORY),
-        nullable,
-        data_type,
         dictionary: match indices {
             Some(indices) => Some(encoding(indices)),
             None => None,
         },
+        metadata: pairs(rt, noted),
+        ..Field::new(rt.alloc(), name, data_type, nullable)
     }
 }
 
 /// A batch of this column, without rows.
-fn batch_of(rt: &(impl Abort + AllocGlobal), column: Column) -> Batch {
+fn batch_of(rt: &(impl Abort + AllocGlobal), column: Column, noted: Noted) -> Batch {
     let mut fields = Vec::new(rt.alloc());
-    fields.push(field_of(rt, column)).expect(rt, MEMORY);
-    let schema = Schema::new(rt.alloc(), fields).expect(rt, "a schema");
+    fields
+        .push(field_of(rt, column, noted.1))
+        .expect(rt, MEMORY);
+    let schema = Schema::with_metadata(rt.alloc(), fields, pairs(rt, noted.0));
+    let schema = schema.expect(rt, "a schema");
     let fields = schema.fields();
     assert!(rt; !fields.is_empty());
     let array = ArrayBuilder::new(rt.alloc(), &fields[0]).expect(rt, MEMORY);
@@ -80,9 +100,16 @@ fn batch_of(rt: &(impl Abort + AllocGlobal), column: Column) -> Batch {
 
 /// What a writer of the first column answers to a batch of the second one.
 fn answer(rt: &(impl Abort + AllocGlobal), one: Column, other: Column) -> Option<WriteFault> {
-    let of_one = batch_of(rt, one);
+    let of_one = batch_of(rt, one, (0, 0));
     let mut writer = writer_of(rt, of_one.schema(), DELTA, Limits::standard());
-    written(rt, &mut writer, &batch_of(rt, other))
+    written(rt, &mut writer, &batch_of(rt, other, (0, 0)))
+}
+
+/// The same of one column, where other pairs are noted.
+fn answer_noted(rt: &(impl Abort + AllocGlobal), one: Noted, other: Noted) -> Option<WriteFault> {
+    let of_one = batch_of(rt, LETTERS, one);
+    let mut writer = writer_of(rt, of_one.schema(), DELTA, Limits::standard());
+    written(rt, &mut writer, &batch_of(rt, LETTERS, other))
 }
 
 #[test]
@@ -93,5 +120,20 @@ fn schemas_that_differ_in_one_thing(rt: HostRuntime) {
         let refused = Some(WriteFault::SchemaDiffers);
         assert!(rt; answers == [refused, refused], "{number}: {answers:?}");
         assert!(rt; answer(&rt, *other, *other).is_none(), "{number}");
+    }
+}
+
+#[test]
+fn schemas_that_differ_in_their_pairs(rt: HostRuntime) {
+    for (i, one) in NOTED.iter().enumerate() {
+        for (j, other) in NOTED.iter().enumerate() {
+            let answer = answer_noted(&rt, *one, *other);
+            if i == j {
+                assert!(rt; answer.is_none(), "{i}: {answer:?}");
+            } else {
+                let refused = Some(WriteFault::SchemaDiffers);
+                assert!(rt; answer == refused, "{i} {j}: {answer:?}");
+            }
+        }
     }
 }

@@ -11,12 +11,12 @@ pub(super) const MEMORY: &str = "memory";
 
 // A nullable field of this name.
 pub(super) fn field(rt: &(impl Abort + AllocGlobal), name: &str, data_type: DataType) -> Field {
-    Field {
-        name: String::from_str(rt.alloc(), name).expect(rt, MEMORY),
-        nullable: true,
+    Field::new(
+        rt.alloc(),
+        String::from_str(rt.alloc(), name).expect(rt, MEMORY),
         data_type,
-        dictionary: None,
-    }
+        true,
+    )
 }
 
 // The schema of one nullable column without a name.

@@ -26,12 +26,12 @@ fn int8() -> DataType {
 fn field(rt: &(impl Abort + AllocGlobal), name: &str, data_type: DataType) -> Field
     ensures { (result.dictionary ≡ None) × (type_view result.data_type ≡ type_view data_type) }
 {
-    Field {
-        name: String::from_str(rt.alloc(), name).expect(rt, MEMORY),
-        nullable: true,
+    Field::new(
+        rt.alloc(),
+        String::from_str(rt.alloc(), name).expect(rt, MEMORY),
         data_type,
-        dictionary: None,
-    }
+        true,
+    )
 }
 
 // Whether the type is one of numbers.

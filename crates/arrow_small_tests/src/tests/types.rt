@@ -38,12 +38,7 @@ fn text(rt: &(impl Abort + AllocGlobal), words: &str) -> String {
 }
 
 fn field(rt: &(impl Abort + AllocGlobal), name: &str, data_type: DataType) -> Field {
-    Field {
-        name: text(rt, name),
-        nullable: true,
-        data_type,
-        dictionary: None,
-    }
+    Field::new(rt.alloc(), text(rt, name), data_type, true)
 }
 
 fn push(rt: &impl Abort, fields: &mut Vec<Field>, field: Field) {

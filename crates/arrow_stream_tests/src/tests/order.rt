@@ -27,17 +27,17 @@ static TWO_FAULTS: [Streams; 2] = [
             ),
             (
                 "metadata and version",
-                &[(28, &[3]), (120, &[0xff])],
+                &[(28, &[2]), (120, &[0xff])],
                 Refused(Kind::Metadata),
             ),
             (
                 "version and header",
-                &[(28, &[3]), (30, &[4])],
+                &[(28, &[2]), (30, &[4])],
                 Refused(Kind::Version),
             ),
             (
                 "version and no header",
-                &[(28, &[3]), (20, &[0])],
+                &[(28, &[2]), (20, &[0])],
                 Refused(Kind::Version),
             ),
             (
@@ -68,7 +68,7 @@ static TWO_FAULTS: [Streams; 2] = [
                 &[(272, &[0xff])],
                 Refused(Kind::Metadata),
             ),
-            ("version and order", &[(180, &[3])], Refused(Kind::Version)),
+            ("version and order", &[(180, &[2])], Refused(Kind::Version)),
             ("header and order", &[(182, &[4])], Refused(Kind::Header)),
             (
                 "body and order",

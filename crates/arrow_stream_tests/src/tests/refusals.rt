@@ -110,7 +110,7 @@ static LENGTHS: [Streams; 5] = [
             ),
             (
                 "version before rows",
-                &[(180, &[3]), (224, &BELOW_ZERO)],
+                &[(180, &[2]), (224, &BELOW_ZERO)],
                 Refused(Kind::Version),
             ),
         ],

@@ -13,6 +13,7 @@ static COLUMNS: [Streams; 7] = [
         read: NUMBERS,
         rows: &[
             ("nothing changed", &[], Whole),
+            ("version V4", &[(28, &[3])], Whole),
             ("the vtable of another table", &[(136, &[0x58])], Whole),
         ],
     },
@@ -105,11 +106,16 @@ static REFUSED: [Streams; 6] = [
                 &[(120, &[0xff])],
                 Refused(Kind::Metadata),
             ),
-            ("version V4", &[(28, &[3])], Refused(Kind::Version)),
+            ("version V3", &[(28, &[2])], Refused(Kind::Version)),
             (
                 "version before type",
-                &[(28, &[3]), (105, &[3])],
+                &[(28, &[2]), (105, &[3])],
                 Refused(Kind::Version),
+            ),
+            (
+                "version V4 and a type",
+                &[(28, &[3]), (105, &[3])],
+                Refused(Kind::Unsupported),
             ),
             ("header code Tensor", &[(30, &[4])], Refused(Kind::Header)),
             (

@@ -25,7 +25,7 @@ pub(super) const ONE_COLUMN: [u8; 152] = [
 const END: [u8; 8] = [0xff, 0xff, 0xff, 0xff, 0, 0, 0, 0];
 
 // Other bytes in the message, and what is answered of it then.
-static CHANGES: [(&[Edit], &str); 28] = [
+static CHANGES: [(&[Edit], &str); 29] = [
     (&[(104, &[0x00])], "n: int32 not null\n"),
     (&[(144, &[0x00])], "n: uint32\n"),
     (&[(122, &[0x06])], "n: uint32\n"),
@@ -35,7 +35,8 @@ static CHANGES: [(&[Edit], &str); 28] = [
     (&[(105, &[0x06])], "n: bool\n"),
     (&[(120, &[0x0a])], "\\x0a: int32\n"),
     (&[(120, &[0xff])], "1 fault at byte 0: Metadata"),
-    (&[(28, &[0x03])], "1 fault at byte 0: Version"),
+    (&[(28, &[0x03])], "n: int32\n"),
+    (&[(28, &[0x02])], "1 fault at byte 0: Version"),
     (&[(30, &[0x04])], "1 fault at byte 0: Header"),
     (&[(47, &[0x80])], "1 fault at byte 0: BodyLength"),
     (&[(60, &[0x01])], "1 fault at byte 0: Unsupported"),
@@ -46,7 +47,7 @@ static CHANGES: [(&[Edit], &str); 28] = [
     (&[(7, &[0x80])], "1 fault at byte 0: MetadataSize"),
     (
         &[(28, &[0x03]), (105, &[0x03])],
-        "1 fault at byte 0: Version",
+        "1 fault at byte 0: Unsupported",
     ),
     (&[(105, &[0x08]), (126, &[0x00])], "n: date[ms]\n"),
     (&[(105, &[0x0a]), (126, &[0x00])], "n: timestamp[s, ]\n"),

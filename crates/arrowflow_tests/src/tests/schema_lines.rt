@@ -11,12 +11,12 @@ const INT32: IndexType = IndexType {
 };
 
 fn field(rt: &impl Abort, alloc: Global, name: &str, data_type: DataType) -> Field {
-    Field {
-        name: String::from_str(alloc, name).expect(rt, "memory"),
-        nullable: true,
+    Field::new(
+        alloc,
+        String::from_str(alloc, name).expect(rt, "memory"),
         data_type,
-        dictionary: None,
-    }
+        true,
+    )
 }
 
 /// A column of timestamps in a zone.
