@@ -1,14 +1,18 @@
 """What `arrowflow schema` has to print of an input, by a model of its own: written from docs/FORMAT.md, in another
 language, with no code and no definition of the crates. It reads a whole list of bytes at once and keeps no state.
 
-`answer(bytes)` gives standard output, standard error and the exit status. Limits are the defaults.
+`answer(bytes)` gives standard output, standard error and the exit status; `first_schema(bytes)` gives what stands behind
+them, custom metadata as well, which no text shows. Limits are the defaults.
 """
+import collections
 
 MAX_METADATA = 67_108_864
 MAX_BODY = 2 ** 36
 LAST_PLACE = 2 ** 62
 MAX_LEVELS = 32
 MAX_FIELDS = 65_536
+MAX_PAIRS = 65_536
+READ_VERSIONS = (3, 4)
 INT, DATE, TIME, TIMESTAMP, LIST, STRUCT = 2, 8, 9, 10, 12, 13
 FIXED_SIZE, DURATION, LARGE_LIST = 15, 18, 21
 WITH_TABLE = (INT, DATE, TIME, TIMESTAMP, FIXED_SIZE, DURATION)
@@ -17,6 +21,9 @@ NAMES = {1: "null", INT: "int", 4: "binary", 5: "utf8", 6: "bool", DATE: "date",
          DURATION: "duration", 19: "large_binary", 20: "large_utf8", LARGE_LIST: "large_list"}
 UNITS = ("s", "ms", "us", "ns")
 WIDTHS = (8, 16, 32, 64)
+
+Schema = collections.namedtuple("Schema", "endianness fields pairs")
+Message = collections.namedtuple("Message", "version code header body schema")
 
 
 class Unreadable(Exception):
@@ -37,6 +44,7 @@ class Metadata:
     def __init__(self, held):
         self.held = held
         self.fields_seen = 0
+        self.pairs_seen = 0
         self.text_bytes = 0
 
     def number(self, place, width):
@@ -68,23 +76,29 @@ class Metadata:
         place = self.place_of(table, field)
         return default if place is None else self.number(place, width)
 
-    def text(self, table, field):
+    def string(self, table, field):
+        """The bytes of a string, whatever they are, None where it is absent."""
         place = self.place_of(table, field)
         if place is None:
             return None
         start = self.target(place)
         count = self.number(start, 4)
-        text = self.held[start + 4:start + 4 + count]
-        if len(text) < count:
+        held = self.held[start + 4:start + 4 + count]
+        if len(held) < count:
             raise Unreadable
-        try:
-            text.decode("utf-8")
-        except UnicodeDecodeError:
-            raise Unreadable from None
         self.text_bytes += count
         if self.text_bytes > MAX_METADATA:
             raise Unreadable
-        return text
+        return held
+
+    def text(self, table, field):
+        """The same of a string that is UTF-8."""
+        held = self.string(table, field)
+        try:
+            (held or b"").decode("utf-8")
+        except UnicodeDecodeError:
+            raise Unreadable from None
+        return held
 
     def child(self, table, field):
         place = self.place_of(table, field)
@@ -100,6 +114,12 @@ class Metadata:
         if start + 4 + count * size > len(self.held):
             raise Unreadable
         return start + 4, count
+
+    def tables(self, table, field):
+        """The tables of a vector, opened one by one."""
+        first, count = self.vector(table, field, 4)
+        for number in range(count):
+            yield self.table(self.target(first + 4 * number))
 
 
 def type_of(metadata, table, code):
@@ -133,6 +153,18 @@ def encoding_of(metadata, table):
             metadata.scalar(encoding, 2, 1, 0) != 0, metadata.scalar(encoding, 3, 2, 0))
 
 
+def pair_of(metadata, table):
+    """A KeyValue table: an absent key or value is empty."""
+    metadata.pairs_seen += 1
+    if metadata.pairs_seen > MAX_PAIRS:
+        raise Unreadable
+    return metadata.string(table, 0) or b"", metadata.string(table, 1) or b""
+
+
+def pairs_of(metadata, table, field):
+    return [pair_of(metadata, pair) for pair in metadata.tables(table, field)]
+
+
 def field_of(metadata, table, level):
     metadata.fields_seen += 1
     if metadata.fields_seen > MAX_FIELDS or level > MAX_LEVELS:
@@ -145,12 +177,12 @@ def field_of(metadata, table, level):
         "type": type_of(metadata, table, code),
         "encoding": encoding_of(metadata, table),
         "children": fields_of(metadata, table, 5, level + 1),
+        "pairs": pairs_of(metadata, table, 6),
     }
 
 
 def fields_of(metadata, table, field, level):
-    first, count = metadata.vector(table, field, 4)
-    return [field_of(metadata, metadata.table(metadata.target(first + 4 * k)), level) for k in range(count)]
+    return [field_of(metadata, child, level) for child in metadata.tables(table, field)]
 
 
 def all_fields(fields):
@@ -165,36 +197,40 @@ def batch_is_whole(metadata, batch):
     metadata.vector(batch, 2, 16)
 
 
+def header_of(metadata, header, code):
+    """The schema that a header is, None where it is a batch, which has to be readable."""
+    if code == 1:
+        endianness = metadata.scalar(header, 0, 2, 0)
+        return Schema(endianness, fields_of(metadata, header, 1, 1), pairs_of(metadata, header, 2))
+    if code == 2:
+        metadata.scalar(header, 0, 8, 0)
+        metadata.scalar(header, 2, 1, 0)
+        header = metadata.child(header, 1)
+        if header is None:
+            raise Unreadable
+    batch_is_whole(metadata, header)
+    return None
+
+
 def read_message(held):
-    """Version, header code, whether the header is there, bodyLength, endianness and fields of a metadata."""
+    """What a metadata says: of its header the place, and the schema where it is one."""
     metadata = Metadata(held)
     root = metadata.table(metadata.target(0))
     version = metadata.scalar(root, 0, 2, 0)
     code = metadata.scalar(root, 1, 1, 0)
     body = signed(metadata.scalar(root, 3, 8, 0), 8)
     header = metadata.child(root, 2) if code in (1, 2, 3) else None
-    endianness, fields = 0, []
-    if header is not None and code == 1:
-        endianness = metadata.scalar(header, 0, 2, 0)
-        fields = fields_of(metadata, header, 1, 1)
-    elif header is not None and code == 2:
-        metadata.scalar(header, 0, 8, 0)
-        metadata.scalar(header, 2, 1, 0)
-        values = metadata.child(header, 1)
-        if values is None:
-            raise Unreadable
-        batch_is_whole(metadata, values)
-    elif header is not None:
-        batch_is_whole(metadata, header)
-    if any(field["code"] in WITH_TABLE and field["type"] is None for field in all_fields(fields)):
+    schema = header_of(metadata, header, code) if header is not None else None
+    every = all_fields(schema.fields) if schema else []
+    if any(field["code"] in WITH_TABLE and field["type"] is None for field in every):
         raise Unreadable
-    return version, code, header is not None, body, endianness, fields
+    return Message(version, code, header, body, schema)
 
 
-def is_unsupported(endianness, fields):
-    every = list(all_fields(fields))
+def is_unsupported(schema):
+    every = list(all_fields(schema.fields))
     nested = any(field["encoding"] and any(below["encoding"] for below in all_fields(field["children"])) for field in every)
-    return (endianness != 0 or nested or any(field["code"] not in NAMES for field in every)
+    return (schema.endianness != 0 or nested or any(field["code"] not in NAMES for field in every)
             or any(field["encoding"] and field["encoding"][3] != 0 for field in every))
 
 
@@ -227,7 +263,7 @@ def has_one_type_an_id(fields):
 
 
 def first_schema(stream):
-    """The fields of the schema at the front, None where the bytes are less than a message."""
+    """The schema at the front, None where the bytes are less than a message."""
     if len(stream) < 8:
         return None
     if stream[:4] != b"\xff" * 4:
@@ -240,22 +276,28 @@ def first_schema(stream):
     if len(stream) < 8 + size:
         return None
     try:
-        version, code, there, body, endianness, fields = read_message(stream[8:8 + size])
+        message = read_message(stream[8:8 + size])
     except Unreadable:
         raise Refused("Metadata") from None
-    if version != 4:
+    judge(message, 8 + size + message.body)
+    return message.schema if len(stream) >= 8 + size + message.body else None
+
+
+def judge(message, end):
+    """Refuses what is no first message, by the kind with the least number."""
+    if message.version not in READ_VERSIONS:
         raise Refused("Version")
-    if code not in (1, 2, 3) or not there:
+    if message.code not in (1, 2, 3) or message.header is None:
         raise Refused("Header")
-    if body < 0 or body > MAX_BODY or 8 + size + body > LAST_PLACE:
+    if message.body < 0 or message.body > MAX_BODY or end > LAST_PLACE:
         raise Refused("BodyLength")
-    if code != 1:
+    if message.code != 1:
         raise Refused("Order")
-    if is_unsupported(endianness, fields):
+    if is_unsupported(message.schema):
         raise Refused("Unsupported")
+    fields = message.schema.fields
     if not all(map(fits, all_fields(fields))) or not has_one_type_an_id(fields):
         raise Refused("Schema")
-    return fields if len(stream) >= 8 + size + body else None
 
 
 def escaped(text):
@@ -298,9 +340,9 @@ def lines(fields, level=0):
 
 def answer(stream):
     try:
-        fields = first_schema(stream)
+        schema = first_schema(stream)
     except Refused as refused:
         return b"", b"fault at byte 0: %s\n" % str(refused).encode(), 1
-    if fields is None:
+    if schema is None:
         return b"", b"fault at byte 0: NoSchema\n", 1
-    return lines(fields), b"", 0
+    return lines(schema.fields), b"", 0

@@ -1,0 +1,234 @@
+"""Schemas with custom metadata as chance will have them, and the bytes of messages that say them.
+
+A schema is what the model reads: a model.Schema, whose fields are dicts. It is laid out by examples/frames.py, and what the
+standard lets a writer choose is chosen here by chance: what has its default may be left out, what means the same may stand
+once and be named by many offsets, the message may be of V4, and what no reader looks at may lead anywhere.
+"""
+import pathlib
+import struct
+import sys
+
+import model
+
+sys.dont_write_bytecode = True
+sys.path.insert(0, str(pathlib.Path(__file__).resolve().parent.parent / "examples"))
+import frames
+from frames import scalar, table, vector
+
+V4, V5 = 3, 4
+KEYS = [b"", b"k", b"key", b"k", "Schlüssel".encode(), b"\xff\xfe", b"\0", b"ARROW:extension:name", b"\xc3", b"k" * 40]
+NAMES = ["", "n", "column", "ä", "a\\b\tc", "日本"]
+WIDTHS = [8, 16, 32, 64]
+PLAIN = [1, 4, 5, 6, 19, 20]
+
+
+def any_pairs(chance):
+    """Pairs, of which some have an empty key, one that was there, or one that is not UTF-8."""
+    count = chance.choice([0, 0, 0, 1, 1, 2, 3, 7])
+    pairs = [(chance.choice(KEYS), chance.choice(KEYS + [bytes([chance.randrange(256)])])) for _ in range(count)]
+    return pairs + pairs[:1] if chance.random() < 0.2 else pairs
+
+
+def any_type(chance, levels):
+    """The code of a type, what its table says, and how many children it has."""
+    code = chance.choice(PLAIN + [2, 2, 8, 9, 10, 15, 18] + ([12, 13, 13, 21] if levels > 1 else []))
+    unit = chance.randrange(4)
+    said = {2: (chance.choice(WIDTHS), chance.random() < 0.5), 8: (unit % 2,), 9: (unit, 32 if unit < 2 else 64),
+            10: (unit, chance.choice([None, b"", b"UTC"])), 15: (chance.choice([0, 7, 2 ** 31 - 1]),), 18: (unit,)}
+    return code, said.get(code), {12: 1, 21: 1, 13: chance.randrange(4)}.get(code, 0)
+
+
+def any_field(chance, levels, ids, may_encode=True):
+    """A field; `ids` are the numbers of dictionaries that no field has yet."""
+    code, said, count = any_type(chance, levels)
+    encoding = None
+    if may_encode and chance.random() < 0.2:
+        index = (chance.choice(WIDTHS), chance.random() < 0.7)
+        encoding, may_encode = (next(ids), index, chance.random() < 0.3, 0), False
+    return {"name": chance.choice(NAMES).encode(), "nullable": chance.random() < 0.5, "code": code, "type": said,
+            "encoding": encoding, "children": [any_field(chance, levels - 1, ids, may_encode) for _ in range(count)],
+            "pairs": any_pairs(chance)}
+
+
+def noted_anew(chance, field):
+    """The same field with other pairs on all levels."""
+    return {**field, "pairs": any_pairs(chance), "children": [noted_anew(chance, below) for below in field["children"]]}
+
+
+def any_schema(chance):
+    """A schema: fields come twice, some of them with other pairs, and so do the ids of their dictionaries."""
+    ids = iter([0, -1, *range(3, 1000)])
+    fields = []
+    for _ in range(chance.randrange(5)):
+        fields.append(any_field(chance, chance.randint(1, 4), ids))
+        if chance.random() < 0.4:
+            known = chance.choice(fields)
+            fields.append(known if chance.random() < 0.5 else noted_anew(chance, known))
+    return model.Schema(0, fields, any_pairs(chance))
+
+
+class Held:
+    """What is laid out once. It names only what has a lower height."""
+
+    def __init__(self, value, height):
+        self.value, self.height = value, height
+
+
+class Sharing(frames.Buffer):
+    """Lays out what is shared behind all that names it: an offset leads forward."""
+
+    def __init__(self):
+        super().__init__()
+        self.waiting = {}
+
+    def put(self, value):
+        return value[1] if value[0] == "shared" else super().put(value)
+
+    def name(self, place, target):
+        if isinstance(target, Held):
+            self.waiting.setdefault(target, []).append(place)
+        else:
+            super().name(place, target)
+
+    def put_shared(self):
+        while self.waiting:
+            held = max(self.waiting, key=lambda it: it.height)
+            places = self.waiting.pop(held)
+            target = self.put(held.value)
+            for place in places:
+                self.name(place, target)
+
+
+def framed(root):
+    """The frame of a message with this root table and no body."""
+    buffer = Sharing()
+    buffer.bytes += bytes(4)
+    buffer.name(0, buffer.put(root))
+    buffer.put_shared()
+    buffer.align(8)
+    return b"\xff" * 4 + struct.pack("<I", len(buffer.bytes)) + bytes(buffer.bytes)
+
+
+class Straight:
+    """Lays out all that a schema says, as this project's writer does: nothing is shared, and nothing left out but metadata
+    without pairs."""
+
+    def table(self, *fields):
+        """A table whose last field is there."""
+        while fields and fields[-1] is None:
+            fields = fields[:-1]
+        return table(*fields)
+
+    def shared(self, _meaning, _height, value):
+        return value
+
+    def unless(self, _is_default, value):
+        return value
+
+    def unread(self):
+        """A field at which no reader looks, if there is one."""
+        return []
+
+    def string(self, held):
+        return self.shared(("string", held), 0, ("text", held))
+
+    def pair(self, key, value):
+        fields = [self.unless(not held, self.string(held)) for held in (key, value)]
+        return self.shared(("pair", key, value), 1, self.table(*fields))
+
+    def pairs(self, pairs):
+        return self.shared(("pairs", *pairs), 2, vector([self.pair(*pair) for pair in pairs])) if pairs else None
+
+    def integer(self, bits, is_signed):
+        return self.table(scalar("i", bits), self.unless(not is_signed, scalar("B", is_signed)))
+
+    def type_table(self, code, said):
+        if code == model.INT:
+            return self.integer(*said)
+        if code == model.FIXED_SIZE:
+            return self.table(self.unless(said[0] == 0, scalar("i", said[0])))
+        if code in (model.DATE, model.DURATION):
+            return self.table(self.unless(said[0] == 1, scalar("h", said[0])))
+        if code == model.TIME:
+            return self.table(self.unless(said[0] == 1, scalar("h", said[0])), self.unless(said[1] == 32, scalar("i", said[1])))
+        if code == model.TIMESTAMP:
+            zone = None if said[1] is None else self.string(said[1])
+            return self.table(self.unless(said[0] == 0, scalar("h", said[0])), zone)
+        return self.unless(True, table())
+
+    def encoding(self, said):
+        if said is None:
+            return None
+        number, index, ordered, _ = said
+        return self.table(self.unless(number == 0, scalar("q", number)),
+                          self.unless(index == (32, True), self.integer(*index)),
+                          self.unless(not ordered, scalar("B", ordered)), self.unless(True, scalar("h", 0)))
+
+    def field(self, field, level=1):
+        children = vector([self.field(below, level + 1) for below in field["children"]])
+        value = self.table(self.unless(not field["name"], self.string(field["name"])),
+                           self.unless(not field["nullable"], scalar("B", field["nullable"])), scalar("B", field["code"]),
+                           self.type_table(field["code"], field["type"]), self.encoding(field["encoding"]),
+                           self.unless(not field["children"], children), self.pairs(field["pairs"]))
+        return self.shared(("field", level, repr(field)), 40 - level, value)
+
+    def schema(self, schema):
+        fields = vector([self.field(field) for field in schema.fields])
+        return self.table(self.unless(True, scalar("h", 0)), self.unless(not schema.fields, fields),
+                          self.pairs(schema.pairs), *self.unread())
+
+    def frame(self, schema, version=V5):
+        """The frame of a schema message."""
+        return framed(self.table(scalar("h", version), scalar("B", 1), self.schema(schema), scalar("q", 0), *self.unread()))
+
+
+class ByChance(Straight):
+    """Lays it out as chance will have it."""
+
+    def __init__(self, chance):
+        self.chance, self.held = chance, {}
+
+    def table(self, *fields):
+        return super().table(*fields) if self.chance.random() < 0.5 else table(*fields)
+
+    def shared(self, meaning, height, value):
+        if self.chance.random() < 0.5:
+            return value
+        return self.held.setdefault(meaning, ("shared", Held(value, height)))
+
+    def unless(self, is_default, value):
+        return None if is_default and self.chance.random() < 0.5 else value
+
+    def unread(self):
+        """Behind what a schema or a message says: an offset that leads outside."""
+        return [scalar("I", 1 << 30)] if self.chance.random() < 0.2 else []
+
+    def pairs(self, pairs):
+        return super().pairs(pairs) if pairs or self.chance.random() < 0.5 else vector([])
+
+
+def any_frame(chance):
+    """A random schema and a frame of it, now and then of a version that is not read."""
+    schema = any_schema(chance)
+    return schema, ByChance(chance).frame(schema, chance.choice([V4] * 4 + [V5] * 8 + [0, 2, 5]))
+
+
+def noted(chance, stream):
+    """The stream with other pairs in its schema."""
+    schema = model.first_schema(stream)
+    fields = [noted_anew(chance, field) for field in schema.fields]
+    size = 8 + int.from_bytes(stream[4:8], "little")
+    return ByChance(chance).frame(schema._replace(fields=fields, pairs=any_pairs(chance))) + stream[size:]
+
+
+def of_older_versions(chance, stream):
+    """The stream with V4 as the version of some of its messages."""
+    changed, place = bytearray(stream), 0
+    while place < len(stream) and stream[place + 4:place + 8] != bytes(4):
+        start, size = place + 8, int.from_bytes(stream[place + 4:place + 8], "little")
+        metadata = model.Metadata(stream[start:start + size])
+        version = metadata.place_of(metadata.table(metadata.target(0)), 0)
+        if chance.random() < 0.5:
+            changed[start + version] = V4
+        place = start + size + model.read_message(metadata.held).body
+    return bytes(changed)
