@@ -65,6 +65,32 @@ Offset<DictionaryEncoding> any_encoding(FlatBufferBuilder &builder, Ids &ids) {
     return CreateDictionaryEncoding(builder, ids.take(), index, coin());
 }
 
+// A key or a value: any bytes, or none at all. The verifier does not look at what the bytes of a string are.
+Offset<flatbuffers::String> any_bytes(FlatBufferBuilder &builder) {
+    switch (below(4)) {
+        case 0: return 0;
+        case 1: return builder.CreateString("key");
+        case 2: return builder.CreateString(any_text());
+        default: {
+            std::string bytes;
+            for (uint64_t left = below(5); left > 0; left--) bytes += static_cast<char>(below(256));
+            return builder.CreateString(bytes);
+        }
+    }
+}
+
+// Pairs of which some come twice, no vector or an empty one.
+Offset<Vector<Offset<KeyValue>>> any_pairs(FlatBufferBuilder &builder) {
+    if (coin()) return 0;
+    std::vector<Offset<KeyValue>> pairs;
+    for (uint64_t left = below(4); left > 0; left--) {
+        auto key = any_bytes(builder), value = any_bytes(builder);
+        pairs.push_back(CreateKeyValue(builder, key, value));
+        if (below(4) == 0) pairs.push_back(pairs[below(pairs.size())]);
+    }
+    return builder.CreateVector(pairs);
+}
+
 Offset<Field> any_field(FlatBufferBuilder &builder, Ids &ids, int levels, bool may_encode) {
     static const Type types[] = {Type_Null, Type_Int, Type_Binary, Type_Utf8, Type_Bool, Type_Date, Type_Time,
                                  Type_Timestamp, Type_FixedSizeBinary, Type_Duration, Type_LargeBinary, Type_LargeUtf8,
@@ -97,7 +123,8 @@ Offset<Field> any_field(FlatBufferBuilder &builder, Ids &ids, int levels, bool m
         default: table = CreateNull(builder).Union();
     }
     auto name = coin() ? builder.CreateString(any_text()) : builder.CreateString("c" + std::to_string(below(1000)));
-    return CreateField(builder, name, coin(), type, table, encoding, builder.CreateVector(children));
+    auto pairs = any_pairs(builder);
+    return CreateField(builder, name, coin(), type, table, encoding, builder.CreateVector(children), pairs);
 }
 
 Offset<Schema> any_schema(FlatBufferBuilder &builder) {
@@ -105,7 +132,8 @@ Offset<Schema> any_schema(FlatBufferBuilder &builder) {
     std::vector<Offset<Field>> fields;
     int levels = static_cast<int>(1 + below(6));
     for (uint64_t left = below(12); left > 0; left--) fields.push_back(any_field(builder, ids, levels, true));
-    return CreateSchema(builder, Endianness_Little, builder.CreateVector(fields));
+    auto pairs = any_pairs(builder);
+    return CreateSchema(builder, Endianness_Little, builder.CreateVector(fields), pairs);
 }
 
 Offset<RecordBatch> any_batch(FlatBufferBuilder &builder) {
@@ -131,29 +159,48 @@ std::string any_message() {
         default: header = any_batch(builder).Union();
     }
     int64_t body = coin() ? static_cast<int64_t>(below(uint64_t(1) << 36)) : 0;
-    FinishMessageBuffer(builder, CreateMessage(builder, Version_V5, code, header, body));
+    Version version = coin() ? Version_V4 : Version_V5;
+    auto pairs = any_pairs(builder);  // those of a message are not read
+    FinishMessageBuffer(builder, CreateMessage(builder, version, code, header, body, pairs));
     return std::string(reinterpret_cast<const char *>(builder.GetBufferPointer()), builder.GetSize());
 }
 
-// What stands in a message, as text.
+// What stands in a message, but for its version and its own pairs, as text.
 
 void tell(std::ostream &out, const Int *type) {
     if (type) out << "int " << type->bitWidth() << type->is_signed();
     else out << "int 321";
 }
 
+void tell(std::ostream &out, const flatbuffers::String *text) {
+    out << (text ? text->size() : 0) << ":" << (text ? text->str() : "");
+}
+
+void tell(std::ostream &out, const Vector<Offset<KeyValue>> *pairs) {
+    if (!pairs) return;
+    for (const KeyValue *pair : *pairs) {
+        out << " key ";
+        tell(out, pair->key());
+        out << " value ";
+        tell(out, pair->value());
+    }
+}
+
 void tell(std::ostream &out, const Vector<Offset<Field>> *fields);
 
 void tell(std::ostream &out, const Field *field) {
-    const flatbuffers::String *name = field->name();
-    out << "field " << (name ? name->size() : 0) << ":" << (name ? name->str() : "") << " " << field->nullable()
-        << " type " << int(field->type_type()) << " ";
+    out << "field ";
+    tell(out, field->name());
+    out << " " << field->nullable() << " type " << int(field->type_type()) << " ";
     if (auto type = field->type_as_Int()) tell(out, type);
     if (auto type = field->type_as_Date()) out << "unit " << type->unit();
     if (auto type = field->type_as_Time()) out << "unit " << type->unit() << " of " << type->bitWidth();
     if (auto type = field->type_as_Timestamp()) {
         out << "unit " << type->unit();
-        if (type->timezone()) out << " zone " << type->timezone()->size() << ":" << type->timezone()->str();
+        if (type->timezone()) {
+            out << " zone ";
+            tell(out, type->timezone());
+        }
     }
     if (auto type = field->type_as_FixedSizeBinary()) out << "width " << type->byteWidth();
     if (auto type = field->type_as_Duration()) out << "unit " << type->unit();
@@ -163,6 +210,7 @@ void tell(std::ostream &out, const Field *field) {
         out << " " << by->isOrdered() << by->dictionaryKind();
     }
     tell(out, field->children());
+    tell(out, field->custom_metadata());
 }
 
 void tell(std::ostream &out, const Vector<Offset<Field>> *fields) {
@@ -184,10 +232,11 @@ void tell(std::ostream &out, const RecordBatch *batch) {
 
 std::string told(const Message *message) {
     std::ostringstream out;
-    out << message->version() << " " << message->bodyLength() << " " << int(message->header_type()) << " ";
+    out << message->bodyLength() << " " << int(message->header_type()) << " ";
     if (auto schema = message->header_as_Schema()) {
         out << schema->endianness();
         tell(out, schema->fields());
+        tell(out, schema->custom_metadata());
     }
     if (auto dictionary = message->header_as_DictionaryBatch()) {
         out << "id " << dictionary->id() << " " << dictionary->isDelta() << " ";
@@ -195,6 +244,22 @@ std::string told(const Message *message) {
     }
     if (auto batch = message->header_as_RecordBatch()) tell(out, batch);
     return out.str();
+}
+
+// Whether a message is one as this project writes: of V5, with no pairs of its own, and with no empty vector of pairs.
+bool has_pairs_or_none(const Vector<Offset<Field>> *fields) {
+    if (fields)
+        for (const Field *field : *fields)
+            if ((field->custom_metadata() && field->custom_metadata()->size() == 0) || !has_pairs_or_none(field->children()))
+                return false;
+    return true;
+}
+
+bool is_as_written(const Message *message) {
+    if (message->version() != Version_V5 || message->custom_metadata()) return false;
+    auto schema = message->header_as_Schema();
+    if (!schema) return true;
+    return (!schema->custom_metadata() || schema->custom_metadata()->size() > 0) && has_pairs_or_none(schema->fields());
 }
 
 // The metadata of a file, each in a piece of memory of its own that begins at a multiple of 8.
@@ -226,6 +291,10 @@ int check(const char *read, const char *written) {
             std::cout << "metadata " << number << " is not taken\n";
             wrong++;
             continue;
+        }
+        if (!is_as_written(GetMessage(bytes))) {
+            std::cout << "metadata " << number << " is of another version, or has metadata without pairs\n";
+            wrong++;
         }
         std::string want = told(GetMessage(wanted[number].data())), have = told(GetMessage(bytes));
         if (want != have) {
