@@ -1,0 +1,98 @@
+#!/usr/bin/env python3
+"""Lays out what the programs here read that has custom metadata, by examples/frames.py:
+
+    growths/with_pairs.py FOLDER    writes NAME.arrows and NAME.txt, the text of its schema
+
+`noted` has pairs at its schema, at a column and at a field below one: keys that come twice, that are empty, and that are not
+UTF-8. Of its messages those that bring values of the dictionary are of V4, and so is the schema. Two columns of `equal_types`
+have one dictionary, and their types differ in pairs alone; in `unequal_types` the integer of the second one has another width.
+
+Run without a folder, it tells what a writer makes of `noted`: how many bytes there are after each part, and their sum.
+"""
+import pathlib
+import struct
+import sys
+
+TOP = pathlib.Path(__file__).resolve().parent.parent
+sys.dont_write_bytecode = True
+sys.path.insert(0, str(TOP / "examples"))
+from frames import (END_MARKER, INT32, LIST, NULL, STRUCT, UTF8, batch, dictionary, dictionary_batch, field, frame, integer, lists,
+                    numbers, scalar, strings, table, timestamp, vector)
+
+V4 = 3
+# Where a frame has its version.
+VERSION = 28
+
+NOTED_SCHEMA = [(b"k", b"v"), (b"k", b"")]
+NOTED_COLUMN = [(b"\xff", b"x")]
+NOTED_ITEM = [(b"unit", b"m"), (b"", b"")]
+TEXT = "k: dictionary<int32, utf8> id 0\nl: list\n  item: int32\n"
+
+
+def vector_of(pairs):
+    """A vector of KeyValue tables."""
+    return vector([table(("text", key), ("text", value)) for key, value in pairs])
+
+
+def noted(pairs, *arguments, **named):
+    """A field with these pairs."""
+    kind, fields = field(*arguments, **named)
+    return kind, (*fields, vector_of(pairs))
+
+
+def schema(pairs, *fields):
+    return frame(1, table(scalar("h", 0), vector(fields), vector_of(pairs)))
+
+
+def noted_schema():
+    return schema(NOTED_SCHEMA, noted(NOTED_COLUMN, "k", UTF8, encoding=dictionary(0)),
+                  field("l", LIST, [noted(NOTED_ITEM, "item", INT32)]))
+
+
+def parts():
+    """The frames of the schema, of each batch with the values that it brings, and the end marker."""
+    return [noted_schema(),
+            dictionary_batch(0, strings("abc")) + batch(numbers([0, 1, 2]), lists([[1], None, [2, 3]], numbers)),
+            dictionary_batch(0, strings("de"), delta=True) + batch(numbers([4, 0]), lists([[], [4]], numbers)), END_MARKER]
+
+
+def of_v4(part):
+    return part[:VERSION] + struct.pack("<h", V4) + part[VERSION + 2:]
+
+
+def two_types(bits):
+    """Columns `x`, and `z` in `y`, of lists of structs of an integer and a timestamp, by dictionary 7."""
+    def lists_of(pairs, name, bits):
+        below = [noted(pairs, "i", integer(bits, True)), noted([], "s", timestamp(3, "UTC"))]
+        return noted(pairs, name, LIST, [noted(pairs, "r", STRUCT, below)], encoding=dictionary(7))
+    pairs, others = [(b"k", b"v"), (b"\xff", b"")], [(b"k", b"w")]
+    return schema(pairs, lists_of(pairs, "x", 32),
+                  field("y", STRUCT, [field("n", NULL), lists_of(others, "z", bits)]))
+
+
+def files():
+    schema, *later, end = parts()
+    return {"noted.arrows": b"".join(map(of_v4, (schema, *later))) + end, "noted.txt": TEXT.encode(),
+            "equal_types.arrows": two_types(32), "unequal_types.arrows": two_types(16)}
+
+
+def sum_of(held, before=0):
+    for byte in held:
+        before = (before * 257 + byte) % 2 ** 64
+    return before
+
+
+def tell():
+    """Tells what is written of `noted`, all of it of V5."""
+    whole = b""
+    for part in parts():
+        whole += part
+        print(f"noted: {len(whole)} bytes, {sum_of(whole):016x}, the last part {len(part)} bytes")
+
+
+if __name__ == "__main__":
+    if len(sys.argv) == 2:
+        for name, held in files().items():
+            (pathlib.Path(sys.argv[1]) / name).write_bytes(held)
+    else:
+        tell()
