@@ -42,7 +42,13 @@ impl ValueField {
     pub(crate) fn of(alloc: Global, data_type: &DataType) -> Result<ValueField, AllocError>
         ensures { IfOk result (λ f. f ≡ value_field (type_view data_type.now)) }
     {
-        let field = Field::new(alloc, String::new(alloc), data_type.copy(alloc)?, true);
+        let field = Field {
+            name: String::new(alloc),
+            nullable: true,
+            data_type: data_type.copy(alloc)?,
+            dictionary: None,
+            metadata: Vec::new(alloc),
+        };
         let types = shared_types(alloc, slice::from_ref(&field))?;
         Ok(ValueField { field, types })
     }

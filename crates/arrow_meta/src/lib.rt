@@ -31,11 +31,11 @@
 //! | what the tables of a batch say | `specs/Straight.antt`: `HasNumber`, `HasPairs`, `IsHeader` |
 //! | what is answered | `specs/Judges.antt`: `Judges`, `Decodes` |
 //!
-//! However offsets share tables and texts, the work is bounded: each visit of a Field table and of
-//! a KeyValue table is counted in one function before the table is opened, and the bytes of each
-//! name, zone, key or value in one before they are copied. [`decode_counted`] tells these counts,
-//! as [`Work`], whatever it answers. Recursion goes no deeper than the levels of fields, and room
-//! for the elements of a vector is made only after all of them were found to lie inside.
+//! However offsets share tables and texts, the work is bounded: each visit of a Field table and of a
+//! KeyValue table is counted in one function before the table is opened, and the bytes of each name,
+//! zone, key or value in one before they are copied. [`decode_counted`] tells these counts, as
+//! [`Work`], whatever it answers. Recursion goes no deeper than the levels of fields, and room for the
+//! elements of a vector is made only after all of them were found to lie inside.
 #![tactic(auto)]
 
 mod batches;
