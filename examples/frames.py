@@ -8,7 +8,7 @@ bytes fill up what stands between, and the metadata until the body stands at a m
 A body holds its buffers in order, each at the end of the one before and filled up to the alignment. A null is written
 as zeros, an empty text or an empty list.
 
-Run by itself, it compares two frames and some bodies with bytes that are written out.
+Run by itself, it compares two frames, a metadata and some bodies with bytes that are written out.
 """
 import struct
 import sys
@@ -22,7 +22,7 @@ def scalar(form, number):
 
 
 def text(words):
-    return ("text", words.encode())
+    return ("text", words.encode() if isinstance(words, str) else words)
 
 
 def table(*fields):
@@ -112,10 +112,21 @@ def metadata(root, align=8):
     return bytes(buffer.bytes)
 
 
-def frame(code, header, body=b"", align=8):
+def key_values(noted):
+    """The field of the pairs of a schema, of a field or of a message, which is not there where there are none. A key or a value
+    that is None is absent."""
+    return [vector([table(*(None if it is None else text(it) for it in pair)) for pair in noted])] if noted else []
+
+
+def frame(code, header, body=b"", align=8, noted=()):
     """The frame of a message of version V5 with this header and body."""
-    words = metadata(table(scalar("h", 4), scalar("B", code), header, scalar("q", len(body))), align)
+    words = metadata(table(scalar("h", 4), scalar("B", code), header, scalar("q", len(body)), *key_values(noted)), align)
     return b"\xff\xff\xff\xff" + struct.pack("<i", len(words)) + words + body
+
+
+def as_v4(words):
+    """The same frame, which has no pairs at its message, of version V4: the number stands at one place in all of them."""
+    return words[:28] + b"\x03" + words[29:]
 
 
 def metadata_in(words):
@@ -165,14 +176,15 @@ def dictionary(number, bits=32, signed=True, ordered=False):
     return table(scalar("q", number), index, scalar("B", ordered), scalar("h", 0))
 
 
-def field(name, kind, children=(), nullable=True, encoding=None):
+def field(name, kind, children=(), nullable=True, encoding=None, noted=()):
     code, type_table = kind
-    return table(text(name), scalar("B", nullable), scalar("B", code), type_table, encoding, vector(children))
+    return table(text(name), scalar("B", nullable), scalar("B", code), type_table, encoding, vector(children),
+                 *key_values(noted))
 
 
-def schema(*fields, align=8):
+def schema(*fields, align=8, noted=()):
     """The schema frame of these columns, little-endian."""
-    return frame(1, table(scalar("h", 0), vector(fields)), align=align)
+    return frame(1, table(scalar("h", 0), vector(fields), *key_values(noted)), align=align)
 
 
 class Column:
@@ -301,6 +313,24 @@ ff ff ff ff 90 00 00 00   10 00 00 00 0c 00 18 00
 01 00 00 00 00 00 00 00   03 00 00 00 00 00 00 00
 """)
 
+# The metadata of the same schema with the pair of `k` and `v`, written out: its Schema table has a field more, and stands at 56
+# behind a vtable of 10 bytes. The pairs stand at 152, and their table at 168, behind all that was there.
+NOTED_COLUMN = bytes.fromhex("""
+10 00 00 00 0c 00 18 00   04 00 06 00 08 00 10 00
+0c 00 00 00 04 00 01 00   20 00 00 00 00 00 00 00
+00 00 00 00 00 00 00 00   0a 00 10 00 04 00 08 00
+0c 00 00 00 00 00 00 00   10 00 00 00 00 00 00 00
+08 00 00 00 54 00 00 00   01 00 00 00 14 00 00 00
+10 00 14 00 04 00 08 00   09 00 0c 00 00 00 10 00
+10 00 00 00 10 00 00 00   01 02 00 00 1c 00 00 00
+24 00 00 00 01 00 00 00   6e 00 08 00 09 00 04 00
+08 00 00 00 00 00 00 00   0e 00 00 00 20 00 00 00
+01 00 00 00 00 00 00 00   01 00 00 00 0c 00 00 00
+08 00 0c 00 04 00 08 00   08 00 00 00 08 00 00 00
+0c 00 00 00 01 00 00 00   6b 00 00 00 01 00 00 00
+76 00 00 00 00 00 00 00
+""")
+
 # Columns, and how their bodies are laid out at an alignment of 8: nodes, places of the buffers, and bytes.
 BODIES = [
     (numbers([1, None, 3]), [(3, 1)], [(0, 1), (8, 12)],
@@ -323,6 +353,8 @@ def check():
     one_column = schema(field("n", INT32))
     if one_column != ONE_COLUMN:
         sys.exit("the layout of a schema differs from the bytes that are written out")
+    if metadata_in(schema(field("n", INT32), noted=[("k", "v")])) != NOTED_COLUMN:
+        sys.exit("the layout of a schema with a pair differs from the bytes that are written out")
     numbers_frame = batch(numbers([1, None, 3]))
     if numbers_frame != ONE_BATCH:
         sys.exit("the layout of a batch differs from the bytes that are written out")

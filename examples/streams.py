@@ -8,6 +8,7 @@ import struct
 import sys
 
 import frames
+import noted
 from frames import (BINARY, BOOL, END_MARKER, INT32, LIST, NULL, STRUCT, UTF8, batch, bools, date, dictionary,
                     dictionary_batch, field, integer, lists, nulls, numbers, schema, strings, structs, time, timestamp)
 
@@ -41,6 +42,11 @@ def growing_dictionary(align=8):
     return [letters_schema(align), letters("abc", align=align), batch(numbers([0, 1, 2]), align=align),
             letters("de", True, align), batch(numbers([4, 0]), align=align), letters("acde", align=align),
             batch(numbers([1, 3]), align=align), END_MARKER]
+
+
+def mixed_versions():
+    """The growing dictionary, whose schema, first batch, delta and last batch are of version V4."""
+    return [frames.as_v4(part) if at in (0, 2, 3, 6) else part for at, part in enumerate(growing_dictionary())]
 
 
 # Modules of frames: their names, what each is, and its bytes.
@@ -222,7 +228,13 @@ def reported():
         "GROUPS": ("A column of lists by indices of a dictionary.", laid_out["groups"]),
         "BELOW": ("Lists and structs of texts by indices of a dictionary.", laid_out["below"]),
     }
-    return held | REPORTED
+    return held | REPORTED | noted_streams()
+
+
+def noted_streams():
+    """Streams with pairs on all levels."""
+    return {"NOTED": ("Two rows of a schema with pairs on all levels, at an alignment of 8.", noted.stream()),
+            "NOTED_64": ("The same at an alignment of 64.", noted.stream(64))}
 
 
 def resent_dictionary():
@@ -309,7 +321,7 @@ def written():
                        joined(COLUMNS, "MANY MANY_ROWS END")),
         "LONG_LISTS": ("Two batches of lists of nulls by a dictionary with 2^31 items, the last of which comes by a delta.",
                        b"".join(long_lists())),
-    }
+    } | noted_streams()
 
 
 def check():

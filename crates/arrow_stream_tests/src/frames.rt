@@ -7,6 +7,7 @@ pub(crate) mod columns;
 pub(crate) mod encoded;
 pub(crate) mod foreign;
 pub(crate) mod letters;
+pub(crate) mod noted;
 
 /// The frame of a schema of one nullable field `n` of signed 32-bit integers: 8 bytes, then 144 of
 /// metadata.

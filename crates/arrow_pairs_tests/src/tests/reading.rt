@@ -1,0 +1,45 @@
+// What is read of a metadata, and what that came to.
+
+use arrow_meta::{Header, Work, decode, decode_counted};
+use arrow_types::{Limits, Schema};
+use std::alloc::Global;
+use std::process::Abort;
+
+// Why a test stops that finds no room.
+pub(super) const MEMORY: &str = "memory";
+
+// Bytes that are put at places of a metadata.
+pub(super) type Edits = &'static [(usize, u8)];
+
+// The bytes with some changed.
+pub(super) fn edited(rt: &impl Abort, alloc: Global, bytes: &[u8], edits: Edits) -> Vec<u8> {
+    let mut edited = Vec::from_slice(alloc, bytes).expect(rt, MEMORY);
+    for (place, byte) in edits {
+        *edited.get_mut(*place).expect(rt, "a place in the metadata") = *byte;
+    }
+    edited
+}
+
+// The schema that bytes mean.
+pub(super) fn schema_of(rt: &impl Abort, alloc: Global, bytes: &[u8]) -> Schema {
+    let message = decode(alloc, bytes, &Limits::standard()).expect(rt, "a message");
+    match message.header {
+        Header::Schema(schema) => schema,
+        Header::Dictionary(..) | Header::Batch(_) => panic!(rt; "another message"),
+    }
+}
+
+// The number of the fault of bytes, 0 where they are read, and how many fields, pairs and bytes of
+// names, zones, keys and values were. What was counted before is left out.
+pub(super) fn told(alloc: Global, bytes: &[u8], limits: &Limits) -> (u8, [u64; 3]) {
+    let mut work = Work {
+        fields: 7,
+        pairs: u64::MAX,
+        bytes: 1,
+    };
+    let fault = match decode_counted(alloc, bytes, limits, &mut work) {
+        Ok(_) => 0,
+        Err(fault) => fault.number(),
+    };
+    (fault, [work.fields, work.pairs, work.bytes])
+}

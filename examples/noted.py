@@ -1,0 +1,89 @@
+"""What has custom metadata, laid out by frames.py: pairs of keys and values at a schema, at its fields on all levels, and at
+messages. Some keys stand there more than once, some keys and values are empty, absent or no UTF-8.
+"""
+from bodies import large_lists
+from frames import (BOOL, END_MARKER, INT32, LARGE_LIST, LIST, STRUCT, UTF8, batch, bools, dictionary, dictionary_batch, field,
+                    frame, integer, laid, lists, metadata_in, numbers, record_batch, scalar, schema, strings, structs, table, text, timestamp, vector)
+
+PAIR = [("k", "v")]
+
+# What is noted at the schema below and at its fields.
+AT_SCHEMA = [("origin", "here"), ("", ""), ("origin", "there")]
+AT_K, AT_ITEM = [(b"\xff\xfe", b"\0\x80")], [("unit", "m"), ("unit", "s"), ("unit", "m")]
+AT_WIDE, AT_WIDE_ITEM = [("", "w")], [("w", "")]
+AT_M, AT_DEEPEST = [("m", b"\xc3")], [("deep", "est")]
+
+
+def levels(align=8):
+    """Pairs at the schema, at a column by a dictionary, below a list and a large list, at them, and below a list in a struct."""
+    inner = field("n", LIST, [field("item", BOOL, noted=AT_DEEPEST)])
+    return schema(field("k", UTF8, encoding=dictionary(0), noted=AT_K),
+                  field("l", LIST, [field("item", INT32, noted=AT_ITEM)]),
+                  field("w", LARGE_LIST, [field("item", integer(64, True), noted=AT_WIDE_ITEM)], noted=AT_WIDE),
+                  field("s", STRUCT, [field("m", integer(8, False), noted=AT_M), inner], noted=PAIR),
+                  field("t", timestamp(2, "UTC")), align=align, noted=AT_SCHEMA)
+
+
+def stream(align=8):
+    """Two rows of it."""
+    listed = structs([(), None], numbers([7, None], "B"), lists([[True], None], bools))
+    rows = batch(numbers([1, None]), lists([[1, 2], None], numbers), large_lists([[], [-5]], lambda items: numbers(items, "q")),
+                 listed, numbers([1, None], "q"), align=align)
+    return b"".join([levels(align), dictionary_batch(0, strings("ab"), align=align), rows, END_MARKER])
+
+
+ABSENT = [(None, "v"), ("k", None), (None, None)]
+FILLED = [("", "v"), ("k", ""), ("", "")]
+
+
+def numbers_with(noted=(), noted_column=()):
+    """The schema of one column `n` of signed 32-bit integers, with pairs of its own and at the column."""
+    return schema(field("n", INT32, noted=noted_column), noted=noted)
+
+
+def no_pairs():
+    """The same, whose schema and whose column have each a vector of no pairs."""
+    code, int32 = INT32
+    column = table(text("n"), scalar("B", 1), scalar("B", code), int32, None, vector([]), vector([]))
+    return frame(1, table(scalar("h", 0), vector([column]), vector([])))
+
+
+def message(noted):
+    """The same, with pairs at the message."""
+    return frame(1, table(scalar("h", 0), vector([field("n", INT32)])), noted=noted)
+
+
+def rows_with(noted):
+    """The batch of 1, a null and 3 for it, with pairs at the message."""
+    column = numbers([1, None, 3])
+    nodes, places, body = laid([column])
+    return frame(3, record_batch(3, nodes, places), body, noted=noted)
+
+
+def held_metadata():
+    """The metadata that the tests of pairs hold."""
+    return {
+        "PLAIN": ("One nullable column `n` of signed 32-bit integers.", metadata_in(numbers_with())),
+        "ROWS": ("The batch of 1, a null and 3 for it.", metadata_in(batch(numbers([1, None, 3])))),
+        "WORDS": ("Dictionary 0 is three texts.", metadata_in(dictionary_batch(0, strings("abc")))),
+        "AT_SCHEMA": ("The column, with the pair of `k` and `v` at the schema.", metadata_in(numbers_with(PAIR))),
+        "AT_COLUMN": ("The column, with this pair at itself.", metadata_in(numbers_with((), PAIR))),
+        "AT_BOTH": ("The column, with this pair at the schema and at itself.", metadata_in(numbers_with(PAIR, PAIR))),
+        "AT_MESSAGE": ("The column, with this pair at the message.", metadata_in(message(PAIR))),
+        "NO_PAIRS": ("The column, where schema and column have each a vector of no pairs.", metadata_in(no_pairs())),
+        "ABSENT": ("The column, with three pairs: without a key, without a value, and without both.",
+                   metadata_in(numbers_with((), ABSENT))),
+        "FILLED": ("The same, where an empty text stands for each of them.", metadata_in(numbers_with((), FILLED))),
+        "LEVELS": ("Pairs at the schema, at columns, and at fields below a list, a large list, a struct and a list in it.",
+                   metadata_in(levels())),
+    }
+
+
+def held_frames():
+    """The frames that the tests of arrow_stream hold."""
+    return {
+        "AT_SCHEMA": ("The schema of `n`, with the pair of `k` and `v`.", numbers_with(PAIR)),
+        "AT_COLUMN": ("The same pair at the column.", numbers_with((), PAIR)),
+        "AT_MESSAGE": ("The same pair at the message.", message(PAIR)),
+        "ROWS_AT_MESSAGE": ("The batch of 1, a null and 3, with the same pair at the message.", rows_with(PAIR)),
+    }
