@@ -59,75 +59,93 @@ fn types_are_the_same_without_pairs(rt: HostRuntime) {
     }
 }
 
-// A field with pairs of its own, and one with pairs at the lowest level below it.
-fn fields_of(rt: &(impl Abort + AllocGlobal), above: Above, noted: Pairs) -> [Field; 2] {
-    let own = field(rt, "f", noted_type(rt, above, &[]), pairs(rt, noted));
-    let below = field(rt, "f", deep_type(rt, above, noted), pairs(rt, &[]));
-    [own, below]
+// Where pairs stand.
+#[derive(Clone, Copy, Debug, PartialEq, Eq)]
+enum At {
+    Schema,
+    Column,
+    // Two levels below the column.
+    Below,
 }
 
-fn fields_are_equal(rt: &(impl Abort + AllocGlobal), one: Pairs, other: Pairs, are_equal: bool) {
+const PLACES: [At; 3] = [At::Schema, At::Column, At::Below];
+
+// A column, where the pairs are not those of the schema.
+fn column(rt: &(impl Abort + AllocGlobal), above: Above, at: At, noted: Pairs) -> Field {
+    let below = if at == At::Below { noted } else { &[] };
+    let own = if at == At::Column { noted } else { &[] };
+    field(rt, "f", deep_type(rt, above, below), pairs(rt, own))
+}
+
+// The schema of one column, with pairs in one place.
+fn noted_schema(rt: &(impl Abort + AllocGlobal), above: Above, at: At, noted: Pairs) -> Schema {
+    let own = if at == At::Schema { noted } else { &[] };
+    let column = column(rt, above, at, noted);
+    schema(rt, column, pairs(rt, own)).expect(rt, "a schema")
+}
+
+// Whether columns with these pairs in one place are equal. Their types are the same.
+fn are_equal_columns(
+    rt: &(impl Abort + AllocGlobal),
+    above: Above,
+    at: At,
+    noted: [Pairs; 2],
+) -> bool {
+    let [one, other] = noted;
+    let one = column(rt, above, at, one);
+    let other = column(rt, above, at, other);
+    assert!(rt; one.data_type.same(&other.data_type));
+    one == other
+}
+
+// Whether schemas with these pairs in one place are equal.
+fn are_equal_schemas(
+    rt: &(impl Abort + AllocGlobal),
+    above: Above,
+    at: At,
+    noted: [Pairs; 2],
+) -> bool {
+    let [one, other] = noted;
+    let one = noted_schema(rt, above, at, one);
+    one == noted_schema(rt, above, at, other)
+}
+
+// That columns and schemas with these pairs are equal or not.
+fn are_equal(rt: &(impl Abort + AllocGlobal), at: At, noted: [Pairs; 2], want: bool) {
     for above in ABOVE {
-        let [own, below] = fields_of(rt, above, one);
-        let [other_own, other_below] = fields_of(rt, above, other);
-        assert!(rt;
-            (own == other_own) == are_equal,
-            "{one:?} {other:?} {above:?}"
+        assert_eq!(rt;
+            are_equal_schemas(rt, above, at, noted),
+            want,
+            "{noted:?} {at:?} {above:?}"
         );
-        assert!(rt;
-            (below == other_below) == are_equal,
-            "{one:?} {other:?} {above:?}"
+        let want = want || at == At::Schema;
+        assert_eq!(rt;
+            are_equal_columns(rt, above, at, noted),
+            want,
+            "{noted:?} {at:?} {above:?}"
         );
-        assert!(rt; own.data_type == other_own.data_type);
-        assert!(rt; below.data_type.same(&other_below.data_type));
     }
 }
 
 #[test]
-fn fields_are_equal_with_pairs(rt: HostRuntime) {
+fn fields_and_schemas_are_equal_with_pairs(rt: HostRuntime) {
     for (i, one) in PAIRS.iter().enumerate() {
         for (j, other) in PAIRS.iter().enumerate() {
-            fields_are_equal(&rt, one, other, i == j);
+            for at in PLACES {
+                are_equal(&rt, at, [*one, *other], i == j);
+            }
         }
     }
 }
 
-// A schema with pairs of its own, at its column, or at the lowest level.
-fn schemas_of(rt: &(impl Abort + AllocGlobal), above: Above, noted: Pairs) -> [Schema; 3] {
-    let [own, below] = fields_of(rt, above, noted);
-    let plain = field(rt, "f", noted_type(rt, above, &[]), pairs(rt, &[]));
-    [
-        schema(rt, plain, pairs(rt, noted)).expect(rt, "a schema"),
-        schema(rt, own, pairs(rt, &[])).expect(rt, "a schema"),
-        schema(rt, below, pairs(rt, &[])).expect(rt, "a schema"),
-    ]
-}
-
-fn schemas_are_equal(rt: &(impl Abort + AllocGlobal), one: Pairs, other: Pairs, are_equal: bool) {
-    for above in ABOVE {
-        let [own, at_column, below] = schemas_of(rt, above, one);
-        let [other_own, other_at_column, other_below] = schemas_of(rt, above, other);
-        assert!(rt;
-            (own == other_own) == are_equal,
-            "{one:?} {other:?} {above:?}"
-        );
-        assert!(rt;
-            (at_column == other_at_column) == are_equal,
-            "{one:?} {other:?} {above:?}"
-        );
-        assert!(rt;
-            (below == other_below) == are_equal,
-            "{one:?} {other:?} {above:?}"
-        );
-        assert!(rt; (own == other_at_column) == (one.is_empty() && other.is_empty()));
-    }
-}
-
+// The same pairs in one place are others than in another.
 #[test]
-fn schemas_are_equal_with_pairs(rt: HostRuntime) {
-    for (i, one) in PAIRS.iter().enumerate() {
-        for (j, other) in PAIRS.iter().enumerate() {
-            schemas_are_equal(&rt, one, other, i == j);
+fn pairs_in_other_places_are_others(rt: HostRuntime) {
+    for one in PLACES {
+        for other in PLACES {
+            let schema = noted_schema(&rt, Above::List, one, PAIRS[4]);
+            let same = schema == noted_schema(&rt, Above::List, other, PAIRS[4]);
+            assert_eq!(rt; same, one == other, "{one:?} {other:?}");
         }
     }
 }

@@ -93,9 +93,9 @@ fn a_schema_has_the_pairs_that_it_gets(rt: HostRuntime) {
     );
     let noted = noted.expect(&rt, "a schema");
     assert!(&rt; are_pairs(noted.metadata(), &[(b"", b"v"), (b"", b"v")]));
-    assert!(&rt; plain.fields().len() == 1 && noted.fields().len() == 1);
-    assert!(&rt; are_pairs(&noted.fields()[0].metadata, &[(b"k", b"v")]));
-    assert!(&rt; plain.fields()[0] == noted.fields()[0]);
+    let column = noted.fields().first().expect(&rt, "a column");
+    assert!(&rt; are_pairs(&column.metadata, &[(b"k", b"v")]));
+    assert!(&rt; plain.fields().first().expect(&rt, "a column") == column);
     assert!(&rt; plain != noted);
     let same = Schema::with_metadata(rt.alloc(), columns(&rt), Vec::new(rt.alloc()));
     assert!(&rt; same.expect(&rt, "a schema") == plain);

@@ -85,11 +85,12 @@ pub(super) fn fill(
     count: usize,
 ) {
     let piece = repeated(rt, word);
-    assert!(rt; !piece.is_empty());
-    for _ in 0..count / piece.len() {
+    let len = piece.len().max(1);
+    for _ in 0..count / len {
         push(rt, bytes, &piece);
     }
-    push(rt, bytes, &piece[..count % piece.len()]);
+    let rest = piece.get(..count % len).expect(rt, "a part of the piece");
+    push(rt, bytes, rest);
 }
 
 // Appends the vector of columns, and of each its table: its way back to the vtable before all of

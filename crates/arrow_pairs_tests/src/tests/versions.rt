@@ -30,9 +30,8 @@ static VERSIONS: [([u8; 2], Option<i16>); 9] = [
 // The bytes with another version.
 fn with_version(rt: &impl Abort, alloc: Global, bytes: &[u8], version: [u8; 2]) -> Vec<u8> {
     let mut other = Vec::from_slice(alloc, bytes).expect(rt, MEMORY);
-    for (place, byte) in (20..22).zip(version) {
-        *other.get_mut(place).expect(rt, "a version") = byte;
-    }
+    *other.get_mut(20).expect(rt, "a version") = version[0];
+    *other.get_mut(21).expect(rt, "a version") = version[1];
     other
 }
 
