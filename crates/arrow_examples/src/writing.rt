@@ -62,12 +62,16 @@ pub fn write_numbers(alloc: Global, numbers: &[Option<i64>]) -> Result<Vec<u8>, 
     }
     let columns = vec![in alloc; builder.finish(alloc, &[])?]?;
     let schema = Rc::new(alloc, Schema::new(alloc, vec![in alloc; field]?)?)?;
-    let batch = Batch::new(schema.clone()?, columns, numbers.len())?;
+    let batch = Batch::new(schema, columns, numbers.len())?;
+    Ok(stream_of(alloc, &batch)?)
+}
+
+/// The stream of one batch.
+fn stream_of(alloc: Global, batch: &Batch) -> Result<Vec<u8>, WriteFault> {
     let sink = Counted::new(Vec::new(alloc));
-    let mut writer = StreamWriter::start(alloc, sink, &schema, OPTIONS, Limits::standard()).map_err(
-        |(fault, _)| fault,
-    )?;
-    writer.write(&batch)?;
+    let started = StreamWriter::start(alloc, sink, batch.schema(), OPTIONS, Limits::standard());
+    let mut writer = started.map_err(|(fault, _)| fault)?;
+    writer.write(batch)?;
     writer.finish()?;
     Ok(writer.into_sink().into_inner())
 }
