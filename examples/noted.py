@@ -48,6 +48,12 @@ def no_pairs():
     return frame(1, table(scalar("h", 0), vector([column]), vector([])))
 
 
+def shared():
+    """Two columns of lists by one dictionary, whose items have other pairs."""
+    return schema(field("a", LIST, [field("item", INT32, noted=PAIR)], encoding=dictionary(7)),
+                  field("b", LIST, [field("item", INT32)], encoding=dictionary(7), noted=PAIR))
+
+
 def message(noted):
     """The same, with pairs at the message."""
     return frame(1, table(scalar("h", 0), vector([field("n", INT32)])), noted=noted)
@@ -76,6 +82,8 @@ def held_metadata():
         "FILLED": ("The same, where an empty text stands for each of them.", metadata_in(numbers_with((), FILLED))),
         "LEVELS": ("Pairs at the schema, at columns, and at fields below a list, a large list, a struct and a list in it.",
                    metadata_in(levels())),
+        "SHARED": ("Columns `a` and `b` of lists by dictionary 7: the item of `a` has a pair, and `b` has it itself.",
+                   metadata_in(shared())),
     }
 
 

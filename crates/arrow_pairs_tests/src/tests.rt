@@ -13,6 +13,7 @@ mod limits;
 mod many;
 mod reading;
 mod shared;
+mod sharing;
 mod unreadable;
 mod versions;
 mod written;

@@ -3,7 +3,8 @@
 use super::reading::{Edits, edited, told};
 use crate::foreign;
 use crate::vectors::{
-    ABSENT, AT_BOTH, AT_COLUMN, AT_MESSAGE, AT_SCHEMA, FILLED, LEVELS, NO_PAIRS, PLAIN, ROWS, WORDS,
+    ABSENT, AT_BOTH, AT_COLUMN, AT_MESSAGE, AT_SCHEMA, FILLED, LEVELS, NO_PAIRS, PLAIN, ROWS,
+    SHARED, WORDS,
 };
 use arrow_meta::{Work, decode_counted, tree_counted};
 use arrow_types::Limits;
@@ -11,7 +12,7 @@ use std::process::Abort;
 
 // Of the ten fields of `LEVELS` the names have 19 bytes and the zone 3, and of the twelve pairs the
 // keys have 33 and the values 20.
-static COUNTS: [(&[u8], [u64; 3]); 13] = [
+static COUNTS: [(&[u8], [u64; 3]); 14] = [
     (&PLAIN, [1, 0, 1]),
     (&ROWS, [0, 0, 0]),
     (&WORDS, [0, 0, 0]),
@@ -23,6 +24,7 @@ static COUNTS: [(&[u8], [u64; 3]); 13] = [
     (&ABSENT, [1, 3, 3]),
     (&FILLED, [1, 3, 3]),
     (&LEVELS, [10, 12, 75]),
+    (&SHARED, [4, 2, 14]),
     (&foreign::ABSENT, [1, 3, 3]),
     (&foreign::LEVELS, [10, 12, 75]),
 ];

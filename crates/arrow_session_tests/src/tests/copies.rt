@@ -3,7 +3,7 @@
 use super::reading::{batches_of, schema_of};
 use super::stream::Stream::{
     self, ClosedGap, FromNoValues, Gap, Growing, Growing64, Hiding, ManyTypes, Nested, NoColumns,
-    Numbers, Numbers64, Resent, Shared, Tidy, TwiceX,
+    Noted, Noted64, Numbers, Numbers64, Resent, Shared, Tidy, TwiceX,
 };
 use super::writers::{DELTA, DELTA_64, RESEND};
 use arrow_array::Batch;
@@ -54,7 +54,7 @@ fn assert_copied(
 }
 
 // What is read, how it is written, and as what.
-static COPIES: [(Stream, Options, Stream); 22] = [
+static COPIES: [(Stream, Options, Stream); 26] = [
     (Growing, DELTA, Growing),
     (Growing, RESEND, Resent),
     (Growing, DELTA_64, Growing64),
@@ -77,6 +77,10 @@ static COPIES: [(Stream, Options, Stream); 22] = [
     (Nested, DELTA, Nested),
     (Nested, RESEND, Nested),
     (ManyTypes, DELTA, ManyTypes),
+    (Noted, DELTA, Noted),
+    (Noted, DELTA_64, Noted64),
+    (Noted64, RESEND, Noted),
+    (Noted64, DELTA_64, Noted64),
 ];
 
 #[test]

@@ -1,6 +1,8 @@
 //! Batches of a schema that differs from the writer's in one thing.
 
 use super::building::{MEMORY, batch};
+use super::reading::received;
+use super::stream::Stream;
 use super::writers::{DELTA, writer_of, written};
 use arrow_array::Batch;
 use arrow_build::ArrayBuilder;
@@ -135,5 +137,35 @@ fn schemas_that_differ_in_their_pairs(rt: HostRuntime) {
                 assert!(rt; answer == refused, "{i} {j}: {answer:?}");
             }
         }
+    }
+}
+
+// Places in a stream with pairs on all levels: a key of a column, a value below its list, a key below
+// its large list, a value below a list in a struct, a value of the struct, and one of the schema.
+static PLACES: [usize; 6] = [264, 476, 744, 1180, 1224, 1364];
+
+/// The batch of that stream, with this bit changed at a place.
+fn batch_read(rt: &(impl Abort + AllocGlobal), place: usize, bit: u8) -> Batch {
+    let stream = Stream::Noted.bytes();
+    let mut bytes = Vec::from_slice(rt.alloc(), stream).expect(rt, MEMORY);
+    *bytes.get_mut(place).expect(rt, "a place in the stream") ^= bit;
+    let mut batches = received(rt, &bytes).handed;
+    batches.pop().expect(rt, "a batch")
+}
+
+fn assert_differs(rt: &(impl Abort + AllocGlobal), one: &Batch, other: &Batch, place: usize) {
+    let mut writer = writer_of(rt, one.schema(), DELTA, Limits::standard());
+    let refused = Some(WriteFault::SchemaDiffers);
+    assert!(rt; written(rt, &mut writer, other) == refused, "{place}");
+    assert!(rt; written(rt, &mut writer, one).is_none(), "{place}");
+}
+
+#[test]
+fn schemas_that_differ_in_a_bit_of_a_pair(rt: HostRuntime) {
+    let noted = batch_read(&rt, 0, 0);
+    for place in &PLACES {
+        let other = batch_read(&rt, *place, 1);
+        assert_differs(&rt, &noted, &other, *place);
+        assert_differs(&rt, &other, &noted, *place);
     }
 }

@@ -26,6 +26,8 @@ pub(super) enum Stream {
     Nested,
     ManyTypes,
     LongLists,
+    Noted,
+    Noted64,
 }
 
 impl Stream {
@@ -53,6 +55,8 @@ impl Stream {
             Stream::Nested => &written::NESTED,
             Stream::ManyTypes => &written::MANY_TYPES,
             Stream::LongLists => &written::LONG_LISTS,
+            Stream::Noted => &written::NOTED,
+            Stream::Noted64 => &written::NOTED_64,
         }
     }
 }

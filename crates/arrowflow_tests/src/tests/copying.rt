@@ -1,9 +1,10 @@
 //! Streams written again: their bytes, and how that ends where the output fails or the writer
 //! refuses.
 
+use super::edits::{Edit, edited};
 use super::growing::GROWING;
 use super::reports::{LETTERS, NUMBERS};
-use super::streams::ONE_BATCH;
+use super::streams::{NOTED, NOTED_64, ONE_BATCH};
 use super::told::{Call, assert_told};
 use arrow_body_write::Align;
 use arrow_dict::Updates;
@@ -82,6 +83,49 @@ fn buffers_are_padded_as_asked(rt: HostRuntime) {
     assert_told(&rt, alloc, Call::Show, &wide, NUMBERS);
     let back = copy_of(&rt, alloc, &wide, DELTA);
     assert!(rt; back.as_slice() == ONE_BATCH.as_slice());
+}
+
+// A stream with pairs on all levels, how it is written, and as what.
+static KEPT: [(&[u8], Options, &[u8]); 4] = [
+    (&NOTED, DELTA, &NOTED),
+    (&NOTED, WIDE, &NOTED_64),
+    (&NOTED_64, RESEND, &NOTED),
+    (&NOTED_64, WIDE, &NOTED_64),
+];
+
+#[test]
+fn pairs_are_kept_on_all_levels(rt: HostRuntime) {
+    for (stream, options, want) in &KEPT {
+        let bytes = copy_of(&rt, rt.alloc(), stream, *options);
+        assert!(rt; bytes.as_slice() == *want);
+    }
+}
+
+// Streams whose messages are of V4 at these places, all of which are written in V5.
+static VERSIONS: [(&[u8], &[Edit]); 8] = [
+    (&ONE_BATCH, &[(28, &[3])]),
+    (&ONE_BATCH, &[(180, &[3])]),
+    (&ONE_BATCH, &[(28, &[3]), (180, &[3])]),
+    (&NOTED, &[(28, &[3]), (1716, &[3])]),
+    (&NOTED, &[(1492, &[3])]),
+    (
+        &GROWING,
+        &[(28, &[3]), (452, &[3]), (844, &[3]), (1236, &[3])],
+    ),
+    (&GROWING, &[(228, &[3]), (620, &[3]), (1004, &[3])]),
+    (
+        &GROWING,
+        &[(28, &[3]), (228, &[3]), (620, &[3]), (1004, &[3])],
+    ),
+];
+
+#[test]
+fn all_messages_are_written_in_v5(rt: HostRuntime) {
+    for (stream, edits) in &VERSIONS {
+        let mixed = edited(&rt, rt.alloc(), stream, edits);
+        let bytes = copy_of(&rt, rt.alloc(), &mixed, DELTA);
+        assert!(rt; bytes.as_slice() == *stream, "{edits:?}");
+    }
 }
 
 #[test]
