@@ -25,28 +25,27 @@ fn is_refused(rt: &(impl Abort + AllocGlobal), bytes: &[u8]) {
     is_counted(rt, bytes, MOST, None);
 }
 
-// Vectors of pairs: one of the schema, and one that is that of many fields too.
-static PAIRS: [Shared; 2] = [
-    Shared {
+fn long_pairs_are_refused(rt: &(impl Abort + AllocGlobal), fields: u32) {
+    let shared = Shared {
         pairs: COUNT,
         own: true,
+        fields,
         ..NOTHING
-    },
-    Shared {
-        pairs: COUNT,
-        fields: 10_000,
-        own: true,
-        ..NOTHING
-    },
-];
+    };
+    let mut bytes = front(rt, shared);
+    fill(rt, &mut bytes, EMPTY_TABLES, LONG as usize);
+    is_refused(rt, &bytes);
+}
 
 #[test]
-fn long_vectors_of_pairs_are_refused(rt: HostRuntime) {
-    for shared in &PAIRS {
-        let mut bytes = front(&rt, *shared);
-        fill(&rt, &mut bytes, EMPTY_TABLES, LONG as usize);
-        is_refused(&rt, &bytes);
-    }
+fn a_long_vector_of_pairs_is_refused(rt: HostRuntime) {
+    long_pairs_are_refused(&rt, 0);
+}
+
+// The vector of the schema is that of many fields too.
+#[test]
+fn a_long_vector_of_many_fields_is_refused(rt: HostRuntime) {
+    long_pairs_are_refused(&rt, 10_000);
 }
 
 #[test]

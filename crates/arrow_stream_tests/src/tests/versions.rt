@@ -1,8 +1,8 @@
 // Messages of V4 and of V5 in one stream: each is judged by itself.
 
 use super::telling::Ending::{Refused, Whole};
-use super::telling::{A_TO_C, LETTERS, NOTHING, NUMBERS, Streams, Told, are_told};
-use crate::frames::letters::{ABC, DE, FIRST, SECOND};
+use super::telling::{A_TO_C, NOTHING, NUMBERS, Streams, Told, are_told};
+use crate::frames::letters::{ABC, DE, FIRST};
 use crate::frames::{BATCH, END_MARKER, SCHEMA, letters};
 use arrow_stream::Kind;
 
@@ -14,14 +14,19 @@ const NUMBERS_READ: Told<'static> = Told {
     ..NUMBERS
 };
 
-// A schema, a dictionary, a batch, a delta and a batch of letters, whose versions stand at 28, 228,
-// 452, 620 and 844.
-const LETTERS_READ: Told<'static> = Told {
-    items: "schema dictionary:0 batch dictionary:0 batch end",
-    rows: "3: 'a' 'b' 'c'; 2: 'e' 'a'",
+// A schema, a dictionary and a batch or a delta of letters, whose versions stand at 28, 228 and 452.
+const BATCH_READ: Told<'static> = Told {
+    items: "schema dictionary:0 batch",
+    rows: "3: 'a' 'b' 'c'",
+    place: 592,
+    ..A_TO_C
+};
+
+const DELTA_READ: Told<'static> = Told {
+    items: "schema dictionary:0 dictionary:0",
     dictionaries: "0: 'a' 'b' 'c' 'd' 'e'",
-    place: 984,
-    ..LETTERS
+    place: 648,
+    ..A_TO_C
 };
 
 static NUMBERS_MIXED: [Streams; 1] = [Streams {
@@ -40,22 +45,32 @@ fn numbers_of_two_versions(rt: HostRuntime) {
     are_told(&rt, rt.alloc(), &NUMBERS_MIXED);
 }
 
-static LETTERS_MIXED: [Streams; 1] = [Streams {
-    frames: &[&letters::SCHEMA, &ABC, &FIRST, &DE, &SECOND, &END_MARKER],
-    read: LETTERS_READ,
+static BATCHES_MIXED: [Streams; 1] = [Streams {
+    frames: &[&letters::SCHEMA, &ABC, &FIRST],
+    read: BATCH_READ,
     rows: &[
-        (
-            "V4 and V5 in turn",
-            &[(28, &[3]), (452, &[3]), (844, &[3])],
-            Whole,
-        ),
-        ("V5 and V4 in turn", &[(228, &[3]), (620, &[3])], Whole),
+        ("V4 and V5 in turn", &[(28, &[3]), (452, &[3])], Whole),
+        ("V5 and V4 in turn", &[(228, &[3])], Whole),
     ],
 }];
 
 #[test]
-fn letters_of_two_versions(rt: HostRuntime) {
-    are_told(&rt, rt.alloc(), &LETTERS_MIXED);
+fn a_batch_of_letters_of_two_versions(rt: HostRuntime) {
+    are_told(&rt, rt.alloc(), &BATCHES_MIXED);
+}
+
+static DELTAS_MIXED: [Streams; 1] = [Streams {
+    frames: &[&letters::SCHEMA, &ABC, &DE],
+    read: DELTA_READ,
+    rows: &[
+        ("a delta of V4", &[(452, &[3])], Whole),
+        ("behind a dictionary of V4", &[(228, &[3])], Whole),
+    ],
+}];
+
+#[test]
+fn a_delta_of_two_versions(rt: HostRuntime) {
+    are_told(&rt, rt.alloc(), &DELTAS_MIXED);
 }
 
 // The version of the first message, of a dictionary, and of a batch that is another one, whatever

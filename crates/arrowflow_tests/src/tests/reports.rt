@@ -17,7 +17,7 @@ pub(super) const LETTERS: &str = "batch,k\n0,a\n0,b\n0,c\n1,e\n1,a\n2,c\n2,e\n";
 pub(super) const NUMBERS: &str = "batch,n\n0,1\n0,\n0,3\n";
 
 // Whole streams, and what `check` writes of each.
-static MESSAGES: [(&[u8], &str); 6] = [
+static MESSAGES: [(&[u8], &str); 5] = [
     (
         &ONE_BATCH,
         "at 0: schema, 1 columns\nat 152: batch 0, 3 rows\nat 328: end marker\n",
@@ -37,10 +37,6 @@ static MESSAGES: [(&[u8], &str); 6] = [
     (
         &EMPTY_BATCHES,
         "at 0: schema, 1 columns\nat 136: batch 0, 0 rows\nat 312: batch 1, 3 rows\nat 512: batch 2, 0 rows\nat 688: batch 3, 3 rows\nat 888: end marker\n",
-    ),
-    (
-        &NOTED,
-        "at 0: schema, 5 columns\nat 1464: dictionary 0, now 2 values\nat 1688: batch 0, 2 rows\nat 2416: end marker\n",
     ),
 ];
 
@@ -79,7 +75,7 @@ fn plain_rows_of_streams(rt: HostRuntime) {
 }
 
 // Whole streams of nested columns and dictionaries, and what `show` writes of each.
-static NESTED_ROWS: [(&[u8], &str); 9] = [
+static NESTED_ROWS: [(&[u8], &str); 8] = [
     (&GROWING, LETTERS),
     (&LISTS, "batch,l,t\n0,[1;2],\"a,b\"\n0,,\n0,[],\n"),
     (&STRUCTS, "batch,s\n0,{m=5}\n0,\n"),
@@ -90,10 +86,6 @@ static NESTED_ROWS: [(&[u8], &str); 9] = [
     (
         &NESTED,
         "batch,g\n0,[{x=1;y=a;b};null;{x=null;y=null}]\n0,[]\n0,\n",
-    ),
-    (
-        &NOTED,
-        "batch,k,l,w,s,t\n0,b,[1;2],[],{m=7;n=[true]},1\n0,,,[-5],,\n",
     ),
 ];
 
@@ -108,9 +100,16 @@ fn nested_rows_of_streams(rt: HostRuntime) {
 const NOTED_COLUMNS: &str =
     "k: dictionary<int32, utf8> id 0\nl: list\n  item: int32\nw: large_list\n  item: int64\ns: struct\n  m: uint8\n  n: list\n    item: bool\nt: timestamp[us, UTC]\n";
 
+const NOTED_MESSAGES: &str =
+    "at 0: schema, 5 columns\nat 1464: dictionary 0, now 2 values\nat 1688: batch 0, 2 rows\nat 2416: end marker\n";
+
+const NOTED_ROWS: &str = "batch,k,l,w,s,t\n0,b,[1;2],[],{m=7;n=[true]},1\n0,,,[-5],,\n";
+
 #[test]
 fn pairs_are_not_shown(rt: HostRuntime) {
     assert_told(&rt, rt.alloc(), Call::Schema, &NOTED, NOTED_COLUMNS);
+    assert_told(&rt, rt.alloc(), Call::Check, &NOTED, NOTED_MESSAGES);
+    assert_told(&rt, rt.alloc(), Call::Show, &NOTED, NOTED_ROWS);
 }
 
 /// A body of 2^36 bytes, said in the field for its length.
