@@ -5,6 +5,7 @@ mod greatest;
 mod kinds;
 mod lengths;
 mod limits;
+mod noted;
 mod pushes;
 mod sums;
 mod told;
