@@ -79,9 +79,12 @@ fn column(rt: &(impl Abort + AllocGlobal), above: Above, at: At, noted: Pairs) -
 
 // The schema of one column, with pairs in one place.
 fn noted_schema(rt: &(impl Abort + AllocGlobal), above: Above, at: At, noted: Pairs) -> Schema {
-    let own = if at == At::Schema { noted } else { &[] };
     let column = column(rt, above, at, noted);
-    schema(rt, column, pairs(rt, own)).expect(rt, "a schema")
+    let own = match at {
+        At::Schema => pairs(rt, noted),
+        At::Column | At::Below => Vec::new(rt.alloc()),
+    };
+    schema(rt, column, own).expect(rt, "a schema")
 }
 
 // Whether columns with these pairs in one place are equal. Their types are the same.

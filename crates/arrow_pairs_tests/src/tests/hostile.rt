@@ -2,7 +2,7 @@
 // whatever of them is shared, with no more counted than the limits allow.
 
 use super::reading::MEMORY;
-use super::shared::{NOTHING, Shared, fill, front, is_counted, metadata, push, push_number};
+use super::shared::{NOTHING, Shared, count, fill, front, is_counted, metadata, push, push_number};
 use crate::vectors::PLAIN;
 use std::process::Abort;
 
@@ -110,10 +110,10 @@ fn offsets(rt: &(impl Abort + AllocGlobal), width: u32) -> Vec<u8> {
 
 // Appends a struct whose children these offsets lead to.
 fn push_struct(rt: &impl Abort, bytes: &mut Vec<u8>, offsets: &[u8]) {
-    let back = (bytes.len() as u32).wrapping_sub(68);
+    let back = count(rt, bytes).wrapping_sub(68);
     push_number(rt, bytes, back);
     push(rt, bytes, b"\x0d\0\0\0\x04\0\0\0");
-    push_number(rt, bytes, offsets.len() as u32 / 4);
+    push_number(rt, bytes, count(rt, offsets) / 4);
     push(rt, bytes, offsets);
 }
 

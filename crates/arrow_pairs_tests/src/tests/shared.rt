@@ -61,9 +61,14 @@ pub(super) fn push_number(rt: &impl Abort, bytes: &mut Vec<u8>, number: u32) {
     push(rt, bytes, &number.to_le_bytes());
 }
 
+// How many bytes there are.
+pub(super) fn count(rt: &impl Abort, bytes: &[u8]) -> u32 {
+    u32::try_from(bytes.len()).expect(rt, "less than 2^32 bytes")
+}
+
 // Appends the offset to a place behind.
 pub(super) fn push_offset(rt: &impl Abort, bytes: &mut Vec<u8>, place: u32) {
-    let from = bytes.len() as u32;
+    let from = count(rt, bytes);
     push_number(rt, bytes, place.wrapping_sub(from));
 }
 
