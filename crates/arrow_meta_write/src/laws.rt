@@ -23,8 +23,8 @@ ghost use Rattle.arrow_types.specs.Limits.{LimitNumbers};
 /// tree, every number at a multiple of its size and a 0 byte after every text, and they mean the
 /// message for just those readers whose limits it keeps to. All that was laid out stands in them,
 /// also what no reader looks at: the tables of types that have no fields, and vtables at even
-/// places. Their number is the message's size. What stands aligned stands, and the names and zones
-/// of a message are no longer than its metadata.
+/// places. Their number is the message's size. What stands aligned stands, and the names, zones,
+/// keys and values of a message are no longer than its metadata.
 pub fn written()
     ensures lies { (m : PlainMessage) (n : ℕ) (behind : List ℕ)
         → IsHeader m.header → size_of m ≡ Some n

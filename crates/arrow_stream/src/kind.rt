@@ -36,10 +36,10 @@ pub enum Kind {
     /// place 2^62.
     MetadataSize,
     /// 3: something of the metadata that is looked at is not readable, a table that must be there
-    /// is absent, or a fixed limit is passed: 32 levels, 65,536 fields, or `max_metadata` bytes of
-    /// names and zones.
+    /// is absent, or a fixed limit is passed: 32 levels, 65,536 fields, 65,536 pairs of custom
+    /// metadata, or `max_metadata` bytes of names, zones, keys and values.
     Metadata,
-    /// 4: the metadata's version is not V5.
+    /// 4: the metadata's version is neither V4 nor V5.
     Version,
     /// 5: the header is absent, or is not one that is read.
     Header,

@@ -82,8 +82,8 @@ impl Limits {
         }
     }
 
-    /// The greatest number of bytes of one message's metadata, and of all names and zones of one
-    /// schema.
+    /// The greatest number of bytes of one message's metadata, and of all names, zones, keys and
+    /// values of one schema.
     pub fn max_metadata(&self) -> u64
         ensures value { result ≡ self.now.max_metadata }
         ensures ceiling { result ≤ 2 ^ 30 }
