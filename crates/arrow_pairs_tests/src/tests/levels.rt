@@ -1,13 +1,13 @@
 // Pairs on all levels, as this project lays them out and as another builder does.
 
-use super::building::{Pairs, are_pairs, field, pairs, schema};
+use super::building::{Above, Pairs, are_pairs, field, pairs, schema, type_above};
 use super::reading::{Edits, edited, schema_of};
 use super::written::schema_bytes;
 use crate::foreign;
 use crate::vectors::{
     ABSENT, AT_BOTH, AT_COLUMN, AT_MESSAGE, AT_SCHEMA, FILLED, LEVELS, NO_PAIRS, PLAIN,
 };
-use arrow_types::{BitWidth, DataType, Schema};
+use arrow_types::{BitWidth, DataType, Field, Schema};
 use std::process::Abort;
 
 // The way to a field from the columns down, of no steps to the schema itself, and its pairs.
@@ -207,4 +207,24 @@ fn schemas_that_are_built(rt: HostRuntime) {
         let bytes = schema_bytes(&rt, rt.alloc(), schema);
         assert!(rt; bytes.as_slice() == *want, "{own:?} {at_column:?}");
     }
+}
+
+// The way to the lowest field of as many levels as there may be.
+const LOWEST: [Level; 1] = [(&[0; 32], ONE)];
+
+// A column of structs in structs, on as many levels as there may be, with a pair at the lowest.
+fn deep_column(rt: &(impl Abort + AllocGlobal)) -> Field {
+    let mut column = field(rt, "n", DataType::Bool, pairs(rt, ONE));
+    for _ in 1..32 {
+        let above = type_above(rt, Above::Struct, column);
+        column = field(rt, "s", above, Vec::new(rt.alloc()));
+    }
+    column
+}
+
+#[test]
+fn pairs_take_no_level(rt: HostRuntime) {
+    let schema = schema(&rt, deep_column(&rt), Vec::new(rt.alloc())).expect(&rt, "a schema");
+    let bytes = schema_bytes(&rt, rt.alloc(), schema);
+    is_noted(&rt, &schema_of(&rt, rt.alloc(), &bytes), &LOWEST);
 }

@@ -39,3 +39,10 @@ fn names_zones_keys_and_values_keep_to_the_limit(rt: HostRuntime) {
         }
     }
 }
+
+// A limit of two bytes lets the name and the key be read, and not the value.
+#[test]
+fn what_was_read_before_a_fault_is_told(rt: HostRuntime) {
+    let limits = Limits::new(2, 0, 0).expect(&rt, "within the ceilings");
+    assert_eq!(rt; told(rt.alloc(), &AT_SCHEMA, &limits), (3, [1, 1, 2]));
+}
