@@ -32,18 +32,18 @@ TEXTS = body(large_strings([b"a", None, b"bc"]))
 ONE_VECTOR = struct.pack("<I4Hi4I", 12, 6, 8, 4, 0, 8, 4, 2, 1, 2)
 
 ARRAYS = {
-    "crates/arrow_array_tests/src/tests/columns.rt": {"LISTS 1": LISTS},
-    "crates/arrow_array_tests/src/tests/hidden.rt": {
+    "crates/arrow_data_tests/src/tests/columns.rt": {"LISTS 1": LISTS},
+    "crates/arrow_data_tests/src/tests/hidden.rt": {
         "NESTED 0 0 1": struct.pack("<B9i", 0xfd, 0, 1, 3, 3, 1, 2, 3, 4, 5),
     },
-    "crates/arrow_array_tests/src/tests/wide.rt": {
+    "crates/arrow_data_tests/src/tests/wide.rt": {
         "TEXTS 1": TEXTS[:43],
         "LATER_BYTES 1": struct.pack("<4q", 1, 4, 4, 7) + bytes([5, 0, 1, 0xff, 9, 9, 9, 6]),
         "LISTS 1": struct.pack("<B4q5i", 0xfd, 1, 2, 4, 4, 0, 1, 2, 3, 4),
     },
     "crates/arrow_body_tests/src/tests/columns.rt": {"SOUND 8 body": LISTS},
     "crates/arrow_body_tests/src/tests/wide.rt": {"TEXTS": TEXTS},
-    "crates/arrow_meta_tests/src/vectors.rt": {
+    "crates/arrow_meta_reader_tests/src/vectors.rt": {
         "ONE_FIELD": metadata_in(NUMBERS),
         "ONE_BATCH": metadata_in(THREE),
         "FOUR_FIELDS": metadata_in(four_fields()),
@@ -52,7 +52,7 @@ ARRAYS = {
                                         field("b", BINARY, encoding=dictionary(7)))),
         "NESTED": metadata_in(schema(field("o", STRUCT, [field("i", UTF8, encoding=dictionary(2))], encoding=dictionary(1)))),
     },
-    "crates/arrow_meta_write_tests/src/tests/tables.rt": {"LAID_OUT": tables()},
+    "crates/arrow_meta_writer_tests/src/tests/tables.rt": {"LAID_OUT": tables()},
     "crates/arrow_small_tests/src/tests/chunks.rt": {"BYTES": bytes((240 + 37 * at) % 256 for at in range(33))},
     "crates/arrow_small_tests/src/tests/flatbuf.rt": {
         "LENGTHS 0 1": ONE_VECTOR,
@@ -61,7 +61,7 @@ ARRAYS = {
         "SCHEMA": metadata_in(NUMBERS),
         "BATCH": metadata_in(THREE),
     },
-    "crates/arrow_stream_tests/src/frames.rt": {"SCHEMA": NUMBERS, "BATCH": THREE},
+    "crates/arrow_stream_reader_tests/src/frames.rt": {"SCHEMA": NUMBERS, "BATCH": THREE},
     "crates/arrowflow_tests/src/tests/rooms.rt": {
         "SCHEMA": schema(field("n", integer(8, True))),
         "MANY": batch(numbers([at % 103 for at in range(1030)], "b"))[:152],

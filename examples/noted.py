@@ -88,7 +88,7 @@ def held_metadata():
 
 
 def held_frames():
-    """The frames that the tests of arrow_stream hold."""
+    """The frames that the tests of arrow_stream_reader hold."""
     return {
         "AT_SCHEMA": ("The schema of `n`, with the pair of `k` and `v`.", numbers_with(PAIR)),
         "AT_COLUMN": ("The same pair at the column.", numbers_with((), PAIR)),

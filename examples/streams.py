@@ -157,7 +157,7 @@ REPORTED = {
                       + END_MARKER),
 }
 
-# The modules of frames that the tests of arrow_stream hold, and what each is about.
+# The modules of frames that the tests of arrow_stream_reader hold, and what each is about.
 TESTED = {
     "letters": ("Frames of a column of letters by their numbers in a dictionary, which grows and is then replaced.",
                 LETTERS),
@@ -278,7 +278,7 @@ def long_lists():
 
 
 def written():
-    """The streams that the tests of arrow_writer and arrow_session hold, with what each is: what is read, and what is to be
+    """The streams that the tests of arrow_stream_writer and arrowflow_session hold, with what each is: what is read, and what is to be
     written of it."""
     opening = b"".join(growing_dictionary()[:3])
     closing = b"".join(growing_dictionary()[5:])

@@ -1,4 +1,4 @@
-"""The tables of columns that the tests of arrow_body hold: whether each row is as frames.py lays its columns out.
+"""The tables of columns that the tests of arrow_body_reader hold: whether each row is as frames.py lays its columns out.
 
 Most rows have the buffers of columns, and what a writer has to make of them. Those buffers are read here, by the columnar
 format alone, and their values laid out. What lies under nulls, before the first value and behind the last is passed over.

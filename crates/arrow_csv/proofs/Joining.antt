@@ -3,10 +3,10 @@ use Rattle.std.proofs.Common.{◌≡◌, ◌<◌, ◌≤◌, ◌+◌, ◌-◌, �
 use Rattle.arrow_types.specs.Field.{Fields, none, more}
 use Rattle.arrow_types.specs.View.{field_view, fields_view}
 use Rattle.arrow_types.specs.declared.field.Field.{Field}
-use Rattle.arrow_array.specs.PlainValue.{PlainValue, value_at, values_of}
-use Rattle.arrow_array.specs.Column.{Column, AreOf, resolved_row_of, values_from}
-use Rattle.arrow_array.specs.Shown.{ListsItems}
-use Rattle.arrow_array.proofs.Sameness.{at_values_from, length-values_from}
+use Rattle.arrow_data.specs.PlainValue.{PlainValue, value_at, values_of}
+use Rattle.arrow_data.specs.Column.{Column, AreOf, resolved_row_of, values_from}
+use Rattle.arrow_data.specs.Shown.{ListsItems}
+use Rattle.arrow_data.proofs.Sameness.{at_values_from, length-values_from}
 use Rattle.arrow_csv.specs.Texts.{behind, joined, value_text, item_text, item_texts, part_texts}
 
 -- one text more, behind others that each have their semicolon

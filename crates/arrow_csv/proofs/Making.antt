@@ -6,8 +6,8 @@ use Rattle.std.proofs.lemmas.List.{get_or_append_left, length-append, take_all}
 use Rattle.bytes.proofs.Ranges.{slice_range_front}
 use Rattle.csv.specs.Writing.{default_writer, field_text}
 use Rattle.arrow_types.specs.Schema.{has_encoding}
-use Rattle.arrow_array.specs.Column.{Column, HasValue, IsColumn, IsValueList, ValueList}
-use Rattle.arrow_array.specs.PlainValue.{value_at}
+use Rattle.arrow_data.specs.Column.{Column, HasValue, IsColumn, IsValueList, ValueList}
+use Rattle.arrow_data.specs.PlainValue.{value_at}
 use Rattle.arrow_csv.specs.Made.{AreFirst, IsField, field_of}
 use Rattle.arrow_csv.specs.Texts.{value_text}
 

@@ -5,7 +5,7 @@ use Rattle.std.specs.List.{flat_map, range_with_len}
 use Rattle.std.proofs.Math.Seq.{take-append_seam, drop-append_seam}
 use Rattle.std.proofs.lemmas.Fmt.{decimal_nonempty}
 use Rattle.csv.specs.Writing.{default_writer, field_text, fields_text, is_blank, needs_quotes}
-use Rattle.arrow_array.specs.Batch.{Table}
+use Rattle.arrow_data.specs.Batch.{Table}
 use Rattle.arrow_csv.specs.Records.{batch_rows, record_of, row_record}
 
 -- the rows from one on are that one and those behind it

@@ -1,8 +1,8 @@
 -- Fields that are made before the rows which they stand in. Only the crate's private clauses cite these.
 use Rattle.std.specs.Prelude.{◌≡◌, ◌≤◌, ◌<◌, ◌+◌, ℕ, List, [], length, get_or, slice_range, ⊤, Option, None, Some}
 use Rattle.csv.specs.Writing.{default_writer, field_text}
-use Rattle.arrow_array.specs.Column.{Column, HasDictionary, ValueList}
-use Rattle.arrow_array.specs.PlainValue.{value_at}
+use Rattle.arrow_data.specs.Column.{Column, HasDictionary, ValueList}
+use Rattle.arrow_data.specs.PlainValue.{value_at}
 use Rattle.arrow_csv.specs.Texts.{value_text}
 use Rattle.arrow_csv.specs.declared.column_text.EntryFields.{EntryFields}
 

@@ -6,9 +6,9 @@ use Rattle.std.specs.List.{flat_map, range_with_len}
 use Rattle.csv.specs.Writing.{default_writer, row_text}
 use Rattle.arrow_types.specs.Field.{Fields, none, more}
 use Rattle.arrow_types.specs.Notes.{SchemaShape}
-use Rattle.arrow_array.specs.Batch.{Table, table_code}
-use Rattle.arrow_array.specs.Column.{Column}
-use Rattle.arrow_array.specs.PlainValue.{value_at}
+use Rattle.arrow_data.specs.Batch.{Table, table_code}
+use Rattle.arrow_data.specs.Column.{Column}
+use Rattle.arrow_data.specs.PlainValue.{value_at}
 use Rattle.arrow_csv.specs.Texts.{value_text}
 
 -- one record of these fields, with its line feed

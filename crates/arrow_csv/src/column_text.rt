@@ -1,13 +1,13 @@
 //! A column on its way into text: what is the same for its slots is looked up, or made, once.
 
 ghost use Rattle.std.specs.Prelude.{◌≡◌, ◌<◌, ◌++◌, [], IfOk, IfSome, OnOk, length};
-ghost use Rattle.arrow_array.specs.PlainValue.{value_at};
+ghost use Rattle.arrow_data.specs.PlainValue.{value_at};
 ghost use Rattle.csv.specs.Writing.{default_writer, field_text};
 ghost use Rattle.arrow_csv.specs.Made.{AreFieldsOf};
 ghost use Rattle.arrow_csv.specs.Texts.{value_text};
 
 use crate::records::push_field;
-use arrow_array::{Array, Dictionary, Slots};
+use arrow_data::{Array, Dictionary, Slots};
 use std::alloc::{AllocError, Global};
 use std::marker::Model;
 
@@ -55,7 +55,7 @@ pub(crate) struct ColumnText<'a> {
 }
 
 impl<'a> Model for ColumnText<'a> {
-    ghost use Rattle.arrow_array.specs.Column.{Column, column_code};
+    ghost use Rattle.arrow_data.specs.Column.{Column, column_code};
 
     ghost Value = { Column };
 

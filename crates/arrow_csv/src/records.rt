@@ -1,9 +1,9 @@
 //! The records of a schema and of the rows of batches.
 
 ghost use Rattle.std.specs.Prelude.{◌≡◌, ◌≤◌, ◌<◌, ◌++◌, [], IfOk, OnOk, codes, length};
-ghost use Rattle.arrow_array.specs.PlainValue.{value_at};
-ghost use Rattle.arrow_array.specs.Same.{HaveSlot};
-ghost use Rattle.arrow_array.specs.Shown.{HoldsValue};
+ghost use Rattle.arrow_data.specs.PlainValue.{value_at};
+ghost use Rattle.arrow_data.specs.Same.{HaveSlot};
+ghost use Rattle.arrow_data.specs.Shown.{HoldsValue};
 ghost use Rattle.csv.specs.Writing.{default_writer, field_text, fields_text};
 ghost use Rattle.arrow_csv.specs.Texts.{value_text};
 ghost use Rattle.arrow_csv.specs.Records.{batch_rows, column_texts, header_record};
@@ -11,7 +11,7 @@ ghost use Rattle.arrow_csv.specs.Records.{batch_rows, column_texts, header_recor
 use crate::column_text::ColumnText;
 use crate::fields::{push_field_text, quote_from};
 use crate::texts::{push_bytes, push_items, push_number, push_parts};
-use arrow_array::{Array, Batch, SlotValue};
+use arrow_data::{Array, Batch, SlotValue};
 use arrow_types::Schema;
 use csv::{ByteRecord, WriterBuilder};
 use itoa::Buffer;

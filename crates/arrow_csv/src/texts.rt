@@ -4,14 +4,14 @@ ghost use Rattle.std.specs.Prelude.{◌≡◌, ◌≤◌, ◌<◌, ◌+◌, ◌*
 ghost use Rattle.std.specs.Fmt.{signed_decimal};
 ghost use Rattle.hex.specs.Hex.{encode_lower};
 ghost use Rattle.csv.specs.Writing.{default_writer, needs_quotes};
-ghost use Rattle.arrow_array.specs.Column.{AreOf, resolved_row_of, values_from};
-ghost use Rattle.arrow_array.specs.PlainValue.{value_at, values_of};
-ghost use Rattle.arrow_array.specs.Same.{HaveSlot};
-ghost use Rattle.arrow_array.specs.Shown.{HoldsValue};
+ghost use Rattle.arrow_data.specs.Column.{AreOf, resolved_row_of, values_from};
+ghost use Rattle.arrow_data.specs.PlainValue.{value_at, values_of};
+ghost use Rattle.arrow_data.specs.Same.{HaveSlot};
+ghost use Rattle.arrow_data.specs.Shown.{HoldsValue};
 ghost use Rattle.arrow_types.specs.View.{fields_view};
 ghost use Rattle.arrow_csv.specs.Texts.{item_text, joined, part_texts};
 
-use arrow_array::{Array, SlotValue};
+use arrow_data::{Array, SlotValue};
 use arrow_types::Field;
 use itoa::{Buffer, Integer};
 use std::alloc::{AllocError, Global};

@@ -1,7 +1,7 @@
 -- What becomes of values for an id that has a dictionary.
 use Rattle.std.proofs.Common.{◌≡◌, ◌≤◌, ◌<◌, ℕ, ℤ, List, get_or, set, sym, ap, ◌∙◌, subst}
-use Rattle.arrow_array.specs.Column.{Column, ValueList}
-use Rattle.arrow_array.specs.Listed.{listed}
+use Rattle.arrow_data.specs.Column.{Column, ValueList}
+use Rattle.arrow_data.specs.Listed.{listed}
 use Rattle.arrow_dict.specs.Appends.{IsAppended, IsTooLong, IsRefused, count_with, with_values}
 use Rattle.arrow_dict.specs.Dictionaries.{IsRising, placed}
 use Rattle.arrow_dict.specs.Places.{IsAt}

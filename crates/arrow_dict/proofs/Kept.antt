@@ -9,7 +9,7 @@ use Rattle.std.proofs.lemmas.Cmp.{int_eq_equiv}
 use denote.Ref.{Bor}
 use Rattle.arrow_types.specs.Field.{FieldShape, TypeShape}
 use Rattle.arrow_types.specs.Schema.{DictionaryField}
-use Rattle.arrow_array.specs.Parts.{type_of}
+use Rattle.arrow_data.specs.Parts.{type_of}
 use Rattle.arrow_dict.specs.ValueFields.{IsValueField, named}
 use Rattle.arrow_dict.specs.ValueTypes.{NameSame, value_field, value_type_of}
 use Rattle.arrow_dict.proofs.Naming.{same_new, same_old}

@@ -1,7 +1,7 @@
 -- Dictionaries that are placed one after the other.
 use Rattle.std.proofs.Common.{◌≡◌, ◌<ℤ◌, ℤ, List, [], ◌∷◌, ◌++◌, Result, Ok, Err, IsOk, OnOk, OnErr, refl, sym, ap, ◌∙◌, arith}
 use Rattle.std.proofs.lemmas.Int.{ints}
-use Rattle.arrow_array.specs.Column.{ValueList}
+use Rattle.arrow_data.specs.Column.{ValueList}
 use Rattle.arrow_dict.specs.Dictionaries.{placed}
 use Rattle.arrow_dict.proofs.Placing.{by_order, placed_before, placed_over, placed_behind}
 use Rattle.arrow_dict.specs.Tracking.{merged}

@@ -11,9 +11,9 @@ use mir.Val.{SFits, of_z, to_z}
 use Rattle.std.proofs.lemmas.List.{set-get_or}
 use Rattle.std.proofs.lemmas.List.Elements.{All-from_recursion}
 use Rattle.std.proofs.lemmas.List.Sorted.{searchable_from_sorted}
-use Rattle.arrow_array.specs.Column.{ValueList}
-use Rattle.arrow_array.specs.Listed.{listed}
-use Rattle.arrow_array.proofs.Listing.{listed_absent, listed_at}
+use Rattle.arrow_data.specs.Column.{ValueList}
+use Rattle.arrow_data.specs.Listed.{listed}
+use Rattle.arrow_data.proofs.Listing.{listed_absent, listed_at}
 use Rattle.arrow_dict.specs.Dictionaries.{IsRising, placed}
 use Rattle.arrow_dict.specs.Places.{IsAt, IsGap}
 use Rattle.arrow_dict.proofs.Placing.{by_order, lesser_other, placed_before, placed_behind, placed_over, rising_placed}

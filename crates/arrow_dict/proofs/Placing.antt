@@ -4,9 +4,9 @@ use Rattle.std.specs.List.{AllByRecursion}
 use Rattle.std.specs.Ordering.{int_cmp, int_eq, match_ordering}
 use Rattle.std.proofs.lemmas.Cmp.{by_ranked, int_ranked}
 use Rattle.std.proofs.lemmas.Int.{ints}
-use Rattle.arrow_array.specs.Column.{ValueList}
-use Rattle.arrow_array.specs.Listed.{listed}
-use Rattle.arrow_array.proofs.Listing.{listed_first, listed_next}
+use Rattle.arrow_data.specs.Column.{ValueList}
+use Rattle.arrow_data.specs.Listed.{listed}
+use Rattle.arrow_data.proofs.Listing.{listed_first, listed_next}
 use Rattle.arrow_dict.specs.Dictionaries.{IsRising, placed}
 use Rattle.arrow_dict.specs.Laws.{PlacedHere, PlacedElsewhere, StaysRising}
 

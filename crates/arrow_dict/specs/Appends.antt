@@ -1,7 +1,7 @@
 -- What becomes of values that are to go behind those of a dictionary (Message.fbs, table "DictionaryBatch", field "isDelta").
 use Rattle.std.specs.Prelude.{◌≡◌, ◌≤◌, ◌<◌, ◌+◌, ℕ, ℤ, List, ◌++◌, length, Some, None, Result, Ok, Err, codes}
-use Rattle.arrow_array.specs.Column.{Column, ValueList}
-use Rattle.arrow_array.specs.Listed.{listed}
+use Rattle.arrow_data.specs.Column.{Column, ValueList}
+use Rattle.arrow_data.specs.Listed.{listed}
 use Rattle.arrow_dict.specs.Dictionaries.{placed}
 use Rattle.arrow_dict.specs.declared.store.StoreFault.{StoreFault}
 use Rattle.arrow_dict.specs.declared.store.StoreFault.TheVariants.{NoBase, TooLong, Memory}

@@ -3,7 +3,7 @@ use Rattle.std.specs.Prelude.{ℤ, ◌<ℤ◌, List, [], ◌∷◌, ⊤}
 use Rattle.std.specs.Coded.{Coded, coded×, coded_ℤ, coded_list}
 use Rattle.std.specs.List.{AllByRecursion}
 use Rattle.std.specs.Ordering.{int_cmp, match_ordering}
-use Rattle.arrow_array.specs.Column.{ValueList, value_list_code}
+use Rattle.arrow_data.specs.Column.{ValueList, value_list_code}
 
 -- how the logic stores dictionaries and their ids
 abbrev pub entries_code : Coded (List (ℤ × ValueList))

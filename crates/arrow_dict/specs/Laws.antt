@@ -1,8 +1,8 @@
 -- What follows from the definitions.
 use Rattle.std.specs.Prelude.{◌≡◌, ◌≢◌, ℕ, ℤ, List, Some, slice_get}
 use Rattle.arrow_types.specs.Schema.{DictionaryField, OneType}
-use Rattle.arrow_array.specs.Column.{ValueList}
-use Rattle.arrow_array.specs.Listed.{listed}
+use Rattle.arrow_data.specs.Column.{ValueList}
+use Rattle.arrow_data.specs.Listed.{listed}
 use Rattle.arrow_dict.specs.Dictionaries.{IsRising, placed}
 use Rattle.arrow_dict.specs.ValueTypes.{value_type_of}
 

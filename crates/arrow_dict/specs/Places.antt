@@ -1,6 +1,6 @@
 -- Where an id stands among rising ones.
 use Rattle.std.specs.Prelude.{◌≡◌, ◌≤◌, ◌<◌, ◌<ℤ◌, ℕ, ℤ, List, length, slice_index_or}
-use Rattle.arrow_array.specs.Column.{ValueList}
+use Rattle.arrow_data.specs.Column.{ValueList}
 
 -- the entry at place i has the id
 pub record IsAt (ds : List (ℤ × ValueList)) (id : ℤ) (i : ℕ) : Type 0 where

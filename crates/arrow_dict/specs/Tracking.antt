@@ -2,7 +2,7 @@
 use Rattle.std.specs.Prelude.{◌≤◌, ◌+◌, ℤ, List, [], ◌∷◌, refl}
 use Rattle.std.specs.Coded.{Coded, code_by, coded×}
 use Rattle.std.specs.Vec.{vec_len, vec_capacity}
-use Rattle.arrow_array.specs.Column.{ValueList}
+use Rattle.arrow_data.specs.Column.{ValueList}
 use Rattle.arrow_dict.specs.Dictionaries.{IsRising, placed, entries_code}
 use Rattle.arrow_dict.specs.declared.tracker.Tracker.TheInside.{Inside}
 

@@ -1,7 +1,7 @@
 -- What the kept fields say of the types of the values.
 use Rattle.std.specs.Prelude.{◌≡◌, ℤ, List, map}
 use Rattle.std.specs.List.{AllByRecursion}
-use Rattle.arrow_array.specs.Parts.{type_of}
+use Rattle.arrow_data.specs.Parts.{type_of}
 use Rattle.arrow_types.specs.Field.{FieldShape}
 use Rattle.arrow_types.specs.Schema.{DictionaryField}
 use Rattle.arrow_dict.specs.ValueTypes.{value_field}

@@ -3,11 +3,11 @@
 ghost use Rattle.std.specs.Prelude.{◌≡◌, ◌≤◌, ◌<◌, ◌+◌, IsOk, IsTrue, MatchResult, OnErr};
 ghost use Rattle.std.specs.Prelude.{OnOk, Some, None, is_some, option_map};
 ghost use Rattle.std.specs.Vec.{vec_capacity, vec_len};
-ghost use Rattle.arrow_array.specs.Listed.{listed};
+ghost use Rattle.arrow_data.specs.Listed.{listed};
 ghost use Rattle.arrow_dict.specs.Dictionaries.{IsRising, placed};
 ghost use Rattle.arrow_dict.specs.Places.{IsAt, IsGap};
 
-use arrow_array::Dictionary;
+use arrow_data::Dictionary;
 use std::alloc::AllocError;
 
 // Where the id stands, or where it would stand. It is found by binary search.

@@ -11,7 +11,7 @@
 //! [`Update`]; the dictionaries of a batch are staged, and are the sent ones once the batch is sent
 //! whole, or are discarded.
 //!
-//! To contracts a store is a list of ids and dictionaries: `listed` (of `arrow_array`,
+//! To contracts a store is a list of ids and dictionaries: `listed` (of `arrow_data`,
 //! `specs/Listed.antt`) is what an id has, `placed` and `IsRising` (`specs/Dictionaries.antt`) are
 //! how the list changes and what is known of it, and [`laws`] says that these make it a finite map.
 //! A tracker is two such lists, what was sent and what will have been (`specs/Tracking.antt`);

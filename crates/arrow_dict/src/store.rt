@@ -2,13 +2,13 @@
 
 ghost use Rattle.std.specs.Prelude.{◌≡◌, IsTrue, None, OnErr, OnOk, Some, [], is_ok};
 ghost use Rattle.std.specs.Prelude.{is_some, option_map};
-ghost use Rattle.arrow_array.specs.Column.{ValueList};
-ghost use Rattle.arrow_array.specs.Listed.{listed};
+ghost use Rattle.arrow_data.specs.Column.{ValueList};
+ghost use Rattle.arrow_data.specs.Listed.{listed};
 ghost use Rattle.arrow_dict.specs.Appends.{Appends, number_of};
 ghost use Rattle.arrow_dict.specs.Dictionaries.{IsRising, placed};
 
 use crate::entries::{find, place, place_of};
-use arrow_array::{Array, Dictionary};
+use arrow_data::{Array, Dictionary};
 use std::alloc::{AllocError, Global};
 use std::error::Error;
 use std::fmt;
@@ -63,7 +63,7 @@ pub struct Store {
 
 impl Model for Store {
     ghost use Rattle.std.specs.Prelude.{ℤ, List};
-    ghost use Rattle.arrow_array.specs.Column.{ValueList};
+    ghost use Rattle.arrow_data.specs.Column.{ValueList};
     ghost use Rattle.arrow_dict.specs.Dictionaries.{IsRising, entries_code};
 
     ghost Value = { List (ℤ × ValueList) };

@@ -1,14 +1,14 @@
 //! The dictionaries that a writer sent.
 
 ghost use Rattle.std.specs.Prelude.{◌≡◌, OnErr, OnOk, Some, [], option_map};
-ghost use Rattle.arrow_array.specs.Column.{ValueList};
-ghost use Rattle.arrow_array.specs.Listed.{listed};
+ghost use Rattle.arrow_data.specs.Column.{ValueList};
+ghost use Rattle.arrow_data.specs.Listed.{listed};
 ghost use Rattle.arrow_dict.specs.Choice.{choice};
 ghost use Rattle.arrow_dict.specs.Dictionaries.{IsRising, placed};
 
 use crate::entries::{find, place};
 use crate::update::{Update, Updates};
-use arrow_array::Dictionary;
+use arrow_data::Dictionary;
 use std::alloc::{AllocError, Global};
 use std::marker::Model;
 

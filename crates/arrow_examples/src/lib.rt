@@ -1,4 +1,4 @@
-//! Two callers of the libraries, as README shows them: one reads a stream and uses its columns, the
+//! Two callers of `arrowflow`, as README shows them: one reads a stream and uses its columns, the
 //! other builds a batch and writes it. They are built with their tests alone.
 #![tactic(auto)]
 

@@ -1,9 +1,7 @@
 //! A stream read, and its columns used.
 
-use arrow_array::Array;
-use arrow_stream::{Fault, StreamReader};
-use arrow_types::Limits;
 use arrowflow::session::{Ending, receive};
+use arrowflow::{Array, Fault, Limits, StreamReader};
 use std::alloc::{AllocError, Global};
 use thiserror::Error;
 

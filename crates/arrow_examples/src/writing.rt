@@ -1,14 +1,9 @@
 //! A batch built, and written.
 
-ghost use Rattle.std.specs.Prelude.{◌≡◌, IfOk, false};
-ghost use Rattle.arrow_types.specs.View.{field_view};
-ghost use Rattle.arrow_types.specs.Schema.{field_is_nested};
-
-use arrow_array::{Batch, BatchFault, Value};
-use arrow_build::{ArrayBuilder, ArrayFault, PushFault};
-use arrow_sink::Counted;
-use arrow_types::{BitWidth, DataType, Field, Limits, Schema, SchemaFault};
-use arrow_writer::{Align, Options, StreamWriter, Updates, WriteFault};
+use arrowflow::{
+    Align, ArrayBuilder, ArrayFault, Batch, BatchFault, BitWidth, Counted, DataType, Field, Limits,
+    Options, PushFault, Schema, SchemaFault, StreamWriter, Updates, Value, WriteFault,
+};
 use std::alloc::{AllocError, Global};
 use std::rc::Rc;
 use thiserror::Error;
@@ -42,20 +37,13 @@ const OPTIONS: Options = Options {
     align: Align::SixtyFour,
 };
 
-/// The field of a nullable column `n` of numbers of 64 bits.
-fn number_field(alloc: Global) -> Result<Field, AllocError>
-    ensures { IfOk result (λ f. field_is_nested (field_view f) ≡ false) }
-{
+/// Writes numbers, some of them null, as a stream of one batch with one nullable column `n`.
+pub fn write_numbers(alloc: Global, numbers: &[Option<i64>]) -> Result<Vec<u8>, WriteError> {
     let data_type = DataType::Int {
         bits: BitWidth::SixtyFour,
         signed: true,
     };
-    Ok(Field::new(alloc, String::from_str(alloc, "n")?, data_type, true))
-}
-
-/// Writes numbers, some of them null, as a stream of one batch with one column.
-pub fn write_numbers(alloc: Global, numbers: &[Option<i64>]) -> Result<Vec<u8>, WriteError> {
-    let field = number_field(alloc)?;
+    let field = Field::new(alloc, String::from_str(alloc, "n")?, data_type, true);
     let mut builder = ArrayBuilder::new(alloc, &field)?;
     for number in numbers {
         builder.push(&number.map_or(Value::Null, |it| Value::Int(it as i128)))?;

@@ -1,67 +1,15 @@
-//! The metadata of Arrow messages: from a stranger's bytes to a schema, a dictionary batch or a
-//! record batch, or to the least fault.
+//! The metadata of messages, read and written.
 //!
-//! The layer takes the bytes of one metadata and the limits of `arrow_types`, and stands on
-//! `arrow_flatbuf` for what is readable at a place. It works in two steps, which can be called by
-//! themselves:
-//!
-//! - [`tree`] reads what is looked at into a [`MessageTree`], within the limits.
-//! - [`judge`] answers the [`Message`] that the tree means, or the [`MetaFault`] with the least
-//!   number of those that hold.
-//!
-//! [`decode`] is one after the other, but for batches in which nothing is amiss, which nearly all
-//! messages of a stream are: these it makes straight from their tables, and no tree of them.
-//!
-//! Each answer is pinned in both directions: a fault comes exactly where its condition holds and no
-//! condition of a lower number does, and a message exactly where none holds. Of a tree `Memory`, a
-//! refused growth, is answered only where no fault holds: every fault is told before the memory of
-//! a message is taken, and where a growth is refused to the test of shared dictionary ids, that
-//! goes on without memory. Of bytes it says only that reading them asks for memory, since their
-//! tree is kept in memory.
-//!
-//! | Notion | Definition |
-//! |---|---|
-//! | tables and their fields | `specs/Kinds.antt`: `forms_of`, `header_table`, `type_table` |
-//! | the tree that lies at a place | `specs/Lies.antt`: `Lies`, `LiesAtRoot` |
-//! | levels, visits, pairs, bytes of names | `specs/Within.antt`: `IsWithin` |
-//! | where reading asks for memory | `specs/Grows.antt`: `Grows`, `GrowsAtRoot` |
-//! | the conditions of faults | `specs/Conditions.antt`; `specs/Faults.antt`: `fault_of` |
-//! | what fields say of their dictionaries | `specs/Sharing.antt`: `type_of`, `encoded_view` |
-//! | the message that a tree means | `specs/SchemaMeaning.antt`, `specs/Means.antt`: `Means` |
-//! | what the tables of a batch say | `specs/Straight.antt`: `HasNumber`, `HasPairs`, `IsHeader` |
-//! | what is answered | `specs/Judges.antt`: `Judges`, `Decodes` |
-//!
-//! However offsets share tables and texts, the work is bounded: each visit of a Field table and of a
-//! KeyValue table is counted in one function before the table is opened, and the bytes of each name,
-//! zone, key or value in one before they are copied. [`decode_counted`] tells these counts, as
-//! [`Work`], whatever it answers. Recursion goes no deeper than the levels of fields, and room for the
-//! elements of a vector is made only after all of them were found to lie inside.
+//! This crate is a name for two: `arrow_meta_reader`, from a stranger's bytes to a message or the
+//! least fault, and `arrow_meta_writer`, from a message to its bytes. It has no function of its
+//! own; what the contracts cite stands in the `specs/` of those two, and is passed on by
+//! `specs/Lib.antt`.
 #![tactic(auto)]
 
-mod batches;
-mod build;
-mod codes;
-mod conditions;
-mod counter;
-mod fault;
-mod field_tables;
-mod fields;
-mod judging;
-mod kinds;
 pub mod laws;
-mod message;
-mod message_tree;
-mod metadata;
-mod nesting;
-mod own_parts;
-mod parts;
-mod reader;
-mod sharing;
-mod work;
 
-pub use fault::{BatchKind, MetaFault};
-pub use judging::{decode, decode_counted, judge};
-pub use message::{Header, Message, RecordBatch};
-pub use message_tree::MessageTree;
-pub use reader::{tree, tree_counted};
-pub use work::Work;
+pub use arrow_meta_reader::{
+    BatchKind, Header, Message, MessageTree, MetaFault, RecordBatch, Work, decode, decode_counted,
+    judge, tree, tree_counted,
+};
+pub use arrow_meta_writer::{encode, encoded_size};

@@ -9,18 +9,26 @@
 //! The count of failures lets a caller know exactly when a fault comes from the sink: it rises by
 //! one with each call that fails, and with no other.
 //!
+//! A writer over a sink answers a [`WriteFault`], and its [`Status`] says whether it takes more.
+//! They stand here so that who reports a refusal needs nothing else of a writer.
+//!
 //! | Notion | Definition |
 //! |---|---|
 //! | bytes that are accepted | `specs/Sinks.antt`: `Puts`, `AcceptsBeginning` |
 //! | answers of a writer that are told | `specs/Answers.antt`: `TellsAnswer`, `CountsError` |
 //! | failures that are counted | `specs/Sinks.antt`: `CountsPut`, `CountsFlush` |
+//! | numbers and words of a writer's refusals | `specs/Refusals.antt` |
 #![tactic(auto)]
 
 mod counted;
 pub mod probe;
 mod sending;
 mod sink;
+mod status;
+mod write_fault;
 
 pub use counted::Counted;
 pub use sending::send;
 pub use sink::{Sink, SinkFault};
+pub use status::Status;
+pub use write_fault::WriteFault;

@@ -1,5 +1,5 @@
-//! A file for each library; `records`, `chunks`, `dictionaries` and `nested` are of `arrow_csv`, `refusals` of
-//! `arrow_written`, and `columns` builds what these show.
+//! A file for each library; `records`, `chunks`, `dictionaries` and `nested` are of `arrow_csv`,
+//! `refusals` and `sinks` of `arrow_sink`, and `columns` builds what these show.
 
 mod bits;
 mod chunks;

@@ -1,11 +1,14 @@
-pub mod Escapes
-pub mod Faults
-pub mod SchemaCall
-pub mod SchemaText
-pub mod Session
-pub mod Pieces
-pub mod Reads
-pub mod Lines
-pub mod Reports
-pub mod TypeNames
-pub mod Shown
+pub use Rattle.arrow_types.specs as Types
+pub use Rattle.arrow_bits.specs as Bits
+pub use Rattle.arrow_flatbuf.specs as Flatbuf
+pub use Rattle.arrow_dict.specs as Dict
+pub use Rattle.arrow_array.specs as Array
+pub use Rattle.arrow_meta.specs as Meta
+pub use Rattle.arrow_body.specs as Body
+pub use Rattle.arrow_stream.specs as Stream
+pub use Rattle.arrow_csv.specs as Csv
+pub use Rattle.arrowflow_report.specs as Report
+pub use Rattle.arrowflow_session.specs as Session
+pub use Rattle.arrowflow_copy.specs as Copy
+pub use Rattle.arrowflow_drill.specs as Drill
+pub use Rattle.arrowflow_line.specs as Line

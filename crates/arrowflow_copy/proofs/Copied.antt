@@ -7,43 +7,43 @@ use Rattle.std.proofs.lemmas.List.{length-append}
 use Rattle.arrow_types.specs.Limits.{LimitNumbers}
 use Rattle.arrow_types.specs.Notes.{SchemaShape}
 use Rattle.arrow_types.specs.Schema.{IsNoted}
-use Rattle.arrow_array.specs.Batch.{Table}
+use Rattle.arrow_data.specs.Batch.{Table}
 use Rattle.arrow_sink.specs.Sinks.{AcceptsBeginning}
-use Rattle.arrow_stream.specs.declared.fault.Fault.{Fault}
-use Rattle.arrow_stream.specs.declared.item.Item.{Item}
-use Rattle.arrow_stream.specs.declared.kind.Kind.TheVariants.{NoSchema, Truncated}
-use Rattle.arrow_stream.specs.declared.reader.Verdict.TheVariants.{Open, Done, Bad}
-use Rattle.arrow_stream.specs.declared.reader.Verdict.{Verdict}
-use Rattle.arrow_stream.specs.Front.{Entry, Standing, Front, FrontOf, closes, fails, goes_on, rests}
-use Rattle.arrow_stream.specs.Kind.{kind_of}
-use Rattle.arrow_stream.specs.State.{StreamState, Given, batch_given, dictionary_given, ended, nothing_yet, schema_given}
-use Rattle.arrow_stream.specs.Stream.{Shows, Stands, GivesNext, TakesOn, Refuses, WantsMemory, ended_by, ended_so}
-use Rattle.arrow_stream.specs.Tables.{table_in, tables_of}
-use Rattle.arrow_stream.specs.Views.{given}
-use Rattle.arrow_stream.proofs.Streams.{ended_stands}
-use Rattle.arrow_written.specs.declared.status.Status.{Status}
-use Rattle.arrow_written.specs.declared.status.Status.TheVariants as statuses
-use Rattle.arrow_written.specs.declared.write_fault.WriteFault.{WriteFault}
-use Rattle.arrow_written.specs.declared.write_fault.WriteFault.TheVariants as kinds
-use Rattle.arrow_written.specs.Admission.{admission, marker_fits}
-use Rattle.arrow_written.specs.Frames.{Frame, frames_bytes, left_by}
-use Rattle.arrow_written.specs.Sizes.{Options}
-use Rattle.arrow_written.specs.Text.{IsPart, Text, Written, adds, begins, finished, joined, marker_frame, schema_frame, unfinished}
-use Rattle.arrow_written.specs.Writer as writers
-use Rattle.arrowflow.specs.Faults.{told}
-use Rattle.arrowflow.specs.Reports.{EndsWell, IsBadBy}
-use Rattle.arrowflow.specs.Reads.{BlamesNoInput}
-use Rattle.arrowflow.specs.declared.tool_fault.ToolFault.{ToolFault}
-use Rattle.arrowflow.specs.declared.tool_fault.ToolFault.TheVariants.{Input, Output, Stream, Refused, Memory}
-use Rattle.arrowflow.specs.declared.what.What.TheVariants.{Start, Batch, Finish}
-use Rattle.arrowflow.proofs.Feeding.{ended_same, taken_all}
-use Rattle.arrowflow.proofs.First.{state_stays}
-use Rattle.arrowflow.proofs.Found.{told_refusal}
-use Rattle.arrowflow.proofs.Growing.{one_table}
-use Rattle.arrowflow.proofs.Reporting.{standing_of}
-use Rattle.arrowflow.proofs.Schemas.{front_begins, front_behind, front_keeps}
-use Rattle.arrowflow.proofs.Sent.{begun_all}
-use Rattle.arrowflow.proofs.Told.{end_is_done, state_same}
+use Rattle.arrow_stream_reader.specs.declared.fault.Fault.{Fault}
+use Rattle.arrow_stream_reader.specs.declared.item.Item.{Item}
+use Rattle.arrow_stream_reader.specs.declared.kind.Kind.TheVariants.{NoSchema, Truncated}
+use Rattle.arrow_stream_reader.specs.declared.reader.Verdict.TheVariants.{Open, Done, Bad}
+use Rattle.arrow_stream_reader.specs.declared.reader.Verdict.{Verdict}
+use Rattle.arrow_stream_reader.specs.Front.{Entry, Standing, Front, FrontOf, closes, fails, goes_on, rests}
+use Rattle.arrow_stream_reader.specs.Kind.{kind_of}
+use Rattle.arrow_stream_reader.specs.State.{StreamState, Given, batch_given, dictionary_given, ended, nothing_yet, schema_given}
+use Rattle.arrow_stream_reader.specs.Stream.{Shows, Stands, GivesNext, TakesOn, Refuses, WantsMemory, ended_by, ended_so}
+use Rattle.arrow_stream_reader.specs.Tables.{table_in, tables_of}
+use Rattle.arrow_stream_reader.specs.Views.{given}
+use Rattle.arrow_stream_reader.proofs.Streams.{ended_stands}
+use Rattle.arrow_sink.specs.declared.status.Status.{Status}
+use Rattle.arrow_sink.specs.declared.status.Status.TheVariants as statuses
+use Rattle.arrow_sink.specs.declared.write_fault.WriteFault.{WriteFault}
+use Rattle.arrow_sink.specs.declared.write_fault.WriteFault.TheVariants as kinds
+use Rattle.arrow_stream_laws.specs.Admission.{admission, marker_fits}
+use Rattle.arrow_stream_laws.specs.Frames.{Frame, frames_bytes, left_by}
+use Rattle.arrow_stream_laws.specs.Sizes.{Options}
+use Rattle.arrow_stream_laws.specs.Text.{IsPart, Text, Written, adds, begins, finished, joined, marker_frame, schema_frame, unfinished}
+use Rattle.arrow_stream_laws.specs.Writer as writers
+use Rattle.arrowflow_report.specs.Faults.{told}
+use Rattle.arrowflow_report.specs.Reports.{EndsWell, IsBadBy}
+use Rattle.arrowflow_report.specs.Reads.{BlamesNoInput}
+use Rattle.arrowflow_report.specs.declared.tool_fault.ToolFault.{ToolFault}
+use Rattle.arrowflow_report.specs.declared.tool_fault.ToolFault.TheVariants.{Input, Output, Stream, Refused, Memory}
+use Rattle.arrowflow_report.specs.declared.what.What.TheVariants.{Start, Batch, Finish}
+use Rattle.arrowflow_report.proofs.Feeding.{ended_same, taken_all}
+use Rattle.arrowflow_report.proofs.First.{state_stays}
+use Rattle.arrowflow_report.proofs.Found.{told_refusal}
+use Rattle.arrowflow_report.proofs.Growing.{one_table}
+use Rattle.arrowflow_report.proofs.Reporting.{standing_of}
+use Rattle.arrowflow_report.proofs.Schemas.{front_begins, front_behind, front_keeps}
+use Rattle.arrowflow_report.proofs.Sent.{begun_all}
+use Rattle.arrowflow_report.proofs.Told.{end_is_done, state_same}
 use Rattle.arrowflow_copy.specs.Copy.{Copies, IsBegun, IsClosed, IsCopied, IsSent, IsSentOf, IsSentInPart, IsSentInPartOf, RefusesBatch, RefusesEnd, RefusesSchema}
 use Rattle.arrowflow_copy.specs.Copying.{Adds, At, Begins, Closes, HasWritten, IsCopying, IsWriting, IsWritingOn, PieceCopied, Takes, TakesFirst, TakesOne, fault_of, failures_at, held_at, waiting, writing}
 

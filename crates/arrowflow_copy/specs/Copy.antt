@@ -3,24 +3,24 @@ use Rattle.std.specs.Prelude.{◌≡◌, ◌⊎◌, ℕ, ◌+◌, false, true, B
 use Rattle.std.specs.Io.KnownBytes.{Appends, Consumes}
 use Rattle.arrow_types.specs.Limits.{LimitNumbers}
 use Rattle.arrow_types.specs.Notes.{SchemaShape}
-use Rattle.arrow_array.specs.Batch.{Table}
+use Rattle.arrow_data.specs.Batch.{Table}
 use Rattle.arrow_sink.specs.Sinks.{AcceptsBeginning}
-use Rattle.arrow_stream.specs.declared.reader.Verdict.TheVariants.{Open}
-use Rattle.arrow_stream.specs.Front.{Entry, Standing, FrontOf}
-use Rattle.arrow_stream.specs.State.{batch_given, nothing_yet, schema_given}
-use Rattle.arrow_stream.specs.Tables.{tables_of}
-use Rattle.arrow_written.specs.declared.write_fault.WriteFault.{WriteFault}
-use Rattle.arrow_written.specs.declared.write_fault.WriteFault.TheVariants.{TooLarge}
-use Rattle.arrow_written.specs.Admission.{admission, marker_fits, schema_admission}
-use Rattle.arrow_written.specs.Frames.{Frame, left_by}
-use Rattle.arrow_written.specs.Sizes.{Options}
-use Rattle.arrow_written.specs.Text.{Written, joined}
-use Rattle.arrowflow.specs.Reads.{IsReadWhile}
-use Rattle.arrowflow.specs.Reports.{EndsBadly, EndsWell, IsOpenAt}
-use Rattle.arrowflow.specs.declared.what.What.{What}
-use Rattle.arrowflow.specs.declared.what.What.TheVariants as parts
-use Rattle.arrowflow.specs.declared.tool_fault.ToolFault.{ToolFault}
-use Rattle.arrowflow.specs.declared.tool_fault.ToolFault.TheVariants.{Input, Output, Stream, Refused, Memory}
+use Rattle.arrow_stream_reader.specs.declared.reader.Verdict.TheVariants.{Open}
+use Rattle.arrow_stream_reader.specs.Front.{Entry, Standing, FrontOf}
+use Rattle.arrow_stream_reader.specs.State.{batch_given, nothing_yet, schema_given}
+use Rattle.arrow_stream_reader.specs.Tables.{tables_of}
+use Rattle.arrow_sink.specs.declared.write_fault.WriteFault.{WriteFault}
+use Rattle.arrow_sink.specs.declared.write_fault.WriteFault.TheVariants.{TooLarge}
+use Rattle.arrow_stream_laws.specs.Admission.{admission, marker_fits, schema_admission}
+use Rattle.arrow_stream_laws.specs.Frames.{Frame, left_by}
+use Rattle.arrow_stream_laws.specs.Sizes.{Options}
+use Rattle.arrow_stream_laws.specs.Text.{Written, joined}
+use Rattle.arrowflow_report.specs.Reads.{IsReadWhile}
+use Rattle.arrowflow_report.specs.Reports.{EndsBadly, EndsWell, IsOpenAt}
+use Rattle.arrowflow_report.specs.declared.what.What.{What}
+use Rattle.arrowflow_report.specs.declared.what.What.TheVariants as parts
+use Rattle.arrowflow_report.specs.declared.tool_fault.ToolFault.{ToolFault}
+use Rattle.arrowflow_report.specs.declared.tool_fault.ToolFault.TheVariants.{Input, Output, Stream, Refused, Memory}
 
 -- The text of a connection with these batches, closed by the end marker or not, and its parts, one after another, were written.
 pub record IsSent (limits : LimitNumbers) (o : Options) (shape : SchemaShape) (closed : Bool) (batches : List Table) (before after : Option (List ℕ)) : Type 0 where

@@ -4,21 +4,21 @@ use Rattle.std.specs.Io.KnownBytes.{IsAtEnd}
 use Rattle.arrow_types.specs.Limits.{LimitNumbers}
 use Rattle.arrow_types.specs.Notes.{SchemaShape}
 use Rattle.arrow_types.specs.Schema.{IsNoted}
-use Rattle.arrow_array.specs.Batch.{Table}
-use Rattle.arrow_stream.specs.declared.reader.Verdict.TheVariants.{Done}
-use Rattle.arrow_stream.specs.Front.{Entry}
-use Rattle.arrow_stream.specs.State.{Given, batch_given, dictionary_given, ended, schema_given}
-use Rattle.arrow_stream.specs.Stream as streams
-use Rattle.arrow_stream.specs.Tables.{tables_of}
-use Rattle.arrow_written.specs.declared.write_fault.WriteFault.{WriteFault}
-use Rattle.arrow_written.specs.declared.write_fault.WriteFault.TheVariants as kinds
-use Rattle.arrow_written.specs.Sizes.{Options}
-use Rattle.arrow_written.specs.Writer as writers
-use Rattle.arrowflow.specs.Reads.{BlamesNoInput}
-use Rattle.arrowflow.specs.declared.what.What.{What}
-use Rattle.arrowflow.specs.declared.what.What.TheVariants.{Start, Batch, Finish}
-use Rattle.arrowflow.specs.declared.tool_fault.ToolFault.{ToolFault}
-use Rattle.arrowflow.specs.declared.tool_fault.ToolFault.TheVariants.{Output, Refused, Memory}
+use Rattle.arrow_data.specs.Batch.{Table}
+use Rattle.arrow_stream_reader.specs.declared.reader.Verdict.TheVariants.{Done}
+use Rattle.arrow_stream_reader.specs.Front.{Entry}
+use Rattle.arrow_stream_reader.specs.State.{Given, batch_given, dictionary_given, ended, schema_given}
+use Rattle.arrow_stream_reader.specs.Stream as streams
+use Rattle.arrow_stream_reader.specs.Tables.{tables_of}
+use Rattle.arrow_sink.specs.declared.write_fault.WriteFault.{WriteFault}
+use Rattle.arrow_sink.specs.declared.write_fault.WriteFault.TheVariants as kinds
+use Rattle.arrow_stream_laws.specs.Sizes.{Options}
+use Rattle.arrow_stream_laws.specs.Writer as writers
+use Rattle.arrowflow_report.specs.Reads.{BlamesNoInput}
+use Rattle.arrowflow_report.specs.declared.what.What.{What}
+use Rattle.arrowflow_report.specs.declared.what.What.TheVariants.{Start, Batch, Finish}
+use Rattle.arrowflow_report.specs.declared.tool_fault.ToolFault.{ToolFault}
+use Rattle.arrowflow_report.specs.declared.tool_fault.ToolFault.TheVariants.{Output, Refused, Memory}
 use Rattle.arrowflow_copy.specs.Copy.{Copies}
 
 -- what the program tells of a writer's fault: a refusal, or that the output or memory failed

@@ -1,6 +1,6 @@
 -- Where a copy stands whose output goes to a sink, or to a writer over it.
 use Rattle.std.specs.Prelude.{ℕ, List, Option}
-use Rattle.arrow_writer.specs.Shown.{shown}
+use Rattle.arrow_stream_writer.specs.Shown.{shown}
 use Rattle.arrowflow_copy.specs.Copying.{At, waiting, writing}
 use Rattle.arrowflow_copy.specs.declared.copier.Target.{Target}
 use Rattle.arrowflow_copy.specs.declared.copier.Target.TheVariants.{Waiting, Writing}

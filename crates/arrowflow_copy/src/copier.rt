@@ -1,20 +1,19 @@
 //! Messages on their way to a writer.
 
 ghost use Rattle.std.specs.Prelude.{◌≡◌, ◌<◌, ◌-◌, ◌^◌, OnOk};
-ghost use Rattle.arrow_stream.specs.Views.{given};
+ghost use Rattle.arrow_stream_reader.specs.Views.{given};
 ghost use Rattle.arrow_types.specs.Schema.{IsNoted};
-ghost use Rattle.arrow_writer.specs.Shown.{options_view, shown};
+ghost use Rattle.arrow_stream_writer.specs.Shown.{options_view, shown};
 ghost use Rattle.arrowflow_copy.specs.Copying.{Adds, Begins, Closes, IsWriting, Takes, TakesOne};
 ghost use Rattle.arrowflow_copy.specs.Copying.{failures_at, fault_of, writing};
 ghost use Rattle.arrowflow_copy.specs.Target.{IsPassedOn, at_of, sink_in};
 
-use arrow_array::Batch;
-use arrow_sink::Sink;
-use arrow_stream::{Item, StreamReader};
+use arrow_data::Batch;
+use arrow_sink::{Sink, WriteFault};
+use arrow_stream_reader::{Item, StreamReader};
+use arrow_stream_writer::{Options, StreamWriter};
 use arrow_types::{Limits, Schema};
-use arrow_writer::{Options, StreamWriter};
-use arrow_written::WriteFault;
-use arrowflow::{ToolFault, What};
+use arrowflow_report::{ToolFault, What};
 use std::alloc::Global;
 
 /// Where the new stream goes: the output as it came, or, once the schema was read, a writer over

@@ -1,12 +1,12 @@
 //! A stream copied piece by piece.
 
 ghost use Rattle.std.specs.Prelude.{◌≡◌, ◌<◌, ◌-◌, ◌^◌, [], Err, IfOk, Ok, OnOk, false, length};
-ghost use Rattle.arrow_stream.specs.declared.reader.Verdict.TheVariants.{Open};
-ghost use Rattle.arrow_stream.specs.Stream.{Stands, ended_so};
-ghost use Rattle.arrow_writer.specs.Shown.{options_view};
-ghost use Rattle.arrowflow.specs.Faults.{told_end};
-ghost use Rattle.arrowflow.specs.Reads.{BlamesNoInput, answer_by};
-ghost use Rattle.arrowflow.specs.declared.tool_fault.ToolFault.{ToolFault};
+ghost use Rattle.arrow_stream_reader.specs.declared.reader.Verdict.TheVariants.{Open};
+ghost use Rattle.arrow_stream_reader.specs.Stream.{Stands, ended_so};
+ghost use Rattle.arrow_stream_writer.specs.Shown.{options_view};
+ghost use Rattle.arrowflow_report.specs.Faults.{told_end};
+ghost use Rattle.arrowflow_report.specs.Reads.{BlamesNoInput, answer_by};
+ghost use Rattle.arrowflow_report.specs.declared.tool_fault.ToolFault.{ToolFault};
 ghost use Rattle.arrowflow_copy.specs.Copy.{CopiesInput};
 ghost use Rattle.arrowflow_copy.specs.Copying.{CopiesPiece, EndsCopy, IsGoing, failures_at};
 ghost use Rattle.arrowflow_copy.specs.Copying.{held_at};
@@ -14,11 +14,11 @@ ghost use Rattle.arrowflow_copy.specs.Target.{IsPassedOn, IsWaiting, at_of};
 
 use crate::copier::{Target, Terms, close, take};
 use arrow_sink::Sink;
-use arrow_stream::{Item, StreamReader};
+use arrow_stream_reader::{Item, StreamReader};
+use arrow_stream_writer::Options;
 use arrow_types::Limits;
-use arrow_writer::Options;
-use arrowflow::ToolFault;
-use arrowflow::pieces::{ReadFailed, answer_of, read_piece, room_for_a_piece};
+use arrowflow_report::ToolFault;
+use arrowflow_report::pieces::{ReadFailed, answer_of, read_piece, room_for_a_piece};
 use std::alloc::Global;
 use std::io::Read;
 

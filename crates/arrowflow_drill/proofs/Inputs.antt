@@ -3,12 +3,12 @@ use Rattle.std.proofs.Common.{◌≡◌, ◌<◌, ℕ, zero, suc, ◌+◌, List,
 use Rattle.std.proofs.lemmas.List.{drop-set, drop-set-lt, drop_more, length-take-le, map-append, take-set, take_more, take_more_set}
 use Rattle.std.proofs.lemmas.Grind.{drop_more_same}
 use Rattle.arrow_types.specs.Limits.{LimitNumbers}
-use Rattle.arrow_session.specs.Asked.{Asked, asked_of}
-use Rattle.arrow_session.specs.Report.{Reports}
-use Rattle.arrow_session.specs.declared.session.Connection.{Connection}
-use Rattle.arrow_session.specs.declared.session.Report.{Report}
-use Rattle.arrowflow.specs.declared.tool_fault.ToolFault.{ToolFault}
-use Rattle.arrowflow.specs.declared.tool_fault.ToolFault.TheVariants.{Input, Output, Stream, Refused, Memory}
+use Rattle.arrowflow_session.specs.Asked.{Asked, asked_of}
+use Rattle.arrowflow_session.specs.Report.{Reports}
+use Rattle.arrowflow_session.specs.declared.session.Connection.{Connection}
+use Rattle.arrowflow_session.specs.declared.session.Report.{Report}
+use Rattle.arrowflow_report.specs.declared.tool_fault.ToolFault.{ToolFault}
+use Rattle.arrowflow_report.specs.declared.tool_fault.ToolFault.TheVariants.{Input, Output, Stream, Refused, Memory}
 use Rattle.arrowflow_drill.specs.Reading.{AreRead, Asks, EndsReading, IsRead, ReadsAll}
 
 -- there is a report of each connection

@@ -1,22 +1,22 @@
 -- The batches of a stream that are kept piece by piece.
 use Rattle.std.proofs.Common.{◌≡◌, ℕ, ◌+◌, true, false, List, [], ◌++◌, length, take, drop, Ok, Err, ◌⊎◌, inl, inr, refl, sym, ap, ◌∙◌, subst, append_assoc, append-nil, take-append-drop}
 use Rattle.std.proofs.lemmas.Bool.{false≢true}
-use Rattle.arrow_array.specs.Batch.{Table}
-use Rattle.arrow_stream.specs.declared.fault.Fault.{Fault}
-use Rattle.arrow_stream.specs.declared.item.Item.{Item}
-use Rattle.arrow_stream.specs.declared.reader.Verdict.TheVariants.{Done}
-use Rattle.arrow_stream.specs.Front.{Entry}
-use Rattle.arrow_stream.specs.Kind.{kind_of}
-use Rattle.arrow_stream.specs.State.{ended}
-use Rattle.arrow_stream.specs.Stream.{GivesNext, Refuses, Shows, Stands, TakesOn, WantsMemory}
-use Rattle.arrow_stream.specs.Tables.{table_in, tables_of}
-use Rattle.arrow_stream.specs.Views.{given}
-use Rattle.arrow_stream.proofs.Streams.{ended_stands}
-use Rattle.arrowflow.specs.Faults.{told}
-use Rattle.arrowflow.specs.Pieces.{Feeds, HandsOut}
-use Rattle.arrowflow.proofs.Feeding.{IsFeeding, fed_all, fed_next, tables-append}
-use Rattle.arrowflow.proofs.Found.{told_refusal}
-use Rattle.arrowflow.proofs.Told.{end_is_done}
+use Rattle.arrow_data.specs.Batch.{Table}
+use Rattle.arrow_stream_reader.specs.declared.fault.Fault.{Fault}
+use Rattle.arrow_stream_reader.specs.declared.item.Item.{Item}
+use Rattle.arrow_stream_reader.specs.declared.reader.Verdict.TheVariants.{Done}
+use Rattle.arrow_stream_reader.specs.Front.{Entry}
+use Rattle.arrow_stream_reader.specs.Kind.{kind_of}
+use Rattle.arrow_stream_reader.specs.State.{ended}
+use Rattle.arrow_stream_reader.specs.Stream.{GivesNext, Refuses, Shows, Stands, TakesOn, WantsMemory}
+use Rattle.arrow_stream_reader.specs.Tables.{table_in, tables_of}
+use Rattle.arrow_stream_reader.specs.Views.{given}
+use Rattle.arrow_stream_reader.proofs.Streams.{ended_stands}
+use Rattle.arrowflow_report.specs.Faults.{told}
+use Rattle.arrowflow_report.specs.Pieces.{Feeds, HandsOut}
+use Rattle.arrowflow_report.proofs.Feeding.{IsFeeding, fed_all, fed_next, tables-append}
+use Rattle.arrowflow_report.proofs.Found.{told_refusal}
+use Rattle.arrowflow_report.proofs.Told.{end_is_done}
 use Rattle.arrowflow_drill.specs.Reading.{KeepsPiece, PieceKept}
 
 -- a reader that was given a part behind bytes whose batches were kept

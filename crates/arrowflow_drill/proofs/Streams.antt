@@ -3,23 +3,23 @@ use Rattle.std.proofs.Common.{◌≡◌, ℕ, true, false, Bool, List, [], ◌�
 use Rattle.std.specs.Io.KnownBytes.{IsAtEnd}
 use Rattle.arrow_types.specs.Limits.{LimitNumbers}
 use Rattle.arrow_types.specs.Notes.{SchemaShape}
-use Rattle.arrow_array.specs.Batch.{Table}
-use Rattle.arrow_stream.specs.declared.fault.Fault.{Fault}
-use Rattle.arrow_stream.specs.declared.kind.Kind.TheVariants.{NoSchema, Truncated}
-use Rattle.arrow_stream.specs.declared.reader.Verdict.{Verdict}
-use Rattle.arrow_stream.specs.declared.reader.Verdict.TheVariants.{Open, Done, Bad}
-use Rattle.arrow_stream.specs.Front.{Entry, Standing, Front, FrontOf, closes, fails, goes_on, rests}
-use Rattle.arrow_stream.specs.Kind.{kind_of}
-use Rattle.arrow_stream.specs.State.{StreamState}
-use Rattle.arrow_stream.specs.Stream.{Shows, Stands, ended_by, ended_so}
-use Rattle.arrowflow.specs.Faults.{told, told_end}
-use Rattle.arrowflow.specs.Pieces.{HandsOut}
-use Rattle.arrowflow.specs.declared.tool_fault.ToolFault.{ToolFault}
-use Rattle.arrowflow.specs.declared.tool_fault.ToolFault.TheVariants.{Input, Output, Stream, Refused, Memory}
-use Rattle.arrowflow.proofs.Feeding.{ended_same}
-use Rattle.arrowflow.proofs.Found.{told_refusal}
-use Rattle.arrowflow.proofs.Reporting.{standing_of}
-use Rattle.arrowflow.proofs.Schemas.{front_begins}
+use Rattle.arrow_data.specs.Batch.{Table}
+use Rattle.arrow_stream_reader.specs.declared.fault.Fault.{Fault}
+use Rattle.arrow_stream_reader.specs.declared.kind.Kind.TheVariants.{NoSchema, Truncated}
+use Rattle.arrow_stream_reader.specs.declared.reader.Verdict.{Verdict}
+use Rattle.arrow_stream_reader.specs.declared.reader.Verdict.TheVariants.{Open, Done, Bad}
+use Rattle.arrow_stream_reader.specs.Front.{Entry, Standing, Front, FrontOf, closes, fails, goes_on, rests}
+use Rattle.arrow_stream_reader.specs.Kind.{kind_of}
+use Rattle.arrow_stream_reader.specs.State.{StreamState}
+use Rattle.arrow_stream_reader.specs.Stream.{Shows, Stands, ended_by, ended_so}
+use Rattle.arrowflow_report.specs.Faults.{told, told_end}
+use Rattle.arrowflow_report.specs.Pieces.{HandsOut}
+use Rattle.arrowflow_report.specs.declared.tool_fault.ToolFault.{ToolFault}
+use Rattle.arrowflow_report.specs.declared.tool_fault.ToolFault.TheVariants.{Input, Output, Stream, Refused, Memory}
+use Rattle.arrowflow_report.proofs.Feeding.{ended_same}
+use Rattle.arrowflow_report.proofs.Found.{told_refusal}
+use Rattle.arrowflow_report.proofs.Reporting.{standing_of}
+use Rattle.arrowflow_report.proofs.Schemas.{front_begins}
 use Rattle.arrowflow_drill.specs.Reading.{Decides, IsWhole, PieceKept}
 
 -- the front at which a reader stands

@@ -2,7 +2,7 @@
 use Rattle.std.specs.Prelude.{ℕ, List, length, Vec}
 use Rattle.std.specs.List.{sum_by}
 use Rattle.std.specs.declared.alloc.Global.{Global}
-use Rattle.arrow_array.specs.Batch.{Table}
+use Rattle.arrow_data.specs.Batch.{Table}
 
 -- how many bytes parts have
 abbrev pub bytes_in : List (Vec ℕ Global) → ℕ

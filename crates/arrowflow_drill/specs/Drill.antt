@@ -1,11 +1,11 @@
 -- What comes of streams that are sent again over connections (Columnar Format, "IPC Streaming Format").
 use Rattle.std.specs.Prelude.{◌≡◌, ℕ, List, map, Option, Result, Ok, Err, ⊤}
-use Rattle.arrow_session.specs.Asked.{asked_of}
-use Rattle.arrow_session.specs.Report.{Reports}
-use Rattle.arrow_session.specs.declared.session.Connection.{Connection}
-use Rattle.arrow_session.specs.declared.session.Report.{Report}
-use Rattle.arrowflow.specs.declared.tool_fault.ToolFault.{ToolFault}
-use Rattle.arrowflow.specs.declared.tool_fault.ToolFault.TheVariants.{Input, Output, Stream, Refused, Memory}
+use Rattle.arrowflow_session.specs.Asked.{asked_of}
+use Rattle.arrowflow_session.specs.Report.{Reports}
+use Rattle.arrowflow_session.specs.declared.session.Connection.{Connection}
+use Rattle.arrowflow_session.specs.declared.session.Report.{Report}
+use Rattle.arrowflow_report.specs.declared.tool_fault.ToolFault.{ToolFault}
+use Rattle.arrowflow_report.specs.declared.tool_fault.ToolFault.TheVariants.{Input, Output, Stream, Refused, Memory}
 use Rattle.arrowflow_drill.specs.Reading.{AreRead, Asks, EndsReading}
 
 -- the same is asked of connections, one by one: nothing but the pieces in which they are delivered has changed

@@ -4,21 +4,21 @@ use Rattle.std.specs.Io.KnownBytes.{Consumes}
 use Rattle.std.specs.declared.alloc.Global.{Global}
 use Rattle.arrow_types.specs.Limits.{LimitNumbers}
 use Rattle.arrow_types.specs.Notes.{SchemaShape}
-use Rattle.arrow_array.specs.Batch.{Table}
-use Rattle.arrow_stream.specs.declared.fault.Fault.{Fault}
-use Rattle.arrow_stream.specs.declared.reader.Verdict.TheVariants.{Done}
-use Rattle.arrow_stream.specs.Front.{Entry, Standing, FrontOf}
-use Rattle.arrow_stream.specs.Stream.{Shows}
-use Rattle.arrow_stream.specs.Tables.{tables_of}
-use Rattle.arrow_written.specs.Sizes.{Options}
-use Rattle.arrow_session.specs.Asked.{Asked, asked_of}
-use Rattle.arrow_session.specs.declared.session.Connection.{Connection}
-use Rattle.arrowflow.specs.Pieces.{HandsOut}
-use Rattle.arrowflow.specs.Reads.{IsReadWhile}
-use Rattle.arrowflow.specs.Reports.{EndsBadly, EndsWell, IsBadBy, IsOpenAt}
-use Rattle.arrowflow.specs.declared.pieces.ReadFailed.{ReadFailed}
-use Rattle.arrowflow.specs.declared.tool_fault.ToolFault.{ToolFault}
-use Rattle.arrowflow.specs.declared.tool_fault.ToolFault.TheVariants.{Input, Output, Stream, Refused, Memory}
+use Rattle.arrow_data.specs.Batch.{Table}
+use Rattle.arrow_stream_reader.specs.declared.fault.Fault.{Fault}
+use Rattle.arrow_stream_reader.specs.declared.reader.Verdict.TheVariants.{Done}
+use Rattle.arrow_stream_reader.specs.Front.{Entry, Standing, FrontOf}
+use Rattle.arrow_stream_reader.specs.Stream.{Shows}
+use Rattle.arrow_stream_reader.specs.Tables.{tables_of}
+use Rattle.arrow_stream_laws.specs.Sizes.{Options}
+use Rattle.arrowflow_session.specs.Asked.{Asked, asked_of}
+use Rattle.arrowflow_session.specs.declared.session.Connection.{Connection}
+use Rattle.arrowflow_report.specs.Pieces.{HandsOut}
+use Rattle.arrowflow_report.specs.Reads.{IsReadWhile}
+use Rattle.arrowflow_report.specs.Reports.{EndsBadly, EndsWell, IsBadBy, IsOpenAt}
+use Rattle.arrowflow_report.specs.declared.pieces.ReadFailed.{ReadFailed}
+use Rattle.arrowflow_report.specs.declared.tool_fault.ToolFault.{ToolFault}
+use Rattle.arrowflow_report.specs.declared.tool_fault.ToolFault.TheVariants.{Input, Output, Stream, Refused, Memory}
 
 -- ---- a piece
 

@@ -1,9 +1,9 @@
 -- What is asked of the connections of streams.
 use Rattle.std.specs.Prelude.{◌≡◌, true, List, Option, Some}
 use Rattle.arrow_types.specs.Notes.{SchemaShape}
-use Rattle.arrow_array.specs.Batch.{Table}
-use Rattle.arrow_session.specs.declared.session.Connection.{Connection}
-use Rattle.arrow_writer.specs.Shown.{options_view}
+use Rattle.arrow_data.specs.Batch.{Table}
+use Rattle.arrowflow_session.specs.declared.session.Connection.{Connection}
+use Rattle.arrow_stream_writer.specs.Shown.{options_view}
 use Rattle.arrowflow_drill.specs.Reading.{Asks}
 use Rattle.arrowflow_drill.specs.declared.reading.Terms.{Terms}
 

@@ -1,15 +1,15 @@
 //! Connections rehearsed, and what is told of them.
 
 ghost use Rattle.std.specs.Prelude.{◌≡◌, ◌<◌, ◌^◌, ◌≤◌, IfOk, length};
-ghost use Rattle.arrow_session.specs.Report.{Reports};
-ghost use Rattle.arrow_writer.specs.Shown.{options_view};
+ghost use Rattle.arrowflow_session.specs.Report.{Reports};
+ghost use Rattle.arrow_stream_writer.specs.Shown.{options_view};
 ghost use Rattle.arrowflow_drill.specs.Drill.{AskTheSame, Drills};
 
 use crate::lines::{push_connection, size_of};
 use crate::reading::{Terms, read_all};
-use arrow_session::session::{Connection, Options, Report, run};
 use arrow_types::Limits;
-use arrowflow::ToolFault;
+use arrowflow_report::ToolFault;
+use arrowflow_session::session::{Connection, Options, Report, run};
 use std::alloc::{AllocError, Global};
 use std::io::Read;
 

@@ -1,10 +1,10 @@
 //! Connections rehearsed: streams are read, and sent again over connections that break.
 //!
 //! [`drill`] takes inputs with streams, reads each as one connection, runs the connections by
-//! `arrow_session::session::run`, and gives a text that tells what was sent and received of each.
-//! What an input is read as, and how that ends, is said by `specs/Reading.antt`, and what is
-//! answered of all inputs by `Drills` (`specs/Drill.antt`), in the words of `arrow_stream` and
-//! `arrow_session`. What stands in the lines is shown by tests.
+//! `arrowflow_session::session::run`, and gives a text that tells what was sent and received of
+//! each. What an input is read as, and how that ends, is said by `specs/Reading.antt`, and what is
+//! answered of all inputs by `Drills` (`specs/Drill.antt`), in the words of `arrow_stream_reader`
+//! and `arrowflow_session`. What stands in the lines is shown by tests.
 //!
 //! | Notion | Definition |
 //! |---|---|

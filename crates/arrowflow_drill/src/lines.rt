@@ -3,9 +3,9 @@
 ghost use Rattle.std.specs.Prelude.{◌≡◌, IfOk};
 ghost use Rattle.arrowflow_drill.specs.Counts.{bytes_in, rows_in};
 
-use arrow_array::{Batch, Dictionary};
-use arrow_session::session::{Connection, Refusal, Report, What};
-use arrowflow::session::Ending;
+use arrow_data::{Batch, Dictionary};
+use arrowflow_report::session::Ending;
+use arrowflow_session::session::{Connection, Refusal, Report, What};
 use std::alloc::AllocError;
 use std::fmt::Write;
 

@@ -2,23 +2,23 @@
 
 ghost use Rattle.std.specs.Prelude.{◌≡◌, ◌++◌, [], IfOk, MatchBool, MatchResult, None, Ok, OnOk};
 ghost use Rattle.std.specs.Prelude.{false, length};
-ghost use Rattle.arrow_stream.specs.declared.item.Item.TheVariants.{End};
-ghost use Rattle.arrow_stream.specs.declared.reader.Verdict.TheVariants.{Open};
-ghost use Rattle.arrow_stream.specs.Stream.{Stands, ended_so};
-ghost use Rattle.arrow_stream.specs.Tables.{table_in};
-ghost use Rattle.arrow_stream.specs.Views.{given};
-ghost use Rattle.arrowflow.specs.Faults.{told_end};
-ghost use Rattle.arrowflow.specs.declared.tool_fault.ToolFault.TheVariants.{Memory};
+ghost use Rattle.arrow_stream_reader.specs.declared.item.Item.TheVariants.{End};
+ghost use Rattle.arrow_stream_reader.specs.declared.reader.Verdict.TheVariants.{Open};
+ghost use Rattle.arrow_stream_reader.specs.Stream.{Stands, ended_so};
+ghost use Rattle.arrow_stream_reader.specs.Tables.{table_in};
+ghost use Rattle.arrow_stream_reader.specs.Views.{given};
+ghost use Rattle.arrowflow_report.specs.Faults.{told_end};
+ghost use Rattle.arrowflow_report.specs.declared.tool_fault.ToolFault.TheVariants.{Memory};
 ghost use Rattle.arrowflow_drill.specs.Reading.{IsRead, KeepsPiece, ReadsAll, ReadsStream};
 ghost use Rattle.arrowflow_drill.specs.Reading.{all_asked_in, asked_in};
 ghost use Rattle.arrowflow_drill.specs.Terms.{IsMadeOf, asks_of};
 
-use arrow_array::Batch;
-use arrow_session::session::{Connection, Options};
-use arrow_stream::{Item, StreamReader};
+use arrow_data::Batch;
+use arrow_stream_reader::{Item, StreamReader};
 use arrow_types::Limits;
-use arrowflow::ToolFault;
-use arrowflow::pieces::{ReadFailed, read_piece, room_for_a_piece};
+use arrowflow_report::ToolFault;
+use arrowflow_report::pieces::{ReadFailed, read_piece, room_for_a_piece};
+use arrowflow_session::session::{Connection, Options};
 use std::alloc::{AllocError, Global};
 use std::io::Read;
 

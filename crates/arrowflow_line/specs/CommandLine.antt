@@ -3,11 +3,11 @@ use Rattle.std.specs.Prelude.{◌≡◌, ◌≤◌, ◌^◌, ◌⊎◌, ℕ, Lis
 use Rattle.std.specs.Str.{bytes_eq}
 use Rattle.std.specs.Str.Parse.{digits_value, without_leading_plus}
 use Rattle.std.specs.Borrow.{Bor}
-use Rattle.arrow_body_write.specs.declared.align.Align.{Align}
-use Rattle.arrow_body_write.specs.declared.align.Align.TheVariants.{Eight, SixtyFour}
+use Rattle.arrow_body_writer.specs.declared.align.Align.{Align}
+use Rattle.arrow_body_writer.specs.declared.align.Align.TheVariants.{Eight, SixtyFour}
 use Rattle.arrow_dict.specs.declared.update.Updates.{Updates}
 use Rattle.arrow_dict.specs.declared.update.Updates.TheVariants.{Delta, Resend}
-use Rattle.arrow_writer.specs.declared.stream_writer.Options.{Options}
+use Rattle.arrow_stream_writer.specs.declared.stream_writer.Options.{Options}
 use Rattle.clap.specs.Lexer.{usize_max}
 use Rattle.clap.specs.Values.{IsUnsignedIn}
 use Rattle.clap.specs.declared.builder.command.Command.{Command}

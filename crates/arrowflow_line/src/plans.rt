@@ -1,6 +1,6 @@
 //! What a command line asks for.
 
-use arrow_writer::Options;
+use arrow_stream_writer::Options;
 
 /// One command of the program, with the names that it was given, `-` being standard input or
 /// output.

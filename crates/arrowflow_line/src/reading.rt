@@ -8,9 +8,9 @@ ghost use Rattle.arrowflow_line.specs.CommandLine.{name_in, names_in, number_tex
 ghost use Rattle.arrowflow_line.specs.CommandLine.{updates_by};
 
 use crate::plans::Plan;
-use arrow_body_write::Align;
+use arrow_body_writer::Align;
 use arrow_dict::Updates;
-use arrow_writer::Options;
+use arrow_stream_writer::Options;
 use clap::ArgMatches;
 use std::alloc::{AllocError, Global};
 

@@ -4,10 +4,7 @@ ghost use Rattle.std.specs.Prelude.{◌<◌};
 
 use crate::ends::{Source, open};
 use crate::{print_text, tell};
-use arrow_types::Limits;
-use arrow_writer::Options;
-use arrowflow::ToolFault;
-use arrowflow_drill::drill;
+use arrowflow::{Limits, Options, ToolFault, drill};
 use std::alloc::Global;
 use std::io::Input;
 use std::rt::Files;

@@ -11,12 +11,9 @@ mod pipe;
 use crate::drilling::drill_files;
 use crate::ends::{create, input_name, is_same_file, open, output_name};
 use crate::pipe::Pipe;
-use arrow_sink::Counted;
-use arrow_types::Limits;
-use arrow_writer::Options;
-use arrowflow::{ToolFault, check, schema_text, show};
-use arrowflow_copy::copy;
-use arrowflow_line::{ArgFault, Plan, plan};
+use arrowflow::{
+    ArgFault, Counted, Limits, Options, Plan, ToolFault, check, copy, plan, schema_text, show,
+};
 use std::alloc::Global;
 use std::io::{ErrorKind, Input, Write};
 use std::process::ExitCode;

@@ -3,7 +3,7 @@
 use super::fields::Kind;
 use super::reading::{Pairs, told};
 use super::written::{Held, dictionary, written};
-use arrow_array::Dictionary;
+use arrow_data::Dictionary;
 use std::process::Abort;
 
 // The types of the fields, their nodes and buffers, the values of dictionary 0, and what is to be

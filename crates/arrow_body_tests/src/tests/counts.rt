@@ -2,7 +2,7 @@
 
 use super::fields::{INDEX, Kind, fields_of};
 use super::reading::{Pairs, nodes_of_pairs};
-use arrow_body::{have_length, nodes_of};
+use arrow_body_reader::{have_length, nodes_of};
 use std::process::Abort;
 
 // A list of numbers and indices: two nodes and one.

@@ -4,8 +4,8 @@
 use super::fields::Kind;
 use super::stored::{Case, is_stored};
 use super::written::{Held, dictionary, written};
-use arrow_array::Dictionary;
-use arrow_body_write::Align;
+use arrow_body_writer::Align;
+use arrow_data::Dictionary;
 use arrow_types::BitWidth;
 use std::process::Abort;
 

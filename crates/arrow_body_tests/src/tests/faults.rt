@@ -2,7 +2,7 @@
 
 use super::fields::{INDEX, Kind};
 use super::reading::{Case, NUMBERS, Pairs, compare};
-use arrow_body::BodyFault;
+use arrow_body_reader::BodyFault;
 
 // The node of numbers and their two buffers, in each of which one thing is wrong.
 static NO_NUMBERS: [((i64, i64), Pairs<'static>); 15] = [

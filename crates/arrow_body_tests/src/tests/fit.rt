@@ -4,8 +4,8 @@ use super::fields::{Kind, fields_of};
 use super::forms::{self, Form};
 use super::reading::{loaded, told};
 use super::written::dictionary;
-use arrow_array::Dictionary;
-use arrow_body::are_fit;
+use arrow_body_reader::are_fit;
+use arrow_data::Dictionary;
 use arrow_types::BitWidth;
 use std::process::Abort;
 

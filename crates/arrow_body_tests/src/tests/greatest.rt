@@ -4,9 +4,9 @@
 use super::forms::{Form, fields_of};
 use super::reading::{Pairs, nodes_of_pairs};
 use super::written::dictionary;
-use arrow_array::{Array, Dictionary, shared_types};
-use arrow_body::{BodyFault, are_fit, load_typed};
-use arrow_body_write::{Align, rest_size};
+use arrow_body_reader::{BodyFault, are_fit, load_typed};
+use arrow_body_writer::{Align, rest_size};
+use arrow_data::{Array, Dictionary, shared_types};
 use arrow_types::Buffer;
 use bytes::Bytes;
 use std::process::Abort;

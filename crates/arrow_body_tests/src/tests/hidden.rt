@@ -4,7 +4,7 @@
 use super::fields::Kind;
 use super::stored::{Case, lay_out};
 use super::written::Held;
-use arrow_body_write::Align;
+use arrow_body_writer::Align;
 
 // Bodies that the columnar format's rules leave no choice about.
 static WORKED: [Case; 9] = [

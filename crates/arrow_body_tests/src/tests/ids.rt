@@ -3,7 +3,7 @@
 use super::fields::Kind;
 use super::reading::told;
 use super::written::{Held, dictionary, written};
-use arrow_array::Dictionary;
+use arrow_data::Dictionary;
 use arrow_types::BitWidth;
 use std::process::Abort;
 

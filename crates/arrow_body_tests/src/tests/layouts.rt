@@ -7,7 +7,7 @@ use super::columns_of_nine::{COLUMNS, INDICES};
 use super::forms::{Form, INT8, Indices, fields_of};
 use super::reading::{Pairs, loaded, told};
 use super::written::dictionary;
-use arrow_array::Dictionary;
+use arrow_data::Dictionary;
 use arrow_types::{BitWidth, Field};
 use std::process::Abort;
 

@@ -2,8 +2,8 @@
 
 use super::fields::{Kind, fields_of};
 use super::shown::shown;
-use arrow_array::{Array, Dictionary, shared_types};
-use arrow_body::{BodyFault, are_fit, check, load, load_typed};
+use arrow_body_reader::{BodyFault, are_fit, check, load, load_typed};
+use arrow_data::{Array, Dictionary, shared_types};
 use arrow_types::{Buffer, Field, FieldNode};
 use bytes::Bytes;
 use std::process::Abort;

@@ -3,9 +3,9 @@
 use super::fields::Kind;
 use super::reading::Pairs;
 use super::written::{Held, dictionary, written};
-use arrow_array::{Array, Dictionary};
-use arrow_body::BodyFault;
-use arrow_body_write::{Align, rest_size, store_rest};
+use arrow_body_reader::BodyFault;
+use arrow_body_writer::{Align, rest_size, store_rest};
+use arrow_data::{Array, Dictionary};
 use std::alloc::Global;
 use std::process::Abort;
 

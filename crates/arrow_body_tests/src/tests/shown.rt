@@ -1,6 +1,6 @@
 // What columns show, as a text.
 
-use arrow_array::{Array, SlotValue};
+use arrow_data::{Array, SlotValue};
 use std::process::Abort;
 
 // More levels than any type of a test has.

@@ -3,8 +3,8 @@
 use super::fields::Kind;
 use super::reading::Pairs;
 use super::written::{Held, written};
-use arrow_array::Array;
-use arrow_body_write::{Align, body_size, store};
+use arrow_body_writer::{Align, body_size, store};
+use arrow_data::Array;
 use std::alloc::Global;
 use std::process::Abort;
 

@@ -5,7 +5,7 @@
 use super::fields::Kind;
 use super::stored::{Case, lay_out};
 use super::written::Held;
-use arrow_body_write::Align;
+use arrow_body_writer::Align;
 
 static CASES: [Case; 10] = [
     // {[1, 2], 7}, {[3], 8}.

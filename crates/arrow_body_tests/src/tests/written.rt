@@ -2,8 +2,8 @@
 
 use super::fields::{Kind, fields_of};
 use super::reading::{Pairs, loaded};
-use arrow_array::{Array, Dictionary};
-use arrow_body::BodyFault;
+use arrow_body_reader::BodyFault;
+use arrow_data::{Array, Dictionary};
 use std::process::Abort;
 
 // A buffer of these bytes, or of these numbers, of four or of eight bytes each.

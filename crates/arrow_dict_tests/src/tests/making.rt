@@ -4,12 +4,12 @@ ghost use Rattle.std.specs.Prelude.{◌≡◌, ◌≤◌, ℕ, IfOk, IsTrue, Lis
 ghost use Rattle.arrow_types.specs.Field.{none};
 ghost use Rattle.arrow_types.specs.Schema.{has_encoding};
 ghost use Rattle.arrow_types.specs.View.{field_view, type_view};
-ghost use Rattle.arrow_array.specs.Column.{ValueList};
-ghost use Rattle.arrow_array.specs.Layout.{IsText, buffer_count};
-ghost use Rattle.arrow_array.specs.Listed.{listed};
+ghost use Rattle.arrow_data.specs.Column.{ValueList};
+ghost use Rattle.arrow_data.specs.Layout.{IsText, buffer_count};
+ghost use Rattle.arrow_data.specs.Listed.{listed};
 
-use arrow_array::layout::is_laid;
-use arrow_array::{Array, ByteRange, Dictionary};
+use arrow_data::layout::is_laid;
+use arrow_data::{Array, ByteRange, Dictionary};
 use arrow_dict::{Store, StoreFault};
 use arrow_types::{BitWidth, DataType, Field};
 use bytes::Bytes;

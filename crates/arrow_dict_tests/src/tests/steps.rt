@@ -1,7 +1,7 @@
 // Changes of a store and questions to it, and what it answers.
 
 use super::making::{appended, nulls, number, numbers, put};
-use arrow_array::Dictionary;
+use arrow_data::Dictionary;
 use arrow_dict::{Store, StoreFault};
 use std::process::Abort;
 

@@ -1,7 +1,7 @@
 // What a store has for an id, and in which order.
 
 use super::steps::{Step, push_numbers, told};
-use arrow_array::Dictionary;
+use arrow_data::Dictionary;
 use arrow_dict::{Store, StoreFault};
 use std::process::Abort;
 

@@ -2,7 +2,7 @@
 
 use super::making::numbers;
 use super::steps::{begin, push_all, push_values};
-use arrow_array::Dictionary;
+use arrow_data::Dictionary;
 use arrow_dict::{Tracker, Update, Updates};
 use std::process::Abort;
 

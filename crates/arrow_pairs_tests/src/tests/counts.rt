@@ -6,7 +6,7 @@ use crate::vectors::{
     ABSENT, AT_BOTH, AT_COLUMN, AT_MESSAGE, AT_SCHEMA, FILLED, LEVELS, NO_PAIRS, PLAIN, ROWS,
     SHARED, WORDS,
 };
-use arrow_meta::{Work, decode_counted, tree_counted};
+use arrow_meta_reader::{Work, decode_counted, tree_counted};
 use arrow_types::Limits;
 use std::process::Abort;
 

@@ -1,6 +1,6 @@
 // What is read of a metadata, and what that came to.
 
-use arrow_meta::{Header, Work, decode, decode_counted};
+use arrow_meta_reader::{Header, Work, decode, decode_counted};
 use arrow_types::{Limits, Schema};
 use std::alloc::Global;
 use std::process::Abort;

@@ -3,8 +3,8 @@
 use super::reading::{MEMORY, edited, told};
 use super::written::bytes_of;
 use crate::vectors::{AT_BOTH, AT_COLUMN, AT_SCHEMA, LEVELS, PLAIN, ROWS, WORDS};
-use arrow_meta::{Message, MetaFault, decode};
-use arrow_meta_write::encoded_size;
+use arrow_meta_reader::{Message, MetaFault, decode};
+use arrow_meta_writer::encoded_size;
 use arrow_types::Limits;
 use std::alloc::Global;
 use std::process::Abort;

@@ -4,8 +4,8 @@ use crate::foreign;
 use crate::vectors::{
     ABSENT, AT_BOTH, AT_COLUMN, AT_MESSAGE, AT_SCHEMA, FILLED, LEVELS, NO_PAIRS, PLAIN,
 };
-use arrow_meta::{Header, Message, decode};
-use arrow_meta_write::{encode, encoded_size};
+use arrow_meta_reader::{Header, Message, decode};
+use arrow_meta_writer::{encode, encoded_size};
 use arrow_types::{Limits, Schema};
 use std::alloc::Global;
 use std::process::Abort;

@@ -2,8 +2,8 @@
 // at each place, and byte strings of each length up to that of two chunks and one byte.
 
 use super::columns::{MEMORY, are_records, builder, push, records, schema};
-use arrow_array::Value;
-use arrow_build::ArrayBuilder;
+use arrow_builder::ArrayBuilder;
+use arrow_data::Value;
 use arrow_types::DataType;
 use std::process::Abort;
 

@@ -1,8 +1,8 @@
 // Columns that are built value by value, and their records.
 
-use arrow_array::{Array, Batch, Value};
-use arrow_build::ArrayBuilder;
+use arrow_builder::ArrayBuilder;
 use arrow_csv::rows;
+use arrow_data::{Array, Batch, Value};
 use arrow_types::{DataType, Field, Schema};
 use std::process::Abort;
 use std::rc::Rc;

@@ -1,7 +1,7 @@
 // Records of dictionary-encoded columns, of short dictionaries and of long ones.
 
 use super::columns::{MEMORY, are_records, builder, field, push, records_of, schema, schema_of};
-use arrow_array::{Array, Dictionary, Value};
+use arrow_data::{Array, Dictionary, Value};
 use arrow_types::{BitWidth, DataType, Encoding, Field, IndexType, Schema};
 use std::process::Abort;
 

@@ -3,12 +3,12 @@
 ghost use Rattle.std.specs.Prelude.{◌≡◌, ◌≤◌, ℕ, IsTrue, List, None};
 ghost use Rattle.arrow_types.specs.Field.{none};
 ghost use Rattle.arrow_types.specs.View.{type_view};
-ghost use Rattle.arrow_array.specs.Layout.{IsText, buffer_count};
+ghost use Rattle.arrow_data.specs.Layout.{IsText, buffer_count};
 
 use super::columns::{MEMORY, are_records};
-use arrow_array::layout::is_laid;
-use arrow_array::{Array, Batch, ByteRange};
 use arrow_csv::{BatchRows, header, rows};
+use arrow_data::layout::is_laid;
+use arrow_data::{Array, Batch, ByteRange};
 use arrow_types::{BitWidth, DataType, Field, Schema};
 use bytes::Bytes;
 use std::process::Abort;

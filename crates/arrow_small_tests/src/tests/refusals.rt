@@ -1,6 +1,6 @@
 // The refusals of a writer, and their numbers and words.
 
-use arrow_written::WriteFault;
+use arrow_sink::WriteFault;
 use std::process::Abort;
 
 static REFUSALS: [(WriteFault, &str); 7] = [

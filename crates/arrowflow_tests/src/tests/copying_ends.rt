@@ -5,8 +5,8 @@ use super::edits::{Edit, edited};
 use super::growing::GROWING;
 use super::streams::ONE_BATCH;
 use arrow_sink::probe::Trickle;
+use arrow_stream_writer::Options;
 use arrow_types::Limits;
-use arrow_writer::Options;
 use std::alloc::Global;
 use std::process::Abort;
 

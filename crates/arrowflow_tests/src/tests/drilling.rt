@@ -2,13 +2,13 @@
 
 use super::growing::GROWING;
 use super::streams::{GROUPS, ONE_BATCH, SHARED};
-use arrow_body_write::Align;
+use arrow_body_writer::Align;
 use arrow_dict::Updates;
 use arrow_sink::probe::Trickle;
+use arrow_stream_writer::Options;
 use arrow_types::Limits;
-use arrow_writer::Options;
-use arrowflow::ToolFault;
 use arrowflow_drill::drill;
+use arrowflow_report::ToolFault;
 use std::alloc::Global;
 use std::io::{ErrorKind, Read};
 use std::process::Abort;

@@ -5,8 +5,8 @@ use super::drilling::{NARROW, WIDE, drilled};
 use super::growing::GROWING;
 use super::streams::{EMPTY_BATCHES, ONE_BATCH};
 use arrow_sink::probe::Trickle;
+use arrow_stream_writer::Options;
 use arrow_types::Limits;
-use arrow_writer::Options;
 use std::process::Abort;
 
 /// What is told of one batch.

@@ -8,7 +8,7 @@ use super::told::{Call, assert_told_of, written};
 use arrow_sink::Sink;
 use arrow_sink::probe::{Failing, Narrow, Trickle};
 use arrow_types::Limits;
-use arrowflow::show;
+use arrowflow_report::show;
 use std::alloc::Global;
 use std::io::ErrorKind;
 use std::process::Abort;

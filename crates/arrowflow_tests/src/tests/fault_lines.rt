@@ -1,9 +1,9 @@
 //! The line of a fault of each kind, and of each refusal of a writer, written out.
 
 use super::told::written;
-use arrow_stream::{Fault, Kind};
-use arrow_writer::WriteFault;
-use arrowflow::{ToolFault, What};
+use arrow_stream_reader::{Fault, Kind};
+use arrow_stream_writer::WriteFault;
+use arrowflow_report::{ToolFault, What};
 use std::alloc::Global;
 use std::process::Abort;
 

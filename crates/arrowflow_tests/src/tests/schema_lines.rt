@@ -1,7 +1,7 @@
 //! The text of a schema, with every type; expected texts are written out.
 
 use arrow_types::{BitWidth, DataType, DateUnit, Encoding, Field, IndexType, Schema, TimeUnit};
-use arrowflow::schema_lines_of;
+use arrowflow_report::schema_lines_of;
 use std::alloc::Global;
 use std::process::Abort;
 

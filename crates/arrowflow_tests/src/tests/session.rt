@@ -2,10 +2,10 @@
 
 use super::edits::{Edit, Part, edited, joined};
 use super::growing::GROWING;
-use arrow_array::{Array, Batch, Dictionary};
-use arrow_stream::StreamReader;
+use arrow_data::{Array, Batch, Dictionary};
+use arrow_stream_reader::StreamReader;
 use arrow_types::Limits;
-use arrowflow::session::{Ending, Received, receive};
+use arrowflow_report::session::{Ending, Received, receive};
 use std::alloc::{AllocError, Global};
 use std::process::Abort;
 

@@ -4,7 +4,7 @@
 use arrow_sink::Counted;
 use arrow_sink::probe::Trickle;
 use arrow_types::Limits;
-use arrowflow::{ToolFault, check, schema_text, show};
+use arrowflow_report::{ToolFault, check, schema_text, show};
 use std::alloc::{AllocError, Global};
 use std::io::Read;
 use std::process::Abort;

@@ -1,7 +1,7 @@
 use Rattle.std.proofs.Common.{[], ◌∙◌, subst, arith}
 use Rattle.std.proofs.lemmas.Result.{on_ok_weaker}
-use Rattle.arrow_array.specs.PlainValue.{value_at}
-use Rattle.arrow_array.specs.Shown.{HoldsValue}
+use Rattle.arrow_data.specs.PlainValue.{value_at}
+use Rattle.arrow_data.specs.Shown.{HoldsValue}
 use Rattle.arrow_csv.specs.Texts.{value_text}
 use Rattle.arrow_csv.proofs.Joining.{list_shown}
 use Rattle.arrow_csv.proofs.Written.{field_behind}

@@ -3,10 +3,10 @@ use Rattle.std.proofs.lemmas.List.{take_all}
 use Rattle.std.proofs.lemmas.Result.{on_ok_weaker}
 use Rattle.arrow_types.specs.declared.field.Field.{Field, the_lemmas}
 use Rattle.arrow_types.specs.View.{field_view, fields_view}
-use Rattle.arrow_array.specs.Column.{AreOf, resolved_row_of, values_from}
-use Rattle.arrow_array.specs.PlainValue.{value_at, values_of}
-use Rattle.arrow_array.specs.Shown.{HoldsValue}
-use Rattle.arrow_array.proofs.Sameness.{child_smaller, parts_smaller}
+use Rattle.arrow_data.specs.Column.{AreOf, resolved_row_of, values_from}
+use Rattle.arrow_data.specs.PlainValue.{value_at, values_of}
+use Rattle.arrow_data.specs.Shown.{HoldsValue}
+use Rattle.arrow_data.proofs.Sameness.{child_smaller, parts_smaller}
 use Rattle.arrow_csv.specs.Texts.{item_text, joined, part_texts}
 use Rattle.arrow_csv.proofs.Joining.{as_many, item_at, joined_more, length-parts, list_shown, part_at, separator, separator_first, separator_later}
 use Rattle.arrow_csv.proofs.texts.+text.Goals as goal

@@ -1,7 +1,7 @@
 use Rattle.std.proofs.Common.{◌≡◌, ◌≤◌, ◌-◌, ◌++◌, codes, map, take}
-use Rattle.arrow_array.specs.Column.{values_from, resolved_row_of}
-use Rattle.arrow_array.specs.PlainValue.{values_of}
-use Rattle.arrow_array.specs.Same.{slot_measure, items_measure, parts_measure}
+use Rattle.arrow_data.specs.Column.{values_from, resolved_row_of}
+use Rattle.arrow_data.specs.PlainValue.{values_of}
+use Rattle.arrow_data.specs.Same.{slot_measure, items_measure, parts_measure}
 use Rattle.arrow_types.specs.View.{fields_view}
 use Rattle.arrow_csv.specs.Texts.{item_text, joined, part_texts}
 use Rattle.arrow_csv.proofs.texts.+text.Given as goal

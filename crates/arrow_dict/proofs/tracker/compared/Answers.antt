@@ -1,7 +1,7 @@
 use Rattle.std.proofs.Common.{◌≡◌, ◌<◌, IsTrue, Some, rules, length, sym, ◌∙◌, ap}
 use Rattle.arrow_dict.specs.declared.update.Update.TheVariants as updates
 use Rattle.arrow_dict.specs.Choice.{choice}
-use Rattle.arrow_array.specs.Same.{Begins}
+use Rattle.arrow_data.specs.Same.{Begins}
 use Rattle.arrow_dict.proofs.Choosing.{none_chosen, no_longer, resent_chosen, rest_chosen, whole_chosen}
 use Rattle.arrow_dict.proofs.tracker.compared.Goals as goal
 

@@ -1,11 +1,11 @@
 use Rattle.std.proofs.Common.{◌≡◌, ℕ, List, Ok, Err, refl, sym, ap, ◌∙◌, subst, ◌⊎◌}
 use Rattle.std.proofs.lemmas.List.{take_rest}
-use Rattle.arrow_stream.specs.Front.{Entry}
-use Rattle.arrow_stream.specs.State.{ended}
-use Rattle.arrow_stream.specs.Stream.{GivesNext, Refuses, Stands, TakesOn, WantsMemory}
-use Rattle.arrow_stream.specs.Views.{given}
-use Rattle.arrow_writer.specs.Shown.{options_view}
-use Rattle.arrowflow.proofs.Told.{open_behind, open_by_item}
+use Rattle.arrow_stream_reader.specs.Front.{Entry}
+use Rattle.arrow_stream_reader.specs.State.{ended}
+use Rattle.arrow_stream_reader.specs.Stream.{GivesNext, Refuses, Stands, TakesOn, WantsMemory}
+use Rattle.arrow_stream_reader.specs.Views.{given}
+use Rattle.arrow_stream_writer.specs.Shown.{options_view}
+use Rattle.arrowflow_report.proofs.Told.{open_behind, open_by_item}
 use Rattle.arrowflow_copy.specs.Copying.{PieceCopied, Takes}
 use Rattle.arrowflow_copy.specs.Target.{at_of}
 use Rattle.arrowflow_copy.proofs.Copied.{IsTaking, takes_failures, taking_all, taking_ended, taking_next, taking_nothing, taking_refused, taking_stops}

@@ -1,6 +1,6 @@
 use Rattle.std.proofs.Common.{◌≡◌, length}
-use Rattle.arrow_stream.specs.declared.reader.Verdict.TheVariants.{Open}
-use Rattle.arrow_writer.specs.Shown.{options_view}
+use Rattle.arrow_stream_reader.specs.declared.reader.Verdict.TheVariants.{Open}
+use Rattle.arrow_stream_writer.specs.Shown.{options_view}
 use Rattle.arrowflow_copy.specs.Copying.{failures_at}
 use Rattle.arrowflow_copy.specs.Target.{at_of}
 use Rattle.arrowflow_copy.proofs.Copied.{IsTaking}

@@ -2,12 +2,12 @@ use Rattle.std.proofs.Common.{◌≡◌, ◌<◌, ◌++◌, ℕ, List, [], Optio
 use Rattle.std.specs.Io.KnownBytes.{Consumes}
 use Rattle.std.proofs.KnownBytes.{Consumes-kept, Consumes-nil, Consumes-trans}
 use Rattle.arrow_types.specs.Limits.{LimitNumbers}
-use Rattle.arrow_stream.specs.Stream.{Shows, Stands}
-use Rattle.arrow_written.specs.Sizes as sizes
-use Rattle.arrow_writer.specs.Shown.{options_view}
-use Rattle.arrowflow.specs.Reports.{IsOpenAt}
-use Rattle.arrowflow.proofs.Reading.{less_left, piece_some, read_all, read_last}
-use Rattle.arrowflow.proofs.Reporting.{open_at, standing_of}
+use Rattle.arrow_stream_reader.specs.Stream.{Shows, Stands}
+use Rattle.arrow_stream_laws.specs.Sizes as sizes
+use Rattle.arrow_stream_writer.specs.Shown.{options_view}
+use Rattle.arrowflow_report.specs.Reports.{IsOpenAt}
+use Rattle.arrowflow_report.proofs.Reading.{less_left, piece_some, read_all, read_last}
+use Rattle.arrowflow_report.proofs.Reporting.{open_at, standing_of}
 use Rattle.arrowflow_copy.specs.Copying.{IsCopying, PieceCopied, failures_at, held_at}
 use Rattle.arrowflow_copy.specs.Target.{IsWaiting, at_of}
 use Rattle.arrowflow_copy.specs.declared.copier.Target.{Target}

@@ -1,9 +1,9 @@
 use Rattle.std.proofs.Common.{◌≡◌, ◌-◌, ◌^◌, ◌+◌, ℕ, List}
 use Rattle.std.specs.Io.KnownBytes.{Consumes}
-use Rattle.arrow_stream.specs.declared.reader.Verdict.TheVariants.{Open}
-use Rattle.arrow_stream.specs.Front.{Entry}
-use Rattle.arrow_writer.specs.Shown.{options_view}
-use Rattle.arrowflow.proofs.Reading.{reached}
+use Rattle.arrow_stream_reader.specs.declared.reader.Verdict.TheVariants.{Open}
+use Rattle.arrow_stream_reader.specs.Front.{Entry}
+use Rattle.arrow_stream_writer.specs.Shown.{options_view}
+use Rattle.arrowflow_report.proofs.Reading.{reached}
 use Rattle.arrowflow_copy.specs.Copying.{IsCopying, failures_at, held_at}
 use Rattle.arrowflow_copy.specs.Target.{at_of}
 use Rattle.arrowflow_copy.proofs.copying.copy_pieces.Given as goal

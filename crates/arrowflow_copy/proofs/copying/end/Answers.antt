@@ -1,6 +1,6 @@
 use Rattle.std.proofs.Common.{◌≡◌, rules, Ok, Err, sym, subst}
-use Rattle.arrow_stream.specs.Stream.{ended_so}
-use Rattle.arrowflow.specs.Reads.{BlamesNoInput}
+use Rattle.arrow_stream_reader.specs.Stream.{ended_so}
+use Rattle.arrowflow_report.specs.Reads.{BlamesNoInput}
 use Rattle.arrowflow_copy.specs.Copy.{Copies}
 use Rattle.arrowflow_copy.specs.Copying.{failures_at, held_at}
 use Rattle.arrowflow_copy.specs.Target.{at_of}

@@ -1,10 +1,10 @@
 use Rattle.std.proofs.Common.{ℕ, List, Err, sym, ap, subst, ◌⊎◌}
 use Rattle.std.proofs.lemmas.List.{take_rest}
-use Rattle.arrow_stream.specs.Front.{Entry}
-use Rattle.arrow_stream.specs.Stream.{GivesNext, Refuses, Stands, TakesOn, WantsMemory}
-use Rattle.arrow_stream.specs.Views.{given}
-use Rattle.arrowflow.proofs.Feeding.{IsFeeding}
-use Rattle.arrowflow.proofs.Told.{open_behind}
+use Rattle.arrow_stream_reader.specs.Front.{Entry}
+use Rattle.arrow_stream_reader.specs.Stream.{GivesNext, Refuses, Stands, TakesOn, WantsMemory}
+use Rattle.arrow_stream_reader.specs.Views.{given}
+use Rattle.arrowflow_report.proofs.Feeding.{IsFeeding}
+use Rattle.arrowflow_report.proofs.Told.{open_behind}
 use Rattle.arrowflow_drill.specs.Reading.{KeepsPiece}
 use Rattle.arrowflow_drill.proofs.Kept.{feeding_next, piece_ended, piece_refused, piece_taken}
 use Rattle.arrowflow_drill.proofs.reading.keep_piece.Goals as goal

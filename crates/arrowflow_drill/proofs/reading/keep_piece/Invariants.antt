@@ -1,6 +1,6 @@
 use Rattle.std.proofs.Common.{◌≡◌, length}
-use Rattle.arrow_stream.specs.declared.reader.Verdict.TheVariants.{Open}
-use Rattle.arrowflow.proofs.Feeding.{IsFeeding}
+use Rattle.arrow_stream_reader.specs.declared.reader.Verdict.TheVariants.{Open}
+use Rattle.arrowflow_report.proofs.Feeding.{IsFeeding}
 use Rattle.arrowflow_drill.proofs.reading.keep_piece.Given as goal
 
 -- the reader was given all of the piece but the rest, and a stream that was open goes on

@@ -1,5 +1,5 @@
 use Rattle.std.proofs.Common.{◌≡◌, drop, map, take}
-use Rattle.arrow_session.specs.Asked.{asked_of}
+use Rattle.arrowflow_session.specs.Asked.{asked_of}
 use Rattle.arrowflow_drill.specs.Reading.{AreRead}
 use Rattle.arrowflow_drill.specs.Terms.{asks_of}
 use Rattle.arrowflow_drill.proofs.reading.read_all.Given as goal

@@ -1,8 +1,8 @@
 use Rattle.std.proofs.Common.{◌++◌, take, Ok, refl, ap, ◌∙◌, arith}
 use Rattle.std.proofs.KnownBytes.{Consumes-trans}
-use Rattle.arrowflow.specs.Reports.{IsOpenAt}
-use Rattle.arrowflow.proofs.Reading.{less_left, piece_some, read_last}
-use Rattle.arrowflow.proofs.Reporting.{open_at}
+use Rattle.arrowflow_report.specs.Reports.{IsOpenAt}
+use Rattle.arrowflow_report.proofs.Reading.{less_left, piece_some, read_last}
+use Rattle.arrowflow_report.proofs.Reporting.{open_at}
 use Rattle.arrowflow_drill.proofs.Streams.{decided_by_marker, decided_by_piece}
 use Rattle.arrowflow_drill.proofs.reading.read_pieces.Goals as goal
 

@@ -1,8 +1,8 @@
 use Rattle.std.proofs.Common.{◌≡◌, ◌-◌, ◌^◌, ◌+◌, ℕ, List}
 use Rattle.std.specs.Io.KnownBytes.{Consumes}
-use Rattle.arrow_stream.specs.declared.reader.Verdict.TheVariants.{Open}
-use Rattle.arrowflow.specs.Pieces.{HandsOut}
-use Rattle.arrowflow.proofs.Reading.{reached}
+use Rattle.arrow_stream_reader.specs.declared.reader.Verdict.TheVariants.{Open}
+use Rattle.arrowflow_report.specs.Pieces.{HandsOut}
+use Rattle.arrowflow_report.proofs.Reading.{reached}
 use Rattle.arrowflow_drill.proofs.reading.read_pieces.Given as goal
 
 -- the batches of all that was read so far were kept, and the stream goes on

@@ -1,6 +1,6 @@
 use Rattle.std.proofs.Common.{◌≡◌, ◌+◌, ◌++◌, ◌∷◌, [], length, sym, ap, ◌∙◌, subst, arith}
 use Rattle.csv.specs.Writing.{default_writer, field_text}
-use Rattle.arrow_array.specs.PlainValue.{value_at}
+use Rattle.arrow_data.specs.PlainValue.{value_at}
 use Rattle.arrow_csv.specs.Made.{AreFirst}
 use Rattle.arrow_csv.specs.Texts.{value_text}
 use Rattle.arrow_csv.proofs.Making.{entry_field, first_more}

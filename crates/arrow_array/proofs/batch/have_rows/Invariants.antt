@@ -1,7 +1,0 @@
-use Rattle.std.proofs.Common.{◌↔◌, drop}
-use Rattle.arrow_array.specs.Batch.{HaveRows}
-use Rattle.arrow_array.proofs.batch.have_rows.Given as goal
-
--- all columns have the rows exactly where those that are left do
-abbrev pub invariant-loop-column : goal.invariant-loop-column
-invariant-loop-column l = HaveRows l.rows (drop l.column-index l.columns) ↔ HaveRows l.rows l.columns

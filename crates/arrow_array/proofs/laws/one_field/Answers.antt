@@ -1,5 +1,0 @@
-use Rattle.arrow_array.proofs.OnlyChild.{one_field_of}
-use Rattle.arrow_array.proofs.laws.one_field.Goals as goal
-
-pub returns : goal.returns
-returns c = record { single = one_field_of }

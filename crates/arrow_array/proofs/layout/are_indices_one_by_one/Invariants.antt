@@ -1,6 +1,0 @@
-use Rattle.arrow_array.specs.Slots.{AreIndices}
-use Rattle.arrow_array.proofs.layout.are_indices_one_by_one.Given as goal
-
--- the indices so far have their values
-abbrev pub invariant-loop-j : goal.invariant-loop-j
-invariant-loop-j l = AreIndices l.j l.width l.signed l.validity l.indices l.count

@@ -1,6 +1,0 @@
-use Rattle.arrow_array.specs.Slots.{AreTexts}
-use Rattle.arrow_array.proofs.texts.are_parts.Given as goal
-
--- the texts so far are UTF-8
-abbrev pub invariant-loop-j : goal.invariant-loop-j
-invariant-loop-j l = AreTexts l.width l.j l.validity l.offsets l.bytes

@@ -1,0 +1,79 @@
+-- Where what the slots of a sound body name lies: inside the buffers and the children of their node, and those buffers
+-- inside the body (Columnar Format, "Physical Memory Layout"). It is said slot by slot, of the places that are read.
+use Rattle.std.specs.Prelude.{◌≡◌, ◌≤◌, ◌<◌, ◌+◌, ◌*◌, ◌/◌, ℕ, ℤ, pos, List, length, drop, take, ⊤}
+use Rattle.std.specs.List.{AllByRecursion}
+use Rattle.arrow_types.specs.Field.{Head, Fields}
+use Rattle.arrow_types.specs.declared.node.FieldNode.{FieldNode}
+use Rattle.arrow_types.specs.declared.node.Buffer.{Buffer}
+use Rattle.arrow_data.specs.Column.{AreOf, ValueList, counts_of}
+use Rattle.arrow_data.specs.Form.{node_form, number_width, offset_bytes}
+use Rattle.arrow_data.specs.Layout.{buffer, child_count}
+use Rattle.arrow_data.specs.Listed.{ResolvesBy}
+use Rattle.arrow_data.specs.Node.{AreBytes}
+use Rattle.arrow_data.specs.Slots.{place_of}
+use Rattle.arrow_data.specs.declared.form.Form.{Form}
+use Rattle.arrow_data.specs.declared.form.Form.TheVariants as forms
+use Rattle.arrow_data.specs.declared.form.OffsetWidth.{OffsetWidth}
+use Rattle.arrow_body_reader.specs.Held.{IsHeld}
+use Rattle.arrow_body_reader.specs.Sound.{IsSound, columns_of, lengths_of, node_at, own_bytes, slots_at}
+use Rattle.arrow_body_reader.specs.Taken.{AllNodes, below, own_buffers}
+
+-- bit j is there, in byte j / 8 (Columnar Format, "Validity bitmaps")
+abbrev pub HasBit : ℕ → List ℕ → Type 0
+HasBit j bits = j / 8 < length bits
+
+-- so is that of a bitmap, which may be left out where no slot is null (Columnar Format, "Validity bitmaps")
+abbrev pub HasValidity : ℕ → List ℕ → Type 0
+HasValidity j validity = 0 < length validity → HasBit j validity
+
+-- the `width` bytes of slot j are there (Columnar Format, "Fixed-size Primitive Layout")
+abbrev pub HasWidth : ℕ → ℕ → List ℕ → Type 0
+HasWidth width j values = width * j + width ≤ length values
+
+-- Offsets j and j + 1 are there, and what stands between them lies within `top` (Columnar Format, "Variable-size Binary
+-- Layout" and "Variable-size List Layout").
+pub record HasRange (width : OffsetWidth) (j top : ℕ) (offsets : List ℕ) : Type 0 where
+  pub there : HasWidth (offset_bytes width) (j + 1) offsets
+  pub order : place_of width offsets j ≤ place_of width offsets (j + 1)
+  pub within : place_of width offsets (j + 1) ≤ top
+
+-- What slot j of a node of the form names is there: its bits and bytes in the buffers, a list's items and a struct's
+-- values among the slots of the children (Columnar Format, "Buffer Listing for Each Layout").
+abbrev pub IsSlotInside : Form → ℕ → List (List ℕ) → List ℕ → Type 0
+IsSlotInside forms.Nulls j b counts = ⊤
+IsSlotInside forms.Bits j b counts = HasValidity j (buffer b 0) × HasBit j (buffer b 1)
+IsSlotInside (forms.Numbers bits signed) j b counts = HasValidity j (buffer b 0) × HasWidth (number_width bits) j (buffer b 1)
+IsSlotInside (forms.Bytes width) j b counts = HasValidity j (buffer b 0) × HasRange width j (length (buffer b 2)) (buffer b 1)
+IsSlotInside (forms.Texts width) j b counts = HasValidity j (buffer b 0) × HasRange width j (length (buffer b 2)) (buffer b 1)
+IsSlotInside (forms.FixedBytes width) j b counts = HasValidity j (buffer b 0) × HasWidth width j (buffer b 1)
+IsSlotInside (forms.Lists width) j b counts = HasValidity j (buffer b 0) × HasRange width j (child_count counts) (buffer b 1)
+IsSlotInside forms.Structs j b counts = HasValidity j (buffer b 0) × AllByRecursion (λ count. j < count) counts
+
+-- The field has a node of its own, which tells how many slots there are, and all of its buffers. They lie inside the body,
+-- and each slot inside of them (Columnar Format, "RecordBatch message").
+pub record IsNodeInside (body : List ℕ) (head : Head) (children : Fields) (nodes : List FieldNode) (buffers : List Buffer) : Type 0 where
+  pub node : 0 < length nodes
+  pub told : (node_at nodes).length ≡ pos (slots_at nodes)
+  pub there : own_buffers head ≤ length buffers
+  pub held : AllByRecursion (IsHeld body) (take (own_buffers head) buffers)
+  pub slots : (j : ℕ) → j < slots_at nodes
+      → IsSlotInside (node_form head.tag head.encoding) j (own_bytes body head buffers) (lengths_of (below head.encoding children) (drop 1 nodes))
+
+-- so do all nodes and buffers that the fields take
+abbrev pub AreInside : List ℕ → Fields → List FieldNode → List Buffer → Type 0
+AreInside body fields nodes buffers = AllNodes (IsNodeInside body) fields nodes buffers
+
+-- The one reading of a body: a column for each field, of its type and encoding, with a raw value for each slot that its
+-- node tells; all that is read on any level lies inside the body; and each raw value stands for something.
+pub record IsReading (body : List ℕ) (ds : List (ℤ × ValueList)) (fields : Fields) (nodes : List FieldNode) (buffers : List Buffer) : Type 0 where
+  pub columns : AreOf fields (columns_of body ds fields nodes buffers)
+  pub long : counts_of (columns_of body ds fields nodes buffers) ≡ lengths_of fields nodes
+  pub inside : AreBytes body → AreInside body fields nodes buffers
+  pub resolves : AllByRecursion (ResolvesBy ds) (columns_of body ds fields nodes buffers)
+
+-- The law `one_reading`: what is sound has one reading. That there is no other list of columns is plain, since `columns_of`
+-- is a function.
+abbrev pub OneReading : Type 0
+OneReading =
+    (body : List ℕ) (ds : List (ℤ × ValueList)) (fields : Fields) (nodes : List FieldNode) (buffers : List Buffer) → IsSound body ds fields nodes buffers
+    → IsReading body ds fields nodes buffers

@@ -1,0 +1,205 @@
+//! From nodes, buffers and a body to columns.
+
+ghost use Rattle.std.specs.Prelude.{◌≡◌, IfSome, MatchResult, []};
+ghost use Rattle.arrow_types.specs.View.{fields_view};
+ghost use Rattle.arrow_body_reader.specs.Sound.{AreFit, Explains, IsExplained, IsSound, columns_of};
+ghost use Rattle.arrow_body_reader.specs.Sound.{number_of};
+ghost use Rattle.arrow_body_reader.specs.Types.{HaveTypes};
+ghost use Rattle.arrow_data.specs.Shared.{node_types};
+
+use crate::build::Builder;
+use crate::listed::Listed;
+use crate::look::look;
+use crate::source::Source;
+use crate::taken::Left;
+use arrow_data::{Array, Dictionary, SharedType, shared_types};
+use arrow_types::{Buffer, Field, FieldNode};
+use bytes::Bytes;
+use std::alloc::Global;
+use std::error::Error;
+use std::fmt;
+
+/// Why nodes, buffers and a body are no columns of the fields, in the order of the faults' numbers.
+#[derive(Clone, Copy, Debug, PartialEq, Eq)]
+pub enum BodyFault {
+    /// Nodes or buffers are missing, lie outside of the body, are too short for their slots, or
+    /// contradict one another.
+    Layout,
+    /// A valid slot of a column of texts is not UTF-8.
+    Text,
+    /// A valid slot of a dictionary-encoded column has an index without a value.
+    Index,
+    /// A growth was refused. None of the other faults applies.
+    Memory,
+}
+
+impl BodyFault {
+    /// The fault's number, from 1.
+    pub fn number(self) -> u8
+        ensures { result ≡ number_of self }
+    {
+        match self {
+            BodyFault::Layout => 1,
+            BodyFault::Text => 2,
+            BodyFault::Index => 3,
+            BodyFault::Memory => 4,
+        }
+    }
+}
+
+impl fmt::Display for BodyFault {
+    ghost use Rattle.std.specs.Prelude.{Some};
+    ghost use Rattle.arrow_body_reader.specs.Sound.{words_of};
+
+    ghost output = { λ f. Some (words_of f) };
+
+    fn fmt<W: fmt::Write>(&self, f: &mut fmt::Formatter<W>) -> fmt::Result {
+        match self {
+            BodyFault::Layout => f.write_str("nodes and buffers that do not fit the body"),
+            BodyFault::Text => f.write_str("a text that is not UTF-8"),
+            BodyFault::Index => f.write_str("an index without a value"),
+            BodyFault::Memory => f.write_str("out of memory"),
+        }
+    }
+}
+
+impl Error for BodyFault {}
+
+/// The fault with the least number of those that apply to any of the columns of the fields, `Ok`
+/// where none does.
+///
+/// Nodes and buffers stand in pre-order, depth first; those behind the last that is taken are not
+/// looked at. Each node is looked at once, and no memory is taken: only the texts, offsets and
+/// indices are looked at slot by slot, so that a length alone costs nothing. `Memory` is not
+/// answered.
+///
+/// A dictionary-encoded column refers to the first dictionary that is listed for its id, or to the
+/// empty one where none is; that a listed dictionary has the type of the field's values is known by
+/// the caller. They may be listed in any order; where their ids rise, each is found by halves.
+pub fn check(
+    fields: &[Field],
+    nodes: &[FieldNode],
+    buffers: &[Buffer],
+    body: &[u8],
+    dictionaries: &[(i64, Dictionary)],
+) -> Result<(), BodyFault>
+    ensures { MatchResult result
+        (λ _. IsSound body.now dictionaries.now (fields_view fields.now) nodes.now buffers.now)
+        (λ fault. IsExplained fault body.now dictionaries.now
+        (fields_view fields.now) nodes.now buffers.now) }
+{
+    let left = Left {
+        nodes,
+        buffers,
+        types: &[],
+    };
+    let source = Source {
+        body,
+        dictionaries: Listed::new(dictionaries),
+    };
+    walk(fields, left, source, None)?;
+    Ok(())
+}
+
+/// The columns of the fields, or the fault with the least number of those that apply to any of
+/// them: what `check` tells, or `Memory` where it tells none and a growth was refused.
+///
+/// The columns share the body: nothing of it is copied, and how often memory is asked for doesn't
+/// depend on how many slots there are.
+pub fn load(
+    alloc: Global,
+    fields: &[Field],
+    nodes: &[FieldNode],
+    buffers: &[Buffer],
+    body: &Bytes,
+    dictionaries: &[(i64, Dictionary)],
+) -> Result<Vec<Array>, BodyFault>
+    requires { AreFit dictionaries.now (fields_view fields.now) }
+    ensures { MatchResult result
+        (λ arrays. IsSound body.now dictionaries.now (fields_view fields.now) nodes.now buffers.now
+        × (arrays.items ≡ columns_of body.now dictionaries.now
+        (fields_view fields.now) nodes.now buffers.now))
+        (λ fault. Explains fault body.now dictionaries.now
+        (fields_view fields.now) nodes.now buffers.now) }
+{
+    match shared_types(alloc, fields) {
+        Ok(types) => load_typed(alloc, fields, &types, nodes, buffers, body, dictionaries),
+        Err(_) => {
+            check(fields, nodes, buffers, body.as_slice(), dictionaries)?;
+            Err(BodyFault::Memory)
+        }
+    }
+}
+
+/// As `load`, with the types of the nodes, which `shared_types` makes once for all batches of the
+/// fields: the columns share them.
+///
+/// The nodes are walked over once: each is looked at, and its array is made of the ranges that the
+/// look found. Once a growth is refused, or a text or an index is not as it should be, the walk goes
+/// on without making arrays, since a fault of a lower number may come behind.
+pub fn load_typed(
+    alloc: Global,
+    fields: &[Field],
+    types: &[SharedType],
+    nodes: &[FieldNode],
+    buffers: &[Buffer],
+    body: &Bytes,
+    dictionaries: &[(i64, Dictionary)],
+) -> Result<Vec<Array>, BodyFault>
+    requires typed { types.now ≡ node_types (fields_view fields.now) }
+    requires fit { AreFit dictionaries.now (fields_view fields.now) }
+    ensures { MatchResult result
+        (λ arrays. IsSound body.now dictionaries.now (fields_view fields.now) nodes.now buffers.now
+        × (arrays.items ≡ columns_of body.now dictionaries.now
+        (fields_view fields.now) nodes.now buffers.now))
+        (λ fault. Explains fault body.now dictionaries.now
+        (fields_view fields.now) nodes.now buffers.now) }
+{
+    let left = Left {
+        nodes,
+        buffers,
+        types,
+    };
+    let source = Source {
+        body: body.as_slice(),
+        dictionaries: Listed::new(dictionaries),
+    };
+    let builder = Builder::new(alloc, body, fields.len());
+    match walk(fields, left, source, builder)? {
+        Some(builder) => Ok(builder.arrays),
+        None => Err(BodyFault::Memory),
+    }
+}
+
+// One walk over all nodes: the builder with the arrays of the fields, None where none was given or
+// a growth was refused; or the fault with the least number of those that apply.
+fn walk<'a>(
+    fields: &[Field],
+    left: Left<'a>,
+    source: Source<'_>,
+    builder: Option<Builder<'a>>,
+) -> Result<Option<Builder<'a>>, BodyFault>
+    requires building { IfSome builder (λ b. (b.body.now ≡ source.body.now)
+        × (b.arrays.items ≡ [])
+        × HaveTypes (fields_view fields.now) left.types.now
+        × AreFit source.dictionaries.entries.now (fields_view fields.now)) }
+    ensures { MatchResult result
+        (λ built. IsSound source.entry.body.now source.entry.dictionaries.entries.now
+        (fields_view fields.now) left.entry.nodes.now left.entry.buffers.now
+        × IfSome built (λ b. b.arrays.items
+        ≡ columns_of source.entry.body.now source.entry.dictionaries.entries.now
+        (fields_view fields.now) left.entry.nodes.now left.entry.buffers.now))
+        (λ fault. IsExplained fault source.entry.body.now source.entry.dictionaries.entries.now
+        (fields_view fields.now) left.entry.nodes.now left.entry.buffers.now) }
+{
+    let Some(found) = look(fields, left, source, builder) else {
+        return Err(BodyFault::Layout);
+    };
+    if !found.seen.texts {
+        return Err(BodyFault::Text);
+    }
+    if !found.seen.indices {
+        return Err(BodyFault::Index);
+    }
+    Ok(found.builder)
+}

@@ -1,0 +1,59 @@
+//! Which nodes fields take, and how many slots their own nodes have.
+
+ghost use Rattle.std.specs.Prelude.{◌≡◌, ◌↔◌, IsTrue, drop, take};
+ghost use Rattle.std.specs.List.{AllByRecursion};
+ghost use Rattle.arrow_types.specs.View.{fields_view};
+ghost use Rattle.arrow_body_reader.specs.Sound.{lengths_of};
+ghost use Rattle.arrow_body_reader.specs.Taken.{taken_nodes};
+
+use crate::laid::slots;
+use crate::taken::below;
+use arrow_types::{Field, FieldNode};
+
+/// The nodes that the fields take, one for each field on each level, as far as they are there
+/// (Columnar Format, "RecordBatch message": nodes stand in pre-order). A dictionary-encoded field
+/// takes one node, and none for what stands below it. Takes no memory.
+pub fn nodes_of<'a>(fields: &[Field], nodes: &'a [FieldNode]) -> &'a [FieldNode]
+    ensures { result.now ≡ take (taken_nodes (fields_view fields.now)) nodes.now }
+{
+    &nodes[..nodes.len() - behind(fields, nodes).len()]
+}
+
+/// Whether the own node of each of these fields has `rows` slots, as the fields of a record batch
+/// have. Nodes of fields below are not looked at. A node that is missing, or whose length is
+/// negative, has 0 slots. Takes no memory.
+pub fn have_length(fields: &[Field], nodes: &[FieldNode], rows: usize) -> bool
+    ensures { IsTrue result
+        ↔ AllByRecursion (λ n. n ≡ rows) (lengths_of (fields_view fields.now) nodes.now) }
+{
+    let mut rest = nodes;
+    for field in fields {
+        if slots(rest) != rows {
+            return false;
+        }
+        rest = behind(below(field), without_first(rest));
+    }
+    true
+}
+
+// The nodes behind those that the fields take, none where there are no more.
+#[cycle(behind)]
+fn behind<'a>(fields: &[Field], nodes: &'a [FieldNode]) -> &'a [FieldNode]
+    ensures { result.now ≡ drop (taken_nodes (fields_view fields.now)) nodes.now }
+{
+    let mut rest = nodes;
+    for field in fields {
+        rest = behind(below(field), without_first(rest));
+    }
+    rest
+}
+
+// The nodes behind the first.
+fn without_first(nodes: &[FieldNode]) -> &[FieldNode]
+    ensures { result.now ≡ drop 1 nodes.now }
+{
+    match nodes.split_first() {
+        Some((_, rest)) => rest,
+        None => nodes,
+    }
+}

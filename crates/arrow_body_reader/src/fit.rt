@@ -1,0 +1,54 @@
+//! Whether dictionaries have the types of the fields that refer to them.
+
+ghost use Rattle.std.specs.Prelude.{◌↔◌, IsTrue};
+ghost use Rattle.arrow_types.specs.View.{field_view, fields_view};
+ghost use Rattle.arrow_data.specs.Listed.{IsNodeFit};
+ghost use Rattle.arrow_body_reader.specs.Sound.{AreFit};
+
+use crate::listed::Listed;
+use crate::taken::below;
+use arrow_data::Dictionary;
+use arrow_types::Field;
+
+/// Whether the dictionary that is listed first for the id of a field has the type of its values,
+/// for each dictionary-encoded field on every level, and no field below such a one is
+/// dictionary-encoded: what `load` asks for. Takes no memory.
+pub fn are_fit(fields: &[Field], dictionaries: &[(i64, Dictionary)]) -> bool
+    ensures { IsTrue result ↔ AreFit dictionaries.now (fields_view fields.now) }
+{
+    all_fit(fields, Listed::new(dictionaries))
+}
+
+// The same, where it is known whether the ids rise.
+#[cycle(fit)]
+fn all_fit(fields: &[Field], dictionaries: Listed<'_>) -> bool
+    ensures { IsTrue result ↔ AreFit dictionaries.entry.entries.now (fields_view fields.now) }
+{
+    for field in fields {
+        if !is_node_fit(field, dictionaries) {
+            return false;
+        }
+        if !all_fit(below(field), dictionaries) {
+            return false;
+        }
+    }
+    true
+}
+
+// The same of the field alone.
+fn is_node_fit(field: &Field, dictionaries: Listed<'_>) -> bool
+    ensures { IsTrue result
+        ↔ IsNodeFit dictionaries.entry.entries.now (field_view field.now).head
+        (field_view field.now).children }
+{
+    let Some(encoding) = field.dictionary else {
+        return true;
+    };
+    if field.data_type.has_encoding_below() {
+        return false;
+    }
+    match dictionaries.find(encoding.id) {
+        Some(dictionary) => dictionary.data_type().same(&field.data_type),
+        None => true,
+    }
+}

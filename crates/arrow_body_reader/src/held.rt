@@ -1,0 +1,69 @@
+//! Buffers in a body.
+
+ghost use Rattle.std.specs.Prelude.{◌≡◌, ◌≤◌, ◌<◌, MatchOption, length, map, take};
+ghost use Rattle.std.specs.List.{AllByRecursion};
+ghost use Rattle.arrow_data.specs.Layout.{buffer};
+ghost use Rattle.arrow_data.specs.Node.{bytes_of, IsInside};
+ghost use Rattle.arrow_body_reader.specs.Held.{AreRangesOf, IsHeld, bytes_in};
+
+use arrow_data::ByteRange;
+use arrow_types::Buffer;
+
+// Where a buffer lies, None where that is not inside the body.
+#[inline(always)]
+pub(crate) fn held(body: &[u8], buffer: Buffer) -> Option<ByteRange>
+    ensures { MatchOption result (IsHeld body.now buffer → ⊥)
+        (λ r. IsHeld body.now buffer × IsInside body.now r
+        × (bytes_of body.now r ≡ bytes_in body.now buffer)) }
+{
+    if buffer.length == 0 {
+        return Some(ByteRange::EMPTY);
+    }
+    if buffer.length < 0 || buffer.offset < 0 {
+        return None;
+    }
+    let start = buffer.offset as usize;
+    let end = start.checked_add(buffer.length as usize)?;
+    if end > body.len() {
+        return None;
+    }
+    Some(ByteRange { start, end })
+}
+
+// Where the first `own` buffers lie, at most three, None where one does not lie inside the body.
+#[inline(always)]
+pub(crate) fn own_ranges(body: &[u8], buffers: &[Buffer], own: usize) -> Option<[ByteRange; 3]>
+    requires most { own ≤ 3 }
+    requires there { own ≤ length buffers.now }
+    ensures { MatchOption result (AllByRecursion (IsHeld body.now) (take own buffers.now) → ⊥)
+        (λ r. AreRangesOf body.now (take own buffers.now) (take own r)) }
+{
+    match own {
+        0 => Some([ByteRange::EMPTY, ByteRange::EMPTY, ByteRange::EMPTY]),
+        1 => {
+            let first = held(body, buffers[0])?;
+            Some([first, ByteRange::EMPTY, ByteRange::EMPTY])
+        }
+        2 => {
+            let first = held(body, buffers[0])?;
+            let second = held(body, buffers[1])?;
+            Some([first, second, ByteRange::EMPTY])
+        }
+        // three, the number that is left
+        _ => {
+            let first = held(body, buffers[0])?;
+            let second = held(body, buffers[1])?;
+            Some([first, second, held(body, buffers[2])?])
+        }
+    }
+}
+
+// The bytes of range `k`.
+#[inline(always)]
+pub(crate) fn bytes_at<'a>(body: &'a [u8], ranges: &[ByteRange], k: usize) -> &'a [u8]
+    requires there { k < length ranges.now }
+    requires inside { AllByRecursion (IsInside body.now) ranges.now }
+    ensures { result.now ≡ buffer (map (bytes_of body.now) ranges.now) k }
+{
+    &body[ranges[k].start..ranges[k].end]
+}

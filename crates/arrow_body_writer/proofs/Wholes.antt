@@ -1,0 +1,227 @@
+-- Children that are sent whole, and what is stored of them.
+use Rattle.std.proofs.Common.{◌≡◌, ◌<◌, ℕ, zero, suc, ◌+◌, List, [], ◌∷◌, ◌++◌, length, get_or, map, refl, sym, ap, ◌∙◌, subst, arith, append-nil, Option, None, Some}
+use Rattle.std.specs.Prelude.{slice_get}
+use Rattle.std.specs.List.{AllByRecursion, flat_map, range_with_len, sum_by}
+use Rattle.std.proofs.lemmas.List.Sums.{sum_by-append}
+use Rattle.arrow_types.specs.DataType.{Tag}
+use Rattle.arrow_types.specs.Field.{Fields, none, more, width, TypeShape}
+use Rattle.arrow_types.specs.declared.field.Encoding.{Encoding}
+use Rattle.arrow_data.specs.Column.{AreOf, Column, HasChild, HasFields, IsList, column_size, values_from}
+use Rattle.arrow_data.specs.Form.{IsLists, node_form}
+use Rattle.arrow_data.specs.FullSlots.{AreFull}
+use Rattle.arrow_data.specs.PlainValue.{PlainValue, field_value}
+use Rattle.arrow_data.specs.declared.form.Form.{Form}
+use Rattle.arrow_data.specs.declared.form.Form.TheVariants as forms
+use Rattle.arrow_data.proofs.Sameness.{parts_smaller}
+use Rattle.arrow_body_reader.specs.Taken.{IfFlattened, flattened, taken_nodes}
+use Rattle.arrow_body_laws.specs.Laws.{raws_of}
+use Rattle.arrow_body_laws.specs.Raws.{AreRaws, AreSmall, IsOwn, IsSmall, items_in_value, raws_below}
+use Rattle.arrow_body_laws.specs.Size.{own_sizes}
+use Rattle.arrow_body_laws.specs.Stored.{fields_of_columns, own_chunks, own_node, rounded, stored_chunks, stored_nodes}
+use Rattle.arrow_body_writer.proofs.Chunks.{Leads, stores_more}
+use Rattle.arrow_body_writer.proofs.Levels.{by_level, chunks_by_level, nodes_by_level, sizes_by_level}
+use Rattle.arrow_body_writer.proofs.Passing.{as_many, child_below}
+use Rattle.arrow_body_writer.proofs.Ranges.{all_from}
+use Rattle.arrow_body_writer.proofs.RunPasses.{fields_are}
+use Rattle.arrow_body_writer.proofs.Sending.{lists_of}
+use Rattle.arrow_body_writer.specs.Runs.{HasRun}
+use Rattle.arrow_body_writer.specs.Sent.{nodes_of_column}
+use Rattle.arrow_body_writer.specs.Storable.{AreTold, columns_size}
+use Rattle.arrow_body_writer.specs.Storing.{Stores}
+use Rattle.arrow_body_writer.specs.Whole.{AreSentWhole}
+use Rattle.arrow_body_writer.specs.declared.body.Body.{Body}
+
+-- a column of indices has no children of its own
+plain_struct : (tag : Tag) (e : Option Encoding) → node_form tag e ≡ forms.Structs → e ≡ None
+plain_struct tag None is = refl
+plain_struct tag (Some e) is = cc
+
+plain_list : (tag : Tag) (e : Option Encoding) → IsLists (node_form tag e) → e ≡ None
+plain_list tag None is = refl
+plain_list tag (Some e) is = absurd is
+
+-- the column at a place is as long as all are
+long_at : (n : ℕ) (cs : List Column) (k : ℕ) (c : Column) → AllByRecursion (λ (d : Column). length d.raw ≡ n) cs → slice_get cs k ≡ Some c → length c.raw ≡ n
+long_at n [] k c long is = cc
+long_at n (d ∷ cs) zero c long is = let same : d ≡ c = cc in subst (λ (x : Column). length x.raw ≡ n) same long.0
+long_at n (d ∷ cs) (suc k) c long is = long_at n cs k c long.1 is
+
+-- what is so of each column by its place is so of all
+raws_by_place : (f : ℕ → List PlainValue) (cs : List Column) (a w : ℕ) → w ≡ length cs → ((k : ℕ) (c : Column) → slice_get cs k ≡ Some c → f (a + k) ≡ c.raw) → map f (range_with_len a w) ≡ raws_of cs
+raws_by_place f [] a zero many each = refl
+raws_by_place f [] a (suc w) many each = absurd (omega (arith, many))
+raws_by_place f (c ∷ cs) a zero many each = absurd (omega (arith, many))
+raws_by_place f (c ∷ cs) a (suc w) many each =
+    let start : a ≡ a + 0 = omega arith in
+    let first = ap f start ∙ each 0 c refl in
+    let others = raws_by_place f cs (a + 1) w (omega (arith, many)) (λ k d is. let next : a + 1 + k ≡ a + suc k = omega arith in ap f next ∙ each (suc k) d is) in
+    λ i. first i ∷ others i
+
+-- structs of which none is null send their children whole where these have no more slots
+pub fields_whole : (c : Column) (children : List Column) (slots : ℕ) → HasFields c children → AreFull c 0 (length c.raw) → slots ≡ length c.raw → AllByRecursion (λ (d : Column). length d.raw ≡ slots) children → AreSentWhole c children
+fields_whole c children slots fields full all long =
+    let values : (k : ℕ) (d : Column) → slice_get children k ≡ Some d → map (field_value (0 + k)) c.raw ≡ d.raw = λ k d is.
+    let place : 0 + k ≡ k = omega arith in
+    let own : length c.raw ≡ length d.raw = sym all ∙ sym (long_at slots children k d long is) in
+    ap (λ n. map (field_value n) c.raw) place ∙ ap (map (field_value k)) (sym (all_from c.raw (length c.raw) refl))
+    ∙ fields_are c d 0 (length c.raw) k (fields.each k d is) (omega arith) (omega arith) full ∙ all_from d.raw (length c.raw) own in
+    record {
+      plain = plain_struct c.data_type.tag c.encoding fields.is_struct;
+      typed = fields.typed;
+      same = ap (λ f. raws_below f c.data_type.children c.raw) fields.is_struct
+          ∙ raws_by_place (λ k. map (field_value k) c.raw) children 0 (width c.data_type.children) (as_many c.data_type.children children fields.typed) values;
+    }
+
+-- lists send the child whole where their items are all its slots
+items_whole : (c child : Column) → IsList c → AreOf c.data_type.children (child ∷ []) → flat_map items_in_value (values_from c.raw 0 (length c.raw)) ≡ child.raw → AreSentWhole c (child ∷ [])
+items_whole c child lists typed items =
+    let form = lists_of (node_form c.data_type.tag c.encoding) lists in
+    record {
+      plain = plain_list c.data_type.tag c.encoding lists;
+      typed = typed;
+      same = ap (λ f. raws_below f c.data_type.children c.raw) form.1
+          ∙ ap (λ vs. vs ∷ []) (ap (flat_map items_in_value) (sym (all_from c.raw (length c.raw) refl)) ∙ items);
+    }
+
+pub run_whole : (c child : Column) (slots first last : ℕ) → IsList c → HasRun c 0 slots first last child → slots ≡ length c.raw → first ≡ 0 → last ≡ length child.raw → AreSentWhole c (child ∷ [])
+run_whole c child slots first last lists run all begins ends =
+    items_whole c child lists run.typed (ap (λ n. flat_map items_in_value (values_from c.raw 0 n)) (sym all) ∙ run.same ∙ ap (λ n. values_from child.raw n last) begins ∙ all_from child.raw last ends)
+
+-- also where there are none
+no_vs : (vs : List PlainValue) → length vs ≡ 0 → [] ≡ vs
+no_vs [] empty = refl
+no_vs (v ∷ vs) empty = absurd (omega (arith, empty))
+
+pub none_whole : (c child : Column) (slots : ℕ) → HasChild c child → flat_map items_in_value (values_from c.raw 0 slots) ≡ [] → slots ≡ length c.raw → length child.raw ≡ 0 → AreSentWhole c (child ∷ [])
+none_whole c child slots has items all empty =
+    items_whole c child has.is_list has.typed (ap (λ n. flat_map items_in_value (values_from c.raw 0 n)) (sym all) ∙ items ∙ no_vs child.raw empty)
+
+-- names and nullability are not looked at: what each node of columns gives is what each node of their fields gives
+level_typed : {A : Type 0} (g : Form → List PlainValue → List A) (fields : Fields) (cs : List Column) (raws : List (List PlainValue)) → AreOf fields cs → by_level g (fields_of_columns cs) raws ≡ by_level g fields raws
+level_typed g none [] raws are = refl
+level_typed g none (d ∷ cs) raws are = absurd are
+level_typed g (more h c rest) [] raws are = absurd are
+level_typed g (more h c rest) (d ∷ cs) [] are = refl
+level_typed g (more h c rest) (d ∷ cs) (vs ∷ raws) are = λ i.
+    g (node_form (are.0 i).tag (are.1 i)) vs ++ (by_level g (are.0 i).children (raws_below (node_form (are.0 i).tag (are.1 i)) (are.0 i).children vs) ++ level_typed g rest cs raws are.2 i)
+
+-- what the column's own node gives, and then those of the children
+whole_level : {A : Type 0} (g : Form → List PlainValue → List A) (c : Column) (children : List Column) → AreSentWhole c children
+    → by_level g (fields_of_columns (c ∷ [])) (raws_of (c ∷ [])) ≡ g (node_form c.data_type.tag c.encoding) c.raw ++ by_level g (fields_of_columns children) (raws_of children)
+whole_level g c children whole =
+    let own = g (node_form c.data_type.tag c.encoding) c.raw in
+    let below = by_level g c.data_type.children (raws_below (node_form c.data_type.tag c.encoding) c.data_type.children c.raw) in
+    ap (λ b. own ++ b) (append-nil below)
+    ∙ ap (λ raws. own ++ by_level g c.data_type.children raws) whole.same
+    ∙ ap (λ b. own ++ b) (sym (level_typed g c.data_type.children children (raws_of children) whole.typed))
+
+pub whole_nodes : (c : Column) (children : List Column) → AreSentWhole c children
+    → stored_nodes (fields_of_columns (c ∷ [])) (raws_of (c ∷ [])) ≡ (own_node c.raw ∷ []) ++ stored_nodes (fields_of_columns children) (raws_of children)
+whole_nodes c children whole =
+    nodes_by_level (fields_of_columns (c ∷ [])) (raws_of (c ∷ [])) ∙ whole_level (λ form vs. own_node vs ∷ []) c children whole
+    ∙ ap (λ b. (own_node c.raw ∷ []) ++ b) (sym (nodes_by_level (fields_of_columns children) (raws_of children)))
+
+pub whole_chunks : (c : Column) (children : List Column) → AreSentWhole c children
+    → stored_chunks (fields_of_columns (c ∷ [])) (raws_of (c ∷ [])) ≡ own_chunks (node_form c.data_type.tag c.encoding) c.raw ++ stored_chunks (fields_of_columns children) (raws_of children)
+whole_chunks c children whole =
+    chunks_by_level (fields_of_columns (c ∷ [])) (raws_of (c ∷ [])) ∙ whole_level own_chunks c children whole
+    ∙ ap (λ b. own_chunks (node_form c.data_type.tag c.encoding) c.raw ++ b) (sym (chunks_by_level (fields_of_columns children) (raws_of children)))
+
+pub whole_size : (align : ℕ) (c : Column) (children : List Column) → AreSentWhole c children
+    → columns_size align (c ∷ []) ≡ sum_by (rounded align) (own_sizes (node_form c.data_type.tag c.encoding) c.raw) + columns_size align children
+whole_size align c children whole =
+    let own = own_sizes (node_form c.data_type.tag c.encoding) c.raw in
+    ap (sum_by (rounded align)) (sizes_by_level (fields_of_columns (c ∷ [])) (raws_of (c ∷ [])) ∙ whole_level own_sizes c children whole)
+    ∙ sum_by-append (rounded align) own (by_level own_sizes (fields_of_columns children) (raws_of children))
+    ∙ ap (λ xs. sum_by (rounded align) own + sum_by (rounded align) xs) (sym (sizes_by_level (fields_of_columns children) (raws_of children)))
+
+-- raw values that a field may hold, on every level
+abbrev pub HoldsRaws : List PlainValue → TypeShape → Option Encoding → Type 0
+HoldsRaws vs t e = AllByRecursion (IsOwn (node_form t.tag e) t.children) vs × IfFlattened e (AreRaws t.children (raws_below (node_form t.tag e) t.children vs))
+
+-- what holds of a field's type and encoding holds of its column's
+of_column : (P : TypeShape → Option Encoding → Type 0) (t u : TypeShape) (e f : Option Encoding) → t ≡ u → e ≡ f → P u f → P t e
+of_column P t u e f type encoding holds = subst (λ x. P x e) (sym type) (subst (λ x. P u x) (sym encoding) holds)
+
+raws_typed : (fields : Fields) (cs : List Column) (raws : List (List PlainValue)) → AreOf fields cs → AreRaws fields raws → AreRaws (fields_of_columns cs) raws
+raws_typed none [] raws are all = all
+raws_typed none (d ∷ cs) raws are all = absurd are
+raws_typed (more h c rest) [] raws are all = absurd are
+raws_typed (more h c rest) (d ∷ cs) [] are all = absurd all
+raws_typed (more h c rest) (d ∷ cs) (vs ∷ raws) are all =
+    let own = of_column (HoldsRaws vs) d.data_type (record { tag = h.tag; children = c }) d.encoding h.encoding are.0 are.1 (all.0, all.1) in
+    (own.0, own.1, raws_typed rest cs raws are.2 all.2)
+
+flat_raws : (e : Option Encoding) (P : Type 0) → e ≡ None → IfFlattened e P → P
+flat_raws None P plain holds = holds
+flat_raws (Some e) P plain holds = cc
+
+-- so may the children's
+pub whole_raws : (c : Column) (children : List Column) → AreSentWhole c children → AreRaws (fields_of_columns (c ∷ [])) (raws_of (c ∷ [])) → AreRaws (fields_of_columns children) (raws_of children)
+whole_raws c children whole are =
+    raws_typed c.data_type.children children (raws_of children) whole.typed
+    (subst (AreRaws c.data_type.children) whole.same (flat_raws c.encoding (AreRaws c.data_type.children (raws_below (node_form c.data_type.tag c.encoding) c.data_type.children c.raw)) whole.plain are.1))
+
+-- nodes that can be told, of a field
+abbrev pub SmallBelow : List PlainValue → TypeShape → Option Encoding → Type 0
+SmallBelow vs t e = IsSmall (node_form t.tag e) vs × AreSmall t.children (raws_below (node_form t.tag e) t.children vs)
+
+small_typed : (fields : Fields) (cs : List Column) (raws : List (List PlainValue)) → AreOf fields cs → AreSmall fields raws → AreSmall (fields_of_columns cs) raws
+small_typed none [] raws are all = tt
+small_typed none (d ∷ cs) raws are all = absurd are
+small_typed (more h c rest) [] raws are all = absurd are
+small_typed (more h c rest) (d ∷ cs) [] are all = tt
+small_typed (more h c rest) (d ∷ cs) (vs ∷ raws) are all =
+    let own = of_column (SmallBelow vs) d.data_type (record { tag = h.tag; children = c }) d.encoding h.encoding are.0 are.1 (all.0, all.1) in
+    (own.0, own.1, small_typed rest cs raws are.2 all.2)
+
+small_named : (fields : Fields) (cs : List Column) (raws : List (List PlainValue)) → AreOf fields cs → AreSmall (fields_of_columns cs) raws → AreSmall fields raws
+small_named none [] raws are all = tt
+small_named none (d ∷ cs) raws are all = absurd are
+small_named (more h c rest) [] raws are all = absurd are
+small_named (more h c rest) (d ∷ cs) [] are all = tt
+small_named (more h c rest) (d ∷ cs) (vs ∷ raws) are all =
+    let own = of_column (SmallBelow vs) (record { tag = h.tag; children = c }) d.data_type h.encoding d.encoding (sym are.0) (sym are.1) (all.0, all.1) in
+    (own.0, own.1, small_named rest cs raws are.2 all.2)
+
+-- no child has more nodes than the column
+fewer : (fields : Fields) (cs : List Column) (n : ℕ) → AreOf fields cs → taken_nodes fields < n → AllByRecursion (λ (c : Column). nodes_of_column c < n) cs
+fewer none [] n are less = tt
+fewer none (d ∷ cs) n are less = absurd are
+fewer (more h c rest) [] n are less = absurd are
+fewer (more h c rest) (d ∷ cs) n are less =
+    let same : flattened d.encoding (taken_nodes d.data_type.children) ≡ flattened h.encoding (taken_nodes c) = λ i. flattened (are.1 i) (taken_nodes (are.0 i).children) in
+    (omega (arith, less, same), fewer rest cs n are.2 (omega (arith, less)))
+
+pub whole_counted : (c : Column) (children : List Column) (n : ℕ) → AreSentWhole c children → nodes_of_column c < n → AllByRecursion (λ (d : Column). nodes_of_column d < n) children
+whole_counted c children n whole less =
+    let all = ap (λ e. flattened e (taken_nodes c.data_type.children)) whole.plain in
+    fewer c.data_type.children children n whole.typed (omega (arith, less, all))
+
+-- the column can be told just where its own node and its children can
+pub whole_told : (c : Column) (children : List Column) → AreSentWhole c children → AreTold (c ∷ []) → AreTold children
+whole_told c children whole told = record {
+  counted = whole_counted c children 18446744073709551615 whole told.counted.0;
+  small = small_typed c.data_type.children children (raws_of children) whole.typed (subst (AreSmall c.data_type.children) whole.same told.small.1);
+}
+
+pub told_whole : (c : Column) (children : List Column) → AreSentWhole c children → nodes_of_column c < 18446744073709551615 → IsSmall (node_form c.data_type.tag c.encoding) c.raw → AreTold children → AreTold (c ∷ [])
+told_whole c children whole counted own told = record {
+  counted = (counted, tt);
+  small = (own, subst (AreSmall c.data_type.children) (sym whole.same) (small_named c.data_type.children children (raws_of children) whole.typed told.small), tt);
+}
+
+-- the column is stored where its own node is, and then its children are
+pub leads_whole : (align : ℕ) (c : Column) (children : List Column) (old b : Body) → 0 < align → AreSentWhole c children
+    → Stores align (own_node c.raw ∷ []) (own_chunks (node_form c.data_type.tag c.encoding) c.raw) old b
+    → Leads align children (Stores align (stored_nodes (fields_of_columns (c ∷ [])) (raws_of (c ∷ []))) (stored_chunks (fields_of_columns (c ∷ [])) (raws_of (c ∷ []))) old) b
+leads_whole align c children old b some whole own = λ z others.
+    let nodes = stored_nodes (fields_of_columns children) (raws_of children) in
+    let chunks = stored_chunks (fields_of_columns children) (raws_of children) in
+    let both = stores_more align (own_node c.raw ∷ []) nodes (own_chunks (node_form c.data_type.tag c.encoding) c.raw) chunks old b z some own others in
+    subst (λ ns. Stores align ns (stored_chunks (fields_of_columns (c ∷ [])) (raws_of (c ∷ []))) old z) (sym (whole_nodes c children whole))
+    (subst (λ xs. Stores align ((own_node c.raw ∷ []) ++ nodes) xs old z) (sym (whole_chunks c children whole)) both)
+
+-- each child is smaller than the column
+pub child_falls : (c : Column) (children : List Column) (k : ℕ) (d : Column) → AreSentWhole c children → k < length children → d ≡ get_or children k d → column_size d < column_size c
+child_falls c children k d whole here is = omega (arith, parts_smaller c children whole.typed, child_below children k d here is)

@@ -1,0 +1,11 @@
+use Rattle.std.proofs.Common.{◌≤◌, ◌-◌}
+use Rattle.arrow_data.specs.Column.{values_from}
+use Rattle.arrow_body_writer.specs.Tally.{Counts}
+use Rattle.arrow_body_writer.proofs.tally.Tally.add_slots.Given as goal
+
+-- the slots so far are counted
+abbrev pub invariant-loop-i : goal.invariant-loop-i
+invariant-loop-i l = (l.start ≤ l.i) × (l.i ≤ l.stop) × Counts l.form (values_from l.array.raw l.start l.i) l.fn.self l.self
+
+abbrev pub decreases-loop-i : goal.decreases-loop-i
+decreases-loop-i l = l.stop - l.i

@@ -1,0 +1,14 @@
+use Rattle.std.proofs.Common.{◌≤◌, ◌-◌, ◌++◌, ℕ, List}
+use Rattle.arrow_data.specs.Column.{values_from}
+use Rattle.arrow_data.specs.PlainValue.{PlainValue}
+use Rattle.arrow_body_writer.specs.Part.{IsWritten}
+use Rattle.arrow_body_writer.proofs.writing.Writing.put_slots.Given as goal
+
+-- the slots so far are added
+abbrev pub invariant-loop-i : goal.invariant-loop-i
+invariant-loop-i l =
+    (l.start ≤ l.i) × (l.i ≤ l.stop)
+    × ((before : List ℕ) (vs : List PlainValue) → IsWritten l.part before vs l.fn.self → IsWritten l.part before (vs ++ values_from l.array.raw l.start l.i) l.self)
+
+abbrev pub decreases-loop-i : goal.decreases-loop-i
+decreases-loop-i l = l.stop - l.i

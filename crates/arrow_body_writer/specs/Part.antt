@@ -1,0 +1,103 @@
+-- The buffers of a node, one by one (Columnar Format, "Buffer Listing for Each Layout").
+use Rattle.std.specs.Prelude.{◌≡◌, ◌≤◌, ℕ, zero, suc, ◌+◌, not, List, ◌++◌, length, map, Option, None, Some, ⊤}
+use Rattle.std.specs.List.{flat_map, sum_by}
+use Rattle.arrow_bits.specs.Numbers.{FitsWidth, number_bytes}
+use Rattle.arrow_data.specs.Form.{number_width, offset_bytes}
+use Rattle.arrow_data.specs.PlainValue.{PlainValue, is_null_value}
+use Rattle.arrow_data.specs.declared.form.Form.{Form}
+use Rattle.arrow_data.specs.declared.form.Form.TheVariants as forms
+use Rattle.arrow_data.specs.declared.form.OffsetWidth.{OffsetWidth}
+use Rattle.arrow_body_laws.specs.Packed.{offsets_bytes, packed}
+use Rattle.arrow_body_laws.specs.Raws.{bytes_in_value, fixed_in, greatest_offset, items_in_value, number_in, truth_in}
+use Rattle.arrow_body_laws.specs.Stored.{number_buffer, validity_bytes}
+use Rattle.arrow_body_writer.specs.Packing.{IsPacking}
+use Rattle.arrow_body_writer.specs.declared.part.Part.{Part}
+use Rattle.arrow_body_writer.specs.declared.part.Part.TheVariants.{Validity, Truths, Numbers, StringOffsets, ListOffsets, Strings, FixedBytes}
+use Rattle.arrow_body_writer.specs.declared.writing.Writing.{Writing}
+
+-- buffer k of a node of the form
+abbrev pub part_of : Form → ℕ → Option Part
+part_of forms.Nulls k = None
+part_of forms.Bits zero = Some Validity
+part_of forms.Bits (suc zero) = Some Truths
+part_of forms.Bits (suc (suc k)) = None
+part_of (forms.Numbers bits signed) zero = Some Validity
+part_of (forms.Numbers bits signed) (suc zero) = Some (Numbers bits)
+part_of (forms.Numbers bits signed) (suc (suc k)) = None
+part_of (forms.Bytes width) zero = Some Validity
+part_of (forms.Bytes width) (suc zero) = Some (StringOffsets width)
+part_of (forms.Bytes width) (suc (suc zero)) = Some Strings
+part_of (forms.Bytes width) (suc (suc (suc k))) = None
+part_of (forms.Texts width) zero = Some Validity
+part_of (forms.Texts width) (suc zero) = Some (StringOffsets width)
+part_of (forms.Texts width) (suc (suc zero)) = Some Strings
+part_of (forms.Texts width) (suc (suc (suc k))) = None
+part_of (forms.FixedBytes width) zero = Some Validity
+part_of (forms.FixedBytes width) (suc zero) = Some (FixedBytes width)
+part_of (forms.FixedBytes width) (suc (suc k)) = None
+part_of (forms.Lists width) zero = Some Validity
+part_of (forms.Lists width) (suc zero) = Some (ListOffsets width)
+part_of (forms.Lists width) (suc (suc k)) = None
+part_of forms.Structs zero = Some Validity
+part_of forms.Structs (suc k) = None
+
+-- the bytes of the buffer of slots with these values
+abbrev pub part_bytes : Part → List PlainValue → List ℕ
+part_bytes Validity vs = packed (map (λ v. not (is_null_value v)) vs)
+part_bytes Truths vs = packed (map truth_in vs)
+part_bytes (Numbers bits) vs = number_buffer (number_width bits) vs
+part_bytes (StringOffsets width) vs = offsets_bytes width (map (λ v. length (bytes_in_value v)) vs)
+part_bytes (ListOffsets width) vs = offsets_bytes width (map (λ v. length (items_in_value v)) vs)
+part_bytes Strings vs = flat_map bytes_in_value vs
+part_bytes (FixedBytes width) vs = flat_map (fixed_in width) vs
+
+-- the bytes that are sent of the buffer: no validity where no slot is null
+abbrev pub chunk_of : Part → List PlainValue → List ℕ
+chunk_of Validity vs = validity_bytes vs
+chunk_of Truths vs = part_bytes Truths vs
+chunk_of (Numbers bits) vs = part_bytes (Numbers bits) vs
+chunk_of (StringOffsets width) vs = part_bytes (StringOffsets width) vs
+chunk_of (ListOffsets width) vs = part_bytes (ListOffsets width) vs
+chunk_of Strings vs = part_bytes Strings vs
+chunk_of (FixedBytes width) vs = part_bytes (FixedBytes width) vs
+
+-- the width of offsets can tell those of the values
+abbrev pub IsTold : Part → List PlainValue → Type 0
+IsTold Validity vs = ⊤
+IsTold Truths vs = ⊤
+IsTold (Numbers bits) vs = ⊤
+IsTold (StringOffsets width) vs = sum_by (λ v. length (bytes_in_value v)) vs ≤ greatest_offset width
+IsTold (ListOffsets width) vs = sum_by (λ v. length (items_in_value v)) vs ≤ greatest_offset width
+IsTold Strings vs = ⊤
+IsTold (FixedBytes width) vs = ⊤
+
+-- the number of a slot has room in a buffer of numbers
+abbrev pub HasRoom : Part → PlainValue → Type 0
+HasRoom Validity v = ⊤
+HasRoom Truths v = ⊤
+HasRoom (Numbers bits) v = FitsWidth (number_width bits) (number_in v)
+HasRoom (StringOffsets width) v = ⊤
+HasRoom (ListOffsets width) v = ⊤
+HasRoom Strings v = ⊤
+HasRoom (FixedBytes width) v = ⊤
+
+-- One offset more is appended and kept, so many on from the last, if the width can tell it.
+abbrev pub HasNextOffset : OffsetWidth → ℕ → Writing → Writing → Type 0
+HasNextOffset width len old new =
+    (new.out.items ≡ old.out.items ++ number_bytes (offset_bytes width) new.end)
+    × (old.end + len ≤ greatest_offset width → new.end ≡ old.end + len)
+
+-- After `before` stands what the slots with these values are in the buffer. Of offsets it is asked that their width can tell
+-- them; the last one is kept beside.
+abbrev pub IsWritten : Part → List ℕ → List PlainValue → Writing → Type 0
+IsWritten Validity before vs w = IsPacking before (map (λ v. not (is_null_value v)) vs) w.pending.byte w.pending.weight w.out.items
+IsWritten Truths before vs w = IsPacking before (map truth_in vs) w.pending.byte w.pending.weight w.out.items
+IsWritten (Numbers bits) before vs w = w.out.items ≡ before ++ number_buffer (number_width bits) vs
+IsWritten (StringOffsets width) before vs w =
+    sum_by (λ v. length (bytes_in_value v)) vs ≤ greatest_offset width
+    → (w.out.items ≡ before ++ offsets_bytes width (map (λ v. length (bytes_in_value v)) vs)) × (w.end ≡ sum_by (λ v. length (bytes_in_value v)) vs)
+IsWritten (ListOffsets width) before vs w =
+    sum_by (λ v. length (items_in_value v)) vs ≤ greatest_offset width
+    → (w.out.items ≡ before ++ offsets_bytes width (map (λ v. length (items_in_value v)) vs)) × (w.end ≡ sum_by (λ v. length (items_in_value v)) vs)
+IsWritten Strings before vs w = w.out.items ≡ before ++ flat_map bytes_in_value vs
+IsWritten (FixedBytes width) before vs w = w.out.items ≡ before ++ flat_map (fixed_in width) vs

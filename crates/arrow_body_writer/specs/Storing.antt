@@ -1,0 +1,22 @@
+-- A body on its way: what is added to it.
+use Rattle.std.specs.Prelude.{◌≡◌, ℕ, List, [], ◌++◌, length}
+use Rattle.std.specs.List.{flat_map}
+use Rattle.arrow_types.specs.declared.node.FieldNode.{FieldNode}
+use Rattle.arrow_body_laws.specs.Stored.{PlainBody, padded, places_from}
+use Rattle.arrow_body_writer.specs.declared.body.Body.{Body}
+
+-- what a body says
+abbrev pub body_view : Body → PlainBody
+body_view b = record { nodes = b.nodes.items; buffers = b.buffers.items; bytes = b.bytes.items }
+
+-- nodes, and the bytes of buffers with their padding, stand after what was there
+pub record Stores (align : ℕ) (nodes : List FieldNode) (chunks : List (List ℕ)) (old new : Body) : Type 0 where
+  pub nodes_added : new.nodes.items ≡ old.nodes.items ++ nodes
+  pub buffers_added : new.buffers.items ≡ old.buffers.items ++ places_from align (length old.bytes.items) chunks
+  pub bytes_added : new.bytes.items ≡ old.bytes.items ++ flat_map (padded align) chunks
+
+-- nothing was added to a body
+pub record IsEmpty (b : Body) : Type 0 where
+  pub no_nodes : b.nodes.items ≡ []
+  pub no_buffers : b.buffers.items ≡ []
+  pub no_bytes : b.bytes.items ≡ []

@@ -1,0 +1,214 @@
+//! The body of columns, written.
+
+ghost use Rattle.std.specs.Prelude.{◌≡◌, ◌<◌, ℕ, Some, [], ◌∷◌, IfOk, IfSome, MatchOption};
+ghost use Rattle.arrow_body_laws.specs.Laws.{IsBodyOf, raws_of};
+ghost use Rattle.arrow_body_laws.specs.Tidy.{IsTidy};
+ghost use Rattle.arrow_body_laws.specs.Raws.{AreRaws, IsSmall};
+ghost use Rattle.arrow_body_laws.specs.Stored.{fields_of_columns, nulls_in, own_chunks, own_node};
+ghost use Rattle.arrow_body_laws.specs.Stored.{stored, stored_chunks, stored_nodes};
+ghost use Rattle.std.specs.List.{AllByRecursion};
+ghost use Rattle.arrow_body_writer.specs.Align.{alignment_of};
+ghost use Rattle.arrow_body_writer.specs.Part.{HasRoom, IsTold, chunk_of};
+ghost use Rattle.arrow_body_writer.specs.Sent.{form_of_column, nodes_of_column, sent_to};
+ghost use Rattle.arrow_body_writer.specs.Source.{column_in, rest_of};
+ghost use Rattle.arrow_body_writer.specs.Storable.{AreTold, CanBeStored};
+ghost use Rattle.arrow_body_writer.specs.Storing.{IsEmpty, Stores, body_view};
+ghost use Rattle.arrow_body_writer.specs.Tally.{capped};
+
+use crate::align::Align;
+use crate::buffers::put_buffer;
+use crate::counts::count_sent;
+use crate::forms::{form_of_node, nodes_in, nodes_in_all};
+use crate::measured::{body_size, rest_size};
+use crate::part::{Part, part_of};
+use crate::source::Source;
+use crate::tally::Tally;
+use crate::whole::whole_below;
+use arrow_data::{Array, Dictionary};
+use arrow_types::{Buffer, FieldNode};
+use std::alloc::{AllocError, Global};
+
+/// The body of a batch, with its nodes and the places of its buffers (Columnar Format, "RecordBatch
+/// message").
+#[derive(Drop)]
+pub struct Body {
+    /// A node for each field on each level, in pre-order.
+    pub nodes: Vec<FieldNode>,
+    /// Where each buffer lies in the bytes, and how long it is without its padding.
+    pub buffers: Vec<Buffer>,
+    /// The bytes of the buffers, each padded to the alignment.
+    pub bytes: Vec<u8>,
+}
+
+// Appends a buffer of a node of the column.
+fn put_chunk(
+    body: Body,
+    align: Align,
+    part: Part,
+    tally: Tally,
+    source: &Source,
+    node: usize,
+) -> Result<Body, AllocError>
+    requires there { node < nodes_of_column (column_in source.now) }
+    requires room { AllByRecursion (HasRoom part)
+        (sent_to (column_in source.now) node) }
+    requires told { IsTold part
+        (sent_to (column_in source.now) node) }
+    requires nulls { tally.nulls ≡ capped (nulls_in
+        (sent_to (column_in source.now) node)) }
+    ensures { IfOk result (Stores (alignment_of align) [] (chunk_of part
+        (sent_to (column_in source.now) node) ∷ []) body) }
+{
+    let offset = body.bytes.len();
+    let (bytes, len) = put_buffer(body.bytes, align, part, tally, source, node)?;
+    let mut buffers = body.buffers;
+    buffers.push(Buffer {
+        offset: offset as i64,
+        length: len as i64,
+    })?;
+    Ok(Body {
+        nodes: body.nodes,
+        buffers,
+        bytes,
+    })
+}
+
+// Appends a node of the column, and its buffers.
+fn put_node(body: Body, align: Align, source: &Source, node: usize) -> Result<Body, AllocError>
+    requires there { node < nodes_of_column (column_in source.now) }
+    requires small { IsSmall (form_of_column (column_in source.now) node)
+        (sent_to (column_in source.now) node) }
+    requires raws { AreRaws (fields_of_columns (column_in source.now ∷ [])) (raws_of (column_in source.now ∷ [])) }
+    ensures { IfOk result (Stores (alignment_of align)
+        (own_node (sent_to (column_in source.now) node) ∷ [])
+        (own_chunks (form_of_column (column_in source.now) node)
+        (sent_to (column_in source.now) node)) body) }
+{
+    let form = form_of_node(source, node);
+    let tally = count_sent(form, source, node);
+    let mut nodes = body.nodes;
+    nodes.push(FieldNode {
+        length: tally.slots as i64,
+        null_count: tally.nulls as i64,
+    })?;
+    let mut written = Body {
+        nodes,
+        buffers: body.buffers,
+        bytes: body.bytes,
+    };
+    for k in 0..3 {
+        if let Some(part) = part_of(form, k) {
+            written = put_chunk(written, align, part, tally, source, node)?;
+        }
+    }
+    Ok(written)
+}
+
+// Appends all nodes of the column, and their buffers, node by node.
+fn put_by_number(body: Body, align: Align, source: &Source) -> Result<Body, AllocError>
+    requires { AreTold (column_in source.now ∷ []) }
+    ensures { IfOk result (Stores (alignment_of align)
+        (stored_nodes (fields_of_columns (column_in source.now ∷ [])) (raws_of (column_in source.now ∷ [])))
+        (stored_chunks (fields_of_columns (column_in source.now ∷ [])) (raws_of (column_in source.now ∷ []))) body) }
+{
+    let count = nodes_in(source);
+    let mut written = body;
+    for node in 0..count {
+        written = put_node(written, align, source, node)?;
+    }
+    Ok(written)
+}
+
+// Appends all nodes of the array's column, and their buffers. Children that are sent whole are
+// columns by themselves after the array's own node (Columnar Format, "RecordBatch message").
+#[cycle(put)]
+fn put_column(body: Body, align: Align, array: &Array) -> Result<Body, AllocError>
+    requires told { AreTold (array.now ∷ []) }
+    requires raws { AreRaws (fields_of_columns (array.now ∷ [])) (raws_of (array.now ∷ [])) }
+    ensures { IfOk result (Stores (alignment_of align)
+        (stored_nodes (fields_of_columns (array.now ∷ [])) (raws_of (array.now ∷ [])))
+        (stored_chunks (fields_of_columns (array.now ∷ [])) (raws_of (array.now ∷ []))) body) }
+{
+    let source = Source::Slots(array);
+    let Some(children) = whole_below(array) else {
+        return put_by_number(body, align, &source);
+    };
+    let mut written = put_node(body, align, &source, 0)?;
+    for child in children {
+        written = put_column(written, align, child)?;
+    }
+    Ok(written)
+}
+
+// A body to which nothing was added yet, with room for so many nodes, for as many buffers as these
+// can have, and for so many bytes.
+fn begun(alloc: Global, nodes: usize, size: usize) -> Result<Body, AllocError>
+    ensures { IfOk result (λ body. IsEmpty body) }
+{
+    Ok(Body {
+        nodes: Vec::with_capacity(alloc, nodes)?,
+        buffers: Vec::with_capacity(alloc, nodes.saturating_mul(3))?,
+        bytes: Vec::with_capacity(alloc, size)?,
+    })
+}
+
+/// The body of the columns, laid out anew: each node with the slots that it is sent and no others,
+/// each buffer without a byte that no value needs, padded with zero bytes to the alignment. Nothing
+/// is copied that stood under a null. None where `body_size` is None; the bytes are as many as it
+/// says. Nodes, buffers and bytes take one growth each. The body is read as the raw values of the
+/// columns, and it is tidy. `AllocError` where a growth was refused.
+pub fn store(alloc: Global, align: Align, arrays: &[Array]) -> Result<Option<Body>, AllocError>
+    ensures same { IfOk result (λ body. MatchOption body
+        (CanBeStored (alignment_of align) arrays.now → ⊥) (λ b.
+        CanBeStored (alignment_of align) arrays.now
+        × (body_view b ≡ stored (alignment_of align)
+        (fields_of_columns arrays.now) (raws_of arrays.now)))) }
+    ensures read { IfOk result (λ body. IfSome body (λ b. IsBodyOf (alignment_of align)
+        (fields_of_columns arrays.now) (raws_of arrays.now) (body_view b))) }
+    ensures tidy { IfOk result (λ body. IfSome body (λ b. IsTidy (alignment_of align)
+        (fields_of_columns arrays.now) b.nodes.items b.buffers.items b.bytes.items)) }
+{
+    let Some(size) = body_size(align, arrays) else {
+        return Ok(None);
+    };
+    let empty = begun(alloc, nodes_in_all(arrays), size)?;
+    let mut body = empty;
+    for array in arrays {
+        body = put_column(body, align, array)?;
+    }
+    Ok(Some(body))
+}
+
+/// The body of one column without an encoding whose slots hold the values of the dictionary from
+/// value `from` on (`Message.fbs`, table `DictionaryBatch`), as `store` would lay it out; from a
+/// place after the last value on there are none. The values come array by array, as they lie in the
+/// dictionary. None where `rest_size` is None; the bytes are as many as it says. Nodes, buffers and
+/// bytes take one growth each. The body is read as these values, and it is tidy. `AllocError` where
+/// a growth was refused.
+pub fn store_rest(
+    alloc: Global,
+    align: Align,
+    dictionary: &Dictionary,
+    from: usize,
+) -> Result<Option<Body>, AllocError>
+    ensures same { IfOk result (λ body. MatchOption body
+        (CanBeStored (alignment_of align) (rest_of dictionary.now from ∷ []) → ⊥) (λ b.
+        CanBeStored (alignment_of align) (rest_of dictionary.now from ∷ [])
+        × (body_view b ≡ stored (alignment_of align)
+        (fields_of_columns (rest_of dictionary.now from ∷ []))
+        (raws_of (rest_of dictionary.now from ∷ []))))) }
+    ensures read { IfOk result (λ body. IfSome body (λ b. IsBodyOf (alignment_of align)
+        (fields_of_columns (rest_of dictionary.now from ∷ []))
+        (raws_of (rest_of dictionary.now from ∷ [])) (body_view b))) }
+    ensures tidy { IfOk result (λ body. IfSome body (λ b. IsTidy (alignment_of align)
+        (fields_of_columns (rest_of dictionary.now from ∷ []))
+        b.nodes.items b.buffers.items b.bytes.items)) }
+{
+    let Some(size) = rest_size(align, dictionary, from) else {
+        return Ok(None);
+    };
+    let source = Source::Rest(dictionary, from);
+    let empty = begun(alloc, nodes_in(&source), size)?;
+    let rest = put_by_number(empty, align, &source)?;
+    Ok(Some(rest))
+}

@@ -1,0 +1,49 @@
+//! Columns laid out again as the one tidy body of a batch (Columnar Format, "RecordBatch message").
+//!
+//! What the field nodes, the buffers and the bytes of raw values are is said in
+//! `arrow_body_laws`, as one function of the alignment, the fields and the raw values. `store`
+//! gives just that body of columns, and `body_size` tells before, without memory, how many bytes it
+//! has, or that it cannot be stored. `store_rest` and `rest_size` do the same of one column whose
+//! slots hold the values of a dictionary from one on.
+//!
+//! A body is written front to back, by the public calls of `arrow_data` alone, so that no byte is
+//! copied that stood under a null. A node is known by its number in pre-order. One walk finds the
+//! slots that a node is sent, below lists and structs too, and either counts them or writes one of
+//! the node's buffers (`pass`); so each node is walked once to be counted and once for each buffer,
+//! and nothing is kept of the slots. Where a struct or a list is sent all slots of its children
+//! (`whole`), these are laid out as columns by themselves after its own node, level by level: so
+//! the work grows with the nodes, and not with their square. A column with nulls above others, or
+//! with slots that it does not send, is walked from its own node to each one below it.
+//!
+//! | Notion | Definition |
+//! |---|---|
+//! | the alignment | `specs/Align.antt`: `alignment_of` |
+//! | columns that can be stored, their size | `specs/Storable.antt`: `CanBeStored`, `columns_size` |
+//! | what is added to a body | `specs/Storing.antt`: `Stores` |
+//! | where values come from | `specs/Source.antt`: `rest_of`, `column_in` |
+//! | nodes by their numbers, and what each is sent | `specs/Sent.antt`: `IsNodeOf`, `sent_to` |
+//! | slots passed, and counted | `specs/Pass.antt`: `Takes`; `specs/Tally.antt`: `IsTally` |
+//! | children that are sent whole | `specs/Whole.antt`: `AreSentWhole` |
+//! | a buffer on its way | `specs/Part.antt`: `IsWritten`; `specs/Packing.antt`; `specs/Runs.antt` |
+#![tactic(auto)]
+
+pub(crate) mod align;
+pub(crate) mod body;
+pub(crate) mod buffers;
+pub(crate) mod counts;
+pub(crate) mod forms;
+pub(crate) mod measured;
+pub(crate) mod nodes;
+pub(crate) mod packing;
+pub(crate) mod part;
+pub(crate) mod pass;
+pub(crate) mod sizes;
+pub(crate) mod slots;
+pub(crate) mod source;
+pub(crate) mod tally;
+pub(crate) mod whole;
+pub(crate) mod writing;
+
+pub use align::Align;
+pub use body::{Body, store, store_rest};
+pub use measured::{body_size, rest_size};

@@ -1,0 +1,84 @@
+//! The buffers of a node, and how wide what they hold is.
+
+ghost use Rattle.std.specs.Prelude.{◌≡◌, None, MatchOption};
+ghost use Rattle.arrow_bits.specs.Numbers.{IsWidth};
+ghost use Rattle.arrow_data.specs.Form.{number_width, offset_bytes};
+ghost use Rattle.arrow_body_laws.specs.Raws.{greatest_offset};
+ghost use Rattle.arrow_body_writer.specs.Part.{part_of};
+
+use arrow_data::form::{Form, OffsetWidth};
+use arrow_types::BitWidth;
+
+// One buffer of a node, by what it holds (Columnar Format, "Buffer Listing for Each Layout").
+#[derive(Clone, Copy)]
+pub(crate) enum Part {
+    // A bit for each slot, 0 of a null one.
+    Validity,
+    // The truth values.
+    Truths,
+    // The numbers, of this width.
+    Numbers(BitWidth),
+    // The offsets of byte strings or texts.
+    StringOffsets(OffsetWidth),
+    // The offsets of lists.
+    ListOffsets(OffsetWidth),
+    // The bytes of byte strings or texts.
+    Strings,
+    // So many bytes for each slot.
+    FixedBytes(u32),
+}
+
+// Buffer `k` of a node of the form, None where it has no more than `k`.
+pub(crate) fn part_of(form: Form, k: usize) -> Option<Part>
+    ensures { result ≡ part_of form k }
+{
+    match (form, k) {
+        (Form::Nulls, _) => None,
+        (_, 0) => Some(Part::Validity),
+        (Form::Bits, 1) => Some(Part::Truths),
+        (Form::Numbers { bits, .. }, 1) => Some(Part::Numbers(bits)),
+        (Form::Bytes(width) | Form::Texts(width), 1) => Some(Part::StringOffsets(width)),
+        (Form::Bytes(_) | Form::Texts(_), 2) => Some(Part::Strings),
+        (Form::FixedBytes(width), 1) => Some(Part::FixedBytes(width)),
+        (Form::Lists(width), 1) => Some(Part::ListOffsets(width)),
+        (
+            Form::Bits
+            | Form::Numbers { .. }
+            | Form::Bytes(_)
+            | Form::Texts(_)
+            | Form::FixedBytes(_)
+            | Form::Lists(_)
+            | Form::Structs,
+            _,
+        ) => None,
+    }
+}
+
+// How many bytes a number of this width takes.
+pub(crate) fn number_width(bits: BitWidth) -> usize
+    ensures same { result ≡ number_width bits }
+    ensures whole { IsWidth result }
+{
+    (bits.bits() / 8) as usize
+}
+
+// How many bytes an offset takes.
+pub(crate) fn offset_bytes(width: OffsetWidth) -> usize
+    ensures same { result ≡ offset_bytes width }
+    ensures whole { IsWidth result }
+{
+    match width {
+        OffsetWidth::Small => 4,
+        OffsetWidth::Large => 8,
+    }
+}
+
+// The greatest offset of a width.
+pub(crate) fn greatest_offset(width: OffsetWidth) -> u64
+    ensures { result ≡ greatest_offset width }
+{
+    match width {
+        OffsetWidth::Small => 2_147_483_647,
+        OffsetWidth::Large => 9_223_372_036_854_775_807,
+    }
+}

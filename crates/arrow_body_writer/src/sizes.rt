@@ -1,0 +1,88 @@
+//! How many bytes the buffers of a node have.
+
+ghost use Rattle.std.specs.Prelude.{◌≡◌, ◌≤◌, ◌+◌, ◌↔◌, IsTrue, List};
+ghost use Rattle.std.specs.List.{sum_by};
+ghost use Rattle.std.specs.Int.{div_ceil};
+ghost use Rattle.arrow_data.specs.PlainValue.{PlainValue};
+ghost use Rattle.arrow_body_laws.specs.Raws.{IsSmall, offset_limit};
+ghost use Rattle.arrow_body_laws.specs.Stored.{rounded};
+ghost use Rattle.arrow_body_writer.specs.Align.{alignment_of};
+ghost use Rattle.arrow_body_writer.specs.Tally.{IsTally, sizes_told};
+
+use crate::align::Align;
+use crate::part::{greatest_offset, number_width, offset_bytes};
+use crate::tally::Tally;
+use arrow_data::form::Form;
+
+// The greatest that the offsets of a node of the form can tell.
+fn offset_limit(form: Form) -> u64
+    ensures { result ≡ offset_limit form }
+{
+    match form {
+        Form::Bytes(width) | Form::Texts(width) | Form::Lists(width) => greatest_offset(width),
+        Form::Nulls | Form::Bits | Form::Numbers { .. } | Form::FixedBytes(_) | Form::Structs => 0,
+    }
+}
+
+// Whether slots that were counted are as few as a node can have, and their offsets can be told.
+pub(crate) fn is_small(form: Form, tally: Tally) -> bool
+    ensures small { (vs : List PlainValue) → IsTally form vs tally
+        → IsTrue result ↔ IsSmall form vs }
+    ensures few { IsTrue result → tally.slots ≤ 2147483647 }
+    ensures near { IsTrue result → tally.end ≤ 9223372036854775807 }
+{
+    tally.slots <= 2_147_483_647 && tally.end <= offset_limit(form)
+}
+
+// A number of bytes, rounded up to a multiple of the alignment.
+fn round_up(align: Align, len: u64) -> u64
+    requires { len ≤ 9223372036854775807 }
+    ensures same { result ≡ rounded (alignment_of align) len }
+    ensures near { result ≤ len + 63 }
+{
+    let over = len % align.bytes() as u64;
+    if over == 0 {
+        len
+    } else {
+        len + (align.bytes() as u64 - over)
+    }
+}
+
+// The bytes of a bitmap of so many slots.
+fn bitmap_size(slots: u64) -> u64
+    requires { slots ≤ 2147483647 }
+    ensures same { result ≡ div_ceil slots 8 }
+    ensures near { result ≤ slots }
+{
+    slots / 8 + u64::from(slots % 8 > 0)
+}
+
+// The bytes of the buffers of a node of the form, each padded; the node has slots that were counted.
+pub(crate) fn node_size(align: Align, form: Form, tally: Tally) -> u64
+    requires few { tally.slots ≤ 2147483647 }
+    requires near { tally.end ≤ 9223372036854775807 }
+    ensures { result ≡ sum_by (rounded (alignment_of align))
+        (sizes_told form tally.slots tally.nulls tally.end) }
+{
+    let validity = if tally.nulls == 0 {
+        0
+    } else {
+        round_up(align, bitmap_size(tally.slots))
+    };
+    match form {
+        Form::Nulls => 0,
+        Form::Bits => validity + round_up(align, bitmap_size(tally.slots)),
+        Form::Numbers { bits, .. } => {
+            validity + round_up(align, number_width(bits) as u64 * tally.slots)
+        }
+        Form::Bytes(width) | Form::Texts(width) => {
+            let offsets = round_up(align, offset_bytes(width) as u64 * (tally.slots + 1));
+            validity + offsets + round_up(align, tally.end)
+        }
+        Form::FixedBytes(width) => validity + round_up(align, u64::from(width) * tally.slots),
+        Form::Lists(width) => {
+            validity + round_up(align, offset_bytes(width) as u64 * (tally.slots + 1))
+        }
+        Form::Structs => validity,
+    }
+}

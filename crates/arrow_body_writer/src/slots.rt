@@ -1,0 +1,211 @@
+//! What one slot adds to each buffer of its node.
+
+ghost use Rattle.std.specs.Prelude.{◌≡◌, ◌≤◌, ◌<◌, [], ◌++◌, Bool, IfSome, IsTrue, MatchOption, OnOk, length};
+ghost use Rattle.std.specs.List.{flat_map};
+ghost use Rattle.arrow_bits.specs.Numbers.{FitsWidth, IsWidth, int_bytes};
+ghost use Rattle.arrow_data.specs.Column.{IsColumn, values_from};
+ghost use Rattle.arrow_data.specs.Form.{node_form, number_width};
+ghost use Rattle.arrow_data.specs.FullSlots.{AreFull};
+ghost use Rattle.arrow_data.specs.PlainValue.{value_at};
+ghost use Rattle.arrow_body_laws.specs.Raws.{bytes_in_value, fixed_in, items_in_value};
+ghost use Rattle.arrow_body_laws.specs.Raws.{number_in, truth_in};
+ghost use Rattle.arrow_body_laws.specs.Stored.{number_buffer};
+ghost use Rattle.arrow_data.specs.declared.form.Form.TheVariants as forms;
+ghost use Rattle.arrow_body_writer.specs.Runs.{HasRun, are_strings};
+
+use arrow_bits::put_int;
+use arrow_data::Array;
+use arrow_data::form::{Form, node_form};
+use arrow_types::BitWidth;
+use std::alloc::AllocError;
+
+// The truth value of the slot, false under a null.
+#[tactic(auto, using(crate::proofs::Shown::shown))]
+pub(crate) fn truth(array: &Array, i: usize) -> bool
+    requires { i < length array.now.raw }
+    ensures { result ≡ truth_in (value_at array.now.raw i) }
+{
+    array.bool_at(i).unwrap_or(false)
+}
+
+// The number of the slot, 0 under a null.
+#[tactic(auto, using(crate::proofs::Shown::shown))]
+pub(crate) fn number(array: &Array, i: usize) -> i128
+    requires { i < length array.now.raw }
+    ensures { result ≡ number_in (value_at array.now.raw i) }
+{
+    array.int_at(i).unwrap_or(0)
+}
+
+// The bytes of the slot's byte string or text, none under a null.
+#[tactic(auto, using(crate::proofs::Shown::shown))]
+pub(crate) fn string(array: &Array, i: usize) -> &[u8]
+    requires { i < length array.now.raw }
+    ensures { result.now ≡ bytes_in_value (value_at array.now.raw i) }
+{
+    match (array.bytes_at(i), array.text_at(i)) {
+        (Some(bytes), _) => bytes,
+        (None, Some(text)) => text.as_bytes(),
+        (None, None) => &[],
+    }
+}
+
+// How many items the slot's list has, none under a null.
+pub(crate) fn span(array: &Array, i: usize) -> usize
+    requires { i < length array.now.raw }
+    ensures { result ≡ length (items_in_value (value_at array.now.raw i)) }
+{
+    match array.list_at(i) {
+        Some((start, end, _)) => end - start,
+        None => 0,
+    }
+}
+
+// The form of the array's own node.
+pub(crate) fn own_form(array: &Array) -> Form
+    ensures form { result ≡ node_form array.now.data_type.tag array.now.encoding }
+    ensures known { IsColumn array.now }
+{
+    // What is known of every array is asked for, so that the proof has it.
+    let _slots = array.len();
+    node_form(array.data_type(), array.encoding().copied())
+}
+
+// Whether slots of the form hold byte strings or texts.
+fn holds_strings(form: Form) -> bool
+    ensures { result ≡ are_strings form }
+{
+    match form {
+        Form::Bytes(_) | Form::Texts(_) | Form::FixedBytes(_) => true,
+        Form::Nulls | Form::Bits | Form::Numbers { .. } | Form::Lists(_) | Form::Structs => false,
+    }
+}
+
+// Whether slots of the form hold numbers of this width.
+fn holds_numbers(form: Form, bits: BitWidth) -> bool
+    ensures { IsTrue result → (signed : Bool) × (form ≡ forms.Numbers bits signed) }
+{
+    match form {
+        Form::Numbers { bits: own, .. } => own == bits,
+        Form::Nulls
+        | Form::Bits
+        | Form::Bytes(_)
+        | Form::Texts(_)
+        | Form::FixedBytes(_)
+        | Form::Lists(_)
+        | Form::Structs => false,
+    }
+}
+
+// Whether slots of the form hold byte strings of this width.
+fn holds_fixed(form: Form, width: u32) -> bool
+    ensures { IsTrue result → form ≡ forms.FixedBytes width }
+{
+    match form {
+        Form::FixedBytes(own) => own == width,
+        Form::Nulls
+        | Form::Bits
+        | Form::Numbers { .. }
+        | Form::Bytes(_)
+        | Form::Texts(_)
+        | Form::Lists(_)
+        | Form::Structs => false,
+    }
+}
+
+// The bytes of the byte strings or texts of a range of slots, of which none is null.
+pub(crate) fn strings(array: &Array, start: usize, stop: usize) -> &[u8]
+    requires order { start ≤ stop }
+    requires inside { stop ≤ length array.now.raw }
+    requires full { AreFull array.now start stop }
+    ensures { result.now ≡ flat_map bytes_in_value (values_from array.now.raw start stop) }
+{
+    let form = own_form(array);
+    if holds_strings(form) {
+        array.value_bytes(start, stop)
+    } else {
+        &[]
+    }
+}
+
+// The bytes of the numbers of a range of slots, of which none is null. None where they do not have
+// this width.
+pub(crate) fn numbers(array: &Array, bits: BitWidth, start: usize, stop: usize) -> Option<&[u8]>
+    requires order { start ≤ stop }
+    requires inside { stop ≤ length array.now.raw }
+    requires full { AreFull array.now start stop }
+    ensures { IfSome result (λ bytes. bytes.now
+        ≡ number_buffer (number_width bits) (values_from array.now.raw start stop)) }
+{
+    let form = own_form(array);
+    if holds_numbers(form, bits) {
+        Some(array.value_bytes(start, stop))
+    } else {
+        None
+    }
+}
+
+// The byte strings of a range of slots, of which none is null. None where they do not have this
+// width.
+pub(crate) fn fixed(array: &Array, width: u32, start: usize, stop: usize) -> Option<&[u8]>
+    requires order { start ≤ stop }
+    requires inside { stop ≤ length array.now.raw }
+    requires full { AreFull array.now start stop }
+    ensures { IfSome result (λ bytes. bytes.now
+        ≡ flat_map (fixed_in width) (values_from array.now.raw start stop)) }
+{
+    let form = own_form(array);
+    if holds_fixed(form, width) {
+        Some(array.value_bytes(start, stop))
+    } else {
+        None
+    }
+}
+
+// Where the items of the lists of a range of slots stand, of which none is null, one after another:
+// the first and the end of their slots, and the array that has these. None where there is no list.
+pub(crate) fn items(array: &Array, start: usize, stop: usize) -> Option<(usize, usize, &Array)>
+    requires order { start ≤ stop }
+    requires inside { stop ≤ length array.now.raw }
+    requires full { AreFull array.now start stop }
+    ensures { MatchOption result
+        (flat_map items_in_value (values_from array.now.raw start stop) ≡ [])
+        (λ r. HasRun array.now start stop r.0 r.1 r.2.now) }
+{
+    if start == stop {
+        return None;
+    }
+    // What is known of every array is asked for, so that the proof has it.
+    let _slots = array.len();
+    let Some(child) = array.items() else {
+        return None;
+    };
+    let (first, _, _) = array.list_at(start)?;
+    let (_, end, _) = array.list_at(stop - 1)?;
+    Some((first, end, child))
+}
+
+// Appends the number of the slot.
+pub(crate) fn put_number(
+    out: &mut Vec<u8>,
+    width: usize,
+    array: &Array,
+    i: usize,
+) -> Result<(), AllocError>
+    requires inside { i < length array.now.raw }
+    requires width { IsWidth width }
+    requires fits { FitsWidth width (number_in (value_at array.now.raw i)) }
+    ensures { OnOk result (out.new.items
+        ≡ out.old.items ++ int_bytes width (number_in (value_at array.now.raw i))) }
+{
+    put_int(out, width, number(array, i))
+}
+
+// Appends the bytes of the slot's byte string or text.
+pub(crate) fn put_string(out: &mut Vec<u8>, array: &Array, i: usize) -> Result<(), AllocError>
+    requires { i < length array.now.raw }
+    ensures { OnOk result (out.new.items
+        ≡ out.old.items ++ bytes_in_value (value_at array.now.raw i)) }
+{
+    out.extend_from_slice(string(array, i))
+}

@@ -1,0 +1,88 @@
+//! Where the raw values of a column come from: an array, or the rest of a dictionary.
+
+ghost use Rattle.std.specs.Prelude.{◌≡◌, ◌<◌, OnErr, OnOk, None};
+ghost use Rattle.std.specs.List.{AllByRecursion};
+ghost use Rattle.arrow_types.specs.View.{type_view};
+ghost use Rattle.arrow_data.specs.Fits.{AllFit};
+ghost use Rattle.arrow_body_writer.specs.Pass.{HasPlace, Takes, part_in};
+ghost use Rattle.arrow_body_writer.specs.Sent.{nodes_of_column, sent_to};
+ghost use Rattle.arrow_body_writer.specs.Source.{column_in, rest_of};
+
+use crate::pass::Pass;
+use arrow_data::{Array, Dictionary};
+use arrow_types::{DataType, Encoding};
+use std::alloc::AllocError;
+
+// A column that is stored.
+#[derive(Clone, Copy)]
+pub(crate) enum Source<'a> {
+    // That of an array.
+    Slots(&'a Array),
+    // The values of a dictionary from this one on, in a column without an encoding: none where the
+    // dictionary has no more than so many values (`Message.fbs`, table `DictionaryBatch`).
+    Rest(&'a Dictionary, usize),
+}
+
+impl<'a> Source<'a> {
+    // The type of the values, which they fit.
+    pub(crate) fn data_type(&self) -> &DataType
+        ensures same { type_view result.now ≡ (column_in self.now).data_type }
+        ensures fit { AllFit (column_in self.now).data_type (column_in self.now).encoding
+            (column_in self.now).raw }
+    {
+        match self {
+            Source::Slots(array) => {
+                // What is known of every array is asked for, so that the proof has it.
+                let _slots = array.len();
+                array.data_type()
+            }
+            Source::Rest(dictionary, _) => dictionary.data_type(),
+        }
+    }
+
+    // How the column refers to its dictionary.
+    pub(crate) fn encoding(&self) -> Option<Encoding>
+        ensures { result ≡ (column_in self.now).encoding }
+    {
+        match self {
+            Source::Slots(array) => array.encoding().copied(),
+            Source::Rest(..) => None,
+        }
+    }
+
+    // Takes what all slots of the column send to one of its nodes.
+    pub(crate) fn send(&self, pass: &mut Pass, node: usize) -> Result<(), AllocError>
+        requires there { node < nodes_of_column (column_in self.now) }
+        requires room { AllByRecursion (HasPlace (part_in pass.old))
+            (sent_to (column_in self.now) node) }
+        ensures ok { OnOk result (Takes pass.old pass.new (sent_to (column_in self.now) node)) }
+        ensures err { OnErr result (part_in pass.old ≡ None → ⊥) }
+    {
+        match self {
+            Source::Slots(array) => pass.take_sent(array, 0, array.len(), node),
+            Source::Rest(dictionary, from) => take_rest(pass, dictionary, *from, node),
+        }
+    }
+}
+
+// Takes what the values of a dictionary from one on send to a node, array by array.
+fn take_rest(
+    pass: &mut Pass,
+    dictionary: &Dictionary,
+    from: usize,
+    node: usize,
+) -> Result<(), AllocError>
+    requires there { node < nodes_of_column (rest_of dictionary.now from) }
+    requires room { AllByRecursion (HasPlace (part_in pass.old))
+        (sent_to (rest_of dictionary.now from) node) }
+    ensures ok { OnOk result (Takes pass.old pass.new (sent_to (rest_of dictionary.now from) node)) }
+    ensures err { OnErr result (part_in pass.old ≡ None → ⊥) }
+{
+    let mut i = from;
+    while i < dictionary.len() {
+        let (array, place) = dictionary.value(i);
+        pass.take_sent(array, place, array.len(), node)?;
+        i += array.len() - place;
+    }
+    Ok(())
+}

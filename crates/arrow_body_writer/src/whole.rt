@@ -1,0 +1,69 @@
+//! Children that are sent whole: all slots that they have, and no others.
+
+ghost use Rattle.std.specs.Prelude.{◌≡◌, ◌↔◌, [], ◌∷◌, IfSome, IsTrue, length};
+ghost use Rattle.std.specs.List.{AllByRecursion};
+ghost use Rattle.arrow_data.specs.Column.{Column};
+ghost use Rattle.arrow_data.specs.FullSlots.{AreFull};
+ghost use Rattle.arrow_body_writer.specs.Whole.{AreSentWhole};
+
+use crate::slots::items;
+use arrow_data::Array;
+
+// Whether no slot is null.
+fn is_full(array: &Array) -> bool
+    ensures { IsTrue result ↔ AreFull array.now 0 (length array.now.raw) }
+{
+    array.first_null(0, array.len()) == array.len()
+}
+
+// Whether each of the arrays has just so many slots.
+fn are_as_long(arrays: &[Array], len: usize) -> bool
+    ensures { IsTrue result ↔ AllByRecursion (λ (c : Column). length c.raw ≡ len) arrays.now }
+{
+    for array in arrays {
+        if array.len() != len {
+            return false;
+        }
+    }
+    true
+}
+
+// The child of lists of which none is null, where their items are all slots of it (Columnar Format,
+// "Variable-size List Layout").
+fn whole_items(array: &Array) -> Option<&Array>
+    ensures { IfSome result (λ child. AreSentWhole array.now (child.now ∷ [])) }
+{
+    let own = array.items()?;
+    if !is_full(array) {
+        return None;
+    }
+    match items(array, 0, array.len()) {
+        Some((first, last, child)) if first == 0 && last == child.len() => Some(child),
+        None if own.len() == 0 => Some(own),
+        Some(_) | None => None,
+    }
+}
+
+// The children of structs of which none is null, where they have no more slots than there are
+// structs (Columnar Format, "Struct Layout").
+fn whole_fields(array: &Array) -> Option<&[Array]>
+    ensures { IfSome result (λ children. AreSentWhole array.now children.now) }
+{
+    let children = array.fields()?;
+    if is_full(array) && are_as_long(children, array.len()) {
+        Some(children)
+    } else {
+        None
+    }
+}
+
+// The children of lists or structs, where each is sent just its own slots: so it can be laid out as
+// a column by itself. None of other arrays.
+pub(crate) fn whole_below(array: &Array) -> Option<&[Array]>
+    ensures { IfSome result (λ children. AreSentWhole array.now children.now) }
+{
+    match whole_items(array) {
+        Some(child) => Some(std::slice::from_ref(child)),
+        None => whole_fields(array),
+    }
+}

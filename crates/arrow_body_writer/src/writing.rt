@@ -1,0 +1,269 @@
+//! A buffer on its way into the body, slot by slot.
+
+ghost use Rattle.std.specs.Prelude.{◌≡◌, ◌<◌, ◌≤◌, ◌+◌, ◌++◌, [], ◌∷◌, List, ℕ, IfOk, IfSome, OnOk, length, replicate};
+ghost use Rattle.std.specs.List.{AllByRecursion};
+ghost use Rattle.arrow_bits.specs.Numbers.{number_bytes};
+ghost use Rattle.arrow_data.specs.Column.{values_from};
+ghost use Rattle.arrow_data.specs.Form.{offset_bytes};
+ghost use Rattle.arrow_data.specs.FullSlots.{AreFull};
+ghost use Rattle.arrow_data.specs.PlainValue.{PlainValue, null_value, value_at};
+ghost use Rattle.arrow_body_laws.specs.Raws.{fixed_in, greatest_offset};
+ghost use Rattle.arrow_body_writer.specs.Part.{HasNextOffset, HasRoom, IsTold, IsWritten, part_bytes};
+ghost use Rattle.arrow_body_writer.specs.Runs.{ArePieces};
+
+use crate::packing::Pending;
+use crate::part::{Part, greatest_offset, number_width, offset_bytes};
+use crate::slots::{fixed, numbers, put_number, put_string, span, string, strings, truth};
+use arrow_bits::put_int;
+use arrow_data::Array;
+use arrow_data::form::OffsetWidth;
+use std::alloc::AllocError;
+
+// The bytes so far; of a buffer of bits those of its last byte, of a buffer of offsets the last.
+#[derive(Drop)]
+pub(crate) struct Writing {
+    pub(crate) out: Vec<u8>,
+    pub(crate) pending: Pending,
+    pub(crate) end: u64,
+}
+
+// Appends zero bytes.
+pub(crate) fn put_zeros(out: &mut Vec<u8>, count: usize) -> Result<(), AllocError>
+    ensures { OnOk result (out.new.items ≡ out.old.items ++ replicate count 0) }
+{
+    for _k in 0..count {
+        out.push(0)?;
+    }
+    Ok(())
+}
+
+// Appends bytes.
+fn put_bytes(out: &mut Vec<u8>, bytes: &[u8]) -> Result<(), AllocError>
+    ensures { OnOk result (out.new.items ≡ out.old.items ++ bytes.now) }
+{
+    out.extend_from_slice(bytes)
+}
+
+// Appends the bytes of the slot's byte string, which is of this width, zero bytes under a null.
+pub(crate) fn put_fixed(
+    out: &mut Vec<u8>,
+    width: u32,
+    array: &Array,
+    i: usize,
+) -> Result<(), AllocError>
+    requires { i < length array.now.raw }
+    ensures { OnOk result (out.new.items
+        ≡ out.old.items ++ fixed_in width (value_at array.now.raw i)) }
+{
+    match array.bytes_at(i) {
+        Some(bytes) => out.extend_from_slice(bytes),
+        None => put_zeros(out, width as usize),
+    }
+}
+
+// The bytes that the slots of a range are in the buffer, of which none is null, where they lie so
+// in the array; None where they do not.
+fn pieces(part: Part, array: &Array, start: usize, stop: usize) -> Option<&[u8]>
+    requires order { start ≤ stop }
+    requires inside { stop ≤ length array.now.raw }
+    requires full { AreFull array.now start stop }
+    ensures { IfSome result (λ bytes.
+        ArePieces part (values_from array.now.raw start stop) bytes.now) }
+{
+    match part {
+        Part::Numbers(bits) => numbers(array, bits, start, stop),
+        Part::Strings => Some(strings(array, start, stop)),
+        Part::FixedBytes(width) => fixed(array, width, start, stop),
+        Part::Validity | Part::Truths | Part::StringOffsets(_) | Part::ListOffsets(_) => None,
+    }
+}
+
+// What is kept of offsets at the next end, so many on.
+fn next_end(width: OffsetWidth, end: u64, len: usize) -> u64
+    ensures known { result ≤ greatest_offset width }
+    ensures same { end + len ≤ greatest_offset width → result ≡ end + len }
+{
+    let greatest = greatest_offset(width);
+    let next = end.saturating_add(len as u64);
+    if next < greatest { next } else { greatest }
+}
+
+// Appends an offset.
+fn put_offset(out: &mut Vec<u8>, width: OffsetWidth, offset: u64) -> Result<(), AllocError>
+    requires { offset ≤ greatest_offset width }
+    ensures { OnOk result (out.new.items
+        ≡ out.old.items ++ number_bytes (offset_bytes width) offset) }
+{
+    put_int(out, offset_bytes(width), i128::from(offset))
+}
+
+impl Writing {
+    // Begins the buffer after what stands there: of offsets the first is 0.
+    pub(crate) fn begin(&mut self, part: Part) -> Result<(), AllocError>
+        ensures { OnOk result (IsWritten part self.old.out.items [] self.new) }
+    {
+        self.pending = Pending::new();
+        self.end = 0;
+        match part {
+            Part::StringOffsets(width) | Part::ListOffsets(width) => {
+                put_offset(&mut self.out, width, 0)
+            }
+            Part::Validity
+            | Part::Truths
+            | Part::Numbers(_)
+            | Part::Strings
+            | Part::FixedBytes(_) => Ok(()),
+        }
+    }
+
+    // Appends the next offset, so many on.
+    fn put_end(&mut self, width: OffsetWidth, len: usize) -> Result<(), AllocError>
+        ensures { OnOk result (HasNextOffset width len self.old self.new) }
+    {
+        self.end = next_end(width, self.end, len);
+        put_offset(&mut self.out, width, self.end)
+    }
+
+    // Adds what the slot is in the buffer.
+    pub(crate) fn put(&mut self, part: Part, array: &Array, i: usize) -> Result<(), AllocError>
+        requires inside { i < length array.now.raw }
+        requires room { HasRoom part (value_at array.now.raw i) }
+        ensures { OnOk result ((before : List ℕ) (vs : List PlainValue)
+            → IsWritten part before vs self.old
+            → IsWritten part before (vs ++ value_at array.now.raw i ∷ []) self.new) }
+    {
+        match part {
+            Part::Validity => self.pending.push(&mut self.out, !array.is_null(i)),
+            Part::Truths => self.pending.push(&mut self.out, truth(array, i)),
+            Part::Numbers(bits) => put_number(&mut self.out, number_width(bits), array, i),
+            Part::StringOffsets(width) => self.put_end(width, string(array, i).len()),
+            Part::ListOffsets(width) => self.put_end(width, span(array, i)),
+            Part::Strings => put_string(&mut self.out, array, i),
+            Part::FixedBytes(width) => put_fixed(&mut self.out, width, array, i),
+        }
+    }
+
+    // Adds what a null is in the buffer.
+    pub(crate) fn put_null(&mut self, part: Part) -> Result<(), AllocError>
+        ensures { OnOk result ((before : List ℕ) (vs : List PlainValue)
+            → IsWritten part before vs self.old
+            → IsWritten part before (vs ++ null_value ∷ []) self.new) }
+    {
+        match part {
+            Part::Validity | Part::Truths => self.pending.push(&mut self.out, false),
+            Part::Numbers(bits) => put_int(&mut self.out, number_width(bits), 0),
+            Part::StringOffsets(width) | Part::ListOffsets(width) => self.put_end(width, 0),
+            Part::Strings => Ok(()),
+            Part::FixedBytes(width) => put_zeros(&mut self.out, width as usize),
+        }
+    }
+
+    // Ends the buffer: of bits the last byte is appended.
+    pub(crate) fn finish(&mut self, part: Part) -> Result<(), AllocError>
+        ensures { OnOk result ((before : List ℕ) (vs : List PlainValue)
+            → IsWritten part before vs self.old → IsTold part vs
+            → self.new.out.items ≡ before ++ part_bytes part vs) }
+    {
+        match part {
+            Part::Validity | Part::Truths => self.pending.finish(&mut self.out),
+            Part::Numbers(_)
+            | Part::StringOffsets(_)
+            | Part::ListOffsets(_)
+            | Part::Strings
+            | Part::FixedBytes(_) => Ok(()),
+        }
+    }
+
+    // Adds what the slots of a range are in the buffer, one by one.
+    fn put_each(
+        &mut self,
+        part: Part,
+        array: &Array,
+        start: usize,
+        stop: usize,
+    ) -> Result<(), AllocError>
+        requires order { start ≤ stop }
+        requires inside { stop ≤ length array.now.raw }
+        requires room { AllByRecursion (HasRoom part) (values_from array.now.raw start stop) }
+        ensures { OnOk result ((before : List ℕ) (vs : List PlainValue)
+            → IsWritten part before vs self.old
+            → IsWritten part before (vs ++ values_from array.now.raw start stop) self.new) }
+    {
+        for i in start..stop {
+            self.put(part, array, i)?;
+        }
+        Ok(())
+    }
+
+    // Adds what the slots of a range are in the buffer, of which none is null: they are copied
+    // where they lie as they are to be written.
+    fn put_full(
+        &mut self,
+        part: Part,
+        array: &Array,
+        start: usize,
+        stop: usize,
+    ) -> Result<(), AllocError>
+        requires order { start ≤ stop }
+        requires inside { stop ≤ length array.now.raw }
+        requires full { AreFull array.now start stop }
+        requires room { AllByRecursion (HasRoom part) (values_from array.now.raw start stop) }
+        ensures { OnOk result ((before : List ℕ) (vs : List PlainValue)
+            → IsWritten part before vs self.old
+            → IsWritten part before (vs ++ values_from array.now.raw start stop) self.new) }
+    {
+        match pieces(part, array, start, stop) {
+            Some(bytes) => put_bytes(&mut self.out, bytes),
+            None => self.put_each(part, array, start, stop),
+        }
+    }
+
+    // Adds what the slots of a range up to the first null and that one are in the buffer, and tells
+    // where the next one is.
+    fn put_run(
+        &mut self,
+        part: Part,
+        array: &Array,
+        start: usize,
+        stop: usize,
+    ) -> Result<usize, AllocError>
+        requires order { start < stop }
+        requires inside { stop ≤ length array.now.raw }
+        requires room { AllByRecursion (HasRoom part) (values_from array.now.raw start stop) }
+        ensures next { IfOk result (λ next. (start < next) × (next ≤ stop)) }
+        ensures written { IfOk result (λ next. (before : List ℕ) (vs : List PlainValue)
+            → IsWritten part before vs self.old
+            → IsWritten part before (vs ++ values_from array.now.raw start next) self.new) }
+    {
+        let end = array.first_null(start, stop);
+        self.put_full(part, array, start, end)?;
+        if end < stop {
+            self.put_null(part)?;
+            Ok(end + 1)
+        } else {
+            Ok(end)
+        }
+    }
+
+    // Adds what the slots of a range are in the buffer.
+    pub(crate) fn put_slots(
+        &mut self,
+        part: Part,
+        array: &Array,
+        start: usize,
+        stop: usize,
+    ) -> Result<(), AllocError>
+        requires order { start ≤ stop }
+        requires inside { stop ≤ length array.now.raw }
+        requires room { AllByRecursion (HasRoom part) (values_from array.now.raw start stop) }
+        ensures { OnOk result ((before : List ℕ) (vs : List PlainValue)
+            → IsWritten part before vs self.old
+            → IsWritten part before (vs ++ values_from array.now.raw start stop) self.new) }
+    {
+        let mut i = start;
+        while i < stop {
+            i = self.put_run(part, array, i, stop)?;
+        }
+        Ok(())
+    }
+}

@@ -1,5 +1,0 @@
-use Rattle.arrow_body_written.proofs.Raised.{hold_raws}
-use Rattle.arrow_body_written.proofs.laws.columns_hold_raws.Goals as goal
-
-pub returns : goal.returns
-returns c = hold_raws

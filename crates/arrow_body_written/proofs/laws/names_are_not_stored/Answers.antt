@@ -1,5 +1,0 @@
-use Rattle.arrow_body_written.proofs.Named.{same_body}
-use Rattle.arrow_body_written.proofs.laws.names_are_not_stored.Goals as goal
-
-pub returns : goal.returns
-returns c = same_body

@@ -1,5 +1,0 @@
-use Rattle.arrow_body_written.proofs.Single.{one_tidy_body}
-use Rattle.arrow_body_written.proofs.laws.one_body.Goals as goal
-
-pub returns : goal.returns
-returns c = one_tidy_body

@@ -1,0 +1,182 @@
+-- Nodes of structs and of lists with the same slots, and with one more.
+use Rattle.std.proofs.Common.{◌≡◌, ℕ, ◌+◌, ◌*◌, ◌<◌, ◌≤◌, List, [], ◌∷◌, ◌++◌, length, map, take, get_or, ap, sym, ◌∙◌, subst, arith, Option, None}
+use Rattle.std.specs.Prelude.{not}
+use Rattle.std.specs.List.{AllByRecursion}
+use Rattle.std.proofs.lemmas.List.{length-map, take_all}
+use Rattle.arrow_types.specs.Field.{Fields}
+use Rattle.arrow_types.specs.View.{field_view}
+use Rattle.arrow_types.specs.declared.field.Encoding.{Encoding}
+use Rattle.arrow_data.specs.Fits.{Fits, PartsFit}
+use Rattle.arrow_data.specs.Layout.{child_count}
+use Rattle.arrow_data.specs.Parts.{value_slot}
+use Rattle.arrow_data.specs.PlainValue.{PlainValue, PlainValues, is_null_value, field_value, struct_value, value_at, values_of}
+use Rattle.arrow_data.specs.Same.{Begins}
+use Rattle.arrow_data.specs.Slots.{is_valid_at, list_slot, place_of, struct_slot}
+use Rattle.arrow_data.proofs.Shown.{length_slots}
+use Rattle.arrow_data.specs.declared.form.Form.TheVariants as forms
+use Rattle.arrow_data.specs.declared.form.OffsetWidth.{OffsetWidth}
+use Rattle.arrow_builder.specs.Buffers.{buffers_in}
+use Rattle.arrow_builder.specs.Built.{Built, AreBelow, counts_in, cut_to, fields_in, items_of, raws_in, with_parts, with_value, with_values}
+use Rattle.arrow_builder.specs.Columns.{AreHeld, all_items, child_column}
+use Rattle.arrow_builder.specs.Fields.{FitsField, field_form}
+use Rattle.arrow_builder.specs.Kept.{CountsItems, Keeps, KeepsParts, KeepsRanges, KeepsStructs}
+use Rattle.arrow_builder.specs.Nodes.{IsNode, built_of, slot_in}
+use Rattle.arrow_builder.specs.Puts.{PutsBit, PutsSlot, PutsValid, StayPlaces, StaySlots}
+use Rattle.arrow_builder.specs.declared.node.Node.TheInside.{Inside}
+use Rattle.arrow_builder.proofs.Held.{begins_self, counted_grows, held_cut, held_struct, items_grown}
+use Rattle.arrow_builder.proofs.Listed.{lists_put, lists_stay, plain_list, plain_struct, struct_in_slot}
+use Rattle.arrow_builder.proofs.Nested.{counts_long, fields_by_cut, long_counts, parts_cut, parts_long, row_by_cut, row_of_parts, slots_by_cut}
+use Rattle.arrow_builder.proofs.NodeSlots.{next, node_grows, node_stays}
+use Rattle.arrow_builder.proofs.Putting.{or_null_same, valid_put, valid_stays}
+
+-- what a node of structs keeps
+pub kept_structs : (a : Inside) → field_form (field_view a.field) ≡ forms.Structs → IsNode a → KeepsStructs a.len a.buffers.validity.items (counts_in a.children.items)
+kept_structs a form ok = subst (λ f. Keeps f a.len (buffers_in a.buffers) (counts_in a.children.items)) form ok.kept
+
+-- its children are those of its field
+pub children_are : (a : Inside) → field_form (field_view a.field) ≡ forms.Structs → IsNode a → fields_in a.children.items ≡ (field_view a.field).children
+children_are a form ok =
+    subst (λ e. AreBelow e (field_view a.field).children a.children.items) (plain_struct (field_view a.field).head.tag (field_view a.field).head.encoding form) ok.below
+
+-- columns of the same fields are below the same field
+below_same : (e : Option Encoding) (fields : Fields) (old new : List Built) → e ≡ None → AreBelow e fields old → fields_in new ≡ fields_in old → AreBelow e fields new
+below_same e fields old new plain below same =
+    subst (λ e. AreBelow e fields new) (sym plain) (same ∙ subst (λ e. AreBelow e fields old) plain below)
+
+-- the columns of its children are as long as its own
+struct_short : (a : Inside) (j : ℕ) → length (map (field_value j) (built_of a).raw) ≤ a.len
+struct_short a j = omega (arith, length-map (built_of a).raw (field_value j), length_slots a.len (slot_in a))
+
+-- the same structs
+pub struct_stays : (a b : Inside) → field_form (field_view a.field) ≡ forms.Structs → IsNode a → a.len ≤ 8 * length b.buffers.validity.items
+    → ((j : ℕ) → j < a.len → is_valid_at b.buffers.validity.items j ≡ is_valid_at a.buffers.validity.items j) → map (cut_to a.len) b.children.items ≡ map (cut_to a.len) a.children.items
+    → IsNode (next a a.len b) × (built_of (next a a.len b) ≡ built_of a)
+struct_stays a b form ok bits valid cut =
+    let kept = kept_structs a form ok in
+    let there = slots_by_cut a.len b.children.items a.children.items cut (long_counts a.len a.children.items kept.longer) in
+    let plain = plain_struct (field_view a.field).head.tag (field_view a.field).head.encoding form in
+    let keeps : KeepsStructs a.len b.buffers.validity.items (counts_in b.children.items) = record { bits = bits; longer = counts_long a.len b.children.items there } in
+    let stay : StaySlots a.len (λ j. struct_slot a.buffers.validity.items (raws_in a.children.items) j) (λ j. struct_slot b.buffers.validity.items (raws_in b.children.items) j) =
+    λ j h. or_null_same a.buffers.validity.items b.buffers.validity.items j (struct_value (values_of (map (λ values. value_at values j) (raws_in a.children.items))))
+    (struct_value (values_of (map (λ values. value_at values j) (raws_in b.children.items)))) (valid j h)
+    (ap (λ row. struct_value (values_of row)) (row_by_cut a.len j b.children.items a.children.items cut h)) in
+    node_stays a b ok (subst (λ f. Keeps f a.len (buffers_in b.buffers) (counts_in b.children.items)) (sym form) keeps)
+    (below_same (field_view a.field).head.encoding (field_view a.field).children a.children.items b.children.items plain ok.below (fields_by_cut a.len b.children.items a.children.items cut))
+    (subst (λ f. StaySlots a.len (value_slot f (buffers_in a.buffers) (raws_in a.children.items)) (value_slot f (buffers_in b.buffers) (raws_in b.children.items))) (sym form) stay)
+    (held_cut (field_form (field_view a.field)) 0 a.len (built_of a).raw b.children.items a.children.items (subst (λ f. (j : ℕ) → length (child_column f j (built_of a).raw) ≤ a.len) (sym form) (λ j. struct_short a j)) cut ok.held)
+    (subst (λ f. CountsItems f a.len (buffers_in b.buffers) (built_of a).raw) (sym form) tt)
+
+-- the values of a struct that fits
+parts_fit : (fields : Fields) (v : PlainValue) (ws : PlainValues) → Fits forms.Structs fields v → v ≡ struct_value ws → PartsFit fields ws
+parts_fit fields v ws fits is = (subst (Fits forms.Structs fields) is fits).1
+
+-- one struct more
+pub struct_grows : (a b : Inside) (v : PlainValue) → field_form (field_view a.field) ≡ forms.Structs → a.len < 2147483647 → IsNode a → FitsField (field_view a.field) v
+    → PutsBit a.len (not (is_null_value v)) a.buffers.validity.items b.buffers.validity.items → b.children.items ≡ with_parts 0 a.len a.children.items v
+    → IsNode (next a (a.len + 1) b) × (built_of (next a (a.len + 1) b) ≡ with_value (built_of a) v)
+struct_grows a b v form few ok fits bit parts =
+    let at = a.len in
+    let kept = kept_structs a form ok in
+    let there = long_counts at a.children.items kept.longer in
+    let plain = plain_struct (field_view a.field).head.tag (field_view a.field).head.encoding form in
+    let below : fields_in a.children.items ≡ (field_view a.field).children = subst (λ e. AreBelow e (field_view a.field).children a.children.items) plain ok.below in
+    let fit : Fits forms.Structs (field_view a.field).children v = subst (λ f. Fits f (field_view a.field).children v) form fits in
+    let cut : map (cut_to at) b.children.items ≡ map (cut_to at) a.children.items = ap (map (cut_to at)) parts ∙ parts_cut 0 at a.children.items v there in
+    let keeps : KeepsStructs (at + 1) b.buffers.validity.items (counts_in b.children.items) =
+    record { bits = bit.long; longer = subst (λ bs. AllByRecursion (λ count. at + 1 ≤ count) (counts_in bs)) (sym parts) (parts_long 0 at a.children.items v there) } in
+    let row : (ws : PlainValues) → v ≡ struct_value ws → values_of (map (λ values. value_at values at) (raws_in b.children.items)) ≡ ws =
+    λ ws is. ap (λ bs. values_of (map (λ values. value_at values at) (raws_in bs))) parts
+    ∙ row_of_parts 0 at a.children.items v ws (λ i. let here : 0 + i ≡ i = omega arith in ap (λ m. field_value m v) here ∙ ap (field_value i) is)
+    (subst (λ f. PartsFit f ws) (sym below) (parts_fit (field_view a.field).children v ws fit is)) there in
+    let puts : PutsSlot at v (λ j. struct_slot a.buffers.validity.items (raws_in a.children.items) j) (λ j. struct_slot b.buffers.validity.items (raws_in b.children.items) j) =
+    record {
+      same = λ j h. or_null_same a.buffers.validity.items b.buffers.validity.items j (struct_value (values_of (map (λ values. value_at values j) (raws_in a.children.items))))
+          (struct_value (values_of (map (λ values. value_at values j) (raws_in b.children.items))))
+          (valid_stays at (not (is_null_value v)) a.buffers.validity.items b.buffers.validity.items kept.bits bit j h)
+          (ap (λ row. struct_value (values_of row)) (row_by_cut at j b.children.items a.children.items cut h));
+      put = struct_in_slot v (field_view a.field).children b.buffers.validity.items at (values_of (map (λ values. value_at values at) (raws_in b.children.items))) fit
+          (valid_put at (not (is_null_value v)) a.buffers.validity.items b.buffers.validity.items bit) row;
+    } in
+    node_grows a b v few ok fits (subst (λ f. Keeps f (at + 1) (buffers_in b.buffers) (counts_in b.children.items)) (sym form) keeps)
+    (below_same (field_view a.field).head.encoding (field_view a.field).children a.children.items b.children.items plain ok.below (fields_by_cut at b.children.items a.children.items cut))
+    (subst (λ f. PutsSlot at v (value_slot f (buffers_in a.buffers) (raws_in a.children.items)) (value_slot f (buffers_in b.buffers) (raws_in b.children.items))) (sym form) puts)
+    (subst (λ f. AreHeld f 0 ((built_of a).raw ++ v ∷ []) b.children.items) (sym form)
+    (subst (AreHeld forms.Structs 0 ((built_of a).raw ++ v ∷ [])) (sym parts) (held_struct 0 at (built_of a).raw a.children.items v (length_slots at (slot_in a)) (subst (λ f. AreHeld f 0 (built_of a).raw a.children.items) form ok.held))))
+    (subst (λ f. CountsItems f (at + 1) (buffers_in b.buffers) ((built_of a).raw ++ v ∷ [])) (sym form) tt)
+
+-- what a node of lists keeps
+pub kept_lists : (a : Inside) (width : OffsetWidth) (child : Built) → field_form (field_view a.field) ≡ forms.Lists width → a.children.items ≡ child ∷ [] → IsNode a
+    → KeepsParts width a.len (length child.raw) a.buffers.validity.items a.buffers.values.items
+kept_lists a width child form only ok =
+    subst (λ bs. KeepsParts width a.len (child_count (counts_in bs)) a.buffers.validity.items a.buffers.values.items) only
+    (subst (λ f. Keeps f a.len (buffers_in a.buffers) (counts_in a.children.items)) form ok.kept)
+
+-- its offsets count the items
+list_counts : (a : Inside) (width : OffsetWidth) → field_form (field_view a.field) ≡ forms.Lists width → IsNode a
+    → (j : ℕ) → j ≤ a.len → place_of width a.buffers.values.items j ≡ length (all_items (take j (built_of a).raw))
+list_counts a width form ok = subst (λ f. CountsItems f a.len (buffers_in a.buffers) (built_of a).raw) form ok.counted
+
+-- the last of them counts all
+pub list_count : (a : Inside) (width : OffsetWidth) → field_form (field_view a.field) ≡ forms.Lists width → IsNode a
+    → place_of width a.buffers.values.items a.len ≡ length (all_items (built_of a).raw)
+list_count a width form ok =
+    list_counts a width form ok a.len (omega arith) ∙ ap (λ vs. length (all_items vs)) (take_all a.len (built_of a).raw (omega (arith, length_slots a.len (slot_in a))))
+
+-- the same lists
+pub list_stays : (a b : Inside) (width : OffsetWidth) (child child' : Built) → field_form (field_view a.field) ≡ forms.Lists width → a.children.items ≡ child ∷ [] → b.children.items ≡ child' ∷ [] → IsNode a
+    → cut_to (place_of width a.buffers.values.items a.len) child' ≡ cut_to (place_of width a.buffers.values.items a.len) child
+    → KeepsRanges width a.len b.buffers.validity.items b.buffers.values.items
+    → ((j : ℕ) → j < a.len → is_valid_at b.buffers.validity.items j ≡ is_valid_at a.buffers.validity.items j) → StayPlaces width a.len a.buffers.values.items b.buffers.values.items
+    → place_of width a.buffers.values.items a.len ≤ length child'.raw
+    → IsNode (next a a.len b) × (built_of (next a a.len b) ≡ built_of a)
+list_stays a b width child child' form only only' ok cut ranges valid same long =
+    let at = a.len in
+    let start = place_of width a.buffers.values.items at in
+    let kept = kept_lists a width child form only ok in
+    let plain = (plain_list (field_view a.field).head.tag (field_view a.field).head.encoding width form).0 in
+    let keeps : KeepsParts width at (length child'.raw) b.buffers.validity.items b.buffers.values.items = record { ranges = ranges; inside = rw (same at (omega arith)) long } in
+    let fields : fields_in b.children.items ≡ fields_in a.children.items = ap fields_in only' ∙ ap (λ (c : Built). fields_in (c ∷ [])) cut ∙ sym (ap fields_in only) in
+    let stay = lists_stay width at a.buffers.validity.items b.buffers.validity.items a.buffers.values.items b.buffers.values.items child.raw child'.raw kept.ranges valid same (ap (λ (c : Built). c.raw) cut) in
+    node_stays a b ok
+    (subst (λ f. Keeps f at (buffers_in b.buffers) (counts_in b.children.items)) (sym form)
+    (subst (λ bs. KeepsParts width at (child_count (counts_in bs)) b.buffers.validity.items b.buffers.values.items) (sym only') keeps))
+    (below_same (field_view a.field).head.encoding (field_view a.field).children a.children.items b.children.items plain ok.below fields)
+    (subst (λ f. StaySlots at (value_slot f (buffers_in a.buffers) (raws_in a.children.items)) (value_slot f (buffers_in b.buffers) (raws_in b.children.items))) (sym form)
+    (subst (λ bs. StaySlots at (λ j. list_slot width a.buffers.validity.items a.buffers.values.items (get_or (raws_in bs) 0 []) j) (λ j. list_slot width b.buffers.validity.items b.buffers.values.items (get_or (raws_in b.children.items) 0 []) j)) (sym only)
+    (subst (λ bs. StaySlots at (λ j. list_slot width a.buffers.validity.items a.buffers.values.items child.raw j) (λ j. list_slot width b.buffers.validity.items b.buffers.values.items (get_or (raws_in bs) 0 []) j)) (sym only') stay)))
+    (held_cut (field_form (field_view a.field)) 0 start (built_of a).raw b.children.items a.children.items
+    (subst (λ f. (j : ℕ) → length (child_column f j (built_of a).raw) ≤ start) (sym form) (λ j. omega (arith, list_count a width form ok)))
+    (ap (map (cut_to start)) only' ∙ ap (λ (c : Built). c ∷ []) cut ∙ sym (ap (map (cut_to start)) only)) ok.held)
+    (subst (λ f. CountsItems f at (buffers_in b.buffers) (built_of a).raw) (sym form) (λ j h. same j h ∙ list_counts a width form ok j h))
+
+-- one list more
+pub list_grows : (a b : Inside) (width : OffsetWidth) (child child' : Built) (v : PlainValue) (values : List PlainValue) → field_form (field_view a.field) ≡ forms.Lists width → a.children.items ≡ child ∷ [] → b.children.items ≡ child' ∷ []
+    → a.len < 2147483647 → IsNode a → FitsField (field_view a.field) v
+    → child' ≡ with_values (cut_to (place_of width a.buffers.values.items a.len) child) values → values_of values ≡ items_of v
+    → KeepsRanges width (a.len + 1) b.buffers.validity.items b.buffers.values.items → place_of width b.buffers.values.items (a.len + 1) ≡ length child'.raw
+    → PutsValid a.len (not (is_null_value v)) a.buffers.validity.items b.buffers.validity.items → StayPlaces width a.len a.buffers.values.items b.buffers.values.items
+    → IsNode (next a (a.len + 1) b) × (built_of (next a (a.len + 1) b) ≡ with_value (built_of a) v)
+list_grows a b width child child' v values form only only' few ok fits grown items ranges end valid same =
+    let at = a.len in
+    let start = place_of width a.buffers.values.items at in
+    let kept = kept_lists a width child form only ok in
+    let plain = (plain_list (field_view a.field).head.tag (field_view a.field).head.encoding width form).0 in
+    let fit : Fits (forms.Lists width) (field_view a.field).children v = subst (λ f. Fits f (field_view a.field).children v) form fits in
+    let keeps : KeepsParts width (at + 1) (length child'.raw) b.buffers.validity.items b.buffers.values.items = record { ranges = ranges; inside = omega (arith, end) } in
+    let fields : fields_in b.children.items ≡ fields_in a.children.items = ap fields_in only' ∙ ap (λ (c : Built). fields_in (c ∷ [])) grown ∙ sym (ap fields_in only) in
+    let raw : child'.raw ≡ take start child.raw ++ values = ap (λ (c : Built). c.raw) grown in
+    let held : AreHeld (forms.Lists width) 0 (built_of a).raw (child ∷ []) = subst (AreHeld (forms.Lists width) 0 (built_of a).raw) only (subst (λ f. AreHeld f 0 (built_of a).raw a.children.items) form ok.held) in
+    let whole : child'.raw ≡ all_items ((built_of a).raw ++ v ∷ []) = raw ∙ items_grown start (built_of a).raw child.raw values v (list_count a width form ok) held.0 items in
+    let puts = lists_put width at (field_view a.field).children v a.buffers.validity.items b.buffers.validity.items a.buffers.values.items b.buffers.values.items child.raw values kept.ranges valid same kept.inside
+    (end ∙ ap (λ xs. length xs) raw) fit items in
+    node_grows a b v few ok fits
+    (subst (λ f. Keeps f (at + 1) (buffers_in b.buffers) (counts_in b.children.items)) (sym form)
+    (subst (λ bs. KeepsParts width (at + 1) (child_count (counts_in bs)) b.buffers.validity.items b.buffers.values.items) (sym only') keeps))
+    (below_same (field_view a.field).head.encoding (field_view a.field).children a.children.items b.children.items plain ok.below fields)
+    (subst (λ f. PutsSlot at v (value_slot f (buffers_in a.buffers) (raws_in a.children.items)) (value_slot f (buffers_in b.buffers) (raws_in b.children.items))) (sym form)
+    (subst (λ bs. PutsSlot at v (λ j. list_slot width a.buffers.validity.items a.buffers.values.items (get_or (raws_in bs) 0 []) j) (λ j. list_slot width b.buffers.validity.items b.buffers.values.items (get_or (raws_in b.children.items) 0 []) j)) (sym only)
+    (subst (λ bs. PutsSlot at v (λ j. list_slot width a.buffers.validity.items a.buffers.values.items child.raw j) (λ j. list_slot width b.buffers.validity.items b.buffers.values.items (get_or (raws_in bs) 0 []) j)) (sym only')
+    (subst (λ xs. PutsSlot at v (λ j. list_slot width a.buffers.validity.items a.buffers.values.items child.raw j) (λ j. list_slot width b.buffers.validity.items b.buffers.values.items xs j)) (sym raw) puts))))
+    (subst (λ f. AreHeld f 0 ((built_of a).raw ++ v ∷ []) b.children.items) (sym form) (subst (AreHeld (forms.Lists width) 0 ((built_of a).raw ++ v ∷ [])) (sym only') (subst (Begins (all_items ((built_of a).raw ++ v ∷ []))) (sym whole) (begins_self (all_items ((built_of a).raw ++ v ∷ []))), tt)))
+    (subst (λ f. CountsItems f (at + 1) (buffers_in b.buffers) ((built_of a).raw ++ v ∷ [])) (sym form)
+    (counted_grows width at a.buffers.values.items b.buffers.values.items (built_of a).raw v (length_slots at (slot_in a)) (list_counts a width form ok) same (end ∙ ap (λ xs. length xs) whole)))

@@ -1,0 +1,43 @@
+-- The columns of all nodes of a field, by the raw values of its own: what each child has in its slots (Columnar Format,
+-- "Variable-size List Layout" and "Struct Layout").
+use Rattle.std.specs.Prelude.{◌+◌, ℕ, List, [], ◌∷◌, ◌++◌, map, ⊤}
+use Rattle.arrow_types.specs.Field.{Fields, FieldShape, Head, none, more}
+use Rattle.arrow_data.specs.Form.{node_form}
+use Rattle.arrow_data.specs.PlainValue.{PlainValue, list_of_values, field_value}
+use Rattle.arrow_data.specs.Same.{Begins}
+use Rattle.arrow_data.specs.declared.form.Form.{Form}
+use Rattle.arrow_data.specs.declared.form.Form.TheVariants as forms
+use Rattle.arrow_builder.specs.Built.{Built, items_of}
+use Rattle.arrow_builder.specs.Fields.{field_form}
+
+-- the items of all lists, one list after another
+abbrev pub all_items : List PlainValue → List PlainValue
+all_items [] = []
+all_items (value ∷ values) = list_of_values (items_of value) ++ all_items values
+
+-- The column of child k of a node of the form: of lists all their items, of structs the values of field k, with a null for a
+-- struct that is null. Other forms have no children.
+abbrev pub child_column : Form → ℕ → List PlainValue → List PlainValue
+child_column forms.Nulls k raw = []
+child_column forms.Bits k raw = []
+child_column (forms.Numbers bits signed) k raw = []
+child_column (forms.Bytes width) k raw = []
+child_column (forms.Texts width) k raw = []
+child_column (forms.FixedBytes width) k raw = []
+child_column (forms.Lists width) k raw = all_items raw
+child_column forms.Structs k raw = map (field_value k) raw
+
+-- the statement is true of the columns of these children, the first of them child k, and of all below them
+abbrev pub AllBelow : (Head → List PlainValue → Type 0) → Form → Fields → ℕ → List PlainValue → Type 0
+AllBelow P form none k raw = ⊤
+AllBelow P form (more head children rest) k raw =
+    P head (child_column form k raw) × AllBelow P (node_form head.tag head.encoding) children 0 (child_column form k raw) × AllBelow P form rest (k + 1) raw
+
+-- the statement is true of the column of a field, and of all below it
+abbrev pub AllNodes : (Head → List PlainValue → Type 0) → FieldShape → List PlainValue → Type 0
+AllNodes P field raw = P field.head raw × AllBelow P (field_form field) field.children 0 raw
+
+-- the children, the first of them child k, begin with their columns
+abbrev pub AreHeld : Form → ℕ → List PlainValue → List Built → Type 0
+AreHeld form k raw [] = ⊤
+AreHeld form k raw (b ∷ bs) = Begins (child_column form k raw) b.raw × AreHeld form (k + 1) raw bs

@@ -1,0 +1,63 @@
+-- The array of a column that was built: its raw values, with the dictionaries that are listed for its ids (Columnar Format,
+-- "Dictionary-encoded Layout").
+use Rattle.std.specs.Prelude.{◌≡◌, ℕ, ℤ, List, [], ◌∷◌, length, map, ⊤, Option, None, Some}
+use Rattle.std.specs.List.{AllByRecursion}
+use Rattle.arrow_types.specs.Field.{FieldShape, Head}
+use Rattle.arrow_types.specs.Schema.{DictionaryField, field_dictionaries}
+use Rattle.arrow_types.specs.declared.field.Encoding.{Encoding}
+use Rattle.arrow_data.specs.Column.{Column, ValueList}
+use Rattle.arrow_data.specs.Listed.{listed, values_by}
+use Rattle.arrow_data.specs.Parts.{IsOfType, type_of}
+use Rattle.arrow_data.specs.PlainValue.{PlainValue, null_value, bool_value, int_value, binary_value, utf8_value, list_value, struct_value}
+use Rattle.arrow_data.specs.Slots.{IsIndex}
+use Rattle.arrow_builder.specs.Built.{Built}
+use Rattle.arrow_builder.specs.Columns.{AllNodes}
+
+-- the dictionary that is listed first for a field's id, if there is one, has the type of the field's values
+abbrev pub IsTyped : List (ℤ × ValueList) → DictionaryField → Type 0
+IsTyped ds d = IsOfType d.value_type (listed ds d.id)
+
+-- so of the field and of all fields below it
+abbrev pub AreTyped : List (ℤ × ValueList) → FieldShape → Type 0
+AreTyped ds field = AllByRecursion (IsTyped ds) (field_dictionaries field)
+
+-- an index refers to one of `count` values; any other value refers to none
+abbrev pub RefersTo : ℕ → PlainValue → Type 0
+RefersTo count null_value = ⊤
+RefersTo count (bool_value b) = ⊤
+RefersTo count (int_value z) = IsIndex count z
+RefersTo count (binary_value bytes) = ⊤
+RefersTo count (utf8_value bytes) = ⊤
+RefersTo count (list_value items) = ⊤
+RefersTo count (struct_value parts) = ⊤
+
+-- the indices of a column with this encoding have their values
+abbrev pub HaveEntries : List (ℤ × ValueList) → Option Encoding → List PlainValue → Type 0
+HaveEntries ds None raw = ⊤
+HaveEntries ds (Some e) raw = AllByRecursion (RefersTo (length (values_by ds e.id))) raw
+
+-- those of the column of the field with this head
+abbrev pub IsIndexed : List (ℤ × ValueList) → Head → List PlainValue → Type 0
+IsIndexed ds head raw = HaveEntries ds head.encoding raw
+
+-- so of the column and of all columns below it
+abbrev pub AreIndexed : List (ℤ × ValueList) → Built → Type 0
+AreIndexed ds b = AllNodes (IsIndexed ds) b.field b.raw
+
+-- the dictionary of a field: the values that are listed for its id, of its type
+abbrev pub dictionary_by : List (ℤ × ValueList) → DictionaryField → ℤ × ValueList
+dictionary_by ds d = (d.id, record { data_type = d.value_type; values = values_by ds d.id })
+
+-- The array has the type, the encoding and the raw values, and for each dictionary-encoded field, in pre-order, its dictionary.
+pub record IsArrayOf (ds : List (ℤ × ValueList)) (b : Built) (c : Column) : Type 0 where
+  pub typed : c.data_type ≡ type_of b.field
+  pub encoded : c.encoding ≡ b.field.head.encoding
+  pub same : c.raw ≡ b.raw
+  pub listed : c.dictionaries ≡ map (dictionary_by ds) (field_dictionaries b.field)
+
+-- the arrays of columns, one of each
+abbrev pub AreArraysOf : List (ℤ × ValueList) → List Built → List Column → Type 0
+AreArraysOf ds [] [] = ⊤
+AreArraysOf ds [] (c ∷ cs) = ⊥
+AreArraysOf ds (b ∷ bs) [] = ⊥
+AreArraysOf ds (b ∷ bs) (c ∷ cs) = IsArrayOf ds b c × AreArraysOf ds bs cs

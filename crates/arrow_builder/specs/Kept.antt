@@ -1,0 +1,67 @@
+-- What the buffers of a node that grows have for its first `len` slots: what its form asks for, and always a validity bitmap
+-- (Columnar Format, "Physical Memory Layout").
+use Rattle.std.specs.Prelude.{◌≡◌, ◌≤◌, ◌<◌, ◌+◌, ◌-◌, ◌*◌, ◌^◌, ℕ, List, length, take, ⊤}
+use Rattle.std.specs.List.{AllByRecursion}
+use Rattle.arrow_data.specs.Form.{number_width, offset_bytes}
+use Rattle.arrow_data.specs.Layout.{buffer, child_count}
+use Rattle.arrow_data.specs.PlainValue.{PlainValue}
+use Rattle.arrow_data.specs.Slots.{place_of}
+use Rattle.arrow_data.specs.declared.form.Form.{Form}
+use Rattle.arrow_data.specs.declared.form.Form.TheVariants as forms
+use Rattle.arrow_data.specs.declared.form.OffsetWidth.{OffsetWidth}
+use Rattle.arrow_builder.specs.Columns.{all_items}
+
+-- there is a validity bit for each slot, and another one for its truth value
+pub record KeepsBools (len : ℕ) (validity values : List ℕ) : Type 0 where
+  pub bits : len ≤ 8 * length validity
+  pub long : len ≤ 8 * length values
+
+-- there is a validity bit for each slot, and `width` bytes
+pub record KeepsFixed (len width : ℕ) (validity values : List ℕ) : Type 0 where
+  pub bits : len ≤ 8 * length validity
+  pub long : width * len ≤ length values
+
+-- the least number that a signed offset is too narrow for
+abbrev pub offset_bound : OffsetWidth → ℕ
+offset_bound width = 2 ^ (8 * offset_bytes width - 1)
+
+-- there is a validity bit for each slot, and one offset more than there are slots: these begin at 0, none falls, and none
+-- is negative as a signed number (Columnar Format, "Variable-size Binary Layout")
+pub record KeepsRanges (width : OffsetWidth) (len : ℕ) (validity offsets : List ℕ) : Type 0 where
+  pub bits : len ≤ 8 * length validity
+  pub there : offset_bytes width * (len + 1) ≤ length offsets
+  pub zero : place_of width offsets 0 ≡ 0
+  pub never : (j : ℕ) → j < len → place_of width offsets j ≤ place_of width offsets (j + 1)
+  pub low : place_of width offsets len < offset_bound width
+
+-- the ranges are of `top` bytes, or of that many slots of a child
+pub record KeepsParts (width : OffsetWidth) (len top : ℕ) (validity offsets : List ℕ) : Type 0 where
+  pub ranges : KeepsRanges width len validity offsets
+  pub inside : place_of width offsets len ≤ top
+
+-- there is a validity bit for each slot, and each child has the slot
+pub record KeepsStructs (len : ℕ) (validity counts : List ℕ) : Type 0 where
+  pub bits : len ≤ 8 * length validity
+  pub longer : AllByRecursion (λ count. len ≤ count) counts
+
+-- the buffers of a node of the form, and its children by their numbers of slots
+abbrev pub Keeps : Form → ℕ → List (List ℕ) → List ℕ → Type 0
+Keeps forms.Nulls len b counts = ⊤
+Keeps forms.Bits len b counts = KeepsBools len (buffer b 0) (buffer b 1)
+Keeps (forms.Numbers bits signed) len b counts = KeepsFixed len (number_width bits) (buffer b 0) (buffer b 1)
+Keeps (forms.Bytes width) len b counts = KeepsParts width len (length (buffer b 2)) (buffer b 0) (buffer b 1)
+Keeps (forms.Texts width) len b counts = KeepsParts width len (length (buffer b 2)) (buffer b 0) (buffer b 1)
+Keeps (forms.FixedBytes width) len b counts = KeepsFixed len width (buffer b 0) (buffer b 1)
+Keeps (forms.Lists width) len b counts = KeepsParts width len (child_count counts) (buffer b 0) (buffer b 1)
+Keeps forms.Structs len b counts = KeepsStructs len (buffer b 0) counts
+
+-- offset j is the number of items of the first j lists (Columnar Format, "Variable-size List Layout"); of other forms nothing
+abbrev pub CountsItems : Form → ℕ → List (List ℕ) → List PlainValue → Type 0
+CountsItems forms.Nulls len b raw = ⊤
+CountsItems forms.Bits len b raw = ⊤
+CountsItems (forms.Numbers bits signed) len b raw = ⊤
+CountsItems (forms.Bytes width) len b raw = ⊤
+CountsItems (forms.Texts width) len b raw = ⊤
+CountsItems (forms.FixedBytes width) len b raw = ⊤
+CountsItems (forms.Lists width) len b raw = (j : ℕ) → j ≤ len → place_of width (buffer b 1) j ≡ length (all_items (take j raw))
+CountsItems forms.Structs len b raw = ⊤

@@ -1,0 +1,121 @@
+//! Arrays out of the buffers of nodes.
+
+ghost use Rattle.std.specs.Prelude.{◌≡◌, ◌≤◌, ◌++◌, IfOk, map, length};
+ghost use Rattle.std.specs.List.{AllByRecursion};
+ghost use Rattle.arrow_data.specs.Column.{counts_of};
+ghost use Rattle.arrow_data.specs.Form.{node_form};
+ghost use Rattle.arrow_data.specs.Layout.{IsIndexed, IsText};
+ghost use Rattle.arrow_data.specs.Node.{IsInside, bytes_of};
+ghost use Rattle.arrow_data.specs.Parts.{AreChildren, IsOfType, node_column, values_in};
+ghost use Rattle.arrow_builder.specs.Buffers.{buffers_in};
+ghost use Rattle.arrow_builder.specs.Built.{HaveSlots, cut_to};
+ghost use Rattle.arrow_builder.specs.Finished.{AreArraysOf, AreIndexed, AreTyped, IsArrayOf};
+ghost use Rattle.arrow_builder.specs.Kept.{Keeps};
+ghost use Rattle.arrow_types.specs.View.{type_view};
+
+use crate::dictionaries::dictionary_for;
+use crate::leaf::Buffers;
+use crate::node::Node;
+use arrow_data::{Array, ByteRange, Dictionary};
+use arrow_types::Field;
+use bytes::Bytes;
+use std::alloc::{AllocError, Global};
+
+/// The array of the first `len` slots of a column, with the dictionaries that are listed for its
+/// fields. Each has the type of the field's values and a value for each index, as the caller knows.
+#[cycle(finish)]
+pub(crate) fn finish(
+    alloc: Global,
+    node: &Node,
+    len: usize,
+    dictionaries: &[(i64, Dictionary)],
+) -> Result<Array, AllocError>
+    requires inside { len ≤ length node.now.raw }
+    requires typed { AreTyped dictionaries.now node.now.field }
+    requires indexed { AreIndexed dictionaries.now (cut_to len node.now) }
+    ensures { IfOk result (λ a. IsArrayOf dictionaries.now (cut_to len node.now) a) }
+{
+    let children = finish_all(alloc, &node.children, node.shown(len), dictionaries)?;
+    let dictionary = dictionary_for(alloc, node.field.dictionary, dictionaries)?;
+    array_of(alloc, &node.field, len, &node.buffers, children, dictionary)
+}
+
+// The arrays of the first `len` slots of the columns.
+#[cycle(finish)]
+fn finish_all(
+    alloc: Global,
+    nodes: &[Node],
+    len: usize,
+    dictionaries: &[(i64, Dictionary)],
+) -> Result<Vec<Array>, AllocError>
+    requires inside { HaveSlots len nodes.now }
+    requires typed { AllByRecursion (λ b. AreTyped dictionaries.now b.field) nodes.now }
+    requires indexed { AllByRecursion (λ b. AreIndexed dictionaries.now (cut_to len b)) nodes.now }
+    ensures { IfOk result
+        (λ v. AreArraysOf dictionaries.now (map (cut_to len) nodes.now) v.items) }
+{
+    let mut arrays = Vec::with_capacity(alloc, nodes.len())?;
+    for node in nodes {
+        arrays.push(finish(alloc, node, len, dictionaries)?)?;
+    }
+    Ok(arrays)
+}
+
+/// The array of the first `len` slots of a node, out of copies of its buffers, the arrays of its
+/// children and, where it is dictionary-encoded, the dictionary.
+pub(crate) fn array_of(
+    alloc: Global,
+    field: &Field,
+    len: usize,
+    buffers: &Buffers,
+    children: Vec<Array>,
+    dictionary: Option<Dictionary>,
+) -> Result<Array, AllocError>
+    requires few { len ≤ 2147483647 }
+    requires children { AreChildren (type_view field.now.data_type) field.now.dictionary
+        children.items }
+    requires dictionary { IsOfType (type_view field.now.data_type) dictionary }
+    requires kept { Keeps (node_form (type_view field.now.data_type).tag field.now.dictionary)
+        len (buffers_in buffers.now) (counts_of children.items) }
+    requires text { IsText (type_view field.now.data_type).tag field.now.dictionary
+        len (buffers_in buffers.now) }
+    requires index { IsIndexed field.now.dictionary
+        len (buffers_in buffers.now) (values_in dictionary) }
+    ensures { IfOk result (λ a. a ≡ node_column (type_view field.now.data_type)
+        field.now.dictionary len (buffers_in buffers.now) children.items (values_in dictionary)) }
+{
+    let (body, ranges) = body_of(alloc, buffers)?;
+    Array::from_parts(alloc, field, len, &body, &ranges, children, dictionary)
+}
+
+// The bytes of the buffers behind each other, and where each lies.
+fn body_of(alloc: Global, buffers: &Buffers) -> Result<(Bytes, [ByteRange; 3]), AllocError>
+    ensures inside { IfOk result (λ r. AllByRecursion (IsInside r.0) r.1) }
+    ensures same { IfOk result (λ r. map (bytes_of r.0) r.1 ≡ buffers_in buffers.now) }
+{
+    let mut body = Vec::from_slice(alloc, &buffers.validity)?;
+    let validity = range(0, body.len());
+    body.extend_from_slice(&buffers.values)?;
+    let values = range(validity.end, body.len());
+    body.extend_from_slice(&buffers.bytes)?;
+    let bytes = range(values.end, body.len());
+    Ok((shared(body)?, [validity, values, bytes]))
+}
+
+// The range from a place up to another one.
+fn range(start: usize, end: usize) -> ByteRange
+    ensures start { result.start ≡ start }
+    ensures end { result.end ≡ end }
+{
+    ByteRange { start, end }
+}
+
+// The bytes as a body that arrays can share.
+fn shared(body: Vec<u8>) -> Result<Bytes, AllocError>
+    ensures { IfOk result (λ b. b ≡ body.items) }
+{
+    match Bytes::from_vec(body) {
+        Ok(body) => Ok(body),
+        Err(_) => Err(AllocError),
+    }
+}

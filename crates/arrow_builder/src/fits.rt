@@ -1,0 +1,179 @@
+//! Whether a value fits a column.
+
+ghost use Rattle.std.specs.Prelude.{◌≡◌, ◌↔◌, IsTrue};
+ghost use Rattle.arrow_data.specs.Fits.{HoldsBinary, HoldsInt, HoldsUtf8, ItemsFit, PartsFit};
+ghost use Rattle.arrow_data.specs.Form.{IsLists, number_width};
+ghost use Rattle.arrow_data.specs.PlainValue.{values_of};
+ghost use Rattle.arrow_data.specs.Value.{value_view, values_view};
+ghost use Rattle.arrow_data.specs.declared.form.Form.TheVariants as forms;
+ghost use Rattle.arrow_bits.specs.Numbers.{FitsInt};
+ghost use Rattle.arrow_builder.specs.Fields.{FitsField};
+ghost use Rattle.arrow_types.specs.View.{field_view, fields_view};
+ghost use Rattle.std.specs.String.{string_bytes};
+
+use arrow_data::Value;
+use arrow_data::form::{Form, node_form};
+use arrow_types::{BitWidth, Field};
+
+/// Whether the value may stand in a slot of the field's column.
+///
+/// Null fits every field. At a dictionary-encoded field any other value is an index.
+#[cycle(fits)]
+pub(crate) fn fits(value: &Value, field: &Field) -> bool
+    ensures { IsTrue result ↔ FitsField (field_view field.now) (value_view value.now) }
+{
+    let form = node_form(&field.data_type, field.dictionary);
+    match value {
+        Value::Null => true,
+        Value::Bool(_) => is_bits(form),
+        Value::Int(number) => holds_int(form, *number),
+        Value::Bytes(bytes) => holds_binary(form, bytes),
+        Value::Text(text) => holds_text(form, text),
+        Value::List(items) => is_lists(form) && items_fit(items, field.children()),
+        Value::Struct(parts) => is_structs(form) && parts_fit(parts, field.children()),
+    }
+}
+
+// Whether each of the items fits the one field that stands there.
+#[cycle(fits)]
+fn items_fit(items: &[Value], fields: &[Field]) -> bool
+    ensures { IsTrue result
+        ↔ ItemsFit (fields_view fields.now) (values_of (values_view items.now)) }
+{
+    for item in items {
+        if fields.is_empty() || !fits(item, &fields[0]) {
+            return false;
+        }
+    }
+    true
+}
+
+// Whether there is one value of each field, and each fits its own.
+#[cycle(fits)]
+fn parts_fit(parts: &[Value], fields: &[Field]) -> bool
+    ensures { IsTrue result
+        ↔ PartsFit (fields_view fields.now) (values_of (values_view parts.now)) }
+{
+    if fields.len() != parts.len() {
+        return false;
+    }
+    for i in 0..fields.len() {
+        if !fits(&parts[i], &fields[i]) {
+            return false;
+        }
+    }
+    true
+}
+
+// Whether slots are truth values.
+fn is_bits(form: Form) -> bool
+    ensures { IsTrue result ↔ (form ≡ forms.Bits) }
+{
+    match form {
+        Form::Bits => true,
+        Form::Nulls
+        | Form::Numbers { .. }
+        | Form::Bytes(_)
+        | Form::Texts(_)
+        | Form::FixedBytes(_)
+        | Form::Lists(_)
+        | Form::Structs => false,
+    }
+}
+
+// Whether slots are lists.
+fn is_lists(form: Form) -> bool
+    ensures { IsTrue result ↔ IsLists form }
+{
+    match form {
+        Form::Lists(_) => true,
+        Form::Nulls
+        | Form::Bits
+        | Form::Numbers { .. }
+        | Form::Bytes(_)
+        | Form::Texts(_)
+        | Form::FixedBytes(_)
+        | Form::Structs => false,
+    }
+}
+
+// Whether slots are structs.
+fn is_structs(form: Form) -> bool
+    ensures { IsTrue result ↔ (form ≡ forms.Structs) }
+{
+    match form {
+        Form::Structs => true,
+        Form::Nulls
+        | Form::Bits
+        | Form::Numbers { .. }
+        | Form::Bytes(_)
+        | Form::Texts(_)
+        | Form::FixedBytes(_)
+        | Form::Lists(_) => false,
+    }
+}
+
+// Whether slots of the form hold the number.
+fn holds_int(form: Form, number: i128) -> bool
+    ensures { IsTrue result ↔ HoldsInt form number }
+{
+    match form {
+        Form::Numbers { bits, signed } => is_in_range(bits, signed, number),
+        Form::Nulls
+        | Form::Bits
+        | Form::Bytes(_)
+        | Form::Texts(_)
+        | Form::FixedBytes(_)
+        | Form::Lists(_)
+        | Form::Structs => false,
+    }
+}
+
+// Whether the number lies in the range of the width and the sign.
+fn is_in_range(bits: BitWidth, signed: bool, number: i128) -> bool
+    ensures { IsTrue result ↔ FitsInt (number_width bits) signed number }
+{
+    match (bits, signed) {
+        (BitWidth::Eight, true) => i8::try_from(number).is_ok(),
+        (BitWidth::Sixteen, true) => i16::try_from(number).is_ok(),
+        (BitWidth::ThirtyTwo, true) => i32::try_from(number).is_ok(),
+        (BitWidth::SixtyFour, true) => i64::try_from(number).is_ok(),
+        (BitWidth::Eight, false) => u8::try_from(number).is_ok(),
+        (BitWidth::Sixteen, false) => u16::try_from(number).is_ok(),
+        (BitWidth::ThirtyTwo, false) => u32::try_from(number).is_ok(),
+        (BitWidth::SixtyFour, false) => u64::try_from(number).is_ok(),
+    }
+}
+
+// Whether slots of the form hold the byte string.
+fn holds_binary(form: Form, bytes: &[u8]) -> bool
+    ensures { IsTrue result ↔ HoldsBinary form bytes.now }
+{
+    match form {
+        Form::Bytes(_) => true,
+        Form::FixedBytes(width) => bytes.len() == width as usize,
+        Form::Nulls
+        | Form::Bits
+        | Form::Numbers { .. }
+        | Form::Texts(_)
+        | Form::Lists(_)
+        | Form::Structs => false,
+    }
+}
+
+// Whether slots of the form hold the text.
+fn holds_text(form: Form, text: &String) -> bool
+    ensures { IsTrue result ↔ HoldsUtf8 form (string_bytes text.now) }
+{
+    text.as_str();
+    match form {
+        Form::Texts(_) => true,
+        Form::Nulls
+        | Form::Bits
+        | Form::Numbers { .. }
+        | Form::Bytes(_)
+        | Form::FixedBytes(_)
+        | Form::Lists(_)
+        | Form::Structs => false,
+    }
+}

@@ -1,0 +1,69 @@
+//! Whether indices have their values.
+
+ghost use Rattle.std.specs.Prelude.{◌≡◌, ◌≤◌, ◌↔◌, IsTrue, length, take};
+ghost use Rattle.std.specs.List.{AllByRecursion};
+ghost use Rattle.arrow_data.specs.Listed.{values_by};
+ghost use Rattle.arrow_builder.specs.Built.{HaveSlots, cut_to};
+ghost use Rattle.arrow_builder.specs.Finished.{AreIndexed, IsIndexed};
+
+use crate::dictionaries::find;
+use crate::leaf::number_width;
+use crate::node::Node;
+use arrow_data::Dictionary;
+use arrow_data::layout::are_indices;
+use arrow_types::Encoding;
+
+/// Whether each index in the first `len` slots, and in what these show of the columns below, has
+/// its value in the dictionary that is listed for its id. Takes no memory.
+#[cycle(indexed)]
+pub(crate) fn are_indexed(node: &Node, len: usize, dictionaries: &[(i64, Dictionary)]) -> bool
+    requires { len ≤ length node.now.raw }
+    ensures { IsTrue result ↔ AreIndexed dictionaries.now (cut_to len node.now) }
+{
+    is_indexed(node, len, dictionaries)
+        && all_indexed(&node.children, node.shown(len), dictionaries)
+}
+
+// The same of some columns.
+#[cycle(indexed)]
+fn all_indexed(nodes: &[Node], len: usize, dictionaries: &[(i64, Dictionary)]) -> bool
+    requires { HaveSlots len nodes.now }
+    ensures { IsTrue result
+        ↔ AllByRecursion (λ b. AreIndexed dictionaries.now (cut_to len b)) nodes.now }
+{
+    for node in nodes {
+        if !are_indexed(node, len, dictionaries) {
+            return false;
+        }
+    }
+    true
+}
+
+// The same of the column alone.
+fn is_indexed(node: &Node, len: usize, dictionaries: &[(i64, Dictionary)]) -> bool
+    requires { len ≤ length node.now.raw }
+    ensures { IsTrue result
+        ↔ IsIndexed dictionaries.now node.now.field.head (take len node.now.raw) }
+{
+    let Some(encoding) = node.field.dictionary else {
+        return true;
+    };
+    are_indices(
+        len,
+        number_width(encoding.index.bits),
+        encoding.index.signed,
+        &node.buffers.validity,
+        &node.buffers.values,
+        count_for(encoding, dictionaries),
+    )
+}
+
+// How many values are listed for a field with this encoding.
+fn count_for(encoding: Encoding, dictionaries: &[(i64, Dictionary)]) -> usize
+    ensures { result ≡ length (values_by dictionaries.now encoding.id) }
+{
+    match find(dictionaries, encoding.id) {
+        Some(dictionary) => dictionary.len(),
+        None => 0,
+    }
+}

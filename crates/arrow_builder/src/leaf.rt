@@ -1,0 +1,135 @@
+//! Slots put behind the first ones of a node of any form without children.
+
+ghost use Rattle.std.specs.Prelude.{◌≡◌, ◌+◌, OnErr, OnOk, List, [], option_map};
+ghost use Rattle.arrow_data.specs.Fits.{Fits};
+ghost use Rattle.arrow_data.specs.Parts.{value_slot};
+ghost use Rattle.arrow_data.specs.PlainValue.{PlainValue, binary_in, bool_in, int_in, utf8_in};
+ghost use Rattle.arrow_data.specs.Value.{value_view};
+ghost use Rattle.arrow_builder.specs.Buffers.{IsLeaf, buffers_in};
+ghost use Rattle.arrow_builder.specs.Kept.{Keeps};
+ghost use Rattle.arrow_builder.specs.Puts.{PutsSlot, StaySlots};
+ghost use Rattle.arrow_types.specs.Field.{none};
+ghost use Rattle.arrow_data.specs.Form.{number_width};
+ghost use Rattle.arrow_bits.specs.Numbers.{IsWidth};
+
+use crate::slots::{put_bool, put_bytes, put_fixed, put_number};
+use arrow_data::Value;
+use arrow_data::form::Form;
+use arrow_types::BitWidth;
+use std::alloc::AllocError;
+
+/// The buffers of a node, in the order of the format (Columnar Format, "Buffer Listing for Each
+/// Layout"): the validity bitmap; the numbers, the truth values, the byte strings of a fixed width,
+/// or the offsets; and what offsets of byte strings lead into.
+#[derive(Drop)]
+pub(crate) struct Buffers {
+    pub(crate) validity: Vec<u8>,
+    pub(crate) values: Vec<u8>,
+    pub(crate) bytes: Vec<u8>,
+}
+
+// The truth value, if it is one.
+fn truth_in(value: &Value) -> Option<bool>
+    ensures { result ≡ bool_in (value_view value.now) }
+{
+    match value {
+        Value::Bool(truth) => Some(*truth),
+        Value::Null
+        | Value::Int(_)
+        | Value::Bytes(_)
+        | Value::Text(_)
+        | Value::List(_)
+        | Value::Struct(_) => None,
+    }
+}
+
+// The number, if it is one.
+fn number_in(value: &Value) -> Option<i128>
+    ensures { result ≡ int_in (value_view value.now) }
+{
+    match value {
+        Value::Int(number) => Some(*number),
+        Value::Null
+        | Value::Bool(_)
+        | Value::Bytes(_)
+        | Value::Text(_)
+        | Value::List(_)
+        | Value::Struct(_) => None,
+    }
+}
+
+// The byte string, if it is one.
+fn binary_in(value: &Value) -> Option<&[u8]>
+    ensures { option_map (λ b. b.now) result ≡ binary_in (value_view value.now) }
+{
+    match value {
+        Value::Bytes(bytes) => Some(bytes.as_slice()),
+        Value::Null
+        | Value::Bool(_)
+        | Value::Int(_)
+        | Value::Text(_)
+        | Value::List(_)
+        | Value::Struct(_) => None,
+    }
+}
+
+// The bytes of the text, if it is one.
+fn text_in(value: &Value) -> Option<&[u8]>
+    ensures { option_map (λ b. b.now) result ≡ utf8_in (value_view value.now) }
+{
+    match value {
+        Value::Text(text) => Some(text.as_bytes()),
+        Value::Null
+        | Value::Bool(_)
+        | Value::Int(_)
+        | Value::Bytes(_)
+        | Value::List(_)
+        | Value::Struct(_) => None,
+    }
+}
+
+// How many bytes a number of this width takes.
+pub(crate) fn number_width(bits: BitWidth) -> usize
+    ensures same { result ≡ number_width bits }
+    ensures whole { IsWidth result }
+{
+    (bits.bits() / 8) as usize
+}
+
+/// Puts a value that fits into slot `at`.
+pub(crate) fn put_leaf(
+    buffers: &mut Buffers,
+    form: Form,
+    at: usize,
+    value: &Value,
+) -> Result<(), AllocError>
+    requires leaf { IsLeaf form }
+    requires fits { Fits form none (value_view value.now) }
+    requires kept { Keeps form at (buffers_in buffers.old) [] }
+    ensures kept { OnOk result (Keeps form (at + 1) (buffers_in buffers.new) []) }
+    ensures put { OnOk result ((children : List (List PlainValue))
+        → PutsSlot at (value_view value.now)
+        (value_slot form (buffers_in buffers.old) children)
+        (value_slot form (buffers_in buffers.new) children)) }
+    ensures held { OnErr result (Keeps form at (buffers_in buffers.new) []) }
+    ensures stay { OnErr result ((children : List (List PlainValue)) → StaySlots at
+        (value_slot form (buffers_in buffers.old) children)
+        (value_slot form (buffers_in buffers.new) children)) }
+{
+    let validity = &mut buffers.validity;
+    let values = &mut buffers.values;
+    let bytes = &mut buffers.bytes;
+    match form {
+        Form::Nulls => Ok(()),
+        Form::Bits => put_bool(validity, values, at, truth_in(value)),
+        Form::Numbers { bits, .. } => {
+            put_number(validity, values, number_width(bits), at, number_in(value))
+        }
+        Form::FixedBytes(width) => {
+            put_fixed(validity, values, width as usize, at, binary_in(value))
+        }
+        Form::Bytes(width) => put_bytes(validity, values, bytes, width, at, binary_in(value)),
+        Form::Texts(width) => put_bytes(validity, values, bytes, width, at, text_in(value)),
+        Form::Lists(_) | Form::Structs => unreachable!(),
+    }
+}

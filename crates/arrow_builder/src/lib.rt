@@ -1,0 +1,53 @@
+//! Columns built value by value.
+//!
+//! An `ArrayBuilder` takes values of one field one after another, and makes arrays of them with the
+//! dictionaries that are listed for the ids of its fields. To contracts it is its field and its raw
+//! values (`specs/Built.antt`). What fits a field is `Fits` of `arrow_data`; what the columns
+//! below have by the values of the field's own is said in `specs/Columns.antt`, which array a
+//! column is in `specs/Finished.antt`, how long columns may be in `specs/Within.antt`, and which
+//! fault applies in `specs/Faults.antt`.
+//!
+//! `fits` says whether a value may stand in a slot of a field. `tally` counts on every level,
+//! without memory, what the value adds, and tells whether a column would be too long with it.
+//!
+//! `begin` makes the nodes of a field: its own and those of its children, each with buffers that
+//! grow. `node` puts a value that fits behind the others, in every node that it reaches: its slot,
+//! its items and its parts. Where no memory is left the values are as they were: what was put of
+//! the value lies behind the slots that the node above shows, and is cut off before the next value
+//! is put there, so that nothing has to be taken back.
+//!
+//! `leaf` and `slots` put one slot into the buffers of a node, over what stands behind the first
+//! ones. What is put where is said by `specs/Puts.antt`, and what the buffers hold of the first
+//! slots by `specs/Kept.antt`. A node's buffers and children hold its raw values by the slots of
+//! `arrow_data` (`specs/Nodes.antt`, `specs/Slots.antt` there).
+//!
+//! `typed` and `indexed` look at dictionaries and indices, on every level and without memory,
+//! before `finish` copies the buffers into the bodies of arrays.
+//!
+//! | Notion | Definition |
+//! |---|---|
+//! | a column so far | `specs/Built.antt`: `Built` |
+//! | the columns of all its nodes | `specs/Columns.antt`: `child_column`, `AllNodes` |
+//! | a value that fits | `specs/Fields.antt`: `FitsField` |
+//! | how long columns may be | `specs/Within.antt`: `IsWithin`; `specs/Tally.antt`: `AreCounted` |
+//! | the array of a column | `specs/Finished.antt`: `IsArrayOf`, `AreTyped`, `AreIndexed` |
+//! | which fault applies | `specs/Faults.antt`: `TakesValue`, `ExplainsPush`, `ExplainsArray` |
+//! | what nodes and buffers keep | `specs/Nodes.antt`, `specs/Kept.antt`, `specs/Puts.antt`, `specs/Buffers.antt` |
+#![tactic(auto)]
+
+pub(crate) mod begin;
+pub(crate) mod bits;
+mod builder;
+pub(crate) mod dictionaries;
+mod faults;
+pub(crate) mod finish;
+pub(crate) mod fits;
+pub(crate) mod indexed;
+pub(crate) mod leaf;
+pub(crate) mod node;
+pub(crate) mod slots;
+pub(crate) mod tally;
+pub(crate) mod typed;
+
+pub use builder::ArrayBuilder;
+pub use faults::{ArrayFault, PushFault};

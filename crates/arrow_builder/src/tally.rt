@@ -1,0 +1,214 @@
+//! How many slots and bytes of data the columns of a field have, and would have with one more
+//! value.
+//!
+//! What a value adds is counted on every level before it is put anywhere, without memory.
+
+ghost use Rattle.std.specs.Prelude.{◌≡◌, ◌≤◌, ◌↔◌, ◌∷◌, [], false, ℕ, IfOk, IsTrue};
+ghost use Rattle.arrow_data.specs.PlainValue.{null_value};
+ghost use Rattle.arrow_data.specs.Value.{value_view, values_view};
+ghost use Rattle.arrow_data.specs.declared.form.Form.{Form};
+ghost use Rattle.arrow_builder.specs.Columns.{child_column};
+ghost use Rattle.arrow_builder.specs.Tally.{Adds, AddsBelow, AllSettle, AreCounted, Grows};
+ghost use Rattle.arrow_builder.specs.Tally.{IsCounted, Settles};
+ghost use Rattle.arrow_builder.specs.Within.{most_behind, most_bytes, slot_bytes, value_bytes};
+ghost use Rattle.arrow_types.specs.View.{field_view, fields_view};
+
+use crate::node::{MOST_SLOTS, items_in, null, part_of};
+use arrow_data::Value;
+use arrow_data::form::{Form, OffsetWidth, node_form};
+use arrow_types::Field;
+use std::alloc::{AllocError, Global};
+
+/// How many slots a column has, and how many bytes of data.
+#[derive(Clone, Copy)]
+pub(crate) struct Total {
+    slots: usize,
+    bytes: u64,
+}
+
+/// The totals of a column and of those below it: what is held, and what will be held with the value
+/// at hand. A field below an encoding has no slots.
+#[derive(Drop)]
+pub(crate) struct Tally {
+    form: Form,
+    held: Total,
+    next: Total,
+    below: Vec<Tally>,
+}
+
+// The most bytes of data behind offsets of 32 bits.
+const MOST_SMALL: u64 = 2_147_483_647;
+
+// The most bytes of data of other columns.
+const MOST_LARGE: u64 = 1_099_511_627_776;
+
+/// The tally of a field's column without values.
+#[cycle(nothing)]
+pub(crate) fn nothing(alloc: Global, field: &Field) -> Result<Tally, AllocError>
+    ensures { IfOk result (λ t. IsCounted false (field_view field.now) [] t) }
+{
+    let below = nothing_below(alloc, field.children())?;
+    let form = node_form(&field.data_type, field.dictionary);
+    let none = Total { slots: 0, bytes: 0 };
+    Ok(Tally {
+        form,
+        held: none,
+        next: none,
+        below,
+    })
+}
+
+// Those of the columns of some fields.
+#[cycle(nothing)]
+fn nothing_below(alloc: Global, fields: &[Field]) -> Result<Vec<Tally>, AllocError>
+    ensures { IfOk result
+        (λ v. (form : Form) (k : ℕ) → AreCounted false form (fields_view fields.now) k [] v.items) }
+{
+    let mut tallies = Vec::with_capacity(alloc, fields.len())?;
+    for field in fields {
+        tallies.push(nothing(alloc, field)?)?;
+    }
+    Ok(tallies)
+}
+
+/// Takes what will be held for what is held, or the other way round.
+#[cycle(settle)]
+pub(crate) fn settle(tally: &mut Tally, next: bool)
+    ensures { Settles next tally.old tally.new }
+{
+    let total = if next { tally.next } else { tally.held };
+    tally.held = total;
+    tally.next = total;
+    settle_all(&mut tally.below, next);
+}
+
+// The same of some tallies.
+#[cycle(settle)]
+fn settle_all(tallies: &mut [Tally], next: bool)
+    ensures { AllSettle next tallies.old tallies.new }
+{
+    for k in 0..tallies.len() {
+        settle(&mut tallies[k], next);
+    }
+}
+
+/// Counts a value behind the others, in every column that it reaches. Whether none of them passes a
+/// limit by it; where one does, it is not counted to the end. What is held stays.
+#[cycle(add)]
+pub(crate) fn add(tally: &mut Tally, value: &Value) -> bool
+    ensures { Adds (value_view value.now ∷ []) tally.old tally.new result }
+{
+    let Some(total) = grown(tally.next, tally.form, value) else {
+        return false;
+    };
+    tally.next = total;
+    let null = null();
+    add_below(&mut tally.below, tally.form, value, &null)
+}
+
+// Counts what the value gives to each child of a column of the form.
+#[cycle(add)]
+fn add_below(tallies: &mut [Tally], form: Form, value: &Value, null: &Value) -> bool
+    requires { value_view null.now ≡ null_value }
+    ensures { AddsBelow form (value_view value.now) tallies.old tallies.new result }
+{
+    for k in 0..tallies.len() {
+        if !add_child(&mut tallies[k], form, k, value, null) {
+            return false;
+        }
+    }
+    true
+}
+
+// Counts what the value gives to child `k`: a list its items, a struct its part.
+#[cycle(add)]
+fn add_child(tally: &mut Tally, form: Form, k: usize, value: &Value, null: &Value) -> bool
+    requires { value_view null.now ≡ null_value }
+    ensures { Adds (child_column form k (value_view value.now ∷ [])) tally.old tally.new result }
+{
+    match form {
+        Form::Lists(_) => add_all(tally, items_in(value)),
+        Form::Structs => add(tally, part_of(value, null, k)),
+        Form::Nulls
+        | Form::Bits
+        | Form::Numbers { .. }
+        | Form::Bytes(_)
+        | Form::Texts(_)
+        | Form::FixedBytes(_) => true,
+    }
+}
+
+// Counts the values one after another.
+#[cycle(add)]
+fn add_all(tally: &mut Tally, values: &[Value]) -> bool
+    ensures { Adds (values_view values.now) tally.old tally.new result }
+{
+    for value in values {
+        if !add(tally, value) {
+            return false;
+        }
+    }
+    true
+}
+
+// The total with one slot more, if the column passes no limit by it.
+fn grown(total: Total, form: Form, value: &Value) -> Option<Total>
+    ensures { Grows form (value_view value.now) total result }
+{
+    let slots = total.slots.checked_add(1)?;
+    let bytes = total.bytes.checked_add(slot_bytes(form, value))?;
+    if !is_short(form, slots, bytes) {
+        return None;
+    }
+    Some(Total { slots, bytes })
+}
+
+// Whether a column of the form may have so many slots and bytes of data.
+fn is_short(form: Form, slots: usize, bytes: u64) -> bool
+    ensures { IsTrue result ↔ (slots ≤ 2147483647) × (bytes ≤ most_bytes form) }
+{
+    slots <= MOST_SLOTS && bytes <= most_bytes(form)
+}
+
+// How many bytes of data the value takes in a column of the form.
+fn slot_bytes(form: Form, value: &Value) -> u64
+    ensures { result ≡ slot_bytes form (value_view value.now) }
+{
+    match form {
+        Form::Bytes(_) | Form::Texts(_) => value_bytes(value),
+        Form::FixedBytes(width) => u64::from(width),
+        Form::Nulls | Form::Bits | Form::Numbers { .. } | Form::Lists(_) | Form::Structs => 0,
+    }
+}
+
+// How many bytes a byte string or a text has.
+fn value_bytes(value: &Value) -> u64
+    ensures { result ≡ value_bytes (value_view value.now) }
+{
+    match value {
+        Value::Bytes(bytes) => bytes.len() as u64,
+        Value::Text(text) => text.len() as u64,
+        Value::Null | Value::Bool(_) | Value::Int(_) | Value::List(_) | Value::Struct(_) => 0,
+    }
+}
+
+// The most bytes of data of a column of the form.
+fn most_bytes(form: Form) -> u64
+    ensures { result ≡ most_bytes form }
+{
+    match form {
+        Form::Bytes(width) | Form::Texts(width) => most_behind(width),
+        Form::FixedBytes(_) => MOST_LARGE,
+        Form::Nulls | Form::Bits | Form::Numbers { .. } | Form::Lists(_) | Form::Structs => 0,
+    }
+}
+
+// The most bytes of data that offsets of a width lead into.
+fn most_behind(width: OffsetWidth) -> u64
+    ensures { result ≡ most_behind width }
+{
+    match width {
+        OffsetWidth::Small => MOST_SMALL,
+        OffsetWidth::Large => MOST_LARGE,
+    }
+}

@@ -1,0 +1,214 @@
+-- The ranges of a node stand for its buffers.
+use Rattle.std.proofs.Common.{◌≡◌, ◌≤◌, ◌<◌, ℕ, List, [], ◌∷◌, ◌++◌, length, map, Some, None, refl, sym, ap, ◌∙◌, subst, arith, Bool}
+use Rattle.std.proofs.lemmas.List.{append-nil, get_or-map}
+use Rattle.std.proofs.lemmas.List.Elements.{All-from_recursion}
+use Rattle.std.specs.Global.{Box}
+use Rattle.std.specs.List.{AllByRecursion}
+use Rattle.std.specs.Prelude.{slice_index_or}
+use Rattle.std.specs.declared.alloc.Global.{Global}
+use Rattle.std.specs.declared.vec.Vec.{Vec}
+use Rattle.arrow_bits.specs.Offsets.{plain_list}
+use Rattle.arrow_types.specs.Field.{Fields, none, more, TypeShape}
+use Rattle.arrow_types.specs.declared.data_type.BitWidth.{BitWidth}
+use Rattle.arrow_types.specs.declared.field.Encoding.{Encoding}
+use Rattle.arrow_data.specs.Column.{Column, AreOf, IsColumn, counts_of, listed_of, plain_column, slots_of}
+use Rattle.arrow_data.specs.Form.{IsOneField, form_of, node_form, offset_bytes}
+use Rattle.arrow_data.specs.Layout.{buffer, HasStrings, HoldsSlots}
+use Rattle.arrow_data.specs.Node.{column_by, AreLists, AreStrings, AreStructs, bytes_of, IsInside, IsFormat}
+use Rattle.arrow_data.specs.Parts.{node_column, node_offsets, value_slot}
+use Rattle.arrow_data.specs.PlainValue.{PlainValue}
+use Rattle.arrow_data.specs.Slots.{AreTexts, slots, entry_slot, int_slot, list_slot, struct_slot}
+use Rattle.arrow_data.specs.declared.buffers.Ints.{Ints}
+use Rattle.arrow_data.specs.declared.buffers.Strings.{Strings}
+use Rattle.arrow_data.specs.declared.array.Array.{Array}
+use Rattle.arrow_data.specs.declared.array.Ranges.TheVariants as ranges
+use Rattle.arrow_data.specs.declared.dictionary.Dictionary.{Dictionary}
+use Rattle.arrow_data.specs.declared.byte_range.ByteRange.{ByteRange}
+use Rattle.arrow_data.specs.declared.form.Form.{Form}
+use Rattle.arrow_data.specs.declared.form.Form.TheVariants as forms
+use Rattle.arrow_data.specs.declared.form.OffsetWidth.{OffsetWidth}
+
+-- the bytes of a buffer that was read
+pub buffer_read : (body : List ℕ) (bs : List ByteRange) (k : ℕ) (d : ByteRange) → k < length bs → buffer (map (bytes_of body) bs) k ≡ bytes_of body (slice_index_or bs k d)
+buffer_read body bs k d h = get_or-map (bytes_of body) bs k d [] h
+
+-- it lies inside the body
+pub inside_read : (body : List ℕ) (bs : List ByteRange) (k : ℕ) (d : ByteRange) → AllByRecursion (IsInside body) bs → k < length bs → IsInside body (slice_index_or bs k d)
+inside_read body bs k d all h = All-from_recursion (IsInside body) bs all k d h
+
+-- arrays of one field are one array
+pub one_child : (fields : Fields) (cs : List Column) → IsOneField fields → AreOf fields cs → length cs ≡ 1
+one_child none cs one h = absurd one
+one_child (more head children none) [] one h = absurd h
+one_child (more head children none) (a ∷ []) one h = refl
+one_child (more head children none) (a ∷ b ∷ cs) one h = absurd h.2
+one_child (more head children (more head' children' rest)) cs one h = absurd one
+
+-- a node of lists
+pub list_lies : (w : OffsetWidth) (t : TypeShape) (len : ℕ) (body : List ℕ) (bs : List ByteRange) (d : ByteRange) (cs : List Column) (child : Column) → form_of t.tag ≡ forms.Lists w → cs ≡ child ∷ [] → AreOf t.children cs → AllByRecursion IsColumn cs
+    → 2 ≤ length bs → AllByRecursion (IsInside body) bs → HoldsSlots (form_of t.tag) len (map (bytes_of body) bs) (counts_of cs) → AreLists w len t body (slice_index_or bs 0 d) (slice_index_or bs 1 d) child
+list_lies w t len body bs d cs child form one typed known two inside laid =
+    let here = subst (λ x. HoldsSlots x len (map (bytes_of body) bs) (counts_of cs)) form laid in
+    let hers = subst (λ x. HoldsSlots (forms.Lists w) len (map (bytes_of body) bs) (counts_of x)) one here in
+    record {
+      validity = inside_read body bs 0 d inside (omega arith);
+      offsets = inside_read body bs 1 d inside (omega arith);
+      laid = rw (← buffer_read body bs 0 d (omega arith), ← buffer_read body bs 1 d (omega arith)) hers;
+      typed = subst (AreOf t.children) one typed;
+      known = (subst (AllByRecursion IsColumn) one known).0;
+    }
+
+-- the column of a node of values, by its form
+abbrev values_by : TypeShape → Form → ℕ → List (List ℕ) → List Column → Column
+values_by t form len b cs = record {
+  data_type = t;
+  encoding = None;
+  raw = slots len (value_slot form b (map (λ (c : Column). c.raw) cs));
+  resolved = slots len (value_slot form b (map (λ (c : Column). c.resolved) cs));
+  dictionaries = listed_of cs;
+  offsets = node_offsets form len b;
+  below = map slots_of cs;
+}
+
+-- its ranges and its child stand for what its buffers and its child do
+pub list_same : (w : OffsetWidth) (t : TypeShape) (len : ℕ) (body : List ℕ) (bs : List ByteRange) (d : ByteRange) (cs : List Column) (child : Box Array) → form_of t.tag ≡ forms.Lists w → cs ≡ child.value ∷ [] → 2 ≤ length bs
+    → column_by t None len body (ranges.Lists w (slice_index_or bs 0 d) (slice_index_or bs 1 d) child) ≡ node_column t None len (map (bytes_of body) bs) cs []
+list_same w t len body bs d cs child form one two =
+    let v = buffer_read body bs 0 d (omega arith) in
+    let o = buffer_read body bs 1 d (omega arith) in
+    let whole : child.value.dictionaries ≡ child.value.dictionaries ++ [] = sym (append-nil child.value.dictionaries) in
+    let literal : column_by t None len body (ranges.Lists w (slice_index_or bs 0 d) (slice_index_or bs 1 d) child) ≡ values_by t (forms.Lists w) len (map (bytes_of body) bs) (child.value ∷ []) = λ i. record {
+      data_type = t;
+      encoding = None;
+      raw = slots len (list_slot w (sym v i) (sym o i) child.value.raw);
+      resolved = slots len (list_slot w (sym v i) (sym o i) child.value.resolved);
+      dictionaries = whole i;
+      offsets = plain_list (offset_bytes w) len (sym o i);
+      below = slots_of child.value ∷ [];
+    } in
+    literal ∙ ap (values_by t (forms.Lists w) len (map (bytes_of body) bs)) (sym one) ∙ ap (λ x. values_by t x len (map (bytes_of body) bs) cs) (sym form)
+
+-- a node of structs
+pub struct_lies : (t : TypeShape) (len : ℕ) (body : List ℕ) (bs : List ByteRange) (d : ByteRange) (cs : List Column) → form_of t.tag ≡ forms.Structs → AreOf t.children cs → AllByRecursion IsColumn cs
+    → 1 ≤ length bs → AllByRecursion (IsInside body) bs → HoldsSlots (form_of t.tag) len (map (bytes_of body) bs) (counts_of cs) → AreStructs len t body (slice_index_or bs 0 d) cs
+struct_lies t len body bs d cs form typed known one inside laid =
+    let here = subst (λ x. HoldsSlots x len (map (bytes_of body) bs) (counts_of cs)) form laid in
+    record {
+      validity = inside_read body bs 0 d inside (omega arith);
+      laid = rw (← buffer_read body bs 0 d (omega arith)) here;
+      typed = typed;
+      known = known;
+    }
+
+-- its ranges and its children stand for what its buffers and its children do
+pub struct_same : (t : TypeShape) (len : ℕ) (body : List ℕ) (bs : List ByteRange) (d : ByteRange) (children : Vec Array Global) → form_of t.tag ≡ forms.Structs → 1 ≤ length bs
+    → column_by t None len body (ranges.Structs (slice_index_or bs 0 d) children) ≡ node_column t None len (map (bytes_of body) bs) children.items []
+struct_same t len body bs d children form one =
+    let v = buffer_read body bs 0 d (omega arith) in
+    let literal : column_by t None len body (ranges.Structs (slice_index_or bs 0 d) children) ≡ values_by t forms.Structs len (map (bytes_of body) bs) children.items = λ i. record {
+      data_type = t;
+      encoding = None;
+      raw = slots len (struct_slot (sym v i) (map (λ (c : Column). c.raw) children.items));
+      resolved = slots len (struct_slot (sym v i) (map (λ (c : Column). c.resolved) children.items));
+      dictionaries = listed_of children.items;
+      offsets = [];
+      below = map slots_of children.items;
+    } in
+    literal ∙ ap (λ x. values_by t x len (map (bytes_of body) bs) children.items) (sym form)
+
+-- the bytes of a range that is that of a buffer
+read_as : (body : List ℕ) (bs : List ByteRange) (k : ℕ) (r : ByteRange) → k < length bs → r ≡ slice_index_or bs k r → bytes_of body r ≡ buffer (map (bytes_of body) bs) k
+read_as body bs k r h e = ap (bytes_of body) e ∙ sym (buffer_read body bs k r h)
+
+-- it lies inside the body
+lies_as : (body : List ℕ) (bs : List ByteRange) (k : ℕ) (r : ByteRange) → AllByRecursion (IsInside body) bs → k < length bs → r ≡ slice_index_or bs k r → IsInside body r
+lies_as body bs k r inside h e = subst (IsInside body) (sym e) (inside_read body bs k r inside h)
+
+-- of no fields there are no columns, and so no dictionaries
+no_children : (fields : Fields) (cs : List Column) → fields ≡ none → AreOf fields cs → listed_of cs ≡ []
+no_children fields [] leaf h = refl
+no_children fields (c ∷ cs) leaf h = absurd (subst (λ f. AreOf f (c ∷ cs)) leaf h)
+
+-- nor slots of them
+no_slots : (fields : Fields) (cs : List Column) → fields ≡ none → AreOf fields cs → map slots_of cs ≡ []
+no_slots fields [] leaf h = refl
+no_slots fields (c ∷ cs) leaf h = absurd (subst (λ f. AreOf f (c ∷ cs)) leaf h)
+
+-- Where no fields stand below a type and its form shows these slots, its node has the column of these slots.
+pub leaf_same : (t : TypeShape) (form : Form) (len : ℕ) (b : List (List ℕ)) (cs : List Column) (slot : ℕ → PlainValue) → form_of t.tag ≡ form → t.children ≡ none → AreOf t.children cs
+    → node_offsets form len b ≡ [] → ((children : List (List PlainValue)) → slot ≡ value_slot form b children) → plain_column t (slots len (λ j. slot j)) ≡ node_column t None len b cs []
+leaf_same t form len b cs slot is leaf typed flat shows =
+    let raw = shows (map (λ (c : Column). c.raw) cs) in
+    let resolved = shows (map (λ (c : Column). c.resolved) cs) in
+    let listed : listed_of cs ≡ [] = no_children t.children cs leaf typed in
+    let below : map slots_of cs ≡ [] = no_slots t.children cs leaf typed in
+    let literal : plain_column t (slots len (λ j. slot j)) ≡ values_by t form len b cs = λ i. record {
+      data_type = t;
+      encoding = None;
+      raw = slots len (raw i);
+      resolved = slots len (resolved i);
+      dictionaries = sym listed i;
+      offsets = sym flat i;
+      below = sym below i;
+    } in
+    literal ∙ ap (λ x. values_by t x len b cs) (sym is)
+
+module _ (body : List ℕ) (bs : List ByteRange) (s : Strings) (three : 3 ≤ length bs)
+    (v : s.validity ≡ slice_index_or bs 0 s.validity) (o : s.offsets ≡ slice_index_or bs 1 s.offsets) (b : s.bytes ≡ slice_index_or bs 2 s.bytes) where
+  -- the three ranges of a node of bytes or of texts lie in the body
+  pub strings_lie : (len : ℕ) → AllByRecursion (IsInside body) bs
+      → HasStrings s.width len (buffer (map (bytes_of body) bs) 0) (buffer (map (bytes_of body) bs) 1) (buffer (map (bytes_of body) bs) 2) → AreStrings len body s
+  strings_lie len inside laid = record {
+    validity = lies_as body bs 0 s.validity inside (omega (arith, three)) v;
+    offsets = lies_as body bs 1 s.offsets inside (omega (arith, three)) o;
+    bytes = lies_as body bs 2 s.bytes inside (omega (arith, three)) b;
+    laid = rw (read_as body bs 0 s.validity (omega (arith, three)) v, read_as body bs 1 s.offsets (omega (arith, three)) o, read_as body bs 2 s.bytes (omega (arith, three)) b) laid;
+  }
+
+  -- texts in the buffers are texts in the ranges
+  pub texts_lie : (len : ℕ) → AreTexts s.width len (buffer (map (bytes_of body) bs) 0) (buffer (map (bytes_of body) bs) 1) (buffer (map (bytes_of body) bs) 2)
+      → AreTexts s.width len (bytes_of body s.validity) (bytes_of body s.offsets) (bytes_of body s.bytes)
+  texts_lie len texts = rw (read_as body bs 0 s.validity (omega (arith, three)) v, read_as body bs 1 s.offsets (omega (arith, three)) o, read_as body bs 2 s.bytes (omega (arith, three)) b) texts
+
+  -- the ranges stand for what the buffers do, whether a slot is read as bytes or as a text
+  pub strings_same : (slot : List ℕ → List ℕ → List ℕ → ℕ → PlainValue)
+      → slot (bytes_of body s.validity) (bytes_of body s.offsets) (bytes_of body s.bytes) ≡ slot (buffer (map (bytes_of body) bs) 0) (buffer (map (bytes_of body) bs) 1) (buffer (map (bytes_of body) bs) 2)
+  strings_same slot =
+      let first = read_as body bs 0 s.validity (omega (arith, three)) v in
+      let second = read_as body bs 1 s.offsets (omega (arith, three)) o in
+      let third = read_as body bs 2 s.bytes (omega (arith, three)) b in
+      λ i. slot (first i) (second i) (third i)
+
+module _ (body : List ℕ) (bs : List ByteRange) (v w : ByteRange) (two : 2 ≤ length bs) (first : v ≡ slice_index_or bs 0 v) (second : w ≡ slice_index_or bs 1 w) where
+  -- two ranges stand for what two buffers do
+  pub pair_same : (slot : List ℕ → List ℕ → ℕ → PlainValue) → slot (bytes_of body v) (bytes_of body w) ≡ slot (buffer (map (bytes_of body) bs) 0) (buffer (map (bytes_of body) bs) 1)
+  pair_same slot =
+      let one = read_as body bs 0 v (omega (arith, two)) first in
+      let other = read_as body bs 1 w (omega (arith, two)) second in
+      λ i. slot (one i) (other i)
+
+-- a node of numbers
+pub number_same : (t : TypeShape) (len : ℕ) (body : List ℕ) (bs : List ByteRange) (cs : List Column) (n : Ints) (bits : BitWidth) (signed : Bool) → form_of t.tag ≡ forms.Numbers bits signed → t.children ≡ none → AreOf t.children cs → 2 ≤ length bs
+    → IsFormat (forms.Numbers bits signed) n → n.validity ≡ slice_index_or bs 0 n.validity → n.values ≡ slice_index_or bs 1 n.values
+    → column_by t None len body (ranges.Ints n) ≡ node_column t None len (map (bytes_of body) bs) cs []
+number_same t len body bs cs n bits signed form leaf typed two format v w =
+    leaf_same t (forms.Numbers bits signed) len (map (bytes_of body) bs) cs (int_slot n.width n.signed (bytes_of body n.validity) (bytes_of body n.values)) form leaf typed refl
+    (λ children. pair_same body bs n.validity n.values two v w (int_slot n.width n.signed) ∙ (λ i. int_slot (format.0 i) (format.1 i) (buffer (map (bytes_of body) bs) 0) (buffer (map (bytes_of body) bs) 1)))
+
+-- a node of indices
+pub index_same : (t : TypeShape) (e : Encoding) (len : ℕ) (body : List ℕ) (bs : List ByteRange) (cs : List Column) (n : Ints) (d : Box Dictionary) (values : List PlainValue)
+    → IsFormat (node_form t.tag (Some e)) n → n.validity ≡ slice_index_or bs 0 n.validity → n.values ≡ slice_index_or bs 1 n.values → d.value ≡ record { data_type = t; values = values } → 2 ≤ length bs
+    → column_by t (Some e) len body (ranges.Indices n d) ≡ node_column t (Some e) len (map (bytes_of body) bs) cs values
+index_same t e len body bs cs n d values format v w is two =
+    let b = map (bytes_of body) bs in
+    let first : bytes_of body n.validity ≡ buffer b 0 = ap (bytes_of body) v ∙ sym (buffer_read body bs 0 n.validity (omega arith)) in
+    let second : bytes_of body n.values ≡ buffer b 1 = ap (bytes_of body) w ∙ sym (buffer_read body bs 1 n.values (omega arith)) in
+    λ i. record {
+      data_type = t;
+      encoding = Some e;
+      raw = slots len (int_slot (format.0 i) (format.1 i) (first i) (second i));
+      resolved = slots len (entry_slot (format.0 i) (format.1 i) (first i) (second i) (is i).values);
+      dictionaries = (e.id, is i) ∷ [];
+      offsets = [];
+      below = [];
+    }

@@ -1,0 +1,36 @@
+-- When two values of items are the same.
+use Rattle.std.proofs.Common.{rules, ◌≡◌, ◌↔◌, Bool, IsTrue, ap, sym, ◌∙◌}
+use Rattle.std.specs.declared.alloc.Global.{Global}
+use Rattle.std.specs.declared.vec.Vec.{Vec}
+use Rattle.arrow_data.specs.PlainValue.{list_value, struct_value, values_of}
+use Rattle.arrow_data.specs.Value.{value_view, values_view}
+use Rattle.arrow_data.specs.declared.value.Value.{Value, List as lists, Struct as structs, the_lemmas}
+use Rattle.arrow_data.proofs.Sameness.{values_same}
+
+-- what a list of values says
+list_view : (v : Vec Value Global) → value_view (lists v) ≡ list_value (values_of (values_view v.items))
+list_view v = search (rules, the_lemmas)
+
+-- what a struct of values says
+struct_view : (v : Vec Value Global) → value_view (structs v) ≡ struct_value (values_of (values_view v.items))
+struct_view v = search (rules, the_lemmas)
+
+-- lists are equal where their items are
+pub lists_agree : (x y : Value) (v u : Vec Value Global) (r : Bool) → x ≡ lists v → y ≡ lists u → (IsTrue r ↔ (values_view v.items ≡ values_view u.items)) → IsTrue r ↔ (value_view x ≡ value_view y)
+lists_agree x y v u r p q same =
+    let left = ap value_view p ∙ list_view v in
+    let right = ap value_view q ∙ list_view u in (
+      λ t. left ∙ ap (λ vs. list_value (values_of vs)) (same.0 t) ∙ sym right,
+      λ e. let items : list_value (values_of (values_view v.items)) ≡ list_value (values_of (values_view u.items)) = sym left ∙ e ∙ right in
+          let inner : values_of (values_view v.items) ≡ values_of (values_view u.items) = cc in same.1 (values_same _ _ inner),
+    )
+
+-- structs are equal where their parts are
+pub structs_agree : (x y : Value) (v u : Vec Value Global) (r : Bool) → x ≡ structs v → y ≡ structs u → (IsTrue r ↔ (values_view v.items ≡ values_view u.items)) → IsTrue r ↔ (value_view x ≡ value_view y)
+structs_agree x y v u r p q same =
+    let left = ap value_view p ∙ struct_view v in
+    let right = ap value_view q ∙ struct_view u in (
+      λ t. left ∙ ap (λ vs. struct_value (values_of vs)) (same.0 t) ∙ sym right,
+      λ e. let items : struct_value (values_of (values_view v.items)) ≡ struct_value (values_of (values_view u.items)) = sym left ∙ e ∙ right in
+          let inner : values_of (values_view v.items) ≡ values_of (values_view u.items) = cc in same.1 (values_same _ _ inner),
+    )

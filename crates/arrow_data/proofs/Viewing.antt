@@ -1,0 +1,107 @@
+-- The buffers of an array hold its slots.
+use Rattle.std.proofs.Common.{◌≡◌, ℕ, Bool, List, length, Option, None, Some, IsTrue, is_some, refl, ap, ◌∙◌, subst, arith}
+use Rattle.std.specs.Global.{Box}
+use Rattle.arrow_types.specs.Field.{TypeShape}
+use Rattle.arrow_types.specs.declared.field.Encoding.{Encoding}
+use Rattle.arrow_types.specs.View.{type_view}
+use Rattle.arrow_data.specs.Column.{Column, ValueList}
+use Rattle.arrow_data.specs.Node.{AreEntriesBy, AreInts, AreRanges, IsArray, bytes_of, column_by, column_of, raw_slot, resolved_slot}
+use Rattle.arrow_data.specs.PlainValue.{null_value}
+use Rattle.arrow_data.specs.Slots.{AreIndices}
+use Rattle.arrow_data.specs.View.{AreRaw, AreValues, HoldBinaries, HoldBools, HoldFixed, HoldIndices, HoldInts, HoldTexts}
+use Rattle.arrow_data.specs.declared.array.Array.TheInside.{Inside}
+use Rattle.arrow_data.specs.declared.array.Ranges.{Ranges}
+use Rattle.arrow_data.specs.declared.array.Ranges.TheVariants as ranges
+use Rattle.arrow_data.specs.declared.buffers.Bools.{Bools}
+use Rattle.arrow_data.specs.declared.buffers.Fixed.{Fixed}
+use Rattle.arrow_data.specs.declared.buffers.Ints.{Ints}
+use Rattle.arrow_data.specs.declared.buffers.Strings.{Strings}
+use Rattle.arrow_data.specs.declared.dictionary.Dictionary.{Dictionary}
+use Rattle.arrow_data.specs.declared.form.OffsetWidth.{OffsetWidth}
+use Rattle.arrow_data.proofs.Entries.{dictionary_shown}
+use Rattle.arrow_data.proofs.Shown.{at_slots, length_slots}
+
+-- there are as many slots as the array has
+long : (a : Inside) → length (column_of a).raw ≡ a.len
+long a = length_slots a.len (raw_slot a.body a.ranges)
+
+-- the value of each slot is that of its ranges
+values : (a : Inside) (r : Ranges) → a.ranges ≡ r → AreValues (column_of a) (resolved_slot a.body r)
+values a r is j h = at_slots a.len (resolved_slot a.body a.ranges) j (omega (arith, long a, h)) ∙ ap (λ x. resolved_slot a.body x j) is
+
+-- the raw value of each slot is that of its ranges
+raw_values : (a : Inside) (r : Ranges) → a.ranges ≡ r → AreRaw (column_of a) (raw_slot a.body r)
+raw_values a r is j h = at_slots a.len (raw_slot a.body a.ranges) j (omega (arith, long a, h)) ∙ ap (λ x. raw_slot a.body x j) is
+
+-- what is known of the ranges
+known : (a : Inside) (r : Ranges) → a.ranges ≡ r → IsArray a → AreRanges a.len (type_view a.data_type.value) a.encoding a.body r
+known a r is ok = subst (AreRanges a.len (type_view a.data_type.value) a.encoding a.body) is ok.1
+
+-- no value at all
+pub nulls_held : (a : Inside) (c : Column) → column_of a ≡ c → IsArray a → a.ranges ≡ ranges.Nulls → (c.encoding ≡ None) × AreValues c (λ j. null_value)
+nulls_held a c view ok is = subst (λ (x : Column). (x.encoding ≡ None) × AreValues x (λ j. null_value)) view ((known a ranges.Nulls is ok).0, values a ranges.Nulls is)
+
+-- truth values
+pub bools_held : (a : Inside) (c : Column) (b : Bools) (v vs : List ℕ) → column_of a ≡ c → IsArray a → a.ranges ≡ ranges.Bools b
+    → v ≡ bytes_of a.body b.validity → vs ≡ bytes_of a.body b.values → (c.encoding ≡ None) × HoldBools c v vs
+bools_held a c b v vs view ok is e f =
+    let k = known a (ranges.Bools b) is ok in
+    let held : HoldBools (column_of a) (bytes_of a.body b.validity) (bytes_of a.body b.values) = (rw (long a) k.2.laid, values a (ranges.Bools b) is) in
+    subst (λ (x : Column). (x.encoding ≡ None) × HoldBools x v vs) view (k.0, rw (e, f) held)
+
+-- numbers
+pub ints_held : (a : Inside) (c : Column) (n : Ints) (w : ℕ) (s : Bool) (v vs : List ℕ) → column_of a ≡ c → IsArray a → a.ranges ≡ ranges.Ints n
+    → w ≡ n.width → s ≡ n.signed → v ≡ bytes_of a.body n.validity → vs ≡ bytes_of a.body n.values → (c.encoding ≡ None) × HoldInts c w s v vs
+ints_held a c n w s v vs view ok is g h e f =
+    let k = known a (ranges.Ints n) is ok in
+    let held : HoldInts (column_of a) n.width n.signed (bytes_of a.body n.validity) (bytes_of a.body n.values) = (k.2.whole, rw (long a) k.2.laid, values a (ranges.Ints n) is) in
+    subst (λ (x : Column). (x.encoding ≡ None) × HoldInts x w s v vs) view (k.0, rw (g, h, e, f) held)
+
+-- byte strings
+pub binaries_held : (a : Inside) (c : Column) (s : Strings) (w : OffsetWidth) (v o b : List ℕ) → column_of a ≡ c → IsArray a → a.ranges ≡ ranges.Binaries s
+    → w ≡ s.width → v ≡ bytes_of a.body s.validity → o ≡ bytes_of a.body s.offsets → b ≡ bytes_of a.body s.bytes → (c.encoding ≡ None) × HoldBinaries c w v o b
+binaries_held a c s w v o b view ok is h e f g =
+    let k = known a (ranges.Binaries s) is ok in
+    let held : HoldBinaries (column_of a) s.width (bytes_of a.body s.validity) (bytes_of a.body s.offsets) (bytes_of a.body s.bytes) =
+    (rw (long a) k.2.laid, values a (ranges.Binaries s) is) in
+    subst (λ (x : Column). (x.encoding ≡ None) × HoldBinaries x w v o b) view (k.0, rw (h, e, f, g) held)
+
+-- texts
+pub texts_held : (a : Inside) (c : Column) (s : Strings) (w : OffsetWidth) (v o b : List ℕ) → column_of a ≡ c → IsArray a → a.ranges ≡ ranges.Texts s
+    → w ≡ s.width → v ≡ bytes_of a.body s.validity → o ≡ bytes_of a.body s.offsets → b ≡ bytes_of a.body s.bytes → (c.encoding ≡ None) × HoldTexts c w v o b
+texts_held a c s w v o b view ok is h e f g =
+    let k = known a (ranges.Texts s) is ok in
+    let held : HoldTexts (column_of a) s.width (bytes_of a.body s.validity) (bytes_of a.body s.offsets) (bytes_of a.body s.bytes) =
+    (rw (long a) k.2.laid, rw (long a) k.3, values a (ranges.Texts s) is) in
+    subst (λ (x : Column). (x.encoding ≡ None) × HoldTexts x w v o b) view (k.0, rw (h, e, f, g) held)
+
+-- byte strings of one length
+pub fixed_held : (a : Inside) (c : Column) (b : Fixed) (v vs : List ℕ) → column_of a ≡ c → IsArray a → a.ranges ≡ ranges.FixedBytes b
+    → v ≡ bytes_of a.body b.validity → vs ≡ bytes_of a.body b.values → (c.encoding ≡ None) × HoldFixed c b.width v vs
+fixed_held a c b v vs view ok is e f =
+    let k = known a (ranges.FixedBytes b) is ok in
+    let held : HoldFixed (column_of a) b.width (bytes_of a.body b.validity) (bytes_of a.body b.values) = (rw (long a) k.2.laid, values a (ranges.FixedBytes b) is) in
+    subst (λ (x : Column). (x.encoding ≡ None) × HoldFixed x b.width v vs) view (k.0, rw (e, f) held)
+
+-- what is known of indices, whatever the encoding
+entries : (e : Option Encoding) (len : ℕ) (t : TypeShape) (body : List ℕ) (n : Ints) (d : ValueList) → AreEntriesBy e len t body n d
+    → AreInts len body n × AreIndices len n.width n.signed (bytes_of body n.validity) (bytes_of body n.values) (length d.values)
+entries None len t body n d ok = absurd ok
+entries (Some e) len t body n d ok = (ok.ints, ok.indices)
+
+-- a column of indices is dictionary-encoded
+encoded : (e : Option Encoding) (len : ℕ) (t : TypeShape) (body : List ℕ) (n : Ints) (d : ValueList) → AreEntriesBy e len t body n d → IsTrue (is_some e)
+encoded None len t body n d ok = absurd ok
+encoded (Some e) len t body n d ok = refl
+
+-- indices into a dictionary
+pub indices_held : (a : Inside) (c : Column) (n : Ints) (d : Box Dictionary) (w : ℕ) (s : Bool) (v vs : List ℕ) → column_of a ≡ c → IsArray a → a.ranges ≡ ranges.Indices n d
+    → w ≡ n.width → s ≡ n.signed → v ≡ bytes_of a.body n.validity → vs ≡ bytes_of a.body n.values → HoldIndices c w s v vs d.value
+indices_held a c n d w s v vs view ok is g h e f =
+    let t = type_view a.data_type.value in
+    let k = known a (ranges.Indices n d) is ok in
+    let p = entries a.encoding a.len t a.body n d.value k in
+    let shown = dictionary_shown (column_of a) t a.encoding a.len a.body n d (ap (λ r. column_by t a.encoding a.len a.body r) is) k in
+    let held : HoldIndices (column_of a) n.width n.signed (bytes_of a.body n.validity) (bytes_of a.body n.values) d.value =
+    (p.0.whole, rw (long a) p.0.laid, rw (long a) p.1, encoded a.encoding a.len t a.body n d.value k, shown, raw_values a (ranges.Indices n d) is, values a (ranges.Indices n d) is) in
+    subst (λ (x : Column). HoldIndices x w s v vs d.value) view (rw (g, h, e, f) held)

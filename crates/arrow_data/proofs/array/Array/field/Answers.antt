@@ -1,0 +1,18 @@
+use Rattle.std.proofs.Common.{ap, sym, ◌∙◌, subst}
+use Rattle.arrow_types.specs.View.{type_view}
+use Rattle.arrow_data.specs.Node.{AreRanges, bytes_of, column_by}
+use Rattle.arrow_data.specs.declared.array.Ranges.TheVariants.{Structs}
+use Rattle.arrow_data.proofs.Shown.{longer_of_counts}
+use Rattle.arrow_data.proofs.Children.{field_of_column, found_from_lookup}
+use Rattle.arrow_data.proofs.array.Array.field.Goals as goal
+
+pub returns-in-Structs : goal.returns-in-Structs
+returns-in-Structs c =
+    let a = c.self.inside in
+    let t = type_view a.data_type.value in
+    let v = c.in-Structs.validity in
+    let cs = c.in-Structs.children.items in
+    let ok = subst (AreRanges a.len t a.encoding a.body) c.in-Structs.is c.self.invariant.1 in
+    let is = sym c.self.view_is ∙ ap (λ r. column_by t a.encoding a.len a.body r) c.in-Structs.is ∙ ap (λ e. column_by t e a.len a.body (Structs v c.in-Structs.children)) ok.0 in
+    let found = found_from_lookup c.deref.result.now c.args.k c.get.result c.get.ensures.lookup.1 c.get.ensures.lookup.3 in
+    field_of_column c.args.self.now t a.len (bytes_of a.body v) cs c.args.k c.get.result is ok.1 ok.2.typed ok.2.known (longer_of_counts a.len cs ok.2.laid.longer) (rw c.deref.ensures.value at found)

@@ -1,0 +1,67 @@
+use Rattle.std.proofs.Common.{◌≡◌, ◌≤◌, length, map, ap, sym, ◌∙◌, subst, refl}
+use Rattle.arrow_types.specs.Field.{none}
+use Rattle.arrow_types.specs.View.{type_view}
+use Rattle.arrow_data.specs.Form.{HasFieldsOf, buffers_of, form_of}
+use Rattle.arrow_data.specs.Node.{binary_at, bytes_of, utf8_at}
+use Rattle.arrow_data.specs.Parts.{value_slot}
+use Rattle.arrow_data.specs.Slots.{binary_slot, utf8_slot}
+use Rattle.arrow_data.specs.declared.form.Form.TheVariants as forms
+use Rattle.arrow_data.proofs.NodeParts.{leaf_same, list_lies, list_same, one_child, strings_same, struct_lies, struct_same}
+use Rattle.arrow_data.proofs.parts.value_ranges.Goals as goal
+
+pub only-requires : goal.only-requires
+only-requires c =
+    one_child (type_view c.args.data_type.now).children c.args.children.items (subst (λ f. HasFieldsOf f (type_view c.args.data_type.now).children) c.in-Lists.is c.form_of.ensures.below) c.requires.children
+
+pub returns-in_ok-new-in-Lists-clause-lies : goal.returns-in_ok-new-in-Lists-clause-lies
+returns-in_ok-new-in-Lists-clause-lies c =
+    let t = type_view c.args.data_type.now in
+    let w = c.in-Lists.width in
+    let form : form_of t.tag ≡ forms.Lists w = sym c.form_of.ensures.same ∙ c.in-Lists.is in
+    let two : 2 ≤ length c.args.buffers.now = subst (λ x. buffers_of x ≤ length c.args.buffers.now) form c.requires.count in
+    let lies = list_lies w t c.args.len c.args.body.now c.args.buffers.now (record { start = 0; end = 0 }) c.args.children.items c.only.result form c.only.ensures c.requires.children (rw c.deref.ensures.value at c.opened.ensures) two c.requires.inside c.requires.layout in
+    (refl, form, rw c.in_ok-new-in-Lists.ensures.ok lies)
+
+pub returns-in_ok-new-in-Lists-clause-same : goal.returns-in_ok-new-in-Lists-clause-same
+returns-in_ok-new-in-Lists-clause-same c =
+    let t = type_view c.args.data_type.now in
+    let w = c.in-Lists.width in
+    let form : form_of t.tag ≡ forms.Lists w = sym c.form_of.ensures.same ∙ c.in-Lists.is in
+    let two : 2 ≤ length c.args.buffers.now = subst (λ x. buffers_of x ≤ length c.args.buffers.now) form c.requires.count in
+    list_same w t c.args.len c.args.body.now c.args.buffers.now (record { start = 0; end = 0 }) c.args.children.items c.in_ok-new-in-Lists.field-0 form (rw c.in_ok-new-in-Lists.ensures.ok c.only.ensures) two
+
+pub returns-in-Structs-clause-lies : goal.returns-in-Structs-clause-lies
+returns-in-Structs-clause-lies c =
+    let t = type_view c.args.data_type.now in
+    let form : form_of t.tag ≡ forms.Structs = sym c.form_of.ensures.same ∙ c.in-Structs.is in
+    let one : 1 ≤ length c.args.buffers.now = subst (λ x. buffers_of x ≤ length c.args.buffers.now) form c.requires.count in
+    (refl, form, struct_lies t c.args.len c.args.body.now c.args.buffers.now (record { start = 0; end = 0 }) c.args.children.items form c.requires.children (rw c.deref.ensures.value at c.opened.ensures) one c.requires.inside c.requires.layout)
+
+pub returns-in-Structs-clause-same : goal.returns-in-Structs-clause-same
+returns-in-Structs-clause-same c =
+    let t = type_view c.args.data_type.now in
+    let form : form_of t.tag ≡ forms.Structs = sym c.form_of.ensures.same ∙ c.in-Structs.is in
+    let one : 1 ≤ length c.args.buffers.now = subst (λ x. buffers_of x ≤ length c.args.buffers.now) form c.requires.count in
+    struct_same t c.args.len c.args.body.now c.args.buffers.now (record { start = 0; end = 0 }) c.args.children form one
+
+pub returns-in-Bytes-clause-same : goal.returns-in-Bytes-clause-same
+returns-in-Bytes-clause-same c =
+    let t = type_view c.args.data_type.now in
+    let w = c.in-Bytes.width in
+    let form : form_of t.tag ≡ forms.Bytes w = sym c.form_of.ensures.same ∙ c.in-Bytes.is in
+    let three : 3 ≤ length c.args.buffers.now = subst (λ x. buffers_of x ≤ length c.args.buffers.now) form c.requires.count in
+    let leaf : t.children ≡ none = subst (λ f. HasFieldsOf f t.children) c.in-Bytes.is c.form_of.ensures.below in
+    let s = c.strings.ensures in
+    leaf_same t (forms.Bytes w) c.args.len (map (bytes_of c.args.body.now) c.args.buffers.now) c.args.children.items (binary_at c.args.body.now c.strings.result) form leaf c.requires.children refl
+    (λ children. strings_same c.args.body.now c.args.buffers.now c.strings.result three s.validity s.offsets s.bytes (binary_slot c.strings.result.width) ∙ ap (λ x. value_slot (forms.Bytes x) (map (bytes_of c.args.body.now) c.args.buffers.now) children) s.width)
+
+pub returns-in-Texts-clause-same : goal.returns-in-Texts-clause-same
+returns-in-Texts-clause-same c =
+    let t = type_view c.args.data_type.now in
+    let w = c.in-Texts.width in
+    let form : form_of t.tag ≡ forms.Texts w = sym c.form_of.ensures.same ∙ c.in-Texts.is in
+    let three : 3 ≤ length c.args.buffers.now = subst (λ x. buffers_of x ≤ length c.args.buffers.now) form c.requires.count in
+    let leaf : t.children ≡ none = subst (λ f. HasFieldsOf f t.children) c.in-Texts.is c.form_of.ensures.below in
+    let s = c.strings-in-Texts.ensures in
+    leaf_same t (forms.Texts w) c.args.len (map (bytes_of c.args.body.now) c.args.buffers.now) c.args.children.items (utf8_at c.args.body.now c.strings-in-Texts.result) form leaf c.requires.children refl
+    (λ children. strings_same c.args.body.now c.args.buffers.now c.strings-in-Texts.result three s.validity s.offsets s.bytes (utf8_slot c.strings-in-Texts.result.width) ∙ ap (λ x. value_slot (forms.Texts x) (map (bytes_of c.args.body.now) c.args.buffers.now) children) s.width)

@@ -1,0 +1,12 @@
+use Rattle.std.proofs.Common.{◌≡◌, IsUtf8, rules, slice_range}
+use Rattle.arrow_data.specs.Slots.{place_of}
+use Rattle.arrow_data.proofs.Cuts.{cuts_texts}
+use Rattle.arrow_data.proofs.texts.are_slots_utf8.Goals as goal
+
+pub returns-then-are_cuts : goal.returns-then-are_cuts
+returns-then-are_cuts c =
+    let a = c.args in
+    let whole : c.in-Ok.text.now ≡ slice_range a.bytes.now (place_of a.width a.offsets.now 0) (place_of a.width a.offsets.now a.len) = search rules in
+    let utf8 : IsUtf8 c.in-Ok.text.now = search rules in
+    let cuts = c.are_cuts.ensures.0 c.if-are_cuts.true in
+    (λ _. cuts_texts a.width a.len a.validity.now a.offsets.now a.bytes.now c.in-Ok.text.now c.all_slots.ensures.rising whole utf8 cuts, λ _. c.if-are_cuts.true)

@@ -1,0 +1,7 @@
+use Rattle.std.proofs.Common.{◌+◌, arith}
+use Rattle.arrow_data.proofs.Cuts.{places_order}
+use Rattle.arrow_data.proofs.texts.places_of.Goals as goal
+
+pub returns-clause-after : goal.returns-clause-after
+returns-clause-after c =
+    places_order c.args.width c.args.offsets.now c.args.len (c.args.j + 1) c.args.len c.places_at-end.ensures.rising (omega (arith, c.requires.slot)) (omega arith)

@@ -1,0 +1,49 @@
+-- Slots one after another of which none is null, and the bytes in which their values lie.
+use Rattle.std.specs.Prelude.{◌≡◌, ◌≤◌, ◌<◌, ℕ, true, false, List, []}
+use Rattle.arrow_bits.specs.Numbers.{int_bytes}
+use Rattle.arrow_data.specs.Column.{Column}
+use Rattle.arrow_data.specs.Form.{number_width}
+use Rattle.arrow_data.specs.PlainValue.{PlainValue, null_value, bool_value, int_value, binary_value, utf8_value, list_value, struct_value, is_null_value, value_at}
+use Rattle.arrow_data.specs.Slots.{is_valid_at}
+use Rattle.arrow_data.specs.declared.form.Form.{Form}
+use Rattle.arrow_data.specs.declared.form.Form.TheVariants as forms
+
+-- none of the slots from `start` up to `stop` is null
+abbrev pub AreFull : Column → ℕ → ℕ → Type 0
+AreFull c start stop = (i : ℕ) → start ≤ i → i < stop → is_null_value (value_at c.raw i) ≡ false
+
+-- slot i is the first null one from `start` on, or it is `stop` and none before it is null
+pub record IsFirstNull (c : Column) (start stop i : ℕ) : Type 0 where
+  pub low : start ≤ i
+  pub high : i ≤ stop
+  pub full : AreFull c start i
+  pub null : i < stop → is_null_value (value_at c.raw i) ≡ true
+
+-- slot i is the first one from `start` on that is not valid, or it is `stop` and each one before it is
+pub record IsFirstInvalid (validity : List ℕ) (start stop i : ℕ) : Type 0 where
+  pub low : start ≤ i
+  pub high : i ≤ stop
+  pub valid : (j : ℕ) → start ≤ j → j < i → is_valid_at validity j ≡ true
+  pub invalid : i < stop → is_valid_at validity i ≡ false
+
+-- how many bytes each number of a node of the form takes, 0 where it has none
+abbrev pub width_in : Form → ℕ
+width_in forms.Nulls = 0
+width_in forms.Bits = 0
+width_in (forms.Numbers bits signed) = number_width bits
+width_in (forms.Bytes width) = 0
+width_in (forms.Texts width) = 0
+width_in (forms.FixedBytes width) = 0
+width_in (forms.Lists width) = 0
+width_in forms.Structs = 0
+
+-- The bytes that a value is in a node of the form: of a number its own, of a byte string or a text those that it has; of
+-- all others none (Columnar Format, "Fixed-size Primitive Layout", "Variable-size Binary Layout").
+abbrev pub value_bytes : Form → PlainValue → List ℕ
+value_bytes form null_value = []
+value_bytes form (bool_value b) = []
+value_bytes form (int_value z) = int_bytes (width_in form) z
+value_bytes form (binary_value bytes) = bytes
+value_bytes form (utf8_value bytes) = bytes
+value_bytes form (list_value items) = []
+value_bytes form (struct_value parts) = []

@@ -1,0 +1,488 @@
+//! Arrays, and what stands in their slots.
+
+ghost use Rattle.std.specs.Prelude.{◌≡◌, ◌≤◌, ◌<◌, length, option_map, MatchOption, None};
+ghost use Rattle.arrow_types.specs.View.{type_view};
+ghost use Rattle.arrow_data.specs.Column.{HasItems, HasChild, HasField, HasEntry, HasNoIndex};
+ghost use Rattle.arrow_data.specs.Column.{HasDictionary, IsColumn, IsList, struct_fields};
+ghost use Rattle.arrow_data.specs.Column.{HasFields, IsStruct, type_of_field};
+ghost use Rattle.arrow_data.specs.PlainValue.{value_at, is_null_value, bool_in, int_in, binary_in};
+ghost use Rattle.arrow_data.specs.PlainValue.{utf8_in, items_in};
+ghost use Rattle.arrow_data.specs.Column.{values_from};
+ghost use Rattle.arrow_data.specs.Form.{node_form};
+ghost use Rattle.arrow_data.specs.FullSlots.{AreFull, IsFirstNull, value_bytes};
+ghost use Rattle.arrow_data.specs.Node.{validity_in};
+ghost use Rattle.arrow_data.specs.Shown.{HoldsValue, Shows, value_shown};
+ghost use Rattle.std.specs.List.{flat_map};
+
+use crate::buffers::{Bools, Fixed, Ints, Strings};
+use crate::byte_range::{ByteRange, bytes_in};
+use crate::dictionary::Dictionary;
+use crate::form::OffsetWidth;
+use crate::slot::{first_invalid, is_valid, range_at};
+use arrow_types::{DataType, Encoding};
+use bytes::Bytes;
+use std::marker::Model;
+use std::rc::Rc;
+
+// Where the buffers of a node lie in the body, and the arrays of its children or its dictionary.
+#[cycle(arrays)]
+#[derive(Drop)]
+pub(crate) enum Ranges {
+    Nulls,
+    Bools(Bools),
+    Ints(Ints),
+    Binaries(Strings),
+    Texts(Strings),
+    FixedBytes(Fixed),
+    Lists {
+        width: OffsetWidth,
+        validity: ByteRange,
+        offsets: ByteRange,
+        child: Box<Array>,
+    },
+    Structs {
+        validity: ByteRange,
+        children: Vec<Array>,
+    },
+    Indices(Ints, Box<Dictionary>),
+}
+
+impl Ranges {
+    // Where the validity of the slots lies; None where every slot is null.
+    fn validity(&self) -> Option<ByteRange>
+        ensures { result ≡ validity_in self.now }
+    {
+        match self {
+            Ranges::Nulls => None,
+            Ranges::Bools(bools) => Some(bools.validity),
+            Ranges::Ints(ints) | Ranges::Indices(ints, _) => Some(ints.validity),
+            Ranges::Binaries(strings) | Ranges::Texts(strings) => Some(strings.validity),
+            Ranges::FixedBytes(fixed) => Some(fixed.validity),
+            Ranges::Lists { validity, .. } | Ranges::Structs { validity, .. } => Some(*validity),
+        }
+    }
+}
+
+/// A column: its type, and a value in each slot (Columnar Format, "Physical Memory Layout").
+///
+/// The values stay in the body of the message that brought them, which arrays share. Slots count
+/// from 0. In a dictionary-encoded column a slot holds an index, and the value is the one of that
+/// number in the column's dictionary.
+#[cycle(arrays)]
+#[derive(Drop)]
+pub struct Array {
+    pub(crate) data_type: Rc<DataType>,
+    pub(crate) encoding: Option<Encoding>,
+    pub(crate) len: usize,
+    pub(crate) body: Bytes,
+    pub(crate) ranges: Ranges,
+}
+
+impl Model for Array {
+    ghost use Rattle.arrow_data.specs.Column.{Column, column_code, column_size};
+
+    ghost Value = { Column };
+
+    ghost coded = { column_code };
+
+    ghost use Rattle.arrow_data.specs.Node.{column_of, IsArray};
+
+    ghost view = { column_of };
+
+    ghost invariant = { IsArray };
+
+    ghost size = { column_size };
+
+    ghost use Rattle.arrow_types.specs.View.{type_view};
+    ghost use Rattle.arrow_data.specs.Falls.{depth_le-levels};
+
+    ghost size_decreases = { λ a h.
+        depth_le-levels a.len (type_view a.data_type.value) a.encoding a.body a.ranges h.1 };
+}
+
+// What stands in a slot: the one place that looks at the ranges.
+#[derive(Clone, Copy)]
+pub(crate) enum Seen<'a> {
+    Nothing,
+    Truth(bool),
+    Number(i128),
+    Binary(&'a [u8]),
+    Text(&'a str),
+    Items(usize, usize, &'a Array),
+    Parts(&'a [Array]),
+}
+
+/// The value of a slot, where an index stands for the value that it refers to.
+#[derive(Clone, Copy)]
+pub enum SlotValue<'a> {
+    /// No value.
+    Null,
+    /// A truth value.
+    Bool(bool),
+    /// A number; of a date, a time, a timestamp or a duration the number of its units.
+    Int(i128),
+    /// A byte string.
+    Bytes(&'a [u8]),
+    /// A text.
+    Text(&'a str),
+    /// A list: the first and the end of the slots that its items stand in, and the array that has
+    /// these slots.
+    List(usize, usize, &'a Array),
+    /// A struct: the arrays of its fields, and the slot in which each of them has its value.
+    Struct(&'a [Array], usize),
+}
+
+impl<'a> Seen<'a> {
+    // What slot `i` shows, as a value.
+    #[inline(always)]
+    fn at(self, i: usize) -> SlotValue<'a>
+        ensures { result ≡ value_shown i self.entry }
+    {
+        match self {
+            Seen::Nothing => SlotValue::Null,
+            Seen::Truth(truth) => SlotValue::Bool(truth),
+            Seen::Number(number) => SlotValue::Int(number),
+            Seen::Binary(bytes) => SlotValue::Bytes(bytes),
+            Seen::Text(text) => SlotValue::Text(text),
+            Seen::Items(start, end, items) => SlotValue::List(start, end, items),
+            Seen::Parts(children) => SlotValue::Struct(children, i),
+        }
+    }
+}
+
+#[tactic(auto, using(crate::proofs::Shown::shown))]
+impl Array {
+    /// How many slots there are, null or not: at most 2,147,483,647.
+    pub fn len(&self) -> usize
+        ensures count { result ≡ length self.now.raw }
+        ensures known { IsColumn self.now }
+    {
+        self.len
+    }
+
+    /// The type of the values. In a dictionary-encoded column it is the type of the dictionary's
+    /// values.
+    pub fn data_type(&self) -> &DataType
+        ensures { type_view result.now ≡ self.now.data_type }
+    {
+        &self.data_type
+    }
+
+    /// How the column refers to its dictionary. None where its slots hold the values themselves.
+    pub fn encoding(&self) -> Option<&Encoding>
+        ensures { option_map (λ e. e.now) result ≡ self.now.encoding }
+    {
+        self.encoding.as_ref()
+    }
+
+    // What stands in slot `i`, where a dictionary-encoded column holds numbers.
+    #[inline(always)]
+    pub(crate) fn seen(&self, i: usize) -> Seen<'_>
+        requires { i < length self.now.raw }
+        ensures { Shows self.now i result }
+    {
+        let body = self.body.as_slice();
+        match &self.ranges {
+            Ranges::Bools(bools) => match bools.at(body, self.len, i) {
+                Some(truth) => Seen::Truth(truth),
+                None => Seen::Nothing,
+            },
+            Ranges::Ints(ints) | Ranges::Indices(ints, _) => match ints.at(body, self.len, i) {
+                Some(number) => Seen::Number(number),
+                None => Seen::Nothing,
+            },
+            Ranges::Binaries(strings) => match strings.binary_at(body, self.len, i) {
+                Some(bytes) => Seen::Binary(bytes),
+                None => Seen::Nothing,
+            },
+            Ranges::Texts(strings) => match strings.text_at(body, self.len, i) {
+                Some(text) => Seen::Text(text),
+                None => Seen::Nothing,
+            },
+            Ranges::FixedBytes(fixed) => match fixed.at(body, self.len, i) {
+                Some(bytes) => Seen::Binary(bytes),
+                None => Seen::Nothing,
+            },
+            Ranges::Lists {
+                width,
+                validity,
+                offsets,
+                child,
+            } => {
+                let (marks, places) = (bytes_in(body, *validity), bytes_in(body, *offsets));
+                match range_at(*width, marks, places, self.len, child.len(), i) {
+                    Some((start, end)) => Seen::Items(start, end, child),
+                    None => Seen::Nothing,
+                }
+            }
+            Ranges::Structs { validity, children } if is_valid(bytes_in(body, *validity), i) => {
+                Seen::Parts(children)
+            }
+            Ranges::Nulls | Ranges::Structs { .. } => Seen::Nothing,
+        }
+    }
+
+    /// Whether slot `i` is null. An index is not, also where the value that it refers to is null.
+    #[inline(always)]
+    pub fn is_null(&self, i: usize) -> bool
+        requires { i < length self.now.raw }
+        ensures { result ≡ is_null_value (value_at self.now.raw i) }
+    {
+        matches!(self.seen(i), Seen::Nothing)
+    }
+
+    /// The first null slot from `start` on, or `stop` where none before it is null. Where the
+    /// column has no validity bitmap no slot is looked at.
+    pub fn first_null(&self, start: usize, stop: usize) -> usize
+        requires order { start ≤ stop }
+        requires inside { stop ≤ length self.now.raw }
+        ensures { IsFirstNull self.now start stop result }
+    {
+        match self.ranges.validity() {
+            Some(range) => first_invalid(bytes_in(self.body.as_slice(), range), start, stop),
+            None => start,
+        }
+    }
+
+    /// The bytes in which the values of a range of slots lie, one after another: of numbers or
+    /// indices those of the numbers, of byte strings and texts their own. No slot of the range is
+    /// null. Of slots that hold something else there are none. Nothing is copied.
+    pub fn value_bytes(&self, start: usize, stop: usize) -> &[u8]
+        requires order { start ≤ stop }
+        requires inside { stop ≤ length self.now.raw }
+        requires full { AreFull self.now start stop }
+        ensures { result.now ≡ flat_map
+            (value_bytes (node_form self.now.data_type.tag self.now.encoding))
+            (values_from self.now.raw start stop) }
+    {
+        if start == stop {
+            return &[];
+        }
+        let body = self.body.as_slice();
+        match &self.ranges {
+            Ranges::Nulls => &[],
+            Ranges::Bools(_) => &[],
+            Ranges::Ints(ints) => ints.part(body, self.len, start, stop),
+            Ranges::Binaries(strings) => strings.part(body, self.len, start, stop),
+            Ranges::Texts(strings) => strings.part(body, self.len, start, stop),
+            Ranges::FixedBytes(fixed) => fixed.part(body, self.len, start, stop),
+            Ranges::Lists { .. } => &[],
+            Ranges::Structs { .. } => &[],
+            Ranges::Indices(ints, _) => ints.part(body, self.len, start, stop),
+        }
+    }
+
+    /// The truth value in slot `i`. None where the slot is null or holds something else.
+    #[inline(always)]
+    pub fn bool_at(&self, i: usize) -> Option<bool>
+        requires { i < length self.now.raw }
+        ensures { result ≡ bool_in (value_at self.now.raw i) }
+    {
+        match self.seen(i) {
+            Seen::Truth(truth) => Some(truth),
+            Seen::Nothing
+            | Seen::Number(_)
+            | Seen::Binary(_)
+            | Seen::Text(_)
+            | Seen::Items(..)
+            | Seen::Parts(_) => None,
+        }
+    }
+
+    /// The number in slot `i` of a column of type Int, Date, Time, Timestamp or Duration, or the
+    /// index in slot `i` of a dictionary-encoded column of any type. None where the slot is null or
+    /// holds something else.
+    #[inline(always)]
+    pub fn int_at(&self, i: usize) -> Option<i128>
+        requires { i < length self.now.raw }
+        ensures { result ≡ int_in (value_at self.now.raw i) }
+    {
+        match self.seen(i) {
+            Seen::Number(number) => Some(number),
+            Seen::Nothing
+            | Seen::Truth(_)
+            | Seen::Binary(_)
+            | Seen::Text(_)
+            | Seen::Items(..)
+            | Seen::Parts(_) => None,
+        }
+    }
+
+    /// The byte string in slot `i`, also one of a fixed size. None where the slot is null or holds something else.
+    #[inline(always)]
+    pub fn bytes_at(&self, i: usize) -> Option<&[u8]>
+        requires { i < length self.now.raw }
+        ensures { option_map (λ b. b.now) result ≡ binary_in (value_at self.now.raw i) }
+    {
+        match self.seen(i) {
+            Seen::Binary(bytes) => Some(bytes),
+            Seen::Nothing
+            | Seen::Truth(_)
+            | Seen::Number(_)
+            | Seen::Text(_)
+            | Seen::Items(..)
+            | Seen::Parts(_) => None,
+        }
+    }
+
+    /// The text in slot `i`. None where the slot is null or holds something else.
+    #[inline(always)]
+    pub fn text_at(&self, i: usize) -> Option<&str>
+        requires { i < length self.now.raw }
+        ensures { option_map (λ t. t.now) result ≡ utf8_in (value_at self.now.raw i) }
+    {
+        match self.seen(i) {
+            Seen::Text(text) => Some(text),
+            Seen::Nothing
+            | Seen::Truth(_)
+            | Seen::Number(_)
+            | Seen::Binary(_)
+            | Seen::Items(..)
+            | Seen::Parts(_) => None,
+        }
+    }
+
+    /// The items in slot `i`: the first and the end of their slots in the child array, and the
+    /// child array. None where the slot is null or holds something else.
+    #[inline(always)]
+    pub fn list_at(&self, i: usize) -> Option<(usize, usize, &Array)>
+        requires { i < length self.now.raw }
+        ensures { MatchOption result (items_in (value_at self.now.raw i) ≡ None)
+            (λ r. HasItems self.now i r.0 r.1 r.2.now) }
+    {
+        match self.seen(i) {
+            Seen::Items(start, end, child) => Some((start, end, child)),
+            Seen::Nothing
+            | Seen::Truth(_)
+            | Seen::Number(_)
+            | Seen::Binary(_)
+            | Seen::Text(_)
+            | Seen::Parts(_) => None,
+        }
+    }
+
+    /// The child array that the items of all lists stand in. None where slots do not hold lists.
+    pub fn items(&self) -> Option<&Array>
+        ensures { MatchOption result (IsList self.now → ⊥) (λ child. HasChild self.now child.now) }
+    {
+        match &self.ranges {
+            Ranges::Lists { child, .. } => Some(child),
+            Ranges::Nulls
+            | Ranges::Bools(_)
+            | Ranges::Ints(_)
+            | Ranges::Binaries(_)
+            | Ranges::Texts(_)
+            | Ranges::FixedBytes(_)
+            | Ranges::Structs { .. }
+            | Ranges::Indices(..) => None,
+        }
+    }
+
+    /// The array of field `k` of a struct: slot i of the struct is slot i of this array. It may
+    /// have more slots. None where slots do not hold structs, or these have no field `k`.
+    pub fn field(&self, k: usize) -> Option<&Array>
+        ensures { MatchOption result (type_of_field (struct_fields self.now) k ≡ None)
+            (λ child. HasField self.now k child.now) }
+    {
+        match &self.ranges {
+            Ranges::Structs { children, .. } => children.get(k),
+            Ranges::Nulls
+            | Ranges::Bools(_)
+            | Ranges::Ints(_)
+            | Ranges::Binaries(_)
+            | Ranges::Texts(_)
+            | Ranges::FixedBytes(_)
+            | Ranges::Lists { .. }
+            | Ranges::Indices(..) => None,
+        }
+    }
+
+    /// The arrays of the fields of a struct, side by side. None where slots do not hold structs.
+    pub fn fields(&self) -> Option<&[Array]>
+        ensures { MatchOption result (IsStruct self.now → ⊥)
+            (λ children. HasFields self.now children.now) }
+    {
+        match &self.ranges {
+            Ranges::Structs { children, .. } => Some(children),
+            Ranges::Nulls
+            | Ranges::Bools(_)
+            | Ranges::Ints(_)
+            | Ranges::Binaries(_)
+            | Ranges::Texts(_)
+            | Ranges::FixedBytes(_)
+            | Ranges::Lists { .. }
+            | Ranges::Indices(..) => None,
+        }
+    }
+
+    /// The dictionary that the indices of the column refer to. None where the column is not
+    /// dictionary-encoded.
+    pub fn dictionary(&self) -> Option<&Dictionary>
+        ensures { MatchOption result (self.now.encoding ≡ None)
+            (λ dictionary. HasDictionary self.now dictionary.now) }
+    {
+        match &self.ranges {
+            Ranges::Indices(_, dictionary) => Some(dictionary),
+            Ranges::Nulls
+            | Ranges::Bools(_)
+            | Ranges::Ints(_)
+            | Ranges::Binaries(_)
+            | Ranges::Texts(_)
+            | Ranges::FixedBytes(_)
+            | Ranges::Lists { .. }
+            | Ranges::Structs { .. } => None,
+        }
+    }
+
+    /// Where the value that slot `i` refers to stands: an array and a place there. None where the
+    /// slot is null, or the column is not dictionary-encoded.
+    #[inline(always)]
+    pub fn resolved(&self, i: usize) -> Option<(&Array, usize)>
+        requires { i < length self.now.raw }
+        ensures { MatchOption result (HasNoIndex self.now i)
+            (λ r. HasEntry self.now i r.0.now r.1) }
+    {
+        match &self.ranges {
+            Ranges::Indices(ints, dictionary) => {
+                let index = ints.at(self.body.as_slice(), self.len, i)?;
+                Some(dictionary.value(index as usize))
+            }
+            Ranges::Nulls
+            | Ranges::Bools(_)
+            | Ranges::Ints(_)
+            | Ranges::Binaries(_)
+            | Ranges::Texts(_)
+            | Ranges::FixedBytes(_)
+            | Ranges::Lists { .. }
+            | Ranges::Structs { .. } => None,
+        }
+    }
+
+    /// The value of slot `i`, whatever its type. In a dictionary-encoded column it is the
+    /// dictionary's value, and null where the index or that value is. No memory is taken.
+    #[inline(always)]
+    pub fn slot(&self, i: usize) -> SlotValue<'_>
+        requires { i < length self.now.raw }
+        ensures { HoldsValue self.now i result }
+    {
+        // A field is named so that the proof has at hand what is known of every array.
+        let _ = &self.len;
+        match self.resolved(i) {
+            Some((values, place)) => values.own_slot(place),
+            None => self.own_slot(i),
+        }
+    }
+
+    // The value of slot `i`, which holds no index.
+    #[inline(always)]
+    fn own_slot(&self, i: usize) -> SlotValue<'_>
+        requires inside { i < length self.now.raw }
+        requires own { HasNoIndex self.now i }
+        ensures holds { HoldsValue self.now i result }
+        ensures column { IsColumn self.now }
+    {
+        // As in `slot`.
+        let _ = &self.len;
+        self.seen(i).at(i)
+    }
+}

@@ -1,0 +1,189 @@
+//! The buffers of the layouts without children, each as its range of the body.
+
+ghost use Rattle.std.specs.Prelude.{◌≡◌, ◌≤◌, ◌<◌, ◌*◌, MatchOption, length, slice_range};
+ghost use Rattle.std.specs.List.Sorted.{IsNonDecreasing};
+ghost use Rattle.arrow_bits.specs.Offsets.{plain_list};
+ghost use Rattle.arrow_data.specs.Form.{offset_bytes};
+ghost use Rattle.arrow_data.specs.Node.{AreBools, AreInts, AreStrings, bool_at, int_at, binary_at};
+ghost use Rattle.arrow_data.specs.Node.{AreFixed, fixed_at, utf8_at, bytes_of};
+ghost use Rattle.arrow_data.specs.PlainValue.{null_value, bool_value, int_value, binary_value};
+ghost use Rattle.arrow_data.specs.PlainValue.{utf8_value};
+ghost use Rattle.arrow_data.specs.Slots.{AreTexts, place_of};
+
+use crate::byte_range::{ByteRange, bytes_in};
+use crate::form::OffsetWidth;
+use crate::slot;
+
+// The bytes of a range of `len` slots that have `width` bytes each.
+#[tactic(auto, using(crate::proofs::Shown::parts_inside))]
+fn cells(values: &[u8], width: usize, len: usize, start: usize, stop: usize) -> &[u8]
+    requires order { start ≤ stop }
+    requires inside { stop ≤ len }
+    requires long { width * len ≤ length values.now }
+    ensures { result.now ≡ slice_range values.now (width * start) (width * stop) }
+{
+    &values[width * start..width * stop]
+}
+
+// Truth values: bit j is that of slot j.
+#[derive(Clone, Copy)]
+pub(crate) struct Bools {
+    pub(crate) validity: ByteRange,
+    pub(crate) values: ByteRange,
+}
+
+impl Bools {
+    // The truth value of slot `i` of `len`, where it is valid.
+    pub(crate) fn at(self, body: &[u8], len: usize, i: usize) -> Option<bool>
+        requires slot { i < len }
+        requires lies { AreBools len body.now self }
+        ensures { MatchOption result (bool_at body.now self i ≡ null_value)
+            (λ b. bool_at body.now self i ≡ bool_value b) }
+    {
+        slot::bool_at(
+            bytes_in(body, self.validity),
+            bytes_in(body, self.values),
+            i,
+        )
+    }
+}
+
+// Numbers of `width` bytes: those of a column of numbers, or of indices into a dictionary.
+#[derive(Clone, Copy)]
+pub(crate) struct Ints {
+    pub(crate) width: usize,
+    pub(crate) signed: bool,
+    pub(crate) validity: ByteRange,
+    pub(crate) values: ByteRange,
+}
+
+#[tactic(auto, using(crate::proofs::Shown::shown))]
+impl Ints {
+    // The number of slot `i` of `len`, where it is valid.
+    pub(crate) fn at(self, body: &[u8], len: usize, i: usize) -> Option<i128>
+        requires slot { i < len }
+        requires lies { AreInts len body.now self }
+        ensures { MatchOption result (int_at body.now self i ≡ null_value)
+            (λ z. int_at body.now self i ≡ int_value z) }
+    {
+        slot::number_at(
+            bytes_in(body, self.validity),
+            bytes_in(body, self.values),
+            self.width,
+            self.signed,
+            i,
+        )
+    }
+
+    // The bytes of the numbers of a range of the `len` slots.
+    pub(crate) fn part(self, body: &[u8], len: usize, start: usize, stop: usize) -> &[u8]
+        requires order { start ≤ stop }
+        requires inside { stop ≤ len }
+        requires lies { AreInts len body.now self }
+        ensures { result.now ≡ slice_range (bytes_of body.now self.values)
+            (self.width * start) (self.width * stop) }
+    {
+        cells(bytes_in(body, self.values), self.width, len, start, stop)
+    }
+}
+
+// Byte strings of `width` bytes each.
+#[derive(Clone, Copy)]
+pub(crate) struct Fixed {
+    pub(crate) width: usize,
+    pub(crate) validity: ByteRange,
+    pub(crate) values: ByteRange,
+}
+
+#[tactic(auto, using(crate::proofs::Shown::shown))]
+impl Fixed {
+    // The byte string of slot `i` of `len`, where it is valid.
+    pub(crate) fn at(self, body: &[u8], len: usize, i: usize) -> Option<&[u8]>
+        requires slot { i < len }
+        requires lies { AreFixed len body.now self }
+        ensures { MatchOption result (fixed_at body.now self i ≡ null_value)
+            (λ b. fixed_at body.now self i ≡ binary_value b.now) }
+    {
+        slot::fixed_at(
+            bytes_in(body, self.validity),
+            bytes_in(body, self.values),
+            self.width,
+            i,
+        )
+    }
+
+    // The byte strings of a range of the `len` slots.
+    pub(crate) fn part(self, body: &[u8], len: usize, start: usize, stop: usize) -> &[u8]
+        requires order { start ≤ stop }
+        requires inside { stop ≤ len }
+        requires lies { AreFixed len body.now self }
+        ensures { result.now ≡ slice_range (bytes_of body.now self.values)
+            (self.width * start) (self.width * stop) }
+    {
+        cells(bytes_in(body, self.values), self.width, len, start, stop)
+    }
+}
+
+// Byte strings or texts behind offsets of a width: slot j is `bytes` from offset j up to offset
+// j + 1.
+#[derive(Clone, Copy)]
+pub(crate) struct Strings {
+    pub(crate) width: OffsetWidth,
+    pub(crate) validity: ByteRange,
+    pub(crate) offsets: ByteRange,
+    pub(crate) bytes: ByteRange,
+}
+
+impl Strings {
+    // The byte string of slot `i` of `len`, where it is valid.
+    pub(crate) fn binary_at(self, body: &[u8], len: usize, i: usize) -> Option<&[u8]>
+        requires slot { i < len }
+        requires lies { AreStrings len body.now self }
+        ensures { MatchOption result (binary_at body.now self i ≡ null_value)
+            (λ b. binary_at body.now self i ≡ binary_value b.now) }
+    {
+        slot::binary_at(
+            self.width,
+            bytes_in(body, self.validity),
+            bytes_in(body, self.offsets),
+            bytes_in(body, self.bytes),
+            len,
+            i,
+        )
+    }
+
+    // The text of slot `i` of `len`, where it is valid.
+    pub(crate) fn text_at(self, body: &[u8], len: usize, i: usize) -> Option<&str>
+        requires slot { i < len }
+        requires lies { AreStrings len body.now self }
+        requires texts { AreTexts self.width len (bytes_of body.now self.validity)
+            (bytes_of body.now self.offsets) (bytes_of body.now self.bytes) }
+        ensures { MatchOption result (utf8_at body.now self i ≡ null_value)
+            (λ t. utf8_at body.now self i ≡ utf8_value t.now) }
+    {
+        slot::text_at(
+            self.width,
+            bytes_in(body, self.validity),
+            bytes_in(body, self.offsets),
+            bytes_in(body, self.bytes),
+            len,
+            i,
+        )
+    }
+    // The bytes of a range of the `len` slots, one slot after another, without regard to nulls.
+    pub(crate) fn part(self, body: &[u8], len: usize, start: usize, stop: usize) -> &[u8]
+        requires order { start < stop }
+        requires inside { stop ≤ len }
+        requires lies { AreStrings len body.now self }
+        ensures bytes { result.now ≡ slice_range (bytes_of body.now self.bytes)
+            (place_of self.width (bytes_of body.now self.offsets) start)
+            (place_of self.width (bytes_of body.now self.offsets) stop) }
+        ensures rising { IsNonDecreasing (plain_list (offset_bytes self.width) len
+            (bytes_of body.now self.offsets)) }
+    {
+        let bytes = bytes_in(body, self.bytes);
+        let offsets = bytes_in(body, self.offsets);
+        let (first, end) = slot::places_at(self.width, offsets, len, bytes.len(), start, stop);
+        &bytes[first..end]
+    }
+}

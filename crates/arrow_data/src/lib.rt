@@ -1,0 +1,56 @@
+//! Arrays: columns of values that stay where they lie in a message body.
+//!
+//! An `Array` is made of a type, a number of slots, a body that it shares, and the ranges of the
+//! body that are its buffers; lists and structs hold the arrays of their children. Nothing of the
+//! body is copied. The accessors give the value of a slot by its index.
+//!
+//! Contracts name no range and no buffer: to them an array is a `Column`, its type and the plain
+//! value of each slot (`specs/Column.antt`, `specs/PlainValue.antt`). What bytes stand for which
+//! value is said by index in `specs/Slots.antt`. That the ranges lie inside the body, that offsets
+//! never fall and end inside, and that texts are UTF-8, is known of every array (`IsArray` in
+//! `specs/Node.antt`): it is asked for where one is made, and tested nowhere again.
+//!
+//! | Notion | Definition |
+//! |---|---|
+//! | what an array and a dictionary are | `specs/Column.antt`: `Column`, `IsColumn`, `ValueList`, `IsValueList` |
+//! | a value, without where it lies | `specs/PlainValue.antt`: `PlainValue` |
+//! | which values a field takes | `specs/Fits.antt`: `Fits` |
+//! | the layout of a type, and of a node | `specs/Form.antt`: `form_of`, `node_form` |
+//! | what buffers hold at a slot | `specs/Slots.antt`: `int_slot`, `range_of` .. |
+//! | where the bytes of all texts may be cut | `specs/Cuts.antt`: `AreCuts` |
+//! | when buffers hold a node's slots | `specs/Layout.antt`: `IsLaid`, `IsText`, `IsIndexed` |
+//! | the column of a node | `specs/Parts.antt`: `node_column` |
+//! | the type that columns share | `specs/Shared.antt`: `NodeType`, `node_types` |
+//! | what an index stands for | `specs/Resolve.antt`: `resolve`; `specs/Listed.antt`: `listed` |
+//! | the first null, slots without nulls | `specs/FullSlots.antt`: `IsFirstNull`, `AreFull` |
+//! | what a slot shows | `specs/Shown.antt`: `Shows`, `HoldsValue` |
+//! | the buffers of a column, found once | `specs/View.antt`: `AreCellsOf`, `RefersTo` |
+//! | equal slots, values that begin others | `specs/Same.antt`: `same_values`, `Begins` |
+//! | a batch, and why there is none | `specs/Batch.antt`: `IsTable`, `Judges` |
+//! | that a column has one child for each field | `specs/Laws.antt`: `OneField`, `OneChild` |
+//! | how they are kept | `specs/Node.antt`: `column_of`; `specs/Segments.antt`; `specs/Value.antt` |
+#![tactic(auto)]
+
+mod array;
+mod batch;
+mod buffers;
+mod byte_range;
+mod dictionary;
+pub mod form;
+pub mod laws;
+pub mod layout;
+mod parts;
+mod same;
+mod shared_type;
+mod slot;
+mod slots;
+mod texts;
+mod value;
+
+pub use array::{Array, SlotValue};
+pub use batch::{Batch, BatchFault};
+pub use byte_range::ByteRange;
+pub use dictionary::Dictionary;
+pub use shared_type::{SharedType, shared_types};
+pub use slots::Slots;
+pub use value::Value;

@@ -1,0 +1,119 @@
+//! Values by themselves, outside of any column.
+
+ghost use Rattle.std.specs.Prelude.{◌≡◌, ◌↔◌, IsTrue, IfOk};
+ghost use Rattle.arrow_data.specs.Stored.{value_code};
+ghost use Rattle.arrow_data.specs.Value.{value_view, values_view};
+ghost use Rattle.arrow_types.specs.Equality.{is_equal, is_equal_equivalence};
+ghost use Rattle.std.specs.Cmp.{on_per, on_equiv, partial_equiv_from_equiv};
+ghost use Rattle.std.specs.Ordering.{on};
+
+use std::alloc::{AllocError, Global};
+
+/// The value of one slot (Columnar Format, "Terminology").
+///
+/// Dates, times and timestamps are their numbers in their unit. In a dictionary-encoded column the
+/// value of a slot is its index.
+#[derive(Debug, Drop)]
+pub enum Value {
+    /// No value.
+    Null,
+    /// A truth value.
+    Bool(bool),
+    /// A number of type Int, Date, Time, Timestamp or Duration, or an index.
+    Int(i128),
+    /// A byte string.
+    Bytes(Vec<u8>),
+    /// A text.
+    Text(String),
+    /// The items of a list, in their order.
+    List(Vec<Value>),
+    /// The values of a struct, one of each field, in their order.
+    Struct(Vec<Value>),
+}
+
+impl Value {
+    /// An equal value in memory of its own, or `AllocError` where a growth was refused.
+    #[cycle(copy)]
+    pub fn copy(&self, alloc: Global) -> Result<Value, AllocError>
+        ensures { IfOk result (λ v. value_view v ≡ value_view self.now) }
+    {
+        Ok(match self {
+            Value::Null => Value::Null,
+            Value::Bool(truth) => Value::Bool(*truth),
+            Value::Int(number) => Value::Int(*number),
+            Value::Bytes(bytes) => Value::Bytes(Vec::from_slice(alloc, bytes)?),
+            Value::Text(text) => Value::Text(text.clone()?),
+            Value::List(values) => Value::List(copy_values(alloc, values)?),
+            Value::Struct(values) => Value::Struct(copy_values(alloc, values)?),
+        })
+    }
+}
+
+// Equal values in memory of their own.
+#[cycle(copy)]
+fn copy_values(alloc: Global, values: &[Value]) -> Result<Vec<Value>, AllocError>
+    ensures { IfOk result (λ v. values_view v.items ≡ values_view values.now) }
+{
+    let mut copies = Vec::with_capacity(alloc, values.len())?;
+    for value in values {
+        copies.push(value.copy(alloc)?)?;
+    }
+    Ok(copies)
+}
+
+// Whether the values are equal.
+#[cycle(same)]
+fn same_value(one: &Value, other: &Value) -> bool
+    ensures { IsTrue result ↔ (value_view one.now ≡ value_view other.now) }
+{
+    match (one, other) {
+        (Value::Null, Value::Null) => true,
+        (Value::Bool(truth), Value::Bool(other)) => truth == other,
+        (Value::Int(number), Value::Int(other)) => number == other,
+        (Value::Bytes(bytes), Value::Bytes(other)) => bytes.as_slice() == other.as_slice(),
+        (Value::Text(text), Value::Text(other)) => text == other,
+        (Value::List(values), Value::List(others)) => same_list(values, others),
+        (Value::Struct(values), Value::Struct(others)) => same_list(values, others),
+        (Value::Null, _)
+        | (Value::Bool(_), _)
+        | (Value::Int(_), _)
+        | (Value::Bytes(_), _)
+        | (Value::Text(_), _)
+        | (Value::List(_), _)
+        | (Value::Struct(_), _) => false,
+    }
+}
+
+// Whether the values are as many, and equal one by one.
+#[cycle(same)]
+fn same_list(values: &[Value], others: &[Value]) -> bool
+    ensures { IsTrue result ↔ (values_view values.now ≡ values_view others.now) }
+{
+    if values.len() != others.len() {
+        return false;
+    }
+    for i in 0..values.len() {
+        if !same_value(&values[i], &others[i]) {
+            return false;
+        }
+    }
+    true
+}
+
+/// Values are equal where they are of one kind and hold equal things. No memory is taken.
+impl PartialEq for Value {
+    ghost eq = { on value_view (is_equal value_code) };
+
+    ghost laws = { on_per value_view (partial_equiv_from_equiv (is_equal_equivalence value_code)) };
+
+    fn eq(&self, other: &Value) -> bool
+        ensures gives { result ≡ is_equal value_code (value_view self.now) (value_view other.now) }
+        ensures same { IsTrue result ↔ (value_view self.now ≡ value_view other.now) }
+    {
+        same_value(self, other)
+    }
+}
+
+impl Eq for Value {
+    ghost laws = { on_equiv value_view (is_equal_equivalence value_code) };
+}

@@ -1,0 +1,91 @@
+-- When the own parts of two types are equal.
+use Rattle.std.proofs.Common.{◌≡◌, Bool, ◌↔◌, IsTrue, Option, Some, None, refl, sym, ap, ◌∙◌}
+use Rattle.std.specs.Option.{unwrap_or}
+use Rattle.arrow_types.specs.DataType as tags
+use Rattle.arrow_types.specs.DataType.{Tag}
+use Rattle.arrow_types.specs.Field.{Head, TypeShape}
+use Rattle.arrow_meta_reader.specs.declared.codes.TypeCode.{TypeCode}
+use Rattle.arrow_meta_reader.specs.declared.codes.TypeCode.TheVariants as codes
+use Rattle.arrow_meta_reader.specs.Codes.{type_code}
+use Rattle.arrow_meta_reader.specs.Parts.{nth, parts, number_at}
+use Rattle.arrow_meta_reader.specs.SchemaMeaning.{fields_at, fields_from, head_of, tag_by}
+use Rattle.arrow_meta_reader.specs.Sharing.{AreLabelledAlike, code_in, tag_of, type_of}
+use Rattle.arrow_meta_reader.specs.Trees.{Trees}
+
+-- the code of a type, by its own part
+abbrev code_of : Tag → TypeCode
+code_of tags.null = codes.Null
+code_of tags.boolean = codes.Bool
+code_of (tags.int bits signed) = codes.Int
+code_of tags.binary = codes.Binary
+code_of tags.large_binary = codes.LargeBinary
+code_of (tags.fixed_size_binary width) = codes.FixedSizeBinary
+code_of tags.utf8 = codes.Utf8
+code_of tags.large_utf8 = codes.LargeUtf8
+code_of (tags.date unit) = codes.Date
+code_of (tags.time unit) = codes.Time
+code_of (tags.timestamp unit _) = codes.Timestamp
+code_of (tags.duration unit) = codes.Duration
+code_of tags.list = codes.List
+code_of tags.large_list = codes.LargeList
+code_of tags.struct = codes.Struct
+
+-- a type's own part keeps its code
+kept : (code : TypeCode) (xs : Trees) → code_of (tag_by (Some code) xs) ≡ code
+kept codes.Null xs = refl
+kept codes.Int xs = refl
+kept codes.Binary xs = refl
+kept codes.Utf8 xs = refl
+kept codes.Bool xs = refl
+kept codes.Date xs = refl
+kept codes.Time xs = refl
+kept codes.Timestamp xs = refl
+kept codes.List xs = refl
+kept codes.Struct xs = refl
+kept codes.FixedSizeBinary xs = refl
+kept codes.Duration xs = refl
+kept codes.LargeBinary xs = refl
+kept codes.LargeUtf8 xs = refl
+kept codes.LargeList xs = refl
+
+-- a code outside the profile is read as Null
+read_as : (code : Option TypeCode) (xs : Trees) → tag_by code xs ≡ tag_by (Some (unwrap_or code codes.Null)) xs
+read_as None xs = refl
+read_as (Some code) xs = refl
+
+-- Own parts are equal just where their codes are and what their tables say.
+pub same_tags : (xs ys : Trees) → (code_in xs ≡ code_in ys) × (tag_by (Some (code_in xs)) (parts (nth 3 xs)) ≡ tag_by (Some (code_in xs)) (parts (nth 3 ys)))
+    ↔ (tag_of xs ≡ tag_of ys)
+same_tags xs ys =
+    let one = read_as (type_code (number_at 2 0 xs)) (parts (nth 3 xs)) in
+    let other = read_as (type_code (number_at 2 0 ys)) (parts (nth 3 ys)) in (
+      λ h. one ∙ h.1 ∙ ap (λ code. tag_by (Some code) (parts (nth 3 ys))) h.0 ∙ sym other,
+      λ same. let alike : code_in xs ≡ code_in ys = sym (kept (code_in xs) (parts (nth 3 xs))) ∙ ap code_of (sym one ∙ same ∙ other) ∙ kept (code_in ys) (parts (nth 3 ys)) in
+          (alike, sym one ∙ same ∙ other ∙ ap (λ code. tag_by (Some code) (parts (nth 3 ys))) (sym alike)),
+    )
+
+-- The same of what the program has found of them, where their codes are equal.
+pub same_tags_by : (xs ys : Trees) (a b : TypeCode) (one other : Trees) (r : Bool) → a ≡ code_in xs → b ≡ code_in ys → one ≡ parts (nth 3 xs) → other ≡ parts (nth 3 ys)
+    → a ≡ b → (IsTrue r ↔ (tag_by (Some a) one ≡ tag_by (Some a) other)) → IsTrue r ↔ (tag_of xs ≡ tag_of ys)
+same_tags_by xs ys a b one other r is_a is_b is_one is_other alike test =
+    let codes : code_in xs ≡ code_in ys = sym is_a ∙ alike ∙ is_b in
+    let here : tag_by (Some a) one ≡ tag_by (Some (code_in xs)) (parts (nth 3 xs)) = λ i. tag_by (Some (is_a i)) (is_one i) in
+    let there : tag_by (Some a) other ≡ tag_by (Some (code_in xs)) (parts (nth 3 ys)) = λ i. tag_by (Some (is_a i)) (is_other i) in (
+      λ h. (same_tags xs ys).0 (codes, sym here ∙ test.0 h ∙ there),
+      λ same. test.1 (here ∙ ((same_tags xs ys).1 same).1 ∙ sym there),
+    )
+
+-- Heads are equal just where all that they hold is.
+pub same_heads : (xs ys : Trees) → (AreLabelledAlike xs ys × (tag_of xs ≡ tag_of ys)) ↔ (head_of xs ≡ head_of ys)
+same_heads xs ys = (
+  λ h. λ i. record { name = h.0.0 i; nullable = h.0.1 i; tag = h.1 i; encoding = h.0.2 i },
+  λ same. ((ap (λ (h : Head). h.name) same, ap (λ (h : Head). h.nullable) same, ap (λ (h : Head). h.encoding) same), ap (λ (h : Head). h.tag) same),
+)
+
+-- Types are equal just where their own parts and their children are.
+pub same_types : (xs ys : Trees) (one other : Trees) (r : Bool) → fields_from one ≡ fields_at 5 xs → fields_from other ≡ fields_at 5 ys → tag_of xs ≡ tag_of ys
+    → (IsTrue r ↔ (fields_from one ≡ fields_from other)) → IsTrue r ↔ (type_of xs ≡ type_of ys)
+same_types xs ys one other r here there tags test = (
+  λ h. let below : fields_at 5 xs ≡ fields_at 5 ys = sym here ∙ test.0 h ∙ there in λ i. record { tag = tags i; children = below i },
+  λ same. test.1 (here ∙ ap (λ (t : TypeShape). t.children) same ∙ sym there),
+)

@@ -1,0 +1,7 @@
+use Rattle.std.proofs.Common.{◌≡◌, ◌+◌, ◌*◌, ◌-◌, ◌++◌, map}
+use Rattle.arrow_meta_reader.specs.Lies.{pairs_from}
+use Rattle.arrow_meta_reader.specs.Means.{buffer_of}
+use Rattle.arrow_meta_reader.proofs.batches.buffers_of.Given as goal
+
+abbrev pub invariant-loop-index : goal.invariant-loop-index
+invariant-loop-index l = l.buffers.items ++ map buffer_of (pairs_from l.vector.bytes (l.vector.place + l.index * 16) (l.vector.count - l.index)) ≡ map buffer_of (pairs_from l.vector.bytes l.vector.place l.vector.count)

@@ -1,0 +1,21 @@
+use Rattle.arrow_meta_reader.proofs.Counting.{counts_nothing, counted}
+use Rattle.arrow_meta_reader.proofs.Decoding.{decoded}
+use Rattle.arrow_meta_reader.proofs.judging.decode_counted.Goals as goal
+
+-- a batch that was read straight has nothing to count
+pub returns-in-Some-clause-counted : goal.returns-in-Some-clause-counted
+returns-in-Some-clause-counted c =
+    let there = c.in-Some.ensures.means in
+    counts_nothing c.args.limits.now c.args.bytes.now there.0 there.1 there.3
+
+pub returns-in_ok-tree_counted-in-None-clause-decoded : goal.returns-in_ok-tree_counted-in-None-clause-decoded
+returns-in_ok-tree_counted-in-None-clause-decoded c =
+    let read = c.in_ok-tree_counted-in-None.ensures.found in
+    decoded c.judge.result c.args.limits.now c.args.bytes.now c.in_ok-tree_counted-in-None.field-0 (record { lies = read.0; within = read.1 }) c.judge.ensures.judged
+
+-- what was counted is what the tree has
+pub returns-in_ok-tree_counted-in-None-clause-counted : goal.returns-in_ok-tree_counted-in-None-clause-counted
+returns-in_ok-tree_counted-in-None-clause-counted c =
+    let read = c.in_ok-tree_counted-in-None.ensures.found in
+    counted c.judge.result c.args.limits.now c.args.bytes.now c.in_ok-tree_counted-in-None.field-0 c.tree_counted.new.work
+    (record { lies = read.0; within = read.1 }) c.in_ok-tree_counted-in-None.ensures.counted

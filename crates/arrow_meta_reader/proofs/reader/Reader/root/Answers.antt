@@ -1,0 +1,26 @@
+use Rattle.std.proofs.Common.{◌≡◌, List, Some, ap, sym, subst, ◌∙◌, option_map, refl, ℕ}
+use Rattle.arrow_meta_reader.specs.declared.kinds.TableKind.TheVariants as kinds
+use Rattle.arrow_meta_reader.specs.declared.kinds.FieldForm.TheVariants as forms
+use Rattle.arrow_meta_reader.specs.Grows.{root}
+use Rattle.arrow_meta_reader.specs.Kinds.{Spot, spots_of}
+use Rattle.arrow_meta_reader.specs.Lies.{layer, table_layer}
+use Rattle.arrow_meta_reader.specs.Reads.{ReadsTree, room}
+use Rattle.arrow_meta_reader.specs.Views.{plain}
+use Rattle.arrow_meta_reader.proofs.Layers.{layer_there, none_fits, element_layer}
+use Rattle.arrow_meta_reader.proofs.reader.Reader.root.Goals as goal
+
+-- no table is readable at the root
+pub returns-in-None-clause-read : goal.returns-in-None-clause-read
+returns-in-None-clause-read c =
+    let b = c.args.bytes.now in
+    none_fits b root 32 (room c.args.self.now)
+    (layer_there b (forms.Table kinds.Message) (Some 0) 0 refl ∙ ap (option_map (λ t. table_layer kinds.Message (spots_of kinds.Message t))) (sym c.in-None.ensures.value))
+
+-- the table at the root was read
+pub returns-in-Some-clause-read : goal.returns-in-Some-clause-read
+returns-in-Some-clause-read c =
+    let b = c.args.bytes.now in
+    let there = c.in-Some.ensures in
+    let l = table_layer kinds.Message (spots_of kinds.Message c.in-Some.table) in
+    let P : List ℕ → Type 0 = λ bytes. (s : Spot) → layer bytes s ≡ Some l → ReadsTree plain c.table.result bytes s 32 (room c.args.self.now) (room c.table.new.self) in
+    subst P there.bytes c.table.ensures.read root (element_layer b kinds.Message 0 c.in-Some.table (sym there.value))

@@ -1,0 +1,59 @@
+use Rattle.std.proofs.Common.{◌≡◌, ℕ, ◌≤◌, ◌-◌, List, subst, arith}
+use Rattle.arrow_meta_reader.specs.Lies.{Stands, LiesAtRoot}
+use Rattle.arrow_meta_reader.specs.Trees.{Tree}
+use Rattle.arrow_meta_reader.specs.Views.{plain}
+use Rattle.arrow_meta_reader.specs.Within.{levels, visits, entries, text_bytes, Room, Spends, IsWithin}
+use Rattle.arrow_meta_reader.specs.Grows.{Grows, root, whole}
+use Rattle.arrow_meta_reader.specs.Reads.{NoneFits, Faulty, room}
+use Rattle.arrow_meta_reader.proofs.Roots.{root_lies, root_stands}
+use Rattle.arrow_meta_reader.proofs.Spots.{faulty_so}
+use Rattle.arrow_meta_reader.proofs.reader.tree_counted.Goals as goal
+
+-- where no tree fits, none is within the limits
+none_within : (bytes : List ℕ) (max_metadata : ℕ) → NoneFits bytes root 32 (whole max_metadata) → (x : Tree) → LiesAtRoot x bytes → ¬ (IsWithin max_metadata x)
+none_within bytes max_metadata never x h w =
+    never x (root_stands bytes x h) (record {
+      levels_fit = w.shallow.levels_within;
+      visits_fit = w.shallow.visits_within;
+      entries_fit = w.shallow.entries_within;
+      text_fits = w.text_within;
+    })
+
+-- a tree that was read at the root within the whole room lies there, and is within the limits
+lies_within : (bytes : List ℕ) (max_metadata : ℕ) (x : Tree) (new : Room) → Stands bytes root x × (levels x ≤ 32) × Spends (whole max_metadata) new (visits x) (entries x) (text_bytes x) → LiesAtRoot x bytes × IsWithin max_metadata x
+lies_within bytes max_metadata x new h = (
+  root_lies bytes x h.0,
+  record {
+    shallow = record {
+      levels_within = h.1;
+      visits_within = omega (arith, h.2.visits_paid);
+      entries_within = omega (arith, h.2.entries_paid);
+    };
+    text_within = omega (arith, h.2.text_paid);
+  },
+)
+
+-- what a reader may spend that has read nothing
+abbrev unspent : ℕ → Room
+unspent max_metadata = record { visits = 65536; entries = 65536; text = max_metadata - 0 }
+
+-- the whole room
+all_left : (max_metadata : ℕ) → unspent max_metadata ≡ whole max_metadata
+all_left max_metadata =
+    let same : max_metadata - 0 ≡ max_metadata = omega arith in
+    λ i. record { visits = 65536; entries = 65536; text = same i }
+
+pub returns-in-Ok-clause-found : goal.returns-in-Ok-clause-found
+returns-in-Ok-clause-found c =
+    let x = plain c.in-Ok.root in
+    let n = c.max_metadata.result in
+    let P : Room → Type 0 = λ left. Stands c.args.bytes.now root x × (levels x ≤ 32) × Spends left (room c.root-found.new.self) (visits x) (entries x) (text_bytes x) in
+    rw (← c.max_metadata.ensures.value)
+    (lies_within c.args.bytes.now n x (room c.root-found.new.self) (subst P (all_left n) c.in-Ok.ensures.read))
+
+pub returns-in-Err-clause-none : goal.returns-in-Err-clause-none
+returns-in-Err-clause-none c =
+    let n = c.max_metadata.result in
+    let P : Room → Type 0 = λ left. Faulty c.in-Err.fault (NoneFits c.args.bytes.now root 32 left) (Grows c.args.bytes.now root 32 left) in
+    rw (← c.max_metadata.ensures.value)
+    (faulty_so c.in-Err.fault _ _ _ _ (none_within c.args.bytes.now n) (λ g. g) (subst P (all_left n) c.in-Err.ensures.read))

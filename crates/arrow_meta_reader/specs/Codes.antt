@@ -1,0 +1,76 @@
+-- The numbers that stand for headers, types, widths and units (Message.fbs, Schema.fbs).
+use Rattle.std.specs.Prelude.{ℕ, Option, Some, None, ◌==◌, nat_lt, if◌then◌else◌}
+use Rattle.arrow_types.specs.declared.data_type.BitWidth.{BitWidth}
+use Rattle.arrow_types.specs.declared.data_type.BitWidth.TheVariants as widths
+use Rattle.arrow_types.specs.declared.data_type.DateUnit.{DateUnit}
+use Rattle.arrow_types.specs.declared.data_type.DateUnit.TheVariants as dates
+use Rattle.arrow_types.specs.declared.data_type.TimeUnit.{TimeUnit}
+use Rattle.arrow_types.specs.declared.data_type.TimeUnit.TheVariants as times
+use Rattle.arrow_meta_reader.specs.declared.codes.HeaderKind.{HeaderKind}
+use Rattle.arrow_meta_reader.specs.declared.codes.HeaderKind.TheVariants as headers
+use Rattle.arrow_meta_reader.specs.declared.codes.TypeCode.{TypeCode}
+use Rattle.arrow_meta_reader.specs.declared.codes.TypeCode.TheVariants as codes
+
+-- the header's code of a schema (Message.fbs, union "MessageHeader")
+abbrev pub schema_code : ℕ
+schema_code = 1
+
+-- the header's code of a dictionary batch (Message.fbs, union "MessageHeader")
+abbrev pub dictionary_code : ℕ
+dictionary_code = 2
+
+-- the header's code of a record batch (Message.fbs, union "MessageHeader")
+abbrev pub batch_code : ℕ
+batch_code = 3
+
+-- The header that a code names (Message.fbs, union "MessageHeader"). There is none for 0, which says that there is no
+-- header, for a Tensor (4) and a SparseTensor (5), which this project leaves out, and for a number that is no header's.
+abbrev pub header_kind : ℕ → Option HeaderKind
+header_kind n =
+    if n == schema_code then Some headers.Schema else
+    (if n == dictionary_code then Some headers.DictionaryBatch else
+    (if n == batch_code then Some headers.RecordBatch else None))
+
+-- The type that a code names (Schema.fbs, union "Type"). There is none for the types that this project leaves out.
+abbrev pub type_code : ℕ → Option TypeCode
+type_code n =
+    if n == 1 then Some codes.Null else
+    (if n == 2 then Some codes.Int else
+    (if n == 4 then Some codes.Binary else
+    (if n == 5 then Some codes.Utf8 else
+    (if n == 6 then Some codes.Bool else
+    (if n == 8 then Some codes.Date else
+    (if n == 9 then Some codes.Time else
+    (if n == 10 then Some codes.Timestamp else
+    (if n == 12 then Some codes.List else
+    (if n == 13 then Some codes.Struct else
+    (if n == 15 then Some codes.FixedSizeBinary else
+    (if n == 18 then Some codes.Duration else
+    (if n == 19 then Some codes.LargeBinary else
+    (if n == 20 then Some codes.LargeUtf8 else
+    (if n == 21 then Some codes.LargeList else None))))))))))))))
+
+-- the width of an Int (Schema.fbs, table "Int", field "bitWidth")
+abbrev pub bit_width : ℕ → Option BitWidth
+bit_width n =
+    if n == 8 then Some widths.Eight else
+    (if n == 16 then Some widths.Sixteen else
+    (if n == 32 then Some widths.ThirtyTwo else
+    (if n == 64 then Some widths.SixtyFour else None)))
+
+-- The width of a FixedSizeBinary (Schema.fbs, table "FixedSizeBinary", field "byteWidth"): a signed number of 32 bits,
+-- of which those above the greatest stand for negative ones, which are no width.
+abbrev pub byte_width : ℕ → Option ℕ
+byte_width n = if nat_lt 2147483647 n then None else Some n
+
+-- the unit of a Date (Schema.fbs, enum "DateUnit")
+abbrev pub date_unit : ℕ → Option DateUnit
+date_unit n = if n == 0 then Some dates.Day else (if n == 1 then Some dates.Millisecond else None)
+
+-- the unit of a Time, a Timestamp and a Duration (Schema.fbs, enum "TimeUnit")
+abbrev pub time_unit : ℕ → Option TimeUnit
+time_unit n =
+    if n == 0 then Some times.Second else
+    (if n == 1 then Some times.Millisecond else
+    (if n == 2 then Some times.Microsecond else
+    (if n == 3 then Some times.Nanosecond else None)))

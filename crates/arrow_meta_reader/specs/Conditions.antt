@@ -1,0 +1,110 @@
+-- What makes a single table one that no message has, and whether a tree holds such a table.
+use Rattle.std.specs.Prelude.{ℕ, Bool, true, false, ◌||◌, ◌&&◌, not, Option, Some, None, is_some, ◌==◌}
+use Rattle.std.specs.Option.{is_none}
+use Rattle.arrow_types.specs.DataType.{bits_of, time_width_of}
+use Rattle.arrow_types.specs.Field.{width}
+use Rattle.arrow_types.specs.declared.data_type.TimeUnit.{TimeUnit}
+use Rattle.arrow_meta_reader.specs.declared.kinds.TableKind.{TableKind}
+use Rattle.arrow_meta_reader.specs.declared.kinds.TableKind.TheVariants as kinds
+use Rattle.arrow_meta_reader.specs.declared.codes.TypeCode.{TypeCode}
+use Rattle.arrow_meta_reader.specs.declared.codes.TypeCode.TheVariants as codes
+use Rattle.arrow_meta_reader.specs.declared.conditions.Test.{Test}
+use Rattle.arrow_meta_reader.specs.declared.conditions.Test.TheVariants as tests
+use Rattle.arrow_meta_reader.specs.Codes.{type_code, bit_width, byte_width, date_unit, time_unit}
+use Rattle.arrow_meta_reader.specs.Kinds.{type_table}
+use Rattle.arrow_meta_reader.specs.Parts.{nth, number_at, is_table}
+use Rattle.arrow_meta_reader.specs.SchemaMeaning.{fields_in}
+use Rattle.arrow_meta_reader.specs.Trees.{Tree, leaf, table, tables, Trees, none, more}
+
+abbrev mutual
+  -- whether the test holds of a table of the tree, at any depth
+  pub any : (TableKind → Trees → Bool) → Tree → Bool
+  any test (leaf x) = false
+  any test (table kind xs) = test kind xs || any_in test xs
+  any test (tables xs) = any_in test xs
+
+  -- whether the test holds of a table of one of the trees, at any depth
+  pub any_in : (TableKind → Trees → Bool) → Trees → Bool
+  any_in test none = false
+  any_in test (more x xs) = any test x || any_in test xs
+
+-- Metadata: the table of an Int, a Date, a Time, a Timestamp, a FixedSizeBinary or a Duration, or the data of a dictionary
+-- batch, is absent.
+abbrev pub lacks_table : TableKind → Trees → Bool
+lacks_table kinds.Message xs = false
+lacks_table kinds.Schema xs = false
+lacks_table kinds.Field xs = is_some (type_table (number_at 2 0 xs)) && not (is_table (nth 3 xs))
+lacks_table kinds.DictionaryEncoding xs = false
+lacks_table kinds.RecordBatch xs = false
+lacks_table kinds.DictionaryBatch xs = not (is_table (nth 1 xs))
+lacks_table kinds.Int xs = false
+lacks_table kinds.Date xs = false
+lacks_table kinds.Time xs = false
+lacks_table kinds.Timestamp xs = false
+lacks_table kinds.FixedSizeBinary xs = false
+lacks_table kinds.Duration xs = false
+lacks_table kinds.KeyValue xs = false
+
+-- Unsupported: an endianness other than Little, a type outside the profile, a dictionary kind other than DenseArray.
+abbrev pub is_unsupported : TableKind → Trees → Bool
+is_unsupported kinds.Message xs = false
+is_unsupported kinds.Schema xs = not (number_at 0 0 xs == 0)
+is_unsupported kinds.Field xs = is_none (type_code (number_at 2 0 xs))
+is_unsupported kinds.DictionaryEncoding xs = not (number_at 3 0 xs == 0)
+is_unsupported kinds.RecordBatch xs = false
+is_unsupported kinds.DictionaryBatch xs = false
+is_unsupported kinds.Int xs = false
+is_unsupported kinds.Date xs = false
+is_unsupported kinds.Time xs = false
+is_unsupported kinds.Timestamp xs = false
+is_unsupported kinds.FixedSizeBinary xs = false
+is_unsupported kinds.Duration xs = false
+is_unsupported kinds.KeyValue xs = false
+
+-- a time's unit, and the width in bits that goes with it (Schema.fbs, table "Time")
+abbrev pub is_time : Option TimeUnit → ℕ → Bool
+is_time None bits = false
+is_time (Some unit) bits = bits == bits_of (time_width_of unit)
+
+-- A list has one child, a struct any number, each other type none (Columnar Format, "Physical memory layout"), and a
+-- type outside the profile none that is looked at.
+abbrev pub children_fit : Option TypeCode → ℕ → Bool
+children_fit None n = n == 0
+children_fit (Some codes.Null) n = n == 0
+children_fit (Some codes.Int) n = n == 0
+children_fit (Some codes.Binary) n = n == 0
+children_fit (Some codes.Utf8) n = n == 0
+children_fit (Some codes.Bool) n = n == 0
+children_fit (Some codes.Date) n = n == 0
+children_fit (Some codes.Time) n = n == 0
+children_fit (Some codes.Timestamp) n = n == 0
+children_fit (Some codes.List) n = n == 1
+children_fit (Some codes.Struct) n = true
+children_fit (Some codes.FixedSizeBinary) n = n == 0
+children_fit (Some codes.Duration) n = n == 0
+children_fit (Some codes.LargeBinary) n = n == 0
+children_fit (Some codes.LargeUtf8) n = n == 0
+children_fit (Some codes.LargeList) n = n == 1
+
+-- Schema: a width or a unit outside its list, a time's width that is not its unit's, a number of children that the
+-- type does not have.
+abbrev pub is_misfit : TableKind → Trees → Bool
+is_misfit kinds.Message xs = false
+is_misfit kinds.Schema xs = false
+is_misfit kinds.Field xs = not (children_fit (type_code (number_at 2 0 xs)) (width (fields_in (nth 5 xs))))
+is_misfit kinds.DictionaryEncoding xs = false
+is_misfit kinds.RecordBatch xs = false
+is_misfit kinds.DictionaryBatch xs = false
+is_misfit kinds.Int xs = is_none (bit_width (number_at 0 0 xs))
+is_misfit kinds.Date xs = is_none (date_unit (number_at 0 1 xs))
+is_misfit kinds.Time xs = not (is_time (time_unit (number_at 0 1 xs)) (number_at 1 32 xs))
+is_misfit kinds.Timestamp xs = is_none (time_unit (number_at 0 0 xs))
+is_misfit kinds.FixedSizeBinary xs = is_none (byte_width (number_at 0 0 xs))
+is_misfit kinds.Duration xs = is_none (time_unit (number_at 0 1 xs))
+is_misfit kinds.KeyValue xs = false
+
+-- what a test of the program looks for
+abbrev pub finds : Test → TableKind → Trees → Bool
+finds tests.LacksTable = lacks_table
+finds tests.Unsupported = is_unsupported
+finds tests.Misfit = is_misfit

@@ -1,0 +1,90 @@
+-- What a tree, and the bytes of a metadata, are answered with.
+use Rattle.std.specs.Prelude.{◌≡◌, ◌≤◌, ◌⊎◌, ℕ, List, Option, Result, Ok, Err, Some, None}
+use Rattle.arrow_types.specs.Limits.{LimitNumbers}
+use Rattle.arrow_meta_reader.specs.declared.codes.HeaderKind.{HeaderKind}
+use Rattle.arrow_meta_reader.specs.declared.codes.HeaderKind.TheVariants as headers
+use Rattle.arrow_meta_reader.specs.declared.fault.MetaFault.{MetaFault}
+use Rattle.arrow_meta_reader.specs.declared.fault.MetaFault.TheVariants.{Metadata, Version, Header, BodyLength, Unsupported, Schema, Compressed, Memory}
+use Rattle.arrow_meta_reader.specs.declared.message.Message.{Message}
+use Rattle.arrow_meta_reader.specs.Faults.{fault_of, header_in, header_of, data_of, HasFieldOrPair, HasNodeOrBuffer}
+use Rattle.arrow_meta_reader.specs.Grows.{GrowsAtRoot}
+use Rattle.arrow_meta_reader.specs.Lies.{LiesAtRoot}
+use Rattle.arrow_meta_reader.specs.Means.{PlainMessage, Means, message_view}
+use Rattle.arrow_meta_reader.specs.Parts.{parts}
+use Rattle.arrow_meta_reader.specs.Trees.{Tree, Trees}
+use Rattle.arrow_meta_reader.specs.Within.{IsWithin, visits, entries, text_bytes}
+use Rattle.arrow_meta_reader.specs.declared.work.Work.{Work}
+
+-- A header's table with these fields, which is this header, is built with memory: a schema if it has a field or a pair of
+-- metadata, a batch if it has a field node or a buffer.
+abbrev pub AsksMemory : Option HeaderKind → Trees → Type 0
+AsksMemory None xs = ⊥
+AsksMemory (Some headers.Schema) xs = HasFieldOrPair xs
+AsksMemory (Some headers.DictionaryBatch) xs = HasNodeOrBuffer (data_of xs)
+AsksMemory (Some headers.RecordBatch) xs = HasNodeOrBuffer xs
+
+-- What the tests answer that come before a message is built: which header there is, where no fault holds, else the least
+-- fault.
+abbrev pub Clears : Result HeaderKind MetaFault → ℕ → Trees → Type 0
+Clears (Ok kind) max_body xs = (header_in xs ≡ Some kind) × (fault_of max_body xs ≡ None)
+Clears (Err fault) max_body xs = fault_of max_body xs ≡ Some fault
+
+-- An answer to a tree: the message that it means, else its least fault. Want of memory is told only of a tree of
+-- which no fault holds; of a schema only if it has a field or a pair, and of a batch only if it has a field node or a buffer.
+abbrev pub Judges : Result Message MetaFault → ℕ → Tree → Type 0
+Judges (Ok m) max_body x = Means max_body x (message_view m)
+Judges (Err Memory) max_body x =
+    (fault_of max_body (parts x) ≡ None) ×
+    AsksMemory (header_in (parts x)) (parts (header_of (parts x)))
+Judges (Err fault) max_body x = fault_of max_body (parts x) ≡ Some fault
+
+-- A body's length that is answered, with a message or with a fault, is at most the limit.
+abbrev pub LengthFits : Result Message MetaFault → ℕ → Type 0
+LengthFits (Ok m) max_body = m.body_len ≤ max_body
+LengthFits (Err Metadata) max_body = Unit {0}
+LengthFits (Err Version) max_body = Unit {0}
+LengthFits (Err Header) max_body = Unit {0}
+LengthFits (Err BodyLength) max_body = Unit {0}
+LengthFits (Err (Unsupported body_len)) max_body = body_len ≤ max_body
+LengthFits (Err (Schema body_len)) max_body = body_len ≤ max_body
+LengthFits (Err (Compressed batch body_len)) max_body = body_len ≤ max_body
+LengthFits (Err Memory) max_body = Unit {0}
+
+-- the tree of a metadata: it lies at the root, and keeps to the limits
+pub record IsTreeOf (bytes : List ℕ) (max_metadata : ℕ) (x : Tree) : Type 0 where
+  pub lies : LiesAtRoot x bytes
+  pub within : IsWithin max_metadata x
+
+-- The bytes of a metadata mean this message.
+abbrev pub MetadataMeans : LimitNumbers → List ℕ → PlainMessage → Type 0
+MetadataMeans limits bytes m = (x : Tree) × IsTreeOf bytes limits.max_metadata x × Means limits.max_body x m
+
+-- The bytes of a metadata have this fault, and none with a lower number: there is no tree, or its least fault is this.
+abbrev pub MetadataFails : LimitNumbers → List ℕ → MetaFault → Type 0
+MetadataFails limits bytes fault =
+    ((fault ≡ Metadata) × ((x : Tree) → IsTreeOf bytes limits.max_metadata x → ⊥)) ⊎
+    ((x : Tree) × IsTreeOf bytes limits.max_metadata x × (fault_of limits.max_body (parts x) ≡ Some fault))
+
+-- An answer to the bytes of a metadata. Want of memory is told only of bytes that ask for it: at least the root's
+-- table is readable there, with its first field.
+abbrev pub Decodes : Result Message MetaFault → LimitNumbers → List ℕ → Type 0
+Decodes (Ok m) limits bytes = MetadataMeans limits bytes (message_view m)
+Decodes (Err Memory) limits bytes = GrowsAtRoot bytes limits.max_metadata
+Decodes (Err fault) limits bytes = MetadataFails limits bytes fault
+
+-- The work that was done keeps to the limits, whatever the answer is.
+pub record IsWorkWithin (limits : LimitNumbers) (work : Work) : Type 0 where
+  pub fields_within : work.fields ≤ 65536
+  pub pairs_within : work.pairs ≤ 65536
+  pub bytes_within : work.bytes ≤ limits.max_metadata
+
+-- The work counts just what a tree has, each occurrence: its Field tables, its KeyValue tables, and the bytes of its
+-- names, zones, keys and values.
+pub record Counts (work : Work) (x : Tree) : Type 0 where
+  pub fields : work.fields ≡ visits x
+  pub pairs : work.pairs ≡ entries x
+  pub bytes : work.bytes ≡ text_bytes x
+
+-- The work counts just what the tree of a metadata has.
+abbrev pub CountsTree : LimitNumbers → List ℕ → Work → Type 0
+CountsTree limits bytes work = (x : Tree) → IsTreeOf bytes limits.max_metadata x → Counts work x

@@ -1,0 +1,123 @@
+-- Which tables a message is made of, and which fields of them are looked at (Message.fbs, Schema.fbs).
+use Rattle.std.specs.Prelude.{ℕ, ◌+◌, ◌-◌, List, [], ◌∷◌, Option, Some, None}
+use Rattle.std.specs.Option.{option_and_then, unwrap_or}
+use Rattle.arrow_flatbuf.specs.Place.{number_at}
+use Rattle.arrow_flatbuf.specs.Table.{TableAt, field_place}
+use Rattle.arrow_meta_reader.specs.Codes.{header_kind, type_code}
+use Rattle.arrow_meta_reader.specs.declared.codes.HeaderKind.{HeaderKind}
+use Rattle.arrow_meta_reader.specs.declared.codes.HeaderKind.TheVariants as headers
+use Rattle.arrow_meta_reader.specs.declared.codes.TypeCode.{TypeCode}
+use Rattle.arrow_meta_reader.specs.declared.codes.TypeCode.TheVariants as codes
+use Rattle.arrow_meta_reader.specs.declared.kinds.TableKind.{TableKind}
+use Rattle.arrow_meta_reader.specs.declared.kinds.TableKind.TheVariants as kinds
+use Rattle.arrow_meta_reader.specs.declared.kinds.FieldForm.{FieldForm}
+use Rattle.arrow_meta_reader.specs.declared.kinds.FieldForm.TheVariants as forms
+
+-- The fields of a table that are looked at, in order of their numbers from 0 (Message.fbs, Schema.fbs). The
+-- fields behind the last one are not looked at.
+abbrev pub forms_of : TableKind → List FieldForm
+-- version, header's code, header, bodyLength
+forms_of kinds.Message = forms.Short ∷ forms.Byte ∷ forms.Header ∷ forms.Long ∷ []
+-- endianness, fields, custom_metadata
+forms_of kinds.Schema = forms.Short ∷ forms.Tables kinds.Field ∷ forms.Tables kinds.KeyValue ∷ []
+-- name, nullable, type's code, type, dictionary, children, custom_metadata
+forms_of kinds.Field =
+    forms.Text ∷ forms.Byte ∷ forms.Byte ∷ forms.Type ∷ forms.Table kinds.DictionaryEncoding ∷ forms.Tables kinds.Field ∷ forms.Tables kinds.KeyValue ∷ []
+-- id, indexType, isOrdered, dictionaryKind
+forms_of kinds.DictionaryEncoding = forms.Long ∷ forms.Table kinds.Int ∷ forms.Byte ∷ forms.Short ∷ []
+-- length, nodes, buffers, compression
+forms_of kinds.RecordBatch = forms.Long ∷ forms.Pairs ∷ forms.Pairs ∷ forms.Presence ∷ []
+-- id, data, isDelta
+forms_of kinds.DictionaryBatch = forms.Long ∷ forms.Table kinds.RecordBatch ∷ forms.Byte ∷ []
+-- bitWidth, is_signed
+forms_of kinds.Int = forms.Int ∷ forms.Byte ∷ []
+-- unit
+forms_of kinds.Date = forms.Short ∷ []
+-- unit, bitWidth
+forms_of kinds.Time = forms.Short ∷ forms.Int ∷ []
+-- unit, timezone
+forms_of kinds.Timestamp = forms.Short ∷ forms.Text ∷ []
+-- byteWidth
+forms_of kinds.FixedSizeBinary = forms.Int ∷ []
+-- unit
+forms_of kinds.Duration = forms.Short ∷ []
+-- key, value
+forms_of kinds.KeyValue = forms.Bytes ∷ forms.Bytes ∷ []
+
+-- the table of a header (Message.fbs, union "MessageHeader")
+abbrev pub table_of_header : Option HeaderKind → Option TableKind
+table_of_header None = None
+table_of_header (Some headers.Schema) = Some kinds.Schema
+table_of_header (Some headers.DictionaryBatch) = Some kinds.DictionaryBatch
+table_of_header (Some headers.RecordBatch) = Some kinds.RecordBatch
+
+-- The table that a header's code opens. No other header is looked at.
+abbrev pub header_table : ℕ → Option TableKind
+header_table code = table_of_header (header_kind code)
+
+-- The table of a type (Schema.fbs, union "Type"), none where nothing in it is looked at.
+abbrev pub table_of : Option TypeCode → Option TableKind
+table_of None = None
+table_of (Some codes.Null) = None
+table_of (Some codes.Int) = Some kinds.Int
+table_of (Some codes.Binary) = None
+table_of (Some codes.Utf8) = None
+table_of (Some codes.Bool) = None
+table_of (Some codes.Date) = Some kinds.Date
+table_of (Some codes.Time) = Some kinds.Time
+table_of (Some codes.Timestamp) = Some kinds.Timestamp
+table_of (Some codes.List) = None
+table_of (Some codes.Struct) = None
+table_of (Some codes.FixedSizeBinary) = Some kinds.FixedSizeBinary
+table_of (Some codes.Duration) = Some kinds.Duration
+table_of (Some codes.LargeBinary) = None
+table_of (Some codes.LargeUtf8) = None
+table_of (Some codes.LargeList) = None
+
+-- the table that a type's code opens
+abbrev pub type_table : ℕ → Option TableKind
+type_table code = table_of (type_code code)
+
+-- where something of a form stands, or that it is absent
+pub record Spot : Type 0 where
+  pub form : FieldForm
+  pub place : Option ℕ
+
+-- The code in field i, 0 where it is absent (FlatBuffers internals, "Unions"). Where it is not readable no tree
+-- lies at the table, whatever the code opens, since the code is itself a field that is looked at.
+abbrev pub code_at : TableAt → ℕ → ℕ
+code_at t i = unwrap_or (option_and_then (number_at 1 t.bytes) (field_place t i)) 0
+
+-- A table that stands at a place where its code opens it. What no code opens counts as absent, and then the form
+-- says nothing.
+abbrev pub opened : Option TableKind → Option ℕ → Spot
+opened None place = record { form = forms.Presence; place = None }
+opened (Some kind) place = record { form = forms.Table kind; place = place }
+
+-- field i of a table, of this form
+abbrev pub standing : FieldForm → TableAt → ℕ → Spot
+standing form t i = record { form = form; place = field_place t i }
+
+-- field i of a table, where the form of a header and of a type is told by the code before it
+abbrev pub spot : FieldForm → TableAt → ℕ → Spot
+spot forms.Header t i = opened (header_table (code_at t (i - 1))) (field_place t i)
+spot forms.Type t i = opened (type_table (code_at t (i - 1))) (field_place t i)
+spot forms.Byte t i = standing forms.Byte t i
+spot forms.Short t i = standing forms.Short t i
+spot forms.Int t i = standing forms.Int t i
+spot forms.Long t i = standing forms.Long t i
+spot forms.Text t i = standing forms.Text t i
+spot forms.Bytes t i = standing forms.Bytes t i
+spot forms.Pairs t i = standing forms.Pairs t i
+spot forms.Presence t i = standing forms.Presence t i
+spot (forms.Table kind) t i = standing (forms.Table kind) t i
+spot (forms.Tables kind) t i = standing (forms.Tables kind) t i
+
+-- the fields from number i on
+abbrev pub spots_from : List FieldForm → TableAt → ℕ → List Spot
+spots_from [] t i = []
+spots_from (form ∷ rest) t i = spot form t i ∷ spots_from rest t (i + 1)
+
+-- all fields of a table
+abbrev pub spots_of : TableKind → TableAt → List Spot
+spots_of kind t = spots_from (forms_of kind) t 0

@@ -1,0 +1,87 @@
+-- What a message is, without where it lies in memory, and which message a tree means.
+use Rattle.std.specs.Prelude.{◌≡◌, ℕ, ℤ, Bool, List, map, Option, None, Some, option_map}
+use Rattle.std.specs.Int.{cast_signed, w16, w64}
+use Rattle.arrow_types.specs.Notes.{SchemaShape}
+use Rattle.arrow_types.specs.declared.node.FieldNode.{FieldNode}
+use Rattle.arrow_types.specs.declared.node.Buffer.{Buffer}
+use Rattle.arrow_meta_reader.specs.declared.message.RecordBatch.{RecordBatch}
+use Rattle.arrow_meta_reader.specs.declared.codes.HeaderKind.{HeaderKind}
+use Rattle.arrow_meta_reader.specs.declared.codes.HeaderKind.TheVariants as headers
+use Rattle.arrow_meta_reader.specs.declared.message.Header.{Header}
+use Rattle.arrow_meta_reader.specs.declared.message.Header.TheVariants as built
+use Rattle.arrow_meta_reader.specs.declared.message.Message.{Message}
+use Rattle.arrow_meta_reader.specs.Faults.{fault_of, version_of, header_in, header_of, body_of, data_of}
+use Rattle.arrow_meta_reader.specs.Parts.{nth, parts, number_at, flag_at, pairs_in}
+use Rattle.arrow_meta_reader.specs.SchemaMeaning.{schema_in}
+use Rattle.arrow_meta_reader.specs.Trees.{Tree, Trees}
+
+-- a record batch (Message.fbs, table "RecordBatch")
+pub record PlainBatch : Type 0 where
+  pub length : ℤ
+  pub nodes : List FieldNode
+  pub buffers : List Buffer
+
+-- a header: a schema; a dictionary's id, whether it is a delta, and its values; a batch's columns
+pub data PlainHeader : Type 0 where
+  schema : SchemaShape → PlainHeader
+  dictionary : ℤ → Bool → PlainBatch → PlainHeader
+  batch : PlainBatch → PlainHeader
+
+-- a message (Message.fbs, table "Message"); the body's length is in bytes
+pub record PlainMessage : Type 0 where
+  pub version : ℤ
+  pub header : PlainHeader
+  pub body_len : ℕ
+
+-- a field node of the two numbers of its struct (Message.fbs, struct "FieldNode")
+abbrev pub node_of : ℕ × ℕ → FieldNode
+node_of p = record { length = cast_signed w64 p.0; null_count = cast_signed w64 p.1 }
+
+-- a buffer of the two numbers of its struct (Message.fbs, struct "Buffer")
+abbrev pub buffer_of : ℕ × ℕ → Buffer
+buffer_of p = record { offset = cast_signed w64 p.0; length = cast_signed w64 p.1 }
+
+-- what a RecordBatch table with these fields says
+abbrev pub batch_of : Trees → PlainBatch
+batch_of xs = record {
+  length = cast_signed w64 (number_at 0 0 xs);
+  nodes = map node_of (pairs_in (nth 1 xs));
+  buffers = map buffer_of (pairs_in (nth 2 xs));
+}
+
+-- what a header's table with these fields says, by what it is
+abbrev pub header_by : HeaderKind → Trees → PlainHeader
+header_by headers.Schema xs = schema (schema_in xs)
+header_by headers.DictionaryBatch xs = dictionary (cast_signed w64 (number_at 0 0 xs)) (flag_at 2 xs) (batch_of (data_of xs))
+header_by headers.RecordBatch xs = batch (batch_of xs)
+
+-- what a Message table with these fields says, by what its header is
+abbrev pub message_by : Trees → HeaderKind → PlainMessage
+message_by xs kind = record {
+  version = cast_signed w16 (version_of xs);
+  header = header_by kind (parts (header_of xs));
+  body_len = body_of xs;
+}
+
+-- What a Message table with these fields says, none without a header. Where a fault holds of them it is no message.
+abbrev pub meaning_of : Trees → Option PlainMessage
+meaning_of xs = option_map (message_by xs) (header_in xs)
+
+-- A message's tree means this message: no fault holds of it, and this is what it says.
+pub record Means (max_body : ℕ) (x : Tree) (m : PlainMessage) : Type 0 where
+  pub sound : fault_of max_body (parts x) ≡ None
+  pub same : meaning_of (parts x) ≡ Some m
+
+-- a record batch of the program, as what it says
+abbrev pub batch_view : RecordBatch → PlainBatch
+batch_view b = record { length = b.length; nodes = b.nodes.items; buffers = b.buffers.items }
+
+-- a header of the program, as what it says
+abbrev pub header_view : Header → PlainHeader
+header_view (built.Schema s) = schema s
+header_view (built.Dictionary id delta b) = dictionary id delta (batch_view b)
+header_view (built.Batch b) = batch (batch_view b)
+
+-- a message of the program, as what it says
+abbrev pub message_view : Message → PlainMessage
+message_view m = record { version = m.version; header = header_view m.header; body_len = m.body_len }

@@ -1,0 +1,62 @@
+-- By which measure the reading of tables ends.
+use Rattle.std.specs.Prelude.{ℕ, ◌+◌, ◌*◌, Option, Some, None}
+use Rattle.arrow_meta_reader.specs.declared.kinds.TableKind.{TableKind}
+use Rattle.arrow_meta_reader.specs.declared.kinds.TableKind.TheVariants as kinds
+use Rattle.arrow_meta_reader.specs.declared.kinds.FieldForm.{FieldForm}
+use Rattle.arrow_meta_reader.specs.declared.kinds.FieldForm.TheVariants as forms
+
+-- Below a table stand tables of lower rank, save below a field.
+abbrev pub rank : TableKind → ℕ
+rank kinds.Message = 5
+rank kinds.Schema = 4
+rank kinds.Field = 3
+rank kinds.DictionaryEncoding = 2
+rank kinds.RecordBatch = 1
+rank kinds.DictionaryBatch = 2
+rank kinds.Int = 1
+rank kinds.Date = 1
+rank kinds.Time = 1
+rank kinds.Timestamp = 1
+rank kinds.FixedSizeBinary = 1
+rank kinds.Duration = 1
+rank kinds.KeyValue = 1
+
+-- the rank of the tables in a field of this form, 0 where it holds none
+abbrev pub form_rank : FieldForm → ℕ
+form_rank forms.Byte = 0
+form_rank forms.Short = 0
+form_rank forms.Int = 0
+form_rank forms.Long = 0
+form_rank forms.Text = 0
+form_rank forms.Bytes = 0
+form_rank forms.Pairs = 0
+form_rank forms.Presence = 0
+form_rank (forms.Table kind) = rank kind
+form_rank (forms.Tables kind) = rank kind
+form_rank forms.Header = 4
+form_rank forms.Type = 1
+
+-- above the rank of each field of a table
+abbrev pub inner : TableKind → ℕ
+inner kinds.Message = rank kinds.Message
+inner kinds.Schema = rank kinds.Schema
+inner kinds.Field = 7
+inner kinds.DictionaryEncoding = rank kinds.DictionaryEncoding
+inner kinds.RecordBatch = rank kinds.RecordBatch
+inner kinds.DictionaryBatch = rank kinds.DictionaryBatch
+inner kinds.Int = rank kinds.Int
+inner kinds.Date = rank kinds.Date
+inner kinds.Time = rank kinds.Time
+inner kinds.Timestamp = rank kinds.Timestamp
+inner kinds.FixedSizeBinary = rank kinds.FixedSizeBinary
+inner kinds.Duration = rank kinds.Duration
+inner kinds.KeyValue = rank kinds.KeyValue
+
+-- what is left to do
+abbrev pub work : ℕ → ℕ → ℕ → ℕ
+work levels rank step = 8 * (8 * levels + rank) + step
+
+-- the rank of an opened table, 0 where none is
+abbrev pub opened_rank : Option TableKind → ℕ
+opened_rank None = 0
+opened_rank (Some kind) = rank kind

@@ -1,0 +1,50 @@
+-- What the fields of a schema say of their dictionaries, as they stand in the tree.
+use Rattle.std.specs.Prelude.{◌≡◌, ℕ, List, map}
+use Rattle.std.specs.Option.{unwrap_or}
+use Rattle.std.specs.Borrow.{Bor}
+use Rattle.arrow_types.specs.DataType.{Tag}
+use Rattle.arrow_types.specs.Field.{Fields, more, TypeShape}
+use Rattle.arrow_types.specs.Schema.{DictionaryField}
+use Rattle.arrow_meta_reader.specs.declared.codes.TypeCode.{TypeCode}
+use Rattle.arrow_meta_reader.specs.declared.codes.TypeCode.TheVariants as codes
+use Rattle.arrow_meta_reader.specs.declared.sharing.Encoded.{Encoded}
+use Rattle.arrow_meta_reader.specs.Codes.{type_code}
+use Rattle.arrow_meta_reader.specs.Parts.{nth, parts, number_at, flag_at, text_in}
+use Rattle.arrow_meta_reader.specs.SchemaMeaning.{encoding_in, fields_at, fields_from, head_of, tag_by}
+use Rattle.arrow_meta_reader.specs.Trees.{Trees}
+use Rattle.arrow_meta_reader.specs.Views.{plain_all}
+
+-- the bytes of a text that is lent
+abbrev pub lent_bytes : Bor (List ℕ) → List ℕ
+lent_bytes text = text.now
+
+-- The fields begin with that of a Field table, behind which these tables stand.
+abbrev pub BeginsWith : Fields → Trees → Trees → Type 0
+BeginsWith fields xs rest = fields ≡ more (head_of xs) (fields_at 5 xs) (fields_from rest)
+
+-- Two Field tables with these fields say the same name, nullability and encoding.
+abbrev pub AreLabelledAlike : Trees → Trees → Type 0
+AreLabelledAlike xs ys =
+    (text_in (nth 0 xs) ≡ text_in (nth 0 ys)) ×
+    (flag_at 1 xs ≡ flag_at 1 ys) ×
+    (encoding_in (nth 4 xs) ≡ encoding_in (nth 4 ys))
+
+-- The type that a Field table with these fields names. One outside the profile is read as Null.
+abbrev pub code_in : Trees → TypeCode
+code_in xs = unwrap_or (type_code (number_at 2 0 xs)) codes.Null
+
+-- the own part of its type
+abbrev pub tag_of : Trees → Tag
+tag_of xs = tag_by (type_code (number_at 2 0 xs)) (parts (nth 3 xs))
+
+-- its type, with all levels below it
+abbrev pub type_of : Trees → TypeShape
+type_of xs = record { tag = tag_of xs; children = fields_at 5 xs }
+
+-- what a dictionary-encoded field that the program found says of its dictionary
+abbrev pub encoded_view : Encoded → DictionaryField
+encoded_view e = record { id = e.id; value_type = type_of (plain_all e.parts.now) }
+
+-- the same of each of a list
+abbrev pub encoded_views : List Encoded → List DictionaryField
+encoded_views es = map encoded_view es

@@ -1,0 +1,157 @@
+//! Batches, read straight from their tables.
+//!
+//! Of the messages of a stream nearly all are batches in which nothing is amiss. These are made
+//! without a tree; whatever else there is, a schema or a fault or a refused growth, is told by the
+//! tree.
+ghost use Rattle.std.specs.Prelude.{◌≡◌, ◌≤◌, ℕ, List, IfOk, IfSome, Some, map};
+ghost use Rattle.arrow_meta_reader.specs.Codes.{header_kind};
+ghost use Rattle.arrow_meta_reader.specs.Lies.{pairs_from};
+ghost use Rattle.arrow_meta_reader.specs.Means.{batch, batch_view, buffer_of, header_view, message_view};
+ghost use Rattle.arrow_meta_reader.specs.Means.{node_of};
+ghost use Rattle.arrow_meta_reader.specs.Straight.{HasNumber, HasPairs, IsHeader, MeansBare};
+ghost use Rattle.arrow_meta_reader.specs.declared.codes.HeaderKind.{HeaderKind as Kind};
+ghost use Rattle.arrow_meta_reader.specs.declared.codes.HeaderKind.TheVariants as headers;
+
+use crate::build::{is_read_version, version_of};
+use crate::codes::{HeaderKind, header_kind};
+use crate::message::{Header, Message, RecordBatch};
+use arrow_flatbuf::{Root, Table, Vector};
+use arrow_types::{Buffer, FieldNode, Limits};
+use std::alloc::{AllocError, Global};
+
+/// The message where the metadata are those of a batch that has no fault, None where they are not,
+/// or where a growth is refused.
+pub(crate) fn batch_message(alloc: Global, bytes: &[u8], limits: &Limits) -> Option<Message>
+    ensures means { IfSome result (λ m. MeansBare limits.now bytes.now (message_view m)) }
+    ensures length { IfSome result (λ m. m.body_len ≤ limits.now.max_body) }
+{
+    let table = Root::open(bytes)?;
+    let version = number_in(&table, 0, 2)?;
+    let code = number_in(&table, 1, 1)?;
+    let body_len = number_in(&table, 3, 8)?;
+    if !is_read_version(version) || body_len > limits.max_body() {
+        return None;
+    }
+    let Ok(Some(inner)) = table.table(2) else {
+        return None;
+    };
+    Some(Message {
+        version: version_of(version),
+        header: batch_header(alloc, code, &inner)?,
+        body_len,
+    })
+}
+
+/// What the header says that this code opens, if it is a batch.
+fn batch_header(alloc: Global, code: u64, table: &Table) -> Option<Header>
+    ensures { IfSome result (λ h. (kind : Kind) × (header_kind code ≡ Some kind)
+        × IsHeader kind table.now (header_view h)) }
+{
+    match header_kind(code) {
+        Some(HeaderKind::RecordBatch) => Some(Header::Batch(batch_in(alloc, table)?)),
+        Some(HeaderKind::DictionaryBatch) => dictionary_in(alloc, table),
+        Some(HeaderKind::Schema) | None => None,
+    }
+}
+
+/// What a DictionaryBatch table says.
+fn dictionary_in(alloc: Global, table: &Table) -> Option<Header>
+    ensures { IfSome result (λ h. IsHeader headers.DictionaryBatch table.now (header_view h)) }
+{
+    let id = number_in(table, 0, 8)?.cast_signed();
+    let is_delta = number_in(table, 2, 1)? != 0;
+    let Ok(Some(data)) = table.table(1) else {
+        return None;
+    };
+    Some(Header::Dictionary(id, is_delta, batch_in(alloc, &data)?))
+}
+
+/// What a RecordBatch table says that is not compressed.
+fn batch_in(alloc: Global, table: &Table) -> Option<RecordBatch>
+    ensures { IfSome result
+        (λ b. IsHeader headers.RecordBatch table.now (batch (batch_view b))) }
+{
+    if table.has(3) {
+        return None;
+    }
+    let length = number_in(table, 0, 8)?.cast_signed();
+    let nodes = nodes_in(alloc, table)?;
+    let buffers = buffers_in(alloc, table)?;
+    Some(RecordBatch {
+        length,
+        nodes,
+        buffers,
+    })
+}
+
+/// The number of `width` bytes in a field, 0 where it is absent, None where it is not readable.
+#[inline(always)]
+fn number_in(table: &Table, field: u16, width: usize) -> Option<u64>
+    requires low { 1 ≤ width }
+    requires high { width ≤ 8 }
+    ensures { IfSome result (λ n. HasNumber width table.now field n) }
+{
+    match table.scalar(field, width) {
+        Ok(Some(number)) => Some(number),
+        Ok(None) => Some(0),
+        Err(_) => None,
+    }
+}
+
+/// The field nodes of a RecordBatch table.
+fn nodes_in(alloc: Global, table: &Table) -> Option<Vec<FieldNode>>
+    ensures { IfSome result
+        (λ v. (ps : List (ℕ × ℕ)) × HasPairs table.now 1 ps × (v.items ≡ map node_of ps)) }
+{
+    match table.vector(1, 16) {
+        Ok(Some(vector)) => nodes_of(alloc, &vector).ok(),
+        Ok(None) => Some(Vec::new(alloc)),
+        Err(_) => None,
+    }
+}
+
+/// The buffers of a RecordBatch table.
+fn buffers_in(alloc: Global, table: &Table) -> Option<Vec<Buffer>>
+    ensures { IfSome result
+        (λ v. (ps : List (ℕ × ℕ)) × HasPairs table.now 2 ps × (v.items ≡ map buffer_of ps)) }
+{
+    match table.vector(2, 16) {
+        Ok(Some(vector)) => buffers_of(alloc, &vector).ok(),
+        Ok(None) => Some(Vec::new(alloc)),
+        Err(_) => None,
+    }
+}
+
+/// The field nodes of a vector of pairs of numbers.
+fn nodes_of(alloc: Global, vector: &Vector) -> Result<Vec<FieldNode>, AllocError>
+    requires pairs { vector.now.size ≡ 16 }
+    ensures nodes { IfOk result (λ v. v.items
+        ≡ map node_of (pairs_from vector.now.bytes vector.now.place vector.now.count)) }
+{
+    let mut nodes = Vec::with_capacity(alloc, vector.len())?;
+    for index in 0..vector.len() {
+        let (length, null_count) = vector.pair(index);
+        nodes.push(FieldNode {
+            length: length.cast_signed(),
+            null_count: null_count.cast_signed(),
+        })?;
+    }
+    Ok(nodes)
+}
+
+/// The buffers of a vector of pairs of numbers.
+fn buffers_of(alloc: Global, vector: &Vector) -> Result<Vec<Buffer>, AllocError>
+    requires pairs { vector.now.size ≡ 16 }
+    ensures buffers { IfOk result (λ v. v.items
+        ≡ map buffer_of (pairs_from vector.now.bytes vector.now.place vector.now.count)) }
+{
+    let mut buffers = Vec::with_capacity(alloc, vector.len())?;
+    for index in 0..vector.len() {
+        let (offset, length) = vector.pair(index);
+        buffers.push(Buffer {
+            offset: offset.cast_signed(),
+            length: length.cast_signed(),
+        })?;
+    }
+    Ok(buffers)
+}

@@ -1,0 +1,182 @@
+//! Messages, built of the fields of their tables.
+ghost use Rattle.std.specs.Prelude.{◌≡◌, ◌<◌, IfOk, IfErr, length, map, true};
+ghost use Rattle.std.specs.Int.{cast_signed, w16, w64};
+ghost use Rattle.arrow_meta_reader.specs.Builds.{BuildsSchema, BuildsHeader, BuildsMessage, meta_fault};
+ghost use Rattle.arrow_meta_reader.specs.Faults.{HasNodeOrBuffer, data_of, is_read_version, version_of};
+ghost use Rattle.arrow_meta_reader.specs.Means.{batch_of, batch_view, dictionary, header_view, node_of};
+ghost use Rattle.arrow_meta_reader.specs.Means.{buffer_of};
+ghost use Rattle.arrow_meta_reader.specs.Parts.{nth, number_at, flag_at};
+ghost use Rattle.arrow_meta_reader.specs.Views.{plain_all};
+
+use crate::codes::HeaderKind;
+use crate::fault::MetaFault;
+use crate::fields::{FieldFault, fields};
+use crate::message::{Header, Message, RecordBatch};
+use crate::message_tree::Tree;
+use crate::metadata::metadata;
+use crate::parts::{flag_at, into_pairs, into_parts, number_at, take};
+use arrow_types::{Buffer, FieldNode, Schema, SchemaFault};
+use std::alloc::{AllocError, Global};
+
+/// A version that is read (`Schema.fbs`, enum `MetadataVersion`).
+pub(crate) const V4: i16 = 3;
+
+/// The other version that is read, and the one that is written.
+pub(crate) const V5: i16 = 4;
+
+/// Whether the number of a version is that of V4 or V5.
+pub(crate) fn is_read_version(number: u64) -> bool
+    ensures { result ≡ is_read_version number }
+{
+    number == 3 || number == 4
+}
+
+/// The version of such a number.
+pub(crate) fn version_of(number: u64) -> i16
+    requires { is_read_version number ≡ true }
+    ensures { result ≡ cast_signed w16 number }
+{
+    if number == 3 { V4 } else { V5 }
+}
+
+/// The message that a Message table with these fields says, by what its header is.
+pub(crate) fn message(
+    alloc: Global,
+    kind: HeaderKind,
+    parts: Vec<Tree>,
+) -> Result<Message, MetaFault>
+    requires read { is_read_version (version_of (plain_all parts.items)) ≡ true }
+    ensures built { BuildsMessage result kind (plain_all parts.items) }
+{
+    let mut parts = parts;
+    let version = version_of(number_at(&parts, 0, 0));
+    let body_len = number_at(&parts, 3, 0);
+    let table = into_parts(alloc, take(&mut parts, 2));
+    match header(alloc, kind, table, body_len) {
+        Ok(header) => Ok(Message {
+            version,
+            header,
+            body_len,
+        }),
+        Err(fault) => Err(fault),
+    }
+}
+
+/// The header that the table with these fields says, by what it is.
+fn header(
+    alloc: Global,
+    kind: HeaderKind,
+    parts: Vec<Tree>,
+    body_len: u64,
+) -> Result<Header, MetaFault>
+    ensures built { BuildsHeader result kind body_len (plain_all parts.items) }
+{
+    match kind {
+        HeaderKind::Schema => match schema(alloc, parts, body_len) {
+            Ok(schema) => Ok(Header::Schema(schema)),
+            Err(fault) => Err(fault),
+        },
+        HeaderKind::DictionaryBatch => match dictionary(alloc, parts) {
+            Ok(header) => Ok(header),
+            Err(_) => Err(MetaFault::Memory),
+        },
+        HeaderKind::RecordBatch => match batch(alloc, parts) {
+            Ok(batch) => Ok(Header::Batch(batch)),
+            Err(_) => Err(MetaFault::Memory),
+        },
+    }
+}
+
+/// The schema that a Schema table with these fields says.
+#[tactic(auto, using(crate::proofs::Misfits::any_nth, crate::proofs::FieldTables::encoded_width))]
+fn schema(alloc: Global, parts: Vec<Tree>, body_len: u64) -> Result<Schema, MetaFault>
+    ensures built { BuildsSchema result body_len (plain_all parts.items) }
+{
+    let mut parts = parts;
+    let Ok(metadata) = metadata(alloc, take(&mut parts, 2)) else {
+        return Err(MetaFault::Memory);
+    };
+    match fields(alloc, take(&mut parts, 1)) {
+        Ok(fields) => match Schema::with_metadata(alloc, fields, metadata) {
+            Ok(schema) => Ok(schema),
+            Err(fault) => Err(meta_fault(body_len, fault)),
+        },
+        Err(FieldFault::Misfit) => Err(MetaFault::Schema { body_len }),
+        Err(FieldFault::Memory) => Err(MetaFault::Memory),
+    }
+}
+
+/// The fault of a message whose fields make no schema.
+fn meta_fault(body_len: u64, fault: SchemaFault) -> MetaFault
+    ensures fault { result ≡ meta_fault body_len fault }
+{
+    match fault {
+        SchemaFault::TooDeep => MetaFault::Metadata,
+        SchemaFault::TooManyFields => MetaFault::Metadata,
+        SchemaFault::NestedDictionary => MetaFault::Unsupported { body_len },
+        SchemaFault::SharedIdTypesDiffer => MetaFault::Schema { body_len },
+        SchemaFault::Memory => MetaFault::Memory,
+        SchemaFault::ByteWidth => MetaFault::Schema { body_len },
+        SchemaFault::TooManyPairs => MetaFault::Metadata,
+    }
+}
+
+/// The dictionary batch that a DictionaryBatch table with these fields says.
+fn dictionary(alloc: Global, parts: Vec<Tree>) -> Result<Header, AllocError>
+    ensures built { let xs = plain_all parts.items in IfOk result (λ h. header_view h
+        ≡ dictionary (cast_signed w64 (number_at 0 0 xs)) (flag_at 2 xs)
+        (batch_of (data_of xs))) }
+    ensures some { IfErr result (λ _. HasNodeOrBuffer (data_of (plain_all parts.items))) }
+{
+    let mut parts = parts;
+    let id = number_at(&parts, 0, 0).cast_signed();
+    let delta = flag_at(&parts, 2);
+    let data = into_parts(alloc, take(&mut parts, 1));
+    Ok(Header::Dictionary(id, delta, batch(alloc, data)?))
+}
+
+/// The record batch that a RecordBatch table with these fields says.
+fn batch(alloc: Global, parts: Vec<Tree>) -> Result<RecordBatch, AllocError>
+    ensures built { IfOk result (λ b. batch_view b ≡ batch_of (plain_all parts.items)) }
+    ensures some { IfErr result (λ _. HasNodeOrBuffer (plain_all parts.items)) }
+{
+    let mut parts = parts;
+    let length = number_at(&parts, 0, 0).cast_signed();
+    let buffers = buffers(alloc, &into_pairs(alloc, take(&mut parts, 2)))?;
+    let nodes = nodes(alloc, &into_pairs(alloc, take(&mut parts, 1)))?;
+    Ok(RecordBatch {
+        length,
+        nodes,
+        buffers,
+    })
+}
+
+/// The field nodes of these pairs of numbers.
+fn nodes(alloc: Global, pairs: &[(u64, u64)]) -> Result<Vec<FieldNode>, AllocError>
+    ensures nodes { IfOk result (λ v. v.items ≡ map node_of pairs.now) }
+    ensures some { IfErr result (λ _. 0 < length pairs.now) }
+{
+    let mut nodes = Vec::new(alloc);
+    for pair in pairs {
+        nodes.push(FieldNode {
+            length: pair.0.cast_signed(),
+            null_count: pair.1.cast_signed(),
+        })?;
+    }
+    Ok(nodes)
+}
+
+/// The buffers of these pairs of numbers.
+fn buffers(alloc: Global, pairs: &[(u64, u64)]) -> Result<Vec<Buffer>, AllocError>
+    ensures buffers { IfOk result (λ v. v.items ≡ map buffer_of pairs.now) }
+    ensures some { IfErr result (λ _. 0 < length pairs.now) }
+{
+    let mut buffers = Vec::new(alloc);
+    for pair in pairs {
+        buffers.push(Buffer {
+            offset: pair.0.cast_signed(),
+            length: pair.1.cast_signed(),
+        })?;
+    }
+    Ok(buffers)
+}

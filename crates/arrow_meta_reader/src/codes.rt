@@ -1,0 +1,125 @@
+//! The numbers that stand for headers, types, widths and units (`Message.fbs`, `Schema.fbs`).
+ghost use Rattle.std.specs.Prelude.{◌≡◌};
+ghost use Rattle.arrow_meta_reader.specs.Codes.{header_kind, type_code, bit_width, byte_width};
+ghost use Rattle.arrow_meta_reader.specs.Codes.{date_unit, time_unit};
+
+use arrow_types::{BitWidth, DateUnit, Schema, TimeUnit};
+
+/// A header of this project's profile (`Message.fbs`, union `MessageHeader`).
+#[derive(Clone, Copy, Debug)]
+pub(crate) enum HeaderKind {
+    Schema,
+    DictionaryBatch,
+    RecordBatch,
+}
+
+/// The header that a code names, None outside the profile: 0 says that there is none, 4 is a Tensor
+/// and 5 a SparseTensor.
+pub(crate) fn header_kind(code: u64) -> Option<HeaderKind>
+    ensures kind { result ≡ header_kind code }
+{
+    match code {
+        1 => Some(HeaderKind::Schema),
+        2 => Some(HeaderKind::DictionaryBatch),
+        3 => Some(HeaderKind::RecordBatch),
+        // a number that is no header's of the profile
+        _ => None,
+    }
+}
+
+/// A type of this project's profile (`Schema.fbs`, union `Type`).
+#[derive(Clone, Copy, Debug, PartialEq, Eq)]
+pub(crate) enum TypeCode {
+    Null,
+    Int,
+    Binary,
+    Utf8,
+    Bool,
+    Date,
+    Time,
+    Timestamp,
+    List,
+    Struct,
+    FixedSizeBinary,
+    Duration,
+    LargeBinary,
+    LargeUtf8,
+    LargeList,
+}
+
+/// The type that a code names, None outside the profile.
+pub(crate) fn type_code(code: u64) -> Option<TypeCode>
+    ensures code { result ≡ type_code code }
+{
+    match code {
+        1 => Some(TypeCode::Null),
+        2 => Some(TypeCode::Int),
+        4 => Some(TypeCode::Binary),
+        5 => Some(TypeCode::Utf8),
+        6 => Some(TypeCode::Bool),
+        8 => Some(TypeCode::Date),
+        9 => Some(TypeCode::Time),
+        10 => Some(TypeCode::Timestamp),
+        12 => Some(TypeCode::List),
+        13 => Some(TypeCode::Struct),
+        15 => Some(TypeCode::FixedSizeBinary),
+        18 => Some(TypeCode::Duration),
+        19 => Some(TypeCode::LargeBinary),
+        20 => Some(TypeCode::LargeUtf8),
+        21 => Some(TypeCode::LargeList),
+        // a number that is no type's of the profile
+        _ => None,
+    }
+}
+
+/// The width of this many bits.
+pub(crate) fn bit_width(bits: u64) -> Option<BitWidth>
+    ensures width { result ≡ bit_width bits }
+{
+    match bits {
+        8 => Some(BitWidth::Eight),
+        16 => Some(BitWidth::Sixteen),
+        32 => Some(BitWidth::ThirtyTwo),
+        64 => Some(BitWidth::SixtyFour),
+        // a number that is no width
+        _ => None,
+    }
+}
+
+/// The width of this many bytes, None for a negative number: one over the greatest signed number
+/// of 32 bits.
+pub(crate) fn byte_width(bytes: u64) -> Option<u32>
+    ensures width { result ≡ byte_width bytes }
+{
+    if bytes <= u64::from(Schema::MAX_WIDTH) {
+        Some(bytes as u32)
+    } else {
+        None
+    }
+}
+
+/// The unit of a date.
+pub(crate) fn date_unit(unit: u64) -> Option<DateUnit>
+    ensures unit { result ≡ date_unit unit }
+{
+    match unit {
+        0 => Some(DateUnit::Day),
+        1 => Some(DateUnit::Millisecond),
+        // a number that is no date's unit
+        _ => None,
+    }
+}
+
+/// The unit of a time, a timestamp or a duration.
+pub(crate) fn time_unit(unit: u64) -> Option<TimeUnit>
+    ensures unit { result ≡ time_unit unit }
+{
+    match unit {
+        0 => Some(TimeUnit::Second),
+        1 => Some(TimeUnit::Millisecond),
+        2 => Some(TimeUnit::Microsecond),
+        3 => Some(TimeUnit::Nanosecond),
+        // a number that is no time's unit
+        _ => None,
+    }
+}

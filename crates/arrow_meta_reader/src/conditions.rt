@@ -1,0 +1,196 @@
+//! What makes a single table one that no message has, and whether a tree holds such a table.
+ghost use Rattle.std.specs.Prelude.{◌≡◌};
+ghost use Rattle.arrow_meta_reader.specs.Conditions.{any, any_in, finds, is_misfit, is_time, children_fit};
+ghost use Rattle.arrow_meta_reader.specs.Conditions.{is_unsupported, lacks_table};
+ghost use Rattle.arrow_meta_reader.specs.Parts.{nth};
+ghost use Rattle.arrow_meta_reader.specs.SchemaMeaning.{fields_in, fields_from, is_field};
+ghost use Rattle.arrow_meta_reader.specs.Views.{plain, plain_all};
+ghost use Rattle.arrow_types.specs.Field.{width};
+
+use crate::codes::{TypeCode, bit_width, byte_width, date_unit, time_unit, type_code};
+use crate::kinds::{TableKind, type_table};
+use crate::message_tree::Tree;
+use crate::parts::{has_table, number_at, part};
+use arrow_types::TimeUnit;
+
+/// What makes a table one that no message has.
+#[derive(Clone, Copy, Debug)]
+pub(crate) enum Test {
+    /// A table that its code opens, or a dictionary's data, is absent.
+    LacksTable,
+    /// It holds something outside the profile.
+    Unsupported,
+    /// It holds a width, a unit or a number of children that no type has.
+    Misfit,
+}
+
+/// Whether the test holds of a table of the tree, at any depth.
+#[cycle(scan)]
+pub(crate) fn any(test: Test, tree: &Tree) -> bool
+    ensures found { result ≡ any (finds test) (plain tree.now) }
+{
+    match tree {
+        Tree::Leaf(_) => false,
+        Tree::Table(kind, parts) => finds(test, *kind, parts) || any_in(test, parts),
+        Tree::Tables(tables) => any_in(test, tables),
+    }
+}
+
+/// Whether the test holds of a table of one of the trees, at any depth.
+#[cycle(scan)]
+pub(crate) fn any_in(test: Test, trees: &[Tree]) -> bool
+    ensures found { result ≡ any_in (finds test) (plain_all trees.now) }
+{
+    for tree in trees {
+        if any(test, tree) {
+            return true;
+        }
+    }
+    false
+}
+
+/// Whether the test holds of a table of this kind with these fields.
+fn finds(test: Test, kind: TableKind, parts: &[Tree]) -> bool
+    ensures found { result ≡ finds test kind (plain_all parts.now) }
+{
+    match test {
+        Test::LacksTable => lacks_table(kind, parts),
+        Test::Unsupported => is_unsupported(kind, parts),
+        Test::Misfit => is_misfit(kind, parts),
+    }
+}
+
+/// Whether a table lacks the one that its code opens, or a dictionary batch its data.
+fn lacks_table(kind: TableKind, parts: &[Tree]) -> bool
+    ensures lacks { result ≡ lacks_table kind (plain_all parts.now) }
+{
+    match kind {
+        TableKind::Field => type_table(number_at(parts, 2, 0)).is_some() && !has_table(parts, 3),
+        TableKind::DictionaryBatch => !has_table(parts, 1),
+        TableKind::Message
+        | TableKind::Schema
+        | TableKind::DictionaryEncoding
+        | TableKind::RecordBatch
+        | TableKind::Int
+        | TableKind::Date
+        | TableKind::Time
+        | TableKind::Timestamp
+        | TableKind::FixedSizeBinary
+        | TableKind::Duration
+        | TableKind::KeyValue => false,
+    }
+}
+
+/// Whether a table holds an endianness, a type or a kind of dictionary outside the profile.
+fn is_unsupported(kind: TableKind, parts: &[Tree]) -> bool
+    ensures unsupported { result ≡ is_unsupported kind (plain_all parts.now) }
+{
+    match kind {
+        TableKind::Schema => number_at(parts, 0, 0) != 0,
+        TableKind::Field => type_code(number_at(parts, 2, 0)).is_none(),
+        TableKind::DictionaryEncoding => number_at(parts, 3, 0) != 0,
+        TableKind::Message
+        | TableKind::RecordBatch
+        | TableKind::DictionaryBatch
+        | TableKind::Int
+        | TableKind::Date
+        | TableKind::Time
+        | TableKind::Timestamp
+        | TableKind::FixedSizeBinary
+        | TableKind::Duration
+        | TableKind::KeyValue => false,
+    }
+}
+
+/// Whether a table holds a width, a unit or a number of children that no type has.
+fn is_misfit(kind: TableKind, parts: &[Tree]) -> bool
+    ensures misfit { result ≡ is_misfit kind (plain_all parts.now) }
+{
+    match kind {
+        TableKind::Field => !children_fit(type_code(number_at(parts, 2, 0)), fields_at(parts, 5)),
+        TableKind::Int => bit_width(number_at(parts, 0, 0)).is_none(),
+        TableKind::Date => date_unit(number_at(parts, 0, 1)).is_none(),
+        TableKind::Time => !is_time(time_unit(number_at(parts, 0, 1)), number_at(parts, 1, 32)),
+        TableKind::Timestamp => time_unit(number_at(parts, 0, 0)).is_none(),
+        TableKind::FixedSizeBinary => byte_width(number_at(parts, 0, 0)).is_none(),
+        TableKind::Duration => time_unit(number_at(parts, 0, 1)).is_none(),
+        TableKind::Message
+        | TableKind::Schema
+        | TableKind::DictionaryEncoding
+        | TableKind::RecordBatch
+        | TableKind::DictionaryBatch
+        | TableKind::KeyValue => false,
+    }
+}
+
+/// Whether a time of this unit is so many bits wide.
+fn is_time(unit: Option<TimeUnit>, bits: u64) -> bool
+    ensures time { result ≡ is_time unit bits }
+{
+    match unit {
+        None => false,
+        Some(unit) => bits == u64::from(unit.time_width().bits()),
+    }
+}
+
+/// Whether a type of this code may have so many children.
+fn children_fit(code: Option<TypeCode>, count: usize) -> bool
+    ensures fit { result ≡ children_fit code count }
+{
+    match code {
+        None => count == 0,
+        Some(
+            TypeCode::Null
+            | TypeCode::Int
+            | TypeCode::Binary
+            | TypeCode::Utf8
+            | TypeCode::Bool
+            | TypeCode::Date
+            | TypeCode::Time
+            | TypeCode::Timestamp
+            | TypeCode::FixedSizeBinary
+            | TypeCode::Duration
+            | TypeCode::LargeBinary
+            | TypeCode::LargeUtf8,
+        ) => count == 0,
+        Some(TypeCode::List | TypeCode::LargeList) => count == 1,
+        Some(TypeCode::Struct) => true,
+    }
+}
+
+/// How many fields stand in the vector in field `index`.
+fn fields_at(parts: &[Tree], index: usize) -> usize
+    ensures count { result ≡ width (fields_in (nth index (plain_all parts.now))) }
+{
+    match part(parts, index) {
+        Some(Tree::Leaf(_)) => 0,
+        Some(Tree::Table(_, _)) => 0,
+        Some(Tree::Tables(tables)) => count_fields(tables),
+        None => 0,
+    }
+}
+
+/// How many of the trees are Field tables.
+fn count_fields(tables: &[Tree]) -> usize
+    ensures count { result ≡ width (fields_from (plain_all tables.now)) }
+{
+    let mut count = 0;
+    for table in tables {
+        if is_field(table) {
+            count += 1;
+        }
+    }
+    count
+}
+
+/// Whether it is a Field table.
+fn is_field(tree: &Tree) -> bool
+    ensures field { result ≡ is_field (plain tree.now) }
+{
+    match tree {
+        Tree::Leaf(_) => false,
+        Tree::Table(TableKind::Field, _) => true,
+        Tree::Table(_, _) => false,
+        Tree::Tables(_) => false,
+    }
+}

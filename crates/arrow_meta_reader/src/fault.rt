@@ -1,0 +1,67 @@
+//! Why the metadata of a message are refused.
+
+/// Which message holds a record batch.
+#[derive(Clone, Copy, Debug, PartialEq, Eq)]
+pub enum BatchKind {
+    /// A dictionary batch, in its `data`.
+    Dictionary,
+    /// A record batch.
+    Record,
+}
+
+/// Why the bytes of a metadata mean no message, in the order of the faults' numbers. Of several
+/// that hold, the one with the least number is answered.
+///
+/// Faults that depend on what was read before, such as a second schema, have numbers between these.
+/// So the variants from `Unsupported` on say what the message was, and how many bytes of body
+/// follow: a number that is not negative and keeps to the limit. Only a schema is `Unsupported` or
+/// `Schema`.
+#[derive(Clone, Copy, Debug, PartialEq, Eq)]
+pub enum MetaFault {
+    /// Something that is looked at is not readable, a limit of the tree is passed, or a table that
+    /// must be there is absent: that of an Int, a Date, a Time, a Timestamp, a FixedSizeBinary or a
+    /// Duration, or the data of a dictionary batch.
+    Metadata,
+    /// The version is neither V4 nor V5.
+    Version,
+    /// The header is none of a schema, a dictionary batch or a record batch, or it is absent.
+    Header,
+    /// The body's length is negative or over the limit.
+    BodyLength,
+    /// A schema is big-endian, or has a type outside the profile, a dictionary of an unknown kind,
+    /// or a dictionary below a dictionary.
+    Unsupported { body_len: u64 },
+    /// A schema has a width or a unit outside its list, a negative number of bytes for a width, a
+    /// time of another unit's width, a type with another number of children, or one dictionary id
+    /// with unequal value types.
+    Schema { body_len: u64 },
+    /// The body of a batch is compressed.
+    Compressed { batch: BatchKind, body_len: u64 },
+    /// A growth was refused. Of the metadata no more is said than that reading them asks for
+    /// memory.
+    Memory,
+}
+
+impl MetaFault {
+    ghost use Rattle.std.specs.Prelude.{◌≡◌};
+    ghost use Rattle.arrow_meta_reader.specs.Faults.{number_of};
+
+    /// The fault's number among the faults of a stream.
+    pub fn number(self) -> u8
+        ensures number { result ≡ number_of self }
+    {
+        match self {
+            MetaFault::Metadata => 3,
+            MetaFault::Version => 4,
+            MetaFault::Header => 5,
+            MetaFault::BodyLength => 6,
+            MetaFault::Unsupported { body_len: _ } => 8,
+            MetaFault::Schema { body_len: _ } => 9,
+            MetaFault::Compressed {
+                batch: _,
+                body_len: _,
+            } => 10,
+            MetaFault::Memory => 19,
+        }
+    }
+}

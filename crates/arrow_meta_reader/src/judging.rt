@@ -1,0 +1,266 @@
+//! What a tree means, or its least fault.
+ghost use Rattle.std.specs.Prelude.{◌≡◌, ◌∷◌, [], Some, IfOk};
+ghost use Rattle.arrow_meta_reader.specs.declared.codes.HeaderKind.TheVariants as headers;
+ghost use Rattle.arrow_meta_reader.specs.declared.fault.MetaFault.TheVariants.{Compressed};
+ghost use Rattle.arrow_meta_reader.specs.Conditions.{any, is_misfit};
+ghost use Rattle.arrow_meta_reader.specs.Faults.{data_of, header_in, header_of, is_bad_length};
+ghost use Rattle.arrow_meta_reader.specs.Faults.{header_conditions, is_compressed};
+ghost use Rattle.arrow_meta_reader.specs.Faults.{is_unsupported_schema, least, shares_an_id};
+ghost use Rattle.arrow_meta_reader.specs.Judges.{Clears, CountsTree, Decodes, IsWorkWithin, Judges};
+ghost use Rattle.arrow_meta_reader.specs.Judges.{LengthFits};
+ghost use Rattle.arrow_meta_reader.specs.Parts.{nth, parts as parts_of};
+ghost use Rattle.arrow_meta_reader.specs.SchemaMeaning.{fields_in, schema_fields};
+ghost use Rattle.arrow_meta_reader.specs.Views.{plain, plain_all};
+ghost use Rattle.arrow_types.specs.Schema.{dictionary_fields, is_nested, types_differ};
+
+use crate::batches::batch_message;
+use crate::build::{is_read_version, message};
+use crate::codes::{HeaderKind, header_kind};
+use crate::conditions::{Test, any, any_in};
+use crate::fault::{BatchKind, MetaFault};
+use crate::message::Message;
+use crate::message_tree::{MessageTree, Tree};
+use crate::nesting::is_nested;
+use crate::parts::{has_table, into_parts, is_there_at, number_at, part};
+use crate::reader::tree_counted;
+use crate::sharing::types_differ;
+use crate::work::Work;
+use arrow_types::Limits;
+use std::alloc::Global;
+
+/// The message whose metadata the bytes are, or the fault with the least number of those that hold
+/// (Columnar Format, "Encapsulated message format"): what [`judge`] answers of what
+/// [`crate::tree`] reads. A batch that has no fault is made straight from its tables.
+///
+/// The bytes are those between a message's size and its body. The message keeps none of them
+/// borrowed: names, zones, keys and values are copied, once. After `Memory`, a refused growth, no
+/// more is known of the bytes than that reading them asks for memory, and the call may be made
+/// again: their tree was not read, or it has no fault.
+pub fn decode(alloc: Global, bytes: &[u8], limits: &Limits) -> Result<Message, MetaFault>
+    ensures decoded { Decodes result limits.now bytes.now }
+    ensures length { LengthFits result limits.now.max_body }
+{
+    let mut work = Work::NONE;
+    decode_counted(alloc, bytes, limits, &mut work)
+}
+
+/// What [`decode`] answers, with what it came to.
+///
+/// The work is 0 first, whatever it was. Then it rises by one for each Field table and each KeyValue
+/// table that is opened, in the one function that all of them are opened behind, and by the length
+/// of each name, zone, key or value, in the one that copies them: one that several offsets lead to
+/// counts each time. It never passes 65,536 fields, 65,536 pairs and `max_metadata` bytes, whatever
+/// is answered, and after a message it counts just what the tree has.
+pub fn decode_counted(
+    alloc: Global,
+    bytes: &[u8],
+    limits: &Limits,
+    work: &mut Work,
+) -> Result<Message, MetaFault>
+    ensures decoded { Decodes result limits.now bytes.now }
+    ensures length { LengthFits result limits.now.max_body }
+    ensures within { IsWorkWithin limits.now work.new }
+    ensures counted { IfOk result (λ _. CountsTree limits.now bytes.now work.new) }
+{
+    *work = Work::NONE;
+    match batch_message(alloc, bytes, limits) {
+        Some(message) => Ok(message),
+        None => judge(alloc, tree_counted(alloc, bytes, limits, work)?, limits),
+    }
+}
+
+/// The message that the tree means, or the fault with the least number of those that hold of it
+/// (`Message.fbs`, `Schema.fbs`).
+///
+/// The tree is taken: its names, zones, keys and values move into the schema, and with a fault it
+/// is dropped.
+/// Here `Metadata` says that a table which must be there is absent, and `BodyLength` looks at
+/// `max_body` alone, since where the body ends in its stream is not known. `Memory` is answered
+/// only where no fault holds, so the tree means a message; of a schema without fields and pairs it
+/// is not answered, nor of a batch without field nodes and buffers. The time grows as n log n with
+/// the number of fields; only where a growth is refused to the comparison of the types of shared
+/// ids does it grow with the square of the number of dictionary-encoded fields.
+pub fn judge(alloc: Global, tree: MessageTree, limits: &Limits) -> Result<Message, MetaFault>
+    ensures judged { Judges result limits.now.max_body tree }
+    ensures length { LengthFits result limits.now.max_body }
+{
+    let parts = into_parts(alloc, tree.root);
+    let kind = cleared(alloc, &parts, limits.max_body())?;
+    message(alloc, kind, parts)
+}
+
+/// Which header a message with these fields has, where it has no fault, or its least fault. All
+/// faults are told before the memory of a message is taken.
+fn cleared(alloc: Global, parts: &[Tree], max_body: u64) -> Result<HeaderKind, MetaFault>
+    ensures least { Clears result max_body (plain_all parts.now) }
+{
+    let body_len = number_at(parts, 3, 0);
+    if any_in(Test::LacksTable, parts) {
+        return Err(MetaFault::Metadata);
+    }
+    if !is_read_version(number_at(parts, 0, 0)) {
+        return Err(MetaFault::Version);
+    }
+    let Some(kind) = header_in(parts) else {
+        return Err(MetaFault::Header);
+    };
+    if is_bad_length(max_body, body_len) {
+        return Err(MetaFault::BodyLength);
+    }
+    match header_fault(alloc, kind, parts, body_len) {
+        Some(fault) => Err(fault),
+        None => Ok(kind),
+    }
+}
+
+/// Which header there is: the one that the code names, where a table stands for it.
+fn header_in(parts: &[Tree]) -> Option<HeaderKind>
+    ensures kind { result ≡ header_in (plain_all parts.now) }
+{
+    if has_table(parts, 2) {
+        header_kind(number_at(parts, 1, 0))
+    } else {
+        None
+    }
+}
+
+/// The least fault that this header's table has of its own.
+fn header_fault(alloc: Global, kind: HeaderKind, parts: &[Tree], body_len: u64) -> Option<MetaFault>
+    ensures least { result
+        ≡ least (header_conditions (Some kind) body_len (header_of (plain_all parts.now))) }
+{
+    match kind {
+        HeaderKind::Schema => schema_fault(alloc, parts, body_len),
+        HeaderKind::DictionaryBatch => {
+            compression_fault(
+                is_compressed_data(parts, 2),
+                BatchKind::Dictionary,
+                body_len,
+            )
+        }
+        HeaderKind::RecordBatch => {
+            compression_fault(is_compressed_batch(parts, 2), BatchKind::Record, body_len)
+        }
+    }
+}
+
+/// The least fault of a schema.
+fn schema_fault(alloc: Global, parts: &[Tree], body_len: u64) -> Option<MetaFault>
+    ensures least { let x = header_of (plain_all parts.now) in
+        result ≡ least (header_conditions (Some headers.Schema) body_len x) }
+{
+    if is_unsupported_at(parts, 2) {
+        return Some(MetaFault::Unsupported { body_len });
+    }
+    if is_misfit_at(parts, 2) || shares_at(alloc, parts, 2) {
+        return Some(MetaFault::Schema { body_len });
+    }
+    None
+}
+
+/// The fault of a batch, if it is compressed.
+fn compression_fault(is_compressed: bool, batch: BatchKind, body_len: u64) -> Option<MetaFault>
+    ensures fault { result ≡ least ((is_compressed, Compressed batch body_len) ∷ []) }
+{
+    if is_compressed {
+        Some(MetaFault::Compressed { batch, body_len })
+    } else {
+        None
+    }
+}
+
+/// Whether the length is negative, as a signed number, or over the limit.
+fn is_bad_length(max_body: u64, length: u64) -> bool
+    ensures bad { result ≡ is_bad_length max_body length }
+{
+    length > 9_223_372_036_854_775_807 || length > max_body
+}
+
+/// Whether the Schema table in field `index` holds something unsupported.
+fn is_unsupported_at(parts: &[Tree], index: usize) -> bool
+    ensures unsupported { result ≡ is_unsupported_schema (nth index (plain_all parts.now)) }
+{
+    match part(parts, index) {
+        Some(schema) => any(Test::Unsupported, schema) || is_nested_schema(schema),
+        None => false,
+    }
+}
+
+/// Whether a Schema table has a dictionary field below a dictionary field.
+fn is_nested_schema(schema: &Tree) -> bool
+    ensures nested { result ≡ is_nested (schema_fields (parts_of (plain schema.now))) }
+{
+    match schema {
+        Tree::Leaf(_) => false,
+        Tree::Table(_, parts) => is_nested_at(parts, 1),
+        Tree::Tables(_) => false,
+    }
+}
+
+fn is_nested_at(parts: &[Tree], index: usize) -> bool
+    ensures nested { result ≡ is_nested (fields_in (nth index (plain_all parts.now))) }
+{
+    match part(parts, index) {
+        Some(fields) => is_nested(fields),
+        None => false,
+    }
+}
+
+/// Whether the Schema table in field `index` holds a misfit.
+fn is_misfit_at(parts: &[Tree], index: usize) -> bool
+    ensures misfit { result ≡ any is_misfit (nth index (plain_all parts.now)) }
+{
+    match part(parts, index) {
+        Some(schema) => any(Test::Misfit, schema),
+        None => false,
+    }
+}
+
+/// Whether two fields of the Schema table in field `index` share a dictionary id and have unequal
+/// value types.
+fn shares_at(alloc: Global, parts: &[Tree], index: usize) -> bool
+    ensures shares { result ≡ shares_an_id (nth index (plain_all parts.now)) }
+{
+    match part(parts, index) {
+        Some(Tree::Table(_, schema)) => fields_differ_at(alloc, schema, 1),
+        Some(Tree::Leaf(_)) => false,
+        Some(Tree::Tables(_)) => false,
+        None => false,
+    }
+}
+
+/// The same for the fields of the vector in field `index`.
+fn fields_differ_at(alloc: Global, parts: &[Tree], index: usize) -> bool
+    ensures differ { let fields = fields_in (nth index (plain_all parts.now)) in
+        result ≡ types_differ (dictionary_fields fields) }
+{
+    match part(parts, index) {
+        Some(fields) => types_differ(alloc, fields),
+        None => false,
+    }
+}
+
+/// Whether the data of the DictionaryBatch table in field `index` are compressed.
+fn is_compressed_data(parts: &[Tree], index: usize) -> bool
+    ensures compressed { result
+        ≡ is_compressed (data_of (parts_of (nth index (plain_all parts.now)))) }
+{
+    match part(parts, index) {
+        Some(Tree::Table(_, dictionary)) => is_compressed_batch(dictionary, 1),
+        Some(Tree::Leaf(_)) => false,
+        Some(Tree::Tables(_)) => false,
+        None => false,
+    }
+}
+
+/// Whether the RecordBatch table in field `index` is compressed.
+fn is_compressed_batch(parts: &[Tree], index: usize) -> bool
+    ensures compressed { result ≡ is_compressed (parts_of (nth index (plain_all parts.now))) }
+{
+    match part(parts, index) {
+        Some(Tree::Table(_, batch)) => is_there_at(batch, 3),
+        Some(Tree::Leaf(_)) => false,
+        Some(Tree::Tables(_)) => false,
+        None => false,
+    }
+}

@@ -1,0 +1,123 @@
+//! Which tables there are, and which of their fields are looked at (`Message.fbs`, `Schema.fbs`).
+ghost use Rattle.std.specs.Prelude.{◌≡◌, ◌≤◌, length};
+ghost use Rattle.arrow_meta_reader.specs.Kinds.{forms_of, header_table, type_table};
+
+use crate::codes::{HeaderKind, TypeCode, header_kind, type_code};
+
+/// A table of the standard's `Message.fbs` or `Schema.fbs`, under its name there.
+#[derive(Clone, Copy, Debug, PartialEq, Eq)]
+pub(crate) enum TableKind {
+    Message,
+    Schema,
+    Field,
+    DictionaryEncoding,
+    RecordBatch,
+    DictionaryBatch,
+    Int,
+    Date,
+    Time,
+    Timestamp,
+    FixedSizeBinary,
+    Duration,
+    KeyValue,
+}
+
+/// What a field of a table holds. It is public so that the definitions of the crates above can name
+/// its variants; no path outside the crate leads to it.
+#[derive(Clone, Copy, Debug)]
+pub enum FieldForm {
+    /// A number of one byte.
+    Byte,
+    /// A number of two bytes.
+    Short,
+    /// A number of four bytes.
+    Int,
+    /// A number of eight bytes.
+    Long,
+    /// A text in UTF-8.
+    Text,
+    /// A string of any bytes.
+    Bytes,
+    /// A vector of structs of two numbers of eight bytes.
+    Pairs,
+    /// Something of which only the presence is looked at.
+    Presence,
+    /// A table.
+    Table(TableKind),
+    /// A vector of offsets to tables.
+    Tables(TableKind),
+    /// A message's header, whose table the code in the field before it tells.
+    Header,
+    /// A field's type, whose table the code in the field before it tells.
+    Type,
+}
+
+/// The fields of a table that are looked at, in order of their numbers from 0.
+pub(crate) fn forms(kind: TableKind) -> &'static [FieldForm]
+    ensures value { result.now ≡ forms_of kind }
+    ensures few { length result.now ≤ 7 }
+{
+    use FieldForm::{Byte, Bytes, Header, Int, Long, Pairs, Presence, Short};
+    use FieldForm::{Table, Tables, Text, Type};
+    match kind {
+        TableKind::Message => &[Short, Byte, Header, Long],
+        TableKind::Schema => &[Short, Tables(TableKind::Field), Tables(TableKind::KeyValue)],
+        TableKind::Field => &[
+            Text,
+            Byte,
+            Byte,
+            Type,
+            Table(TableKind::DictionaryEncoding),
+            Tables(TableKind::Field),
+            Tables(TableKind::KeyValue),
+        ],
+        TableKind::DictionaryEncoding => &[Long, Table(TableKind::Int), Byte, Short],
+        TableKind::RecordBatch => &[Long, Pairs, Pairs, Presence],
+        TableKind::DictionaryBatch => &[Long, Table(TableKind::RecordBatch), Byte],
+        TableKind::Int => &[Int, Byte],
+        TableKind::Date => &[Short],
+        TableKind::Time => &[Short, Int],
+        TableKind::Timestamp => &[Short, Text],
+        TableKind::FixedSizeBinary => &[Int],
+        TableKind::Duration => &[Short],
+        TableKind::KeyValue => &[Bytes, Bytes],
+    }
+}
+
+/// The table that a header's code opens. Of any other code not even the offset is looked at.
+pub(crate) fn header_table(code: u64) -> Option<TableKind>
+    ensures table { result ≡ header_table code }
+{
+    match header_kind(code) {
+        Some(HeaderKind::Schema) => Some(TableKind::Schema),
+        Some(HeaderKind::DictionaryBatch) => Some(TableKind::DictionaryBatch),
+        Some(HeaderKind::RecordBatch) => Some(TableKind::RecordBatch),
+        None => None,
+    }
+}
+
+/// The table that a type's code opens. Where it opens none, not even the offset is looked at.
+pub(crate) fn type_table(code: u64) -> Option<TableKind>
+    ensures table { result ≡ type_table code }
+{
+    match type_code(code) {
+        Some(TypeCode::Int) => Some(TableKind::Int),
+        Some(TypeCode::Date) => Some(TableKind::Date),
+        Some(TypeCode::Time) => Some(TableKind::Time),
+        Some(TypeCode::Timestamp) => Some(TableKind::Timestamp),
+        Some(TypeCode::FixedSizeBinary) => Some(TableKind::FixedSizeBinary),
+        Some(TypeCode::Duration) => Some(TableKind::Duration),
+        Some(
+            TypeCode::Null
+            | TypeCode::Binary
+            | TypeCode::Utf8
+            | TypeCode::Bool
+            | TypeCode::List
+            | TypeCode::Struct
+            | TypeCode::LargeBinary
+            | TypeCode::LargeUtf8
+            | TypeCode::LargeList,
+        )
+        | None => None,
+    }
+}

@@ -1,0 +1,56 @@
+//! The tree of a message: what its metadata hold, before any of it is judged.
+use crate::kinds::TableKind;
+use std::marker::Model;
+
+/// What stands in a field that holds no table.
+#[derive(Debug, Drop)]
+pub(crate) enum Leaf {
+    /// The field is absent, or its table is one that no code opens.
+    Absent,
+    /// A number of one to eight bytes, not signed.
+    Number(u64),
+    /// A name or a time zone.
+    Text(String),
+    /// A key or a value of a pair of metadata.
+    Bytes(Vec<u8>),
+    /// Field nodes or buffers, each as two numbers that are not signed yet.
+    Pairs(Vec<(u64, u64)>),
+    /// The field is there, and nothing more of it is looked at.
+    Present,
+}
+
+/// What stands at a place, with all that belongs to it.
+#[derive(Debug, Drop)]
+pub(crate) enum Tree {
+    /// A field that holds no table.
+    Leaf(Leaf),
+    /// A table, with a tree for each of its fields that are looked at, in order of their numbers.
+    Table(TableKind, Vec<Tree>),
+    /// The tables of a vector.
+    Tables(Vec<Tree>),
+}
+
+/// The tree of a message, which has at most 32 levels of fields, 65,536 fields and 65,536 pairs of
+/// metadata, each visit counted.
+///
+/// [`crate::tree`] reads one from the bytes of a metadata, and [`crate::judge`] says what it means.
+/// A clause sees the plain tree.
+#[derive(Debug, Drop)]
+pub struct MessageTree {
+    pub(crate) root: Tree,
+}
+
+impl Model for MessageTree {
+    ghost use Rattle.arrow_meta_reader.specs.Trees.{Tree};
+    ghost use Rattle.arrow_meta_reader.specs.Stored.{tree_code};
+    ghost use Rattle.arrow_meta_reader.specs.Within.{IsShallow};
+    ghost use Rattle.arrow_meta_reader.specs.Views.{plain};
+
+    ghost Value = { Tree };
+
+    ghost coded = { tree_code };
+
+    ghost view = { λ t. plain t.root };
+
+    ghost invariant = { λ t. IsShallow (plain t.root) };
+}

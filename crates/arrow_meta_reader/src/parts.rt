@@ -1,0 +1,206 @@
+//! The fields of a table, by number and with their defaults.
+//!
+//! A slice of trees is the fields of one table, in order of their numbers.
+ghost use Rattle.std.specs.Prelude.{◌≡◌, ◌<◌, ℕ, MatchOption, string_bytes, option_map};
+ghost use Rattle.arrow_meta_reader.specs.Parts.{nth, parts, number_at, number_or, leaf_number_or, flag_at};
+ghost use Rattle.arrow_meta_reader.specs.Parts.{is_table, is_there, text_in, some_text_in, bytes_in, pairs_in};
+ghost use Rattle.arrow_meta_reader.specs.Trees.{leaf, absent as nothing};
+ghost use Rattle.arrow_meta_reader.specs.Views.{plain, plain_all, plain_leaf};
+
+use crate::message_tree::{Leaf, Tree};
+use std::alloc::Global;
+
+/// Field `index` of a table, None where it is absent.
+pub(crate) fn part(parts: &[Tree], index: usize) -> Option<&Tree>
+    ensures found { MatchOption result (nth index (plain_all parts.now) ≡ leaf nothing)
+        (λ t. nth index (plain_all parts.now) ≡ plain t.now) }
+{
+    parts.get(index)
+}
+
+/// The number in field `index`, or `default` where it is absent.
+pub(crate) fn number_at(parts: &[Tree], index: usize, default: u64) -> u64
+    ensures number { result ≡ number_at index default (plain_all parts.now) }
+{
+    match part(parts, index) {
+        Some(tree) => tree.number_or(default),
+        None => default,
+    }
+}
+
+/// Whether the byte in field `index` is not 0.
+pub(crate) fn flag_at(parts: &[Tree], index: usize) -> bool
+    ensures flag { result ≡ flag_at index (plain_all parts.now) }
+{
+    number_at(parts, index, 0) != 0
+}
+
+/// Whether field `index` holds a table.
+pub(crate) fn has_table(parts: &[Tree], index: usize) -> bool
+    ensures table { result ≡ is_table (nth index (plain_all parts.now)) }
+{
+    match part(parts, index) {
+        Some(tree) => tree.is_table(),
+        None => false,
+    }
+}
+
+/// Whether field `index` is there.
+pub(crate) fn is_there_at(parts: &[Tree], index: usize) -> bool
+    ensures there { result ≡ is_there (nth index (plain_all parts.now)) }
+{
+    match part(parts, index) {
+        Some(tree) => tree.is_there(),
+        None => false,
+    }
+}
+
+impl Tree {
+    /// The number that it is, or `default` where it is none.
+    pub(crate) fn number_or(&self, default: u64) -> u64
+        ensures number { result ≡ number_or default (plain self.now) }
+    {
+        match self {
+            Tree::Leaf(leaf) => leaf.number_or(default),
+            Tree::Table(_, _) => default,
+            Tree::Tables(_) => default,
+        }
+    }
+
+    /// Whether it is a table.
+    pub(crate) fn is_table(&self) -> bool
+        ensures table { result ≡ is_table (plain self.now) }
+    {
+        match self {
+            Tree::Leaf(_) => false,
+            Tree::Table(_, _) => true,
+            Tree::Tables(_) => false,
+        }
+    }
+
+    /// Whether it is anything but an absent field.
+    pub(crate) fn is_there(&self) -> bool
+        ensures there { result ≡ is_there (plain self.now) }
+    {
+        match self {
+            Tree::Leaf(Leaf::Absent) => false,
+            Tree::Leaf(Leaf::Number(_)) => true,
+            Tree::Leaf(Leaf::Text(_)) => true,
+            Tree::Leaf(Leaf::Bytes(_)) => true,
+            Tree::Leaf(Leaf::Pairs(_)) => true,
+            Tree::Leaf(Leaf::Present) => true,
+            Tree::Table(_, _) => true,
+            Tree::Tables(_) => true,
+        }
+    }
+}
+
+impl Leaf {
+    fn number_or(&self, default: u64) -> u64
+        ensures number { result ≡ leaf_number_or default (plain_leaf self.now) }
+    {
+        match self {
+            Leaf::Absent => default,
+            Leaf::Number(number) => *number,
+            Leaf::Text(_) => default,
+            Leaf::Bytes(_) => default,
+            Leaf::Pairs(_) => default,
+            Leaf::Present => default,
+        }
+    }
+}
+
+/// Takes field `index` out of a table. Those before it stay where they are, so fields are taken
+/// from the last to the first.
+pub(crate) fn take(parts: &mut Vec<Tree>, index: usize) -> Tree
+    ensures taken { plain result ≡ nth index (plain_all parts.old.items) }
+    ensures before { (i : ℕ) → i < index
+        → nth i (plain_all parts.new.items) ≡ nth i (plain_all parts.old.items) }
+{
+    if index < parts.len() {
+        parts.remove(index)
+    } else {
+        absent()
+    }
+}
+
+fn absent() -> Tree
+    ensures absent { plain result ≡ leaf nothing }
+{
+    Tree::Leaf(Leaf::Absent)
+}
+
+/// The fields of a table, none of anything else.
+pub(crate) fn into_parts(alloc: Global, tree: Tree) -> Vec<Tree>
+    ensures parts { plain_all result.items ≡ parts (plain tree) }
+{
+    match tree {
+        Tree::Leaf(_) => Vec::new(alloc),
+        Tree::Table(_, parts) => parts,
+        Tree::Tables(_) => Vec::new(alloc),
+    }
+}
+
+/// The text that it is, empty where it is none. It is moved, not copied.
+pub(crate) fn into_text(alloc: Global, tree: Tree) -> String
+    ensures text { string_bytes result ≡ text_in (plain tree) }
+{
+    match tree {
+        Tree::Leaf(Leaf::Text(text)) => text,
+        Tree::Leaf(Leaf::Absent) => String::new(alloc),
+        Tree::Leaf(Leaf::Number(_)) => String::new(alloc),
+        Tree::Leaf(Leaf::Bytes(_)) => String::new(alloc),
+        Tree::Leaf(Leaf::Pairs(_)) => String::new(alloc),
+        Tree::Leaf(Leaf::Present) => String::new(alloc),
+        Tree::Table(_, _) => String::new(alloc),
+        Tree::Tables(_) => String::new(alloc),
+    }
+}
+
+/// The text that it is, None where it is none. It is moved, not copied.
+pub(crate) fn into_some_text(tree: Tree) -> Option<String>
+    ensures text { option_map string_bytes result ≡ some_text_in (plain tree) }
+{
+    match tree {
+        Tree::Leaf(Leaf::Text(text)) => Some(text),
+        Tree::Leaf(Leaf::Absent) => None,
+        Tree::Leaf(Leaf::Number(_)) => None,
+        Tree::Leaf(Leaf::Bytes(_)) => None,
+        Tree::Leaf(Leaf::Pairs(_)) => None,
+        Tree::Leaf(Leaf::Present) => None,
+        Tree::Table(_, _) => None,
+        Tree::Tables(_) => None,
+    }
+}
+
+/// The string that it is, empty where it is none. It is moved, not copied.
+pub(crate) fn into_bytes(alloc: Global, tree: Tree) -> Vec<u8>
+    ensures bytes { result.items ≡ bytes_in (plain tree) }
+{
+    match tree {
+        Tree::Leaf(Leaf::Bytes(bytes)) => bytes,
+        Tree::Leaf(Leaf::Absent) => Vec::new(alloc),
+        Tree::Leaf(Leaf::Number(_)) => Vec::new(alloc),
+        Tree::Leaf(Leaf::Text(_)) => Vec::new(alloc),
+        Tree::Leaf(Leaf::Pairs(_)) => Vec::new(alloc),
+        Tree::Leaf(Leaf::Present) => Vec::new(alloc),
+        Tree::Table(_, _) => Vec::new(alloc),
+        Tree::Tables(_) => Vec::new(alloc),
+    }
+}
+
+/// The pairs of numbers that it is, none of anything else.
+pub(crate) fn into_pairs(alloc: Global, tree: Tree) -> Vec<(u64, u64)>
+    ensures pairs { result.items ≡ pairs_in (plain tree) }
+{
+    match tree {
+        Tree::Leaf(Leaf::Pairs(pairs)) => pairs,
+        Tree::Leaf(Leaf::Absent) => Vec::new(alloc),
+        Tree::Leaf(Leaf::Number(_)) => Vec::new(alloc),
+        Tree::Leaf(Leaf::Text(_)) => Vec::new(alloc),
+        Tree::Leaf(Leaf::Bytes(_)) => Vec::new(alloc),
+        Tree::Leaf(Leaf::Present) => Vec::new(alloc),
+        Tree::Table(_, _) => Vec::new(alloc),
+        Tree::Tables(_) => Vec::new(alloc),
+    }
+}

@@ -1,0 +1,12 @@
+//! Tests of `arrow_meta_reader`, in a crate of their own so that the library is not proved once
+//! more with them.
+#![tactic(auto)]
+
+#[cfg(test)]
+mod foreign;
+#[cfg(test)]
+mod laid;
+#[cfg(test)]
+mod tests;
+#[cfg(test)]
+mod vectors;

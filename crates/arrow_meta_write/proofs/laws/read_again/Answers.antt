@@ -1,8 +1,0 @@
-use Rattle.arrow_meta_write.proofs.WrittenMeans.{read_again, read_alone}
-use Rattle.arrow_meta_write.proofs.laws.read_again.Goals as goal
-
-pub returns-clause-again : goal.returns-clause-again
-returns-clause-again c = read_again
-
-pub returns-clause-alone : goal.returns-clause-alone
-returns-clause-alone c = read_alone

@@ -1,7 +1,0 @@
-use Rattle.arrow_flatbuf.proofs.Rows.{HeadsLeft}
-use Rattle.arrow_meta_write.proofs.Noting.{pair_nodes_of, pairs_left}
-use Rattle.arrow_meta_write.proofs.metadata.write_pair_offsets.Given as goal
-
--- what stands there and the offsets to come are all of them
-abbrev pub invariant-loop-pair : goal.invariant-loop-pair
-invariant-loop-pair l = HeadsLeft l.fn.writer l.writer l.end (pairs_left l.pairs l.pair-index) (pair_nodes_of l.pairs)

@@ -1,0 +1,165 @@
+-- What a message is written as means the message again.
+use Rattle.std.proofs.Common.{◌≡◌, ℕ, ℤ, pos, negsuc, Bool, true, false, not, ◌||◌, ◌==◌, if◌then◌else◌, List, [], ◌∷◌}
+use Rattle.std.proofs.Common.{Option, Some, None, map, refl, ap}
+use Rattle.std.specs.Int.{cast_signed, cast_unsigned, w16, w64}
+use Rattle.std.specs.Option.{unwrap_or}
+use Rattle.std.proofs.lemmas.Bool.{or_parts}
+use Rattle.std.proofs.lemmas.Int.{to_z-of_z}
+use Rattle.arrow_types.specs.DataType as tags
+use Rattle.arrow_types.specs.DataType.{Tag, bits_of, time_width_of}
+use Rattle.arrow_types.specs.Field as columns
+use Rattle.arrow_types.specs.Field.{Head, Fields, width}
+use Rattle.arrow_types.specs.Notes.{KeyValue, Notes, unnoted, noted, SchemaShape}
+use Rattle.arrow_types.specs.Schema.{is_wide, is_too_wide}
+use Rattle.arrow_types.specs.declared.data_type.BitWidth.{BitWidth}
+use Rattle.arrow_types.specs.declared.data_type.BitWidth.TheVariants as widths
+use Rattle.arrow_types.specs.declared.data_type.DateUnit.TheVariants as dates
+use Rattle.arrow_types.specs.declared.data_type.TimeUnit.TheVariants as times
+use Rattle.arrow_types.specs.declared.field.Encoding.{Encoding}
+use Rattle.arrow_types.specs.declared.node.FieldNode.{FieldNode}
+use Rattle.arrow_types.specs.declared.node.Buffer.{Buffer}
+use Rattle.arrow_meta_reader.specs.Codes.{type_code, bit_width}
+use Rattle.arrow_meta_writer.specs.Layouts.{flag, tag_code, node_pair, buffer_pair, first_pairs, first_below, first_rest}
+use Rattle.arrow_meta_reader.specs.Means.{PlainBatch, PlainHeader, schema, dictionary, batch, node_of}
+use Rattle.arrow_meta_reader.specs.Means.{buffer_of, batch_of, meaning_of}
+use Rattle.arrow_meta_reader.specs.Parts.{parts}
+use Rattle.arrow_meta_reader.specs.SchemaMeaning.{encoding_in, tag_by, head_of, fields_from}
+use Rattle.arrow_meta_reader.specs.SchemaMeaning.{metadata_from, metadata_in, notes_from, schema_in}
+use Rattle.arrow_meta_reader.specs.Trees.{Trees}
+use Rattle.arrow_meta_writer.specs.Writable.{IsLong, HasLongId, AreFields, AreNodes, AreBuffers}
+use Rattle.arrow_meta_writer.specs.Writable.{AreNotesOf, IsBatch, IsHeader}
+use Rattle.arrow_meta_writer.specs.Written.{type_tree, encoding_tree, field_parts, field_trees}
+use Rattle.arrow_meta_writer.specs.Written.{batch_parts, message_parts, pair_trees, metadata_tree, schema_parts}
+
+-- a number that 64 bits hold
+long_again : (z : ℤ) → IsLong z → cast_signed w64 (cast_unsigned w64 z) ≡ z
+long_again (pos n) h = to_z-of_z w64 (pos n) (record { sfits = h })
+long_again (negsuc n) h = to_z-of_z w64 (negsuc n) (record { sfits = h })
+
+-- a truth value
+flag_again : (b : Bool) → not (flag b == 0) ≡ b
+flag_again true = refl
+flag_again false = refl
+
+-- a width
+width_again : (bits : BitWidth) → unwrap_or (bit_width (bits_of bits)) widths.Eight ≡ bits
+width_again widths.Eight = refl
+width_again widths.Sixteen = refl
+width_again widths.ThirtyTwo = refl
+width_again widths.SixtyFour = refl
+
+-- a type
+tag_again : (tag : Tag) → is_wide tag ≡ false → tag_by (type_code (tag_code tag)) (parts (type_tree tag)) ≡ tag
+tag_again tags.null narrow = refl
+tag_again tags.boolean narrow = refl
+tag_again tags.binary narrow = refl
+tag_again tags.utf8 narrow = refl
+tag_again tags.list narrow = refl
+tag_again tags.struct narrow = refl
+tag_again tags.large_binary narrow = refl
+tag_again tags.large_utf8 narrow = refl
+tag_again tags.large_list narrow = refl
+tag_again (tags.int bits signed) narrow = λ i. tags.int (width_again bits i) (flag_again signed i)
+tag_again (tags.date dates.Day) narrow = refl
+tag_again (tags.date dates.Millisecond) narrow = refl
+tag_again (tags.time times.Second) narrow = refl
+tag_again (tags.time times.Millisecond) narrow = refl
+tag_again (tags.time times.Microsecond) narrow = refl
+tag_again (tags.time times.Nanosecond) narrow = refl
+tag_again (tags.timestamp times.Second None) narrow = refl
+tag_again (tags.timestamp times.Second (Some zone)) narrow = refl
+tag_again (tags.timestamp times.Millisecond None) narrow = refl
+tag_again (tags.timestamp times.Millisecond (Some zone)) narrow = refl
+tag_again (tags.timestamp times.Microsecond None) narrow = refl
+tag_again (tags.timestamp times.Microsecond (Some zone)) narrow = refl
+tag_again (tags.timestamp times.Nanosecond None) narrow = refl
+tag_again (tags.timestamp times.Nanosecond (Some zone)) narrow = refl
+tag_again (tags.fixed_size_binary width) narrow = ap (λ b. tags.fixed_size_binary (unwrap_or (if b then None else Some width) 0)) narrow
+tag_again (tags.duration times.Second) narrow = refl
+tag_again (tags.duration times.Millisecond) narrow = refl
+tag_again (tags.duration times.Microsecond) narrow = refl
+tag_again (tags.duration times.Nanosecond) narrow = refl
+
+-- an encoding
+encoding_again : (e : Option Encoding) → HasLongId e → encoding_in (encoding_tree e) ≡ e
+encoding_again None h = refl
+encoding_again (Some e) h = λ i. Some (record {
+  id = long_again e.id h i;
+  index = record { bits = width_again e.index.bits i; signed = flag_again e.index.signed i };
+  ordered = flag_again e.ordered i;
+})
+
+-- a field without its children
+head_again : (head : Head) (ps : List KeyValue) (below : Trees) → HasLongId head.encoding → is_wide head.tag ≡ false → head_of (field_parts head ps below) ≡ head
+head_again head ps below h narrow = λ i. record {
+  name = head.name;
+  nullable = flag_again head.nullable i;
+  tag = tag_again head.tag narrow i;
+  encoding = encoding_again head.encoding h i;
+}
+
+-- the fields of a vector
+pub fields_again : (fields : Fields) (n : Notes) → AreFields fields → is_too_wide fields ≡ false → fields_from (field_trees fields n) ≡ fields
+fields_again columns.none n h narrow = refl
+fields_again (columns.more head children rest) n h narrow =
+    let both = or_parts (is_wide head.tag || is_too_wide children) (is_too_wide rest) narrow in
+    let own = or_parts (is_wide head.tag) (is_too_wide children) both.0 in
+    let below = field_trees children (first_below n) in
+    λ i. columns.more (head_again head (first_pairs n) below h.0.id own.0 i) (fields_again children (first_below n) h.1 own.1 i) (fields_again rest (first_rest n) h.2 both.1 i)
+
+-- the pairs of a vector
+pairs_again : (ps : List KeyValue) → metadata_from (pair_trees ps) ≡ ps
+pairs_again [] = refl
+pairs_again (p ∷ ps) = λ i. p ∷ pairs_again ps i
+
+-- the pairs of a table
+metadata_again : (ps : List KeyValue) → metadata_in (metadata_tree ps) ≡ ps
+metadata_again [] = refl
+metadata_again (p ∷ ps) = pairs_again (p ∷ ps)
+
+-- what is noted at the fields of a vector
+notes_again : (fields : Fields) (n : Notes) → AreNotesOf fields n → notes_from (field_trees fields n) ≡ n
+notes_again columns.none unnoted h = refl
+notes_again columns.none (noted ps below later) h = absurd h
+notes_again (columns.more head children rest) unnoted h = absurd h
+notes_again (columns.more head children rest) (noted ps below later) h =
+    λ i. noted (metadata_again ps i) (notes_again children below h.0 i) (notes_again rest later h.1 i)
+
+-- a schema
+schema_again : (s : SchemaShape) → IsHeader (schema s) → schema_in (schema_parts s) ≡ s
+schema_again s h = λ i. record {
+  fields = fields_again s.fields s.notes h.1.fields_are h.0.schema.bounded.narrow i;
+  pairs = metadata_again s.pairs i;
+  notes = notes_again s.fields s.notes h.1.notes_are i;
+}
+
+nodes_again : (ns : List FieldNode) → AreNodes ns → map node_of (map node_pair ns) ≡ ns
+nodes_again [] h = refl
+nodes_again (n ∷ ns) h = λ i. record { length = long_again n.length h.0 i; null_count = long_again n.null_count h.1 i } ∷ nodes_again ns h.2 i
+
+buffers_again : (bs : List Buffer) → AreBuffers bs → map buffer_of (map buffer_pair bs) ≡ bs
+buffers_again [] h = refl
+buffers_again (b ∷ bs) h = λ i. record { offset = long_again b.offset h.0 i; length = long_again b.length h.1 i } ∷ buffers_again bs h.2 i
+
+-- a record batch
+batch_again : (b : PlainBatch) → IsBatch b → batch_of (batch_parts b) ≡ b
+batch_again b h = λ i. record {
+  length = long_again b.length h.length i;
+  nodes = nodes_again b.nodes h.nodes i;
+  buffers = buffers_again b.buffers h.buffers i;
+}
+
+-- a message of this header, whose version keeps its sign in 16 bits
+pub message_again : (x : PlainHeader) (version : ℤ) (body_len : ℕ) → IsHeader x → cast_signed w16 (cast_unsigned w16 version) ≡ version
+    → meaning_of (message_parts (record { version = version; header = x; body_len = body_len })) ≡ Some (record { version = version; header = x; body_len = body_len })
+message_again (schema s) version body_len h signed = λ i. Some (record {
+  version = signed i;
+  header = schema (schema_again s h i);
+  body_len = body_len;
+})
+message_again (dictionary id delta b) version body_len h signed = λ i. Some (record {
+  version = signed i;
+  header = dictionary (long_again id h.0 i) (flag_again delta i) (batch_again b h.1 i);
+  body_len = body_len;
+})
+message_again (batch b) version body_len h signed = λ i. Some (record { version = signed i; header = batch (batch_again b h i); body_len = body_len })

@@ -1,0 +1,232 @@
+-- How deep and how large the tree is that a message is written as.
+use Rattle.std.proofs.Common.{◌≡◌, ℕ, ◌+◌, ◌*◌, ◌≤◌, List, [], ◌∷◌, length, Option, Some, None, refl, arith}
+use Rattle.arrow_flatbuf.specs.Nodes.{Nodes, Cells, last, offset, count_nodes, after, after_all}
+use Rattle.arrow_flatbuf.specs.Nodes.{after_cells, cells_place}
+use Rattle.arrow_flatbuf.specs.Nodes as laid
+use Rattle.arrow_flatbuf.specs.Layout.{up}
+use Rattle.arrow_flatbuf.proofs.Laid.{reaches}
+use Rattle.arrow_types.specs.DataType as tags
+use Rattle.arrow_types.specs.DataType.{Tag}
+use Rattle.arrow_types.specs.Field as columns
+use Rattle.arrow_types.specs.Field.{Head, Fields}
+use Rattle.arrow_types.specs.Notes.{KeyValue, Notes, unnoted, noted, noted_count}
+use Rattle.arrow_types.specs.declared.field.Encoding.{Encoding}
+use Rattle.arrow_meta_writer.specs.Layouts.{type_cells, encoding_cells, with_encoding, field_cells}
+use Rattle.arrow_meta_writer.specs.Layouts.{field_nodes, schema_cells, header_cells, message_cells}
+use Rattle.arrow_meta_writer.specs.Layouts.{pair_cells, pair_nodes, metadata_cells}
+use Rattle.arrow_meta_writer.specs.Layouts.{first_pairs, first_below, first_rest}
+use Rattle.arrow_meta_reader.specs.Means.{PlainHeader, schema, dictionary, batch, PlainMessage}
+use Rattle.arrow_meta_writer.specs.Metadata.{metadata_size}
+use Rattle.arrow_meta_reader.specs.Within.{levels, levels_all, visits, visits_all, entries, entries_all}
+use Rattle.arrow_meta_reader.specs.Within.{text_bytes}
+use Rattle.arrow_meta_reader.specs.Within.{text_bytes_all, IsShallow}
+use Rattle.arrow_meta_writer.specs.Writable.{IsHeader}
+use Rattle.arrow_meta_writer.specs.Written.{type_tree, encoding_tree, field_trees, header_tree}
+use Rattle.arrow_meta_writer.specs.Written.{message_tree, pair_trees, metadata_tree}
+
+-- A type and an encoding hold no fields.
+
+type_levels : (tag : Tag) → levels (type_tree tag) ≡ 0
+type_levels (tags.timestamp unit None) = refl
+type_levels (tags.timestamp unit (Some zone)) = refl
+type_levels tags.null = refl
+type_levels tags.boolean = refl
+type_levels (tags.int bits signed) = refl
+type_levels tags.binary = refl
+type_levels tags.utf8 = refl
+type_levels (tags.date unit) = refl
+type_levels (tags.time unit) = refl
+type_levels tags.list = refl
+type_levels tags.struct = refl
+type_levels tags.large_binary = refl
+type_levels tags.large_utf8 = refl
+type_levels tags.large_list = refl
+type_levels (tags.fixed_size_binary width) = refl
+type_levels (tags.duration unit) = refl
+
+encoding_levels : (e : Option Encoding) → levels (encoding_tree e) ≡ 0
+encoding_levels None = refl
+encoding_levels (Some e) = refl
+
+type_visits : (tag : Tag) → visits (type_tree tag) ≡ 0
+type_visits (tags.timestamp unit None) = refl
+type_visits (tags.timestamp unit (Some zone)) = refl
+type_visits tags.null = refl
+type_visits tags.boolean = refl
+type_visits (tags.int bits signed) = refl
+type_visits tags.binary = refl
+type_visits tags.utf8 = refl
+type_visits (tags.date unit) = refl
+type_visits (tags.time unit) = refl
+type_visits tags.list = refl
+type_visits tags.struct = refl
+type_visits tags.large_binary = refl
+type_visits tags.large_utf8 = refl
+type_visits tags.large_list = refl
+type_visits (tags.fixed_size_binary width) = refl
+type_visits (tags.duration unit) = refl
+
+encoding_visits : (e : Option Encoding) → visits (encoding_tree e) ≡ 0
+encoding_visits None = refl
+encoding_visits (Some e) = refl
+
+encoding_text : (e : Option Encoding) → text_bytes (encoding_tree e) ≡ 0
+encoding_text None = refl
+encoding_text (Some e) = refl
+
+type_entries : (tag : Tag) → entries (type_tree tag) ≡ 0
+type_entries (tags.timestamp unit None) = refl
+type_entries (tags.timestamp unit (Some zone)) = refl
+type_entries tags.null = refl
+type_entries tags.boolean = refl
+type_entries (tags.int bits signed) = refl
+type_entries tags.binary = refl
+type_entries tags.utf8 = refl
+type_entries (tags.date unit) = refl
+type_entries (tags.time unit) = refl
+type_entries tags.list = refl
+type_entries tags.struct = refl
+type_entries tags.large_binary = refl
+type_entries tags.large_utf8 = refl
+type_entries tags.large_list = refl
+type_entries (tags.fixed_size_binary width) = refl
+type_entries (tags.duration unit) = refl
+
+encoding_entries : (e : Option Encoding) → entries (encoding_tree e) ≡ 0
+encoding_entries None = refl
+encoding_entries (Some e) = refl
+
+-- Pairs are no fields, and each is an entry.
+
+pairs_levels : (ps : List KeyValue) → levels_all (pair_trees ps) ≡ 0
+pairs_levels [] = refl
+pairs_levels (p ∷ ps) = omega (arith, pairs_levels ps)
+
+metadata_levels : (ps : List KeyValue) → levels (metadata_tree ps) ≡ 0
+metadata_levels [] = refl
+metadata_levels (p ∷ ps) = pairs_levels (p ∷ ps)
+
+pairs_visits : (ps : List KeyValue) → visits_all (pair_trees ps) ≡ 0
+pairs_visits [] = refl
+pairs_visits (p ∷ ps) = omega (arith, pairs_visits ps)
+
+metadata_visits : (ps : List KeyValue) → visits (metadata_tree ps) ≡ 0
+metadata_visits [] = refl
+metadata_visits (p ∷ ps) = pairs_visits (p ∷ ps)
+
+pairs_entries : (ps : List KeyValue) → entries_all (pair_trees ps) ≡ length ps
+pairs_entries [] = refl
+pairs_entries (p ∷ ps) = omega (arith, pairs_entries ps)
+
+metadata_entries : (ps : List KeyValue) → entries (metadata_tree ps) ≡ length ps
+metadata_entries [] = refl
+metadata_entries (p ∷ ps) = pairs_entries (p ∷ ps)
+
+-- The tree has the levels and the number of the fields, and no more entries than pairs.
+
+field_levels : (fields : Fields) (n : Notes) → levels_all (field_trees fields n) ≡ columns.levels fields
+field_levels columns.none n = refl
+field_levels (columns.more head children rest) n =
+    omega (arith, type_levels head.tag, encoding_levels head.encoding, metadata_levels (first_pairs n), field_levels children (first_below n), field_levels rest (first_rest n))
+
+field_visits : (fields : Fields) (n : Notes) → visits_all (field_trees fields n) ≡ columns.count fields
+field_visits columns.none n = refl
+field_visits (columns.more head children rest) n =
+    omega (arith, type_visits head.tag, encoding_visits head.encoding, metadata_visits (first_pairs n), field_visits children (first_below n), field_visits rest (first_rest n))
+
+-- the pairs of notes, part by part
+parts_count : (n : Notes) → length (first_pairs n) + noted_count (first_below n) + noted_count (first_rest n) ≡ noted_count n
+parts_count unnoted = refl
+parts_count (noted ps below rest) = refl
+
+field_entries : (fields : Fields) (n : Notes) → entries_all (field_trees fields n) ≤ noted_count n
+field_entries columns.none n = omega arith
+field_entries (columns.more head children rest) n =
+    omega (arith, parts_count n, type_entries head.tag, encoding_entries head.encoding, metadata_entries (first_pairs n), field_entries children (first_below n), field_entries rest (first_rest n))
+
+-- Its texts are not longer than the metadata.
+
+type_long : (q : ℕ) (tag : Tag) → q + text_bytes (type_tree tag) ≤ after q (laid.table (type_cells tag))
+type_long q (tags.timestamp unit (Some zone)) = omega arith
+type_long q (tags.timestamp unit None) = omega (arith, reaches q (laid.table (type_cells (tags.timestamp unit None))))
+type_long q tags.null = omega (arith, reaches q (laid.table last))
+type_long q tags.boolean = omega (arith, reaches q (laid.table last))
+type_long q tags.binary = omega (arith, reaches q (laid.table last))
+type_long q tags.utf8 = omega (arith, reaches q (laid.table last))
+type_long q tags.list = omega (arith, reaches q (laid.table last))
+type_long q tags.struct = omega (arith, reaches q (laid.table last))
+type_long q tags.large_binary = omega (arith, reaches q (laid.table last))
+type_long q tags.large_utf8 = omega (arith, reaches q (laid.table last))
+type_long q tags.large_list = omega (arith, reaches q (laid.table last))
+type_long q (tags.int bits signed) = omega (arith, reaches q (laid.table (type_cells (tags.int bits signed))))
+type_long q (tags.date unit) = omega (arith, reaches q (laid.table (type_cells (tags.date unit))))
+type_long q (tags.time unit) = omega (arith, reaches q (laid.table (type_cells (tags.time unit))))
+type_long q (tags.fixed_size_binary width) = omega (arith, reaches q (laid.table (type_cells (tags.fixed_size_binary width))))
+type_long q (tags.duration unit) = omega (arith, reaches q (laid.table (type_cells (tags.duration unit))))
+
+-- the children begin behind the encoding
+encoding_long : (q : ℕ) (e : Option Encoding) (rest : Cells) → (r : ℕ) × (q ≤ r) × (after_cells q (with_encoding e rest) ≡ after_cells r rest)
+encoding_long q None rest = (q, omega arith, refl)
+encoding_long q (Some e) rest =
+    let r = after q (laid.table (encoding_cells e)) in
+    (r, omega (arith, reaches q (laid.table (encoding_cells e))), refl)
+
+-- the keys and values of a vector of pairs
+pairs_long : (ps : List KeyValue) (q : ℕ) → q + text_bytes_all (pair_trees ps) ≤ after_all q (pair_nodes ps)
+pairs_long [] q = omega arith
+pairs_long (p ∷ ps) q = omega (arith, pairs_long ps (after q (laid.table (pair_cells p))))
+
+-- those of a table
+metadata_long : (ps : List KeyValue) (q : ℕ) → q + text_bytes (metadata_tree ps) ≤ after_cells q (metadata_cells ps)
+metadata_long [] q = omega arith
+metadata_long (p ∷ ps) q = omega (arith, pairs_long (p ∷ ps) (up 4 q + 4 + 4 * count_nodes (pair_nodes (p ∷ ps))))
+
+-- the texts of a vector of fields
+fields_long : (fields : Fields) (n : Notes) (q : ℕ) → q + text_bytes_all (field_trees fields n) ≤ after_all q (field_nodes fields n)
+fields_long columns.none n q = omega arith
+fields_long (columns.more head children rest) n q =
+    let ps = first_pairs n in
+    let nodes = field_nodes children (first_below n) in
+    let cells = field_cells head ps nodes in
+    let place = cells_place q cells in
+    let name = up 4 place + 4 + length head.name + 1 in
+    let type = after name (laid.table (type_cells head.tag)) in
+    let encoding = encoding_long type head.encoding (offset (laid.tables nodes) (metadata_cells ps)) in
+    let below = up 4 encoding.0 + 4 + 4 * count_nodes nodes in
+    let whole : after q (laid.table cells) ≡ after_cells (after_all below nodes) (metadata_cells ps) = encoding.2 in
+    omega (arith, encoding.1, whole, type_long name head.tag, encoding_text head.encoding, fields_long children (first_below n) below, metadata_long ps (after_all below nodes), fields_long rest (first_rest n) (after q (laid.table cells)))
+
+header_text : (x : PlainHeader) (q : ℕ) → q + text_bytes (header_tree x) ≤ after q (laid.table (header_cells x))
+header_text (schema s) q =
+    let nodes = field_nodes s.fields s.notes in
+    let below = up 4 (cells_place q (schema_cells s)) + 4 + 4 * count_nodes nodes in
+    omega (arith, fields_long s.fields s.notes below, metadata_long s.pairs (after_all below nodes))
+header_text (dictionary id delta b) q = omega (arith, reaches q (laid.table (header_cells (dictionary id delta b))))
+header_text (batch b) q = omega (arith, reaches q (laid.table (header_cells (batch b))))
+
+-- The names, zones, keys and values of a message are not longer than its metadata.
+pub text_short : (m : PlainMessage) → text_bytes (message_tree m) ≤ metadata_size m
+text_short m = omega (arith, header_text m.header (cells_place 4 (message_cells m)))
+
+header_levels : (x : PlainHeader) → IsHeader x → levels (header_tree x) ≤ 32
+header_levels (schema s) h = omega (arith, field_levels s.fields s.notes, metadata_levels s.pairs, h.0.schema.bounded.shallow)
+header_levels (dictionary id delta b) h = omega arith
+header_levels (batch b) h = omega arith
+
+header_visits : (x : PlainHeader) → IsHeader x → visits (header_tree x) ≤ 65536
+header_visits (schema s) h = omega (arith, field_visits s.fields s.notes, metadata_visits s.pairs, h.0.schema.bounded.few)
+header_visits (dictionary id delta b) h = omega arith
+header_visits (batch b) h = omega arith
+
+header_entries : (x : PlainHeader) → IsHeader x → entries (header_tree x) ≤ 65536
+header_entries (schema s) h = omega (arith, field_entries s.fields s.notes, metadata_entries s.pairs, h.0.few_pairs)
+header_entries (dictionary id delta b) h = omega arith
+header_entries (batch b) h = omega arith
+
+-- A message that the program holds keeps to the limits of levels, fields and pairs.
+pub shallow : (m : PlainMessage) → IsHeader m.header → IsShallow (message_tree m)
+shallow m h = record {
+  levels_within = omega (arith, header_levels m.header h);
+  visits_within = omega (arith, header_visits m.header h);
+  entries_within = omega (arith, header_entries m.header h);
+}

@@ -1,0 +1,184 @@
+-- What a message is laid out as can be written.
+use Rattle.std.proofs.Common.{◌≡◌, ◌+◌, ◌^◌, ◌<◌, ◌≤◌, ℤ, pos, negsuc, Bool, true, false, ◌||◌, List, [], ◌∷◌}
+use Rattle.std.proofs.Common.{map, Option, Some, None, ap, arith}
+use Rattle.std.specs.Int.{cast_signed, cast_unsigned, w16, w64}
+use Rattle.std.proofs.lemmas.Bool.{or_parts, ltb-false}
+use Rattle.std.proofs.lemmas.Int.{to_z-of_z}
+use mir.Val.{SFits}
+use Rattle.arrow_flatbuf.specs.Nodes.{Cells, NodeFits, NodesFit, CellsFit, PairsFit}
+use Rattle.arrow_flatbuf.specs.Nodes as laid
+use Rattle.arrow_types.specs.DataType as tags
+use Rattle.arrow_types.specs.DataType.{Tag, bits_of}
+use Rattle.arrow_types.specs.Field as columns
+use Rattle.arrow_types.specs.Field.{Head, Fields}
+use Rattle.arrow_types.specs.Notes.{KeyValue, Notes}
+use Rattle.arrow_types.specs.Schema.{is_wide, is_too_wide}
+use Rattle.arrow_types.specs.declared.data_type.BitWidth.{BitWidth}
+use Rattle.arrow_types.specs.declared.data_type.BitWidth.TheVariants as widths
+use Rattle.arrow_types.specs.declared.data_type.DateUnit.TheVariants as dates
+use Rattle.arrow_types.specs.declared.data_type.TimeUnit.TheVariants as times
+use Rattle.arrow_types.specs.declared.data_type.TimeUnit.{TimeUnit}
+use Rattle.arrow_types.specs.declared.field.Encoding.{Encoding}
+use Rattle.arrow_types.specs.declared.node.FieldNode.{FieldNode}
+use Rattle.arrow_types.specs.declared.node.Buffer.{Buffer}
+use Rattle.arrow_meta_writer.specs.Layouts.{flag, tag_code, time_number, int_cells, type_cells}
+use Rattle.arrow_meta_writer.specs.Layouts.{with_encoding, field_nodes, node_pair, buffer_pair}
+use Rattle.arrow_meta_writer.specs.Layouts.{pair_nodes, metadata_cells, first_pairs, first_below}
+use Rattle.arrow_meta_writer.specs.Layouts.{first_rest}
+use Rattle.arrow_meta_writer.specs.Layouts.{batch_cells, header_code, header_cells, message_node}
+use Rattle.arrow_meta_reader.specs.Means.{PlainBatch, PlainHeader, schema, dictionary, batch, PlainMessage}
+use Rattle.arrow_meta_writer.specs.Writable.{IsLong, HasTextZone, HasLongId, AreFields, AreNodes}
+use Rattle.arrow_meta_writer.specs.Writable.{AreBuffers, IsBatch, IsHeader}
+
+pub long_fits : (z : ℤ) → IsLong z → cast_unsigned w64 z < 2 ^ 64
+long_fits (pos n) h = omega (arith, h)
+long_fits (negsuc n) h = omega (arith, h)
+
+-- a number that the program holds in 64 bits
+pub long_from : (z : ℤ) → SFits w64 z → IsLong z
+long_from (pos n) h = h.sfits
+long_from (negsuc n) h = h.sfits
+
+-- what the bits of a number say, in bits again
+pub bits_again : (z : ℤ) → SFits w64 z → cast_unsigned w64 (cast_signed w64 (cast_unsigned w64 z)) ≡ cast_unsigned w64 z
+bits_again z h = ap (cast_unsigned w64) (to_z-of_z w64 z h)
+
+pub short_bits_again : (z : ℤ) → SFits w16 z → cast_unsigned w16 (cast_signed w16 (cast_unsigned w16 z)) ≡ cast_unsigned w16 z
+short_bits_again z h = ap (cast_unsigned w16) (to_z-of_z w16 z h)
+
+pub short_fits : (z : ℤ) → SFits w16 z → cast_unsigned w16 z < 65536
+short_fits (pos n) h = omega (arith, h.sfits)
+short_fits (negsuc n) h = omega (arith, h.sfits)
+
+pub flag_fits : (b : Bool) → flag b < 256
+flag_fits true = omega arith
+flag_fits false = omega arith
+
+pub bits_fit : (bits : BitWidth) → bits_of bits < 256
+bits_fit widths.Eight = omega arith
+bits_fit widths.Sixteen = omega arith
+bits_fit widths.ThirtyTwo = omega arith
+bits_fit widths.SixtyFour = omega arith
+
+int_fits : (bits : BitWidth) (signed : Bool) → NodeFits (laid.table (int_cells bits signed))
+int_fits bits signed = (omega arith, (omega (arith, bits_fit bits), (flag_fits signed, tt)))
+
+pub time_fits : (unit : TimeUnit) → time_number unit < 256
+time_fits times.Second = omega arith
+time_fits times.Millisecond = omega arith
+time_fits times.Microsecond = omega arith
+time_fits times.Nanosecond = omega arith
+
+type_fits : (tag : Tag) → HasTextZone tag → is_wide tag ≡ false → NodeFits (laid.table (type_cells tag))
+type_fits tags.null h narrow = (omega arith, tt)
+type_fits tags.boolean h narrow = (omega arith, tt)
+type_fits tags.binary h narrow = (omega arith, tt)
+type_fits tags.utf8 h narrow = (omega arith, tt)
+type_fits tags.list h narrow = (omega arith, tt)
+type_fits tags.struct h narrow = (omega arith, tt)
+type_fits tags.large_binary h narrow = (omega arith, tt)
+type_fits tags.large_utf8 h narrow = (omega arith, tt)
+type_fits tags.large_list h narrow = (omega arith, tt)
+type_fits (tags.int bits signed) h narrow = int_fits bits signed
+type_fits (tags.date dates.Day) h narrow = (omega arith, (omega arith, tt))
+type_fits (tags.date dates.Millisecond) h narrow = (omega arith, (omega arith, tt))
+type_fits (tags.time times.Second) h narrow = (omega arith, (omega arith, (omega arith, tt)))
+type_fits (tags.time times.Millisecond) h narrow = (omega arith, (omega arith, (omega arith, tt)))
+type_fits (tags.time times.Microsecond) h narrow = (omega arith, (omega arith, (omega arith, tt)))
+type_fits (tags.time times.Nanosecond) h narrow = (omega arith, (omega arith, (omega arith, tt)))
+type_fits (tags.timestamp unit None) h narrow = (omega arith, (omega (arith, time_fits unit), tt))
+type_fits (tags.timestamp unit (Some zone)) h narrow = (omega arith, (omega (arith, time_fits unit), (h, tt)))
+type_fits (tags.fixed_size_binary width) h narrow = (omega arith, (omega (arith, ltb-false 2147483647 width narrow), tt))
+type_fits (tags.duration unit) h narrow = (omega arith, (omega (arith, time_fits unit), tt))
+
+pub code_fits : (tag : Tag) → tag_code tag < 256
+code_fits tags.null = omega arith
+code_fits tags.boolean = omega arith
+code_fits tags.binary = omega arith
+code_fits tags.utf8 = omega arith
+code_fits tags.list = omega arith
+code_fits tags.struct = omega arith
+code_fits tags.large_binary = omega arith
+code_fits tags.large_utf8 = omega arith
+code_fits tags.large_list = omega arith
+code_fits (tags.int bits signed) = omega arith
+code_fits (tags.date unit) = omega arith
+code_fits (tags.time unit) = omega arith
+code_fits (tags.timestamp unit place) = omega arith
+code_fits (tags.fixed_size_binary width) = omega arith
+code_fits (tags.duration unit) = omega arith
+
+encoding_fits : (e : Option Encoding) (rest : Cells) → HasLongId e → CellsFit rest → CellsFit (with_encoding e rest)
+encoding_fits None rest h later = later
+encoding_fits (Some e) rest h later =
+    ((omega arith, (omega (arith, long_fits e.id h), (int_fits e.index.bits e.index.signed, (flag_fits e.ordered, (omega arith, tt))))), later)
+
+with_encoding_count : (e : Option Encoding) (rest : Cells) → laid.count (with_encoding e rest) ≡ laid.count rest + 1
+with_encoding_count None rest = omega arith
+with_encoding_count (Some e) rest = omega arith
+
+-- the tables of pairs
+pair_nodes_fit : (ps : List KeyValue) → NodesFit (pair_nodes ps)
+pair_nodes_fit [] = tt
+pair_nodes_fit (p ∷ ps) = ((omega arith, (tt, (tt, tt))), pair_nodes_fit ps)
+
+metadata_fits : (ps : List KeyValue) → CellsFit (metadata_cells ps)
+metadata_fits [] = tt
+metadata_fits (p ∷ ps) = (pair_nodes_fit (p ∷ ps), tt)
+
+pub metadata_count : (ps : List KeyValue) → laid.count (metadata_cells ps) ≤ 1
+metadata_count [] = omega arith
+metadata_count (p ∷ ps) = omega arith
+
+fields_fit : (fields : Fields) (n : Notes) → AreFields fields → is_too_wide fields ≡ false → NodesFit (field_nodes fields n)
+fields_fit columns.none n h narrow = tt
+fields_fit (columns.more head children rest) n h narrow =
+    let both = or_parts (is_wide head.tag || is_too_wide children) (is_too_wide rest) narrow in
+    let own = or_parts (is_wide head.tag) (is_too_wide children) both.0 in
+    let last : Cells = laid.offset (laid.tables (field_nodes children (first_below n))) (metadata_cells (first_pairs n)) in (
+      (
+        omega (arith, with_encoding_count head.encoding last, metadata_count (first_pairs n)),
+        (
+          h.0.name,
+          (
+            flag_fits head.nullable,
+            (
+              code_fits head.tag,
+              (
+                type_fits head.tag h.0.zone own.0,
+                encoding_fits head.encoding last h.0.id (fields_fit children (first_below n) h.1 own.1, metadata_fits (first_pairs n)),
+              ),
+            ),
+          ),
+        ),
+      ),
+      fields_fit rest (first_rest n) h.2 both.1,
+    )
+
+nodes_fit : (ns : List FieldNode) → AreNodes ns → PairsFit (map node_pair ns)
+nodes_fit [] h = tt
+nodes_fit (n ∷ ns) h = (long_fits n.length h.0, long_fits n.null_count h.1, nodes_fit ns h.2)
+
+buffers_fit : (bs : List Buffer) → AreBuffers bs → PairsFit (map buffer_pair bs)
+buffers_fit [] h = tt
+buffers_fit (b ∷ bs) h = (long_fits b.offset h.0, long_fits b.length h.1, buffers_fit bs h.2)
+
+batch_fits : (b : PlainBatch) → IsBatch b → NodeFits (laid.table (batch_cells b))
+batch_fits b h = (omega arith, (long_fits b.length h.length, (nodes_fit b.nodes h.nodes, (buffers_fit b.buffers h.buffers, tt))))
+
+header_fits : (x : PlainHeader) → IsHeader x → NodeFits (laid.table (header_cells x))
+header_fits (schema s) h =
+    (omega (arith, metadata_count s.pairs), (omega arith, (fields_fit s.fields s.notes h.1.fields_are h.0.schema.bounded.narrow, metadata_fits s.pairs)))
+header_fits (dictionary id delta b) h = (omega arith, (long_fits id h.0, (batch_fits b h.1, (flag_fits delta, tt))))
+header_fits (batch b) h = batch_fits b h
+
+pub header_code_fits : (x : PlainHeader) → header_code x < 256
+header_code_fits (schema s) = omega arith
+header_code_fits (dictionary id delta b) = omega arith
+header_code_fits (batch b) = omega arith
+
+-- A message of V5 can be written, where its body's length is one of 64 bits.
+pub message_fits : (m : PlainMessage) → IsHeader m.header → m.version ≡ pos 4 → m.body_len < 2 ^ 64 → NodeFits (message_node m)
+message_fits m h v small =
+    let version : cast_unsigned w16 m.version ≡ 4 = ap (cast_unsigned w16) v in
+    (omega arith, (omega (arith, version), (header_code_fits m.header, (header_fits m.header h, (small, tt)))))

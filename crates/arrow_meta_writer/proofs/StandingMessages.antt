@@ -1,0 +1,219 @@
+-- Each table of a message that was laid out stands as its tree, aligned.
+use Rattle.std.proofs.Common.{◌≡◌, ℕ, ◌+◌, ◌%◌, ℤ, Bool, List, [], ◌∷◌, Option, Some, None, refl, ap, arith}
+use Rattle.std.proofs.Common.{map}
+use Rattle.arrow_flatbuf.specs.declared.layout.Width.TheVariants.{One, Two, Four, Eight}
+use Rattle.arrow_flatbuf.specs.declared.layout.Slot.TheVariants.{Target}
+use Rattle.arrow_flatbuf.specs.Nodes.{Node, Cells, last, absent, scalar, offset, count_nodes}
+use Rattle.arrow_flatbuf.specs.Nodes.{TableReads, NodeStands, NodesStand, CellsStand}
+use Rattle.arrow_flatbuf.specs.Nodes as laid
+use Rattle.arrow_flatbuf.specs.Place.{target_at}
+use Rattle.arrow_flatbuf.specs.Stands.{SlotStands}
+use Rattle.arrow_flatbuf.specs.Table.{field_place}
+use Rattle.arrow_types.specs.DataType as tags
+use Rattle.arrow_types.specs.DataType.{Tag}
+use Rattle.arrow_types.specs.Field as columns
+use Rattle.arrow_types.specs.Field.{Head, Fields}
+use Rattle.arrow_types.specs.Notes.{KeyValue, Notes, SchemaShape}
+use Rattle.arrow_types.specs.declared.data_type.BitWidth.{BitWidth}
+use Rattle.arrow_types.specs.declared.field.Encoding.{Encoding}
+use Rattle.arrow_meta_reader.specs.declared.kinds.TableKind.TheVariants as kinds
+use Rattle.arrow_meta_reader.specs.declared.kinds.FieldForm.TheVariants as forms
+use Rattle.arrow_meta_writer.specs.Aligned.{StandsAligned, AllAligned, LiesAligned}
+use Rattle.arrow_meta_reader.specs.Kinds.{spot, spots_of, code_at, header_table, type_table}
+use Rattle.arrow_meta_writer.specs.Layouts.{tag_code, int_cells, zone_cells, type_cells}
+use Rattle.arrow_meta_writer.specs.Layouts.{encoding_cells, with_encoding, field_cells, field_nodes}
+use Rattle.arrow_meta_writer.specs.Layouts.{schema_cells, node_pair, buffer_pair, batch_cells}
+use Rattle.arrow_meta_writer.specs.Layouts.{dictionary_cells, header_code, header_cells}
+use Rattle.arrow_meta_writer.specs.Layouts.{message_cells, message_node, pair_cells, pair_nodes, metadata_cells}
+use Rattle.arrow_meta_writer.specs.Layouts.{first_pairs, first_below, first_rest}
+use Rattle.arrow_meta_reader.specs.Lies.{elements}
+use Rattle.arrow_meta_reader.specs.Means.{PlainBatch, PlainHeader, schema, dictionary, batch, PlainMessage}
+use Rattle.arrow_meta_reader.specs.Parts.{parts}
+use Rattle.arrow_meta_writer.specs.Written.{int_parts, zone_tree, type_tree, encoding_tree}
+use Rattle.arrow_meta_writer.specs.Written.{field_parts, field_trees, schema_parts, batch_parts}
+use Rattle.arrow_meta_writer.specs.Written.{dictionary_parts, header_tree, message_parts}
+use Rattle.arrow_meta_writer.specs.Written.{message_tree, pair_tree, pair_trees, metadata_tree}
+use Rattle.arrow_meta_writer.proofs.Standing.{at, absent_spot, closed_spot, number_field, text_field}
+use Rattle.arrow_meta_writer.proofs.Standing.{pairs_field, table_spot, table_field, opened_field}
+use Rattle.arrow_meta_writer.proofs.Standing.{tables_field, code_there, bytes_field}
+
+-- an Int table
+int_stands : (b : List ℕ) (p : ℕ) (bits : BitWidth) (signed : Bool) → CellsStand b p 0 (int_cells bits signed) → AllAligned b (spots_of kinds.Int (at b p)) (int_parts bits signed)
+int_stands b p bits signed h = (number_field Four b p 0 _ h.0, (number_field One b p 1 _ h.1.0, tt))
+
+-- a RecordBatch table
+batch_stands : (b : List ℕ) (p : ℕ) (x : PlainBatch) → CellsStand b p 0 (batch_cells x) → AllAligned b (spots_of kinds.RecordBatch (at b p)) (batch_parts x)
+batch_stands b p x h =
+    let nodes = h.1 in
+    let buffers = h.1.3 in (
+      number_field Eight b p 0 _ h.0,
+      (
+        pairs_field b p 1 nodes.0 (map node_pair x.nodes) nodes.1 nodes.2,
+        (
+          pairs_field b p 2 buffers.0 (map buffer_pair x.buffers) buffers.1 buffers.2,
+          (absent_spot b forms.Presence (field_place (at b p) 3) (buffers.3 3 (omega arith)), tt),
+        ),
+      ),
+    )
+
+-- a DictionaryBatch table
+dictionary_stands : (b : List ℕ) (p : ℕ) (id : ℤ) (delta : Bool) (x : PlainBatch) → CellsStand b p 0 (dictionary_cells id delta x) → AllAligned b (spots_of kinds.DictionaryBatch (at b p)) (dictionary_parts id delta x)
+dictionary_stands b p id delta x h =
+    let values = h.1 in (
+      number_field Eight b p 0 _ h.0,
+      (
+        table_field b p 1 values.0 kinds.RecordBatch (batch_parts x) values.1 values.2.0 (batch_stands b values.0 x values.2.1),
+        (number_field One b p 2 _ values.3.0, tt),
+      ),
+    )
+
+-- a time zone, behind a timestamp's unit
+zone_stands : (b : List ℕ) (p : ℕ) (zone : Option (List ℕ)) → CellsStand b p 1 (zone_cells zone) → StandsAligned b (spot forms.Text (at b p) 1) (zone_tree zone)
+zone_stands b p None h = absent_spot b forms.Text (field_place (at b p) 1) (h 1 (omega arith))
+zone_stands b p (Some name) h = text_field b p 1 h.0 name h.1 h.2
+
+-- a type's table, where a reader opens it
+type_stands : (b : List ℕ) (p r : ℕ) (tag : Tag) → code_at (at b p) 2 ≡ tag_code tag → SlotStands (at b p) 3 (Target r) → NodeStands b r (laid.table (type_cells tag)) → StandsAligned b (spot forms.Type (at b p) 3) (type_tree tag)
+type_stands b p r tags.null e h k = closed_spot b (type_table (code_at (at b p) 2)) (field_place (at b p) 3) (ap type_table e)
+type_stands b p r tags.boolean e h k = closed_spot b (type_table (code_at (at b p) 2)) (field_place (at b p) 3) (ap type_table e)
+type_stands b p r tags.binary e h k = closed_spot b (type_table (code_at (at b p) 2)) (field_place (at b p) 3) (ap type_table e)
+type_stands b p r tags.utf8 e h k = closed_spot b (type_table (code_at (at b p) 2)) (field_place (at b p) 3) (ap type_table e)
+type_stands b p r tags.list e h k = closed_spot b (type_table (code_at (at b p) 2)) (field_place (at b p) 3) (ap type_table e)
+type_stands b p r tags.struct e h k = closed_spot b (type_table (code_at (at b p) 2)) (field_place (at b p) 3) (ap type_table e)
+type_stands b p r tags.large_binary e h k = closed_spot b (type_table (code_at (at b p) 2)) (field_place (at b p) 3) (ap type_table e)
+type_stands b p r tags.large_utf8 e h k = closed_spot b (type_table (code_at (at b p) 2)) (field_place (at b p) 3) (ap type_table e)
+type_stands b p r tags.large_list e h k = closed_spot b (type_table (code_at (at b p) 2)) (field_place (at b p) 3) (ap type_table e)
+type_stands b p r (tags.int bits signed) e h k =
+    opened_field b p 3 r (type_table (code_at (at b p) 2)) kinds.Int (int_parts bits signed) (ap type_table e) h k.0 (int_stands b r bits signed k.1)
+type_stands b p r (tags.date unit) e h k =
+    opened_field b p 3 r (type_table (code_at (at b p) 2)) kinds.Date (parts (type_tree (tags.date unit))) (ap type_table e) h k.0 (number_field Two b r 0 _ k.1.0, tt)
+type_stands b p r (tags.duration unit) e h k =
+    opened_field b p 3 r (type_table (code_at (at b p) 2)) kinds.Duration (parts (type_tree (tags.duration unit))) (ap type_table e) h k.0 (number_field Two b r 0 _ k.1.0, tt)
+type_stands b p r (tags.fixed_size_binary width) e h k =
+    opened_field b p 3 r (type_table (code_at (at b p) 2)) kinds.FixedSizeBinary (parts (type_tree (tags.fixed_size_binary width))) (ap type_table e) h k.0 (number_field Four b r 0 _ k.1.0, tt)
+type_stands b p r (tags.time unit) e h k =
+    opened_field b p 3 r (type_table (code_at (at b p) 2)) kinds.Time (parts (type_tree (tags.time unit))) (ap type_table e) h k.0 (number_field Two b r 0 _ k.1.0, (number_field Four b r 1 _ k.1.1.0, tt))
+type_stands b p r (tags.timestamp unit zone) e h k =
+    opened_field b p 3 r (type_table (code_at (at b p) 2)) kinds.Timestamp (parts (type_tree (tags.timestamp unit zone))) (ap type_table e) h k.0 (number_field Two b r 0 _ k.1.0, (zone_stands b r zone k.1.1, tt))
+
+-- a DictionaryEncoding table
+encoding_parts_stand : (b : List ℕ) (p : ℕ) (e : Encoding) → CellsStand b p 0 (encoding_cells e) → AllAligned b (spots_of kinds.DictionaryEncoding (at b p)) (parts (encoding_tree (Some e)))
+encoding_parts_stand b p e h =
+    let index = h.1 in (
+      number_field Eight b p 0 _ h.0,
+      (
+        table_field b p 1 index.0 kinds.Int (int_parts e.index.bits e.index.signed) index.1 index.2.0 (int_stands b index.0 e.index.bits e.index.signed index.2.1),
+        (
+          number_field One b p 2 _ index.3.0,
+          (number_field Two b p 3 _ index.3.1.0, tt),
+        ),
+      ),
+    )
+
+-- a field's encoding, and the fields behind it
+encoding_stands : (b : List ℕ) (p : ℕ) (e : Option Encoding) (rest : Cells) → CellsStand b p 4 (with_encoding e rest)
+    → StandsAligned b (spot (forms.Table kinds.DictionaryEncoding) (at b p) 4) (encoding_tree e) × CellsStand b p 5 rest
+encoding_stands b p None rest h = (absent_spot b (forms.Table kinds.DictionaryEncoding) (field_place (at b p) 4) h.0, h.1)
+encoding_stands b p (Some e) rest h =
+    (table_field b p 4 h.0 kinds.DictionaryEncoding (parts (encoding_tree (Some e))) h.1 h.2.0 (encoding_parts_stand b h.0 e h.2.1), h.3)
+
+-- a KeyValue table
+pair_stands : (b : List ℕ) (p : ℕ) (x : KeyValue) → CellsStand b p 0 (pair_cells x) → AllAligned b (spots_of kinds.KeyValue (at b p)) (parts (pair_tree x))
+pair_stands b p x h = (bytes_field b p 0 h.0 x.key h.1 h.2, (bytes_field b p 1 h.3.0 x.value h.3.1 h.3.2, tt))
+
+-- the KeyValue tables of a vector
+pairs_stand : (b : List ℕ) (ps : List KeyValue) (p : ℕ) → p % 4 ≡ 0 → NodesStand b p (pair_nodes ps) → AllAligned b (elements kinds.KeyValue p (count_nodes (pair_nodes ps))) (pair_trees ps)
+pairs_stand b [] p aligned h = tt
+pairs_stand b (x ∷ xs) p aligned h = (
+  table_spot b kinds.KeyValue (Some p) p h.0 (parts (pair_tree x)) refl aligned h.1 h.2.0 (pair_stands b h.0 x h.2.1),
+  pairs_stand b xs (p + 4) (omega (arith, aligned)) h.3,
+)
+
+-- the metadata in field i of a table, its last
+metadata_stands : (b : List ℕ) (p i : ℕ) (ps : List KeyValue) → CellsStand b p i (metadata_cells ps) → StandsAligned b (spot (forms.Tables kinds.KeyValue) (at b p) i) (metadata_tree ps)
+metadata_stands b p i [] h = absent_spot b (forms.Tables kinds.KeyValue) (field_place (at b p) i) (h i (omega arith))
+metadata_stands b p i (x ∷ xs) h =
+    tables_field b p i h.0 (count_nodes (pair_nodes (x ∷ xs))) kinds.KeyValue (pair_trees (x ∷ xs)) h.1 h.2.0
+    (pairs_stand b (x ∷ xs) (h.0 + 4) (omega (arith, h.2.0.aligned)) h.2.1)
+
+-- the Field tables of a vector at p stand as the fields' trees
+abbrev FieldsStand : List ℕ → Fields → Notes → Type 0
+FieldsStand b fields n = (p : ℕ) → p % 4 ≡ 0 → NodesStand b p (field_nodes fields n) → AllAligned b (elements kinds.Field p (count_nodes (field_nodes fields n))) (field_trees fields n)
+
+-- a Field table, whose children do
+field_stands : (b : List ℕ) (p : ℕ) (head : Head) (ps : List KeyValue) (children : Fields) (n : Notes) → FieldsStand b children n → CellsStand b p 0 (field_cells head ps (field_nodes children n))
+    → AllAligned b (spots_of kinds.Field (at b p)) (field_parts head ps (field_trees children n))
+field_stands b p head ps children n children_stand h =
+    let nullable = h.3 in
+    let code = nullable.1 in
+    let type = code.1 in
+    let encoding = encoding_stands b p head.encoding (offset (laid.tables (field_nodes children n)) (metadata_cells ps)) type.3 in
+    let below = encoding.1 in (
+      text_field b p 0 h.0 head.name h.1 h.2,
+      (
+        number_field One b p 1 _ nullable.0,
+        (
+          number_field One b p 2 _ code.0,
+          (
+            type_stands b p type.0 head.tag (code_there b p 2 (tag_code head.tag) code.0) type.1 type.2,
+            (
+              encoding.0,
+              (
+                tables_field b p 5 below.0 (count_nodes (field_nodes children n)) kinds.Field (field_trees children n) below.1 below.2.0
+                    (children_stand (below.0 + 4) (omega (arith, below.2.0.aligned)) below.2.1),
+                (metadata_stands b p 6 ps below.3, tt),
+              ),
+            ),
+          ),
+        ),
+      ),
+    )
+
+-- fields of any depth
+fields_stand : (b : List ℕ) (fields : Fields) (n : Notes) → FieldsStand b fields n
+fields_stand b columns.none n p aligned h = tt
+fields_stand b (columns.more head children rest) n p aligned h = (
+  table_spot b kinds.Field (Some p) p h.0 (field_parts head (first_pairs n) (field_trees children (first_below n))) refl aligned h.1 h.2.0
+      (field_stands b h.0 head (first_pairs n) children (first_below n) (fields_stand b children (first_below n)) h.2.1),
+  fields_stand b rest (first_rest n) (p + 4) (omega (arith, aligned)) h.3,
+)
+
+-- a Schema table
+schema_stands : (b : List ℕ) (p : ℕ) (s : SchemaShape) → CellsStand b p 0 (schema_cells s) → AllAligned b (spots_of kinds.Schema (at b p)) (schema_parts s)
+schema_stands b p s h =
+    let vector = h.1 in (
+      number_field Two b p 0 _ h.0,
+      (
+        tables_field b p 1 vector.0 (count_nodes (field_nodes s.fields s.notes)) kinds.Field (field_trees s.fields s.notes) vector.1 vector.2.0
+            (fields_stand b s.fields s.notes (vector.0 + 4) (omega (arith, vector.2.0.aligned)) vector.2.1),
+        (metadata_stands b p 2 s.pairs vector.3, tt),
+      ),
+    )
+
+-- the header's table
+header_stands : (b : List ℕ) (p r : ℕ) (x : PlainHeader) → code_at (at b p) 1 ≡ header_code x → SlotStands (at b p) 2 (Target r) → NodeStands b r (laid.table (header_cells x)) → StandsAligned b (spot forms.Header (at b p) 2) (header_tree x)
+header_stands b p r (schema s) e h k =
+    opened_field b p 2 r (header_table (code_at (at b p) 1)) kinds.Schema (schema_parts s) (ap header_table e) h k.0 (schema_stands b r s k.1)
+header_stands b p r (dictionary id delta x) e h k =
+    opened_field b p 2 r (header_table (code_at (at b p) 1)) kinds.DictionaryBatch (dictionary_parts id delta x) (ap header_table e) h k.0 (dictionary_stands b r id delta x k.1)
+header_stands b p r (batch x) e h k =
+    opened_field b p 2 r (header_table (code_at (at b p) 1)) kinds.RecordBatch (batch_parts x) (ap header_table e) h k.0 (batch_stands b r x k.1)
+
+-- a Message table
+message_parts_stand : (b : List ℕ) (p : ℕ) (m : PlainMessage) → CellsStand b p 0 (message_cells m) → AllAligned b (spots_of kinds.Message (at b p)) (message_parts m)
+message_parts_stand b p m h =
+    let code = h.1 in
+    let header = code.1 in (
+      number_field Two b p 0 _ h.0,
+      (
+        number_field One b p 1 _ code.0,
+        (
+          header_stands b p header.0 m.header (code_there b p 1 (header_code m.header) code.0) header.1 header.2,
+          (number_field Eight b p 3 _ header.3.0, tt),
+        ),
+      ),
+    )
+
+-- A message that was laid out stands where the offset at place 0 leads.
+pub message_stands : (b : List ℕ) (r : ℕ) (m : PlainMessage) → target_at b 0 ≡ Some r → NodeStands b r (message_node m) → LiesAligned (message_tree m) b
+message_stands b r m leads h = table_spot b kinds.Message (Some 0) 0 r (message_parts m) refl refl leads h.0 (message_parts_stand b r m h.1)

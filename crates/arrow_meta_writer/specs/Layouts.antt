@@ -1,0 +1,178 @@
+-- How a message is laid out: its tables, with the fields that are written in each of them (Message.fbs, Schema.fbs).
+use Rattle.std.specs.Prelude.{ℕ, ℤ, Bool, true, false, List, [], ◌∷◌, map, Option, Some, None}
+use Rattle.std.specs.Int.{cast_unsigned, w16, w64}
+use Rattle.arrow_flatbuf.specs.declared.layout.Width.TheVariants.{One, Two, Four, Eight}
+use Rattle.arrow_flatbuf.specs.Nodes.{Node, text, byte_string, pairs, tables, table, Nodes, Cells, last, absent}
+use Rattle.arrow_flatbuf.specs.Nodes.{scalar, offset}
+use Rattle.arrow_flatbuf.specs.Nodes as laid
+use Rattle.arrow_types.specs.DataType as tags
+use Rattle.arrow_types.specs.DataType.{Tag, bits_of, time_width_of}
+use Rattle.arrow_types.specs.Field as columns
+use Rattle.arrow_types.specs.Field.{Head, Fields}
+use Rattle.arrow_types.specs.Notes.{KeyValue, Notes, unnoted, noted, SchemaShape}
+use Rattle.arrow_types.specs.declared.data_type.BitWidth.{BitWidth}
+use Rattle.arrow_types.specs.declared.data_type.DateUnit.{DateUnit}
+use Rattle.arrow_types.specs.declared.data_type.DateUnit.TheVariants as dates
+use Rattle.arrow_types.specs.declared.data_type.TimeUnit.{TimeUnit}
+use Rattle.arrow_types.specs.declared.data_type.TimeUnit.TheVariants as times
+use Rattle.arrow_types.specs.declared.field.Encoding.{Encoding}
+use Rattle.arrow_types.specs.declared.node.FieldNode.{FieldNode}
+use Rattle.arrow_types.specs.declared.node.Buffer.{Buffer}
+use Rattle.arrow_meta_reader.specs.Codes.{schema_code, dictionary_code, batch_code}
+use Rattle.arrow_meta_reader.specs.Means.{PlainBatch, PlainHeader, schema, dictionary, batch, PlainMessage}
+
+-- a truth value as a byte
+abbrev pub flag : Bool → ℕ
+flag true = 1
+flag false = 0
+
+-- the code of a type (Schema.fbs, union "Type")
+abbrev pub tag_code : Tag → ℕ
+tag_code tags.null = 1
+tag_code (tags.int bits signed) = 2
+tag_code tags.binary = 4
+tag_code tags.utf8 = 5
+tag_code tags.boolean = 6
+tag_code (tags.date unit) = 8
+tag_code (tags.time unit) = 9
+tag_code (tags.timestamp unit place) = 10
+tag_code tags.list = 12
+tag_code tags.struct = 13
+tag_code (tags.fixed_size_binary width) = 15
+tag_code (tags.duration unit) = 18
+tag_code tags.large_binary = 19
+tag_code tags.large_utf8 = 20
+tag_code tags.large_list = 21
+
+-- the number of a date's unit (Schema.fbs, enum "DateUnit")
+abbrev pub date_number : DateUnit → ℕ
+date_number dates.Day = 0
+date_number dates.Millisecond = 1
+
+-- the number of the unit of a time, a timestamp or a duration (Schema.fbs, enum "TimeUnit")
+abbrev pub time_number : TimeUnit → ℕ
+time_number times.Second = 0
+time_number times.Millisecond = 1
+time_number times.Microsecond = 2
+time_number times.Nanosecond = 3
+
+-- an Int table: bitWidth, is_signed
+abbrev pub int_cells : BitWidth → Bool → Cells
+int_cells bits signed = scalar Four (bits_of bits) (scalar One (flag signed) last)
+
+-- a time zone, where there is one
+abbrev pub zone_cells : Option (List ℕ) → Cells
+zone_cells None = last
+zone_cells (Some name) = offset (text name) last
+
+-- a type's table: of Date the unit, of Time the unit and bitWidth, of Timestamp the unit and the time zone, of
+-- FixedSizeBinary the byteWidth, of Duration the unit. The types that no reader opens have a table without fields.
+abbrev pub type_cells : Tag → Cells
+type_cells (tags.int bits signed) = int_cells bits signed
+type_cells (tags.date unit) = scalar Two (date_number unit) last
+type_cells (tags.time unit) = scalar Two (time_number unit) (scalar Four (bits_of (time_width_of unit)) last)
+type_cells (tags.timestamp unit zone) = scalar Two (time_number unit) (zone_cells zone)
+type_cells (tags.fixed_size_binary width) = scalar Four width last
+type_cells (tags.duration unit) = scalar Two (time_number unit) last
+type_cells tags.null = last
+type_cells tags.boolean = last
+type_cells tags.binary = last
+type_cells tags.utf8 = last
+type_cells tags.list = last
+type_cells tags.struct = last
+type_cells tags.large_binary = last
+type_cells tags.large_utf8 = last
+type_cells tags.large_list = last
+
+-- a DictionaryEncoding table: id, indexType, isOrdered, dictionaryKind
+abbrev pub encoding_cells : Encoding → Cells
+encoding_cells e =
+    scalar Eight (cast_unsigned w64 e.id) (offset (table (int_cells e.index.bits e.index.signed)) (scalar One (flag e.ordered) (scalar Two 0 last)))
+
+-- a field's encoding before the fields after it
+abbrev pub with_encoding : Option Encoding → Cells → Cells
+with_encoding None rest = absent rest
+with_encoding (Some e) rest = offset (table (encoding_cells e)) rest
+
+-- a KeyValue table: key, value
+abbrev pub pair_cells : KeyValue → Cells
+pair_cells p = offset (byte_string p.key) (offset (byte_string p.value) last)
+
+-- the KeyValue tables of pairs, in their order
+abbrev pub pair_nodes : List KeyValue → Nodes
+pair_nodes [] = laid.none
+pair_nodes (p ∷ ps) = laid.more (table (pair_cells p)) (pair_nodes ps)
+
+-- custom_metadata, the last field of a table, which is there where there are pairs
+abbrev pub metadata_cells : List KeyValue → Cells
+metadata_cells [] = last
+metadata_cells (p ∷ ps) = offset (tables (pair_nodes (p ∷ ps))) last
+
+-- a Field table of these pairs, whose children are laid out as these: name, nullable, type's code, type, dictionary,
+-- children, custom_metadata
+abbrev pub field_cells : Head → List KeyValue → Nodes → Cells
+field_cells h ps children =
+    offset (text h.name) (scalar One (flag h.nullable) (scalar One (tag_code h.tag) (offset (table (type_cells h.tag))
+    (with_encoding h.encoding (offset (tables children) (metadata_cells ps))))))
+
+-- Of notes the pairs of the first field, what is noted below it, and at the fields after it.
+abbrev pub first_pairs : Notes → List KeyValue
+first_pairs unnoted = []
+first_pairs (noted ps below rest) = ps
+
+abbrev pub first_below : Notes → Notes
+first_below unnoted = unnoted
+first_below (noted ps below rest) = below
+
+abbrev pub first_rest : Notes → Notes
+first_rest unnoted = unnoted
+first_rest (noted ps below rest) = rest
+
+-- the Field tables of fields side by side, at which this is noted
+abbrev pub field_nodes : Fields → Notes → Nodes
+field_nodes columns.none n = laid.none
+field_nodes (columns.more h children rest) n =
+    laid.more (table (field_cells h (first_pairs n) (field_nodes children (first_below n)))) (field_nodes rest (first_rest n))
+
+-- a Schema table: endianness, fields, custom_metadata
+abbrev pub schema_cells : SchemaShape → Cells
+schema_cells s = scalar Two 0 (offset (tables (field_nodes s.fields s.notes)) (metadata_cells s.pairs))
+
+-- the two numbers of a field node
+abbrev pub node_pair : FieldNode → ℕ × ℕ
+node_pair n = (cast_unsigned w64 n.length, cast_unsigned w64 n.null_count)
+
+-- the two numbers of a buffer
+abbrev pub buffer_pair : Buffer → ℕ × ℕ
+buffer_pair b = (cast_unsigned w64 b.offset, cast_unsigned w64 b.length)
+
+-- a RecordBatch table: length, nodes, buffers
+abbrev pub batch_cells : PlainBatch → Cells
+batch_cells b =
+    scalar Eight (cast_unsigned w64 b.length) (offset (pairs (map node_pair b.nodes)) (offset (pairs (map buffer_pair b.buffers)) last))
+
+-- a DictionaryBatch table: id, data, isDelta
+abbrev pub dictionary_cells : ℤ → Bool → PlainBatch → Cells
+dictionary_cells id delta b = scalar Eight (cast_unsigned w64 id) (offset (table (batch_cells b)) (scalar One (flag delta) last))
+
+-- the header's code
+abbrev pub header_code : PlainHeader → ℕ
+header_code (schema s) = schema_code
+header_code (dictionary id delta b) = dictionary_code
+header_code (batch b) = batch_code
+
+-- the header's table
+abbrev pub header_cells : PlainHeader → Cells
+header_cells (schema s) = schema_cells s
+header_cells (dictionary id delta b) = dictionary_cells id delta b
+header_cells (batch b) = batch_cells b
+
+-- a Message table: version, header's code, header, bodyLength
+abbrev pub message_cells : PlainMessage → Cells
+message_cells m =
+    scalar Two (cast_unsigned w16 m.version) (scalar One (header_code m.header) (offset (table (header_cells m.header))
+    (scalar Eight m.body_len last)))
+
+-- a message
+abbrev pub message_node : PlainMessage → Node
+message_node m = table (message_cells m)

@@ -1,0 +1,23 @@
+-- The bytes of a message's metadata as they are written, and how many they are.
+use Rattle.std.specs.Prelude.{ℕ, pos, ◌^◌, List, Bool, ◌&&◌, Option, Some, None, nat_le}
+use Rattle.std.specs.Prelude.{if◌then◌else◌}
+use Rattle.std.specs.Ordering.{int_eq}
+use Rattle.arrow_flatbuf.specs.Buffer.{buffer, buffer_size}
+use Rattle.arrow_meta_reader.specs.Means.{PlainMessage}
+use Rattle.arrow_meta_writer.specs.Layouts.{message_node}
+
+-- the bytes: behind the eight bytes of a prefix they end at a multiple of 8
+abbrev pub metadata : PlainMessage → List ℕ
+metadata m = buffer (message_node m)
+
+-- how many they are
+abbrev pub metadata_size : PlainMessage → ℕ
+metadata_size m = buffer_size (message_node m)
+
+-- a message of V5, with a body that the greatest limit admits
+abbrev pub is_sendable : PlainMessage → Bool
+is_sendable m = int_eq m.version (pos 4) && nat_le m.body_len (2 ^ 40)
+
+-- the size of the metadata of a message that can be sent, none where it is over the greatest limit
+abbrev pub size_of : PlainMessage → Option ℕ
+size_of m = if is_sendable m && nat_le (metadata_size m) (2 ^ 30) then Some (metadata_size m) else None

@@ -1,0 +1,104 @@
+-- What every message of the program is, by the types that hold it, and which limits it keeps to.
+use Rattle.std.specs.Prelude.{◌≡◌, ◌≤◌, ◌<◌, ◌^◌, ℤ, pos, negsuc, true, List, [], ◌∷◌, Option, Some}
+use Rattle.std.specs.Prelude.{None}
+use Rattle.std.specs.Str.{is_utf8}
+use Rattle.arrow_types.specs.DataType as tags
+use Rattle.arrow_types.specs.DataType.{Tag}
+use Rattle.arrow_types.specs.Field as columns
+use Rattle.arrow_types.specs.Field.{Head, Fields, width}
+use Rattle.arrow_types.specs.Limits.{LimitNumbers}
+use Rattle.arrow_types.specs.Notes.{Notes, unnoted, noted}
+use Rattle.arrow_types.specs.Schema.{IsNoted}
+use Rattle.arrow_types.specs.declared.field.Encoding.{Encoding}
+use Rattle.arrow_types.specs.declared.node.FieldNode.{FieldNode}
+use Rattle.arrow_types.specs.declared.node.Buffer.{Buffer}
+use Rattle.arrow_meta_reader.specs.Codes.{type_code}
+use Rattle.arrow_meta_reader.specs.Conditions.{children_fit}
+use Rattle.arrow_meta_writer.specs.Layouts.{tag_code}
+use Rattle.arrow_meta_reader.specs.Means.{PlainBatch, PlainHeader, schema, dictionary, batch, PlainMessage}
+use Rattle.arrow_meta_reader.specs.Within.{text_bytes}
+use Rattle.arrow_meta_writer.specs.Written.{message_tree}
+
+-- a number that 64 bits hold with a sign
+abbrev pub IsLong : ℤ → Type 0
+IsLong (pos n) = n < 2 ^ 63
+IsLong (negsuc n) = n < 2 ^ 63
+
+-- the name of a type's time zone is a text
+abbrev pub HasTextZone : Tag → Type 0
+HasTextZone (tags.timestamp unit (Some zone)) = is_utf8 zone ≡ true
+HasTextZone (tags.timestamp unit None) = Unit {0}
+HasTextZone tags.null = Unit {0}
+HasTextZone tags.boolean = Unit {0}
+HasTextZone tags.binary = Unit {0}
+HasTextZone tags.utf8 = Unit {0}
+HasTextZone tags.list = Unit {0}
+HasTextZone tags.struct = Unit {0}
+HasTextZone (tags.int bits signed) = Unit {0}
+HasTextZone (tags.date unit) = Unit {0}
+HasTextZone (tags.time unit) = Unit {0}
+HasTextZone tags.large_binary = Unit {0}
+HasTextZone tags.large_utf8 = Unit {0}
+HasTextZone tags.large_list = Unit {0}
+HasTextZone (tags.fixed_size_binary width) = Unit {0}
+HasTextZone (tags.duration unit) = Unit {0}
+
+-- an encoding's id is a number of 64 bits
+abbrev pub HasLongId : Option Encoding → Type 0
+HasLongId None = Unit {0}
+HasLongId (Some e) = IsLong e.id
+
+-- a type with as many children as it can have
+abbrev pub HasItsChildren : Head → Fields → Type 0
+HasItsChildren head children = children_fit (type_code (tag_code head.tag)) (width children) ≡ true
+
+-- a field: its name is a text, and its type has as many children as it can have
+pub record IsField (head : Head) (children : Fields) : Type 0 where
+  pub name : is_utf8 head.name ≡ true
+  pub zone : HasTextZone head.tag
+  pub id : HasLongId head.encoding
+  pub fits : HasItsChildren head children
+
+-- the same of fields on all levels
+abbrev pub AreFields : Fields → Type 0
+AreFields columns.none = Unit {0}
+AreFields (columns.more head children rest) = IsField head children × AreFields children × AreFields rest
+
+-- Notes stand at fields: as many side by side on each level.
+abbrev pub AreNotesOf : Fields → Notes → Type 0
+AreNotesOf columns.none unnoted = Unit {0}
+AreNotesOf columns.none (noted ps below later) = ⊥
+AreNotesOf (columns.more head children rest) unnoted = ⊥
+AreNotesOf (columns.more head children rest) (noted ps below later) = AreNotesOf children below × AreNotesOf rest later
+
+-- fields with what is noted at them
+pub record AreNotedFields (fields : Fields) (n : Notes) : Type 0 where
+  pub fields_are : AreFields fields
+  pub notes_are : AreNotesOf fields n
+
+-- field nodes of numbers of 64 bits
+abbrev pub AreNodes : List FieldNode → Type 0
+AreNodes [] = Unit {0}
+AreNodes (n ∷ ns) = IsLong n.length × IsLong n.null_count × AreNodes ns
+
+-- buffers of numbers of 64 bits
+abbrev pub AreBuffers : List Buffer → Type 0
+AreBuffers [] = Unit {0}
+AreBuffers (b ∷ bs) = IsLong b.offset × IsLong b.length × AreBuffers bs
+
+-- a record batch of numbers of 64 bits
+pub record IsBatch (b : PlainBatch) : Type 0 where
+  pub length : IsLong b.length
+  pub nodes : AreNodes b.nodes
+  pub buffers : AreBuffers b.buffers
+
+-- a header that the program can hold
+abbrev pub IsHeader : PlainHeader → Type 0
+IsHeader (schema s) = IsNoted s × AreNotedFields s.fields s.notes
+IsHeader (dictionary id delta b) = IsLong id × IsBatch b
+IsHeader (batch b) = IsBatch b
+
+-- The limits that a message has to keep to, so that a reader with them takes it.
+pub record Allows (limits : LimitNumbers) (m : PlainMessage) : Type 0 where
+  pub text : text_bytes (message_tree m) ≤ limits.max_metadata
+  pub body : m.body_len ≤ limits.max_body

@@ -1,0 +1,112 @@
+-- The tree that a message is written as: what a reader is to find.
+use Rattle.std.specs.Prelude.{ℕ, ℤ, Bool, List, [], ◌∷◌, map, Option, Some, None}
+use Rattle.std.specs.Int.{cast_unsigned, w16, w64}
+use Rattle.arrow_types.specs.DataType as tags
+use Rattle.arrow_types.specs.DataType.{Tag, bits_of, time_width_of}
+use Rattle.arrow_types.specs.Field as columns
+use Rattle.arrow_types.specs.Field.{Head, Fields}
+use Rattle.arrow_types.specs.Notes.{KeyValue, Notes, SchemaShape}
+use Rattle.arrow_types.specs.declared.data_type.BitWidth.{BitWidth}
+use Rattle.arrow_types.specs.declared.field.Encoding.{Encoding}
+use Rattle.arrow_meta_reader.specs.declared.kinds.TableKind.TheVariants as kinds
+use Rattle.arrow_meta_writer.specs.Layouts.{flag, tag_code, date_number, time_number, node_pair}
+use Rattle.arrow_meta_writer.specs.Layouts.{buffer_pair, header_code, first_pairs, first_below, first_rest}
+use Rattle.arrow_meta_reader.specs.Means.{PlainBatch, PlainHeader, schema, dictionary, batch, PlainMessage}
+use Rattle.arrow_meta_reader.specs.Trees.{absent, number, text, byte_string, pairs, Tree, leaf, table, tables, Trees}
+use Rattle.arrow_meta_reader.specs.Trees.{none, more}
+
+-- a field that holds a number
+abbrev pub of_number : ℕ → Tree
+of_number n = leaf (number n)
+
+-- the fields of an Int table
+abbrev pub int_parts : BitWidth → Bool → Trees
+int_parts bits signed = more (of_number (bits_of bits)) (more (of_number (flag signed)) none)
+
+-- a time zone, where there is one
+abbrev pub zone_tree : Option (List ℕ) → Tree
+zone_tree None = leaf absent
+zone_tree (Some zone) = leaf (text zone)
+
+-- the table of a type that a reader opens
+abbrev pub type_tree : Tag → Tree
+type_tree (tags.int bits signed) = table kinds.Int (int_parts bits signed)
+type_tree (tags.date unit) = table kinds.Date (more (of_number (date_number unit)) none)
+type_tree (tags.time unit) =
+    table kinds.Time (more (of_number (time_number unit)) (more (of_number (bits_of (time_width_of unit))) none))
+type_tree (tags.timestamp unit zone) = table kinds.Timestamp (more (of_number (time_number unit)) (more (zone_tree zone) none))
+type_tree (tags.fixed_size_binary width) = table kinds.FixedSizeBinary (more (of_number width) none)
+type_tree (tags.duration unit) = table kinds.Duration (more (of_number (time_number unit)) none)
+type_tree tags.null = leaf absent
+type_tree tags.boolean = leaf absent
+type_tree tags.binary = leaf absent
+type_tree tags.utf8 = leaf absent
+type_tree tags.list = leaf absent
+type_tree tags.struct = leaf absent
+type_tree tags.large_binary = leaf absent
+type_tree tags.large_utf8 = leaf absent
+type_tree tags.large_list = leaf absent
+
+-- a field's encoding, where it has one
+abbrev pub encoding_tree : Option Encoding → Tree
+encoding_tree None = leaf absent
+encoding_tree (Some e) =
+    table kinds.DictionaryEncoding (more (of_number (cast_unsigned w64 e.id)) (more (table kinds.Int (int_parts e.index.bits e.index.signed))
+    (more (of_number (flag e.ordered)) (more (of_number 0) none))))
+
+-- a KeyValue table
+abbrev pub pair_tree : KeyValue → Tree
+pair_tree p = table kinds.KeyValue (more (leaf (byte_string p.key)) (more (leaf (byte_string p.value)) none))
+
+-- the KeyValue tables of pairs, in their order
+abbrev pub pair_trees : List KeyValue → Trees
+pair_trees [] = none
+pair_trees (p ∷ ps) = more (pair_tree p) (pair_trees ps)
+
+-- the pairs of a table, absent where there are none
+abbrev pub metadata_tree : List KeyValue → Tree
+metadata_tree [] = leaf absent
+metadata_tree (p ∷ ps) = tables (pair_trees (p ∷ ps))
+
+-- the fields of a Field table with these pairs and children
+abbrev pub field_parts : Head → List KeyValue → Trees → Trees
+field_parts h ps children =
+    more (leaf (text h.name)) (more (of_number (flag h.nullable)) (more (of_number (tag_code h.tag)) (more (type_tree h.tag)
+    (more (encoding_tree h.encoding) (more (tables children) (more (metadata_tree ps) none))))))
+
+-- the Field tables of fields side by side, at which this is noted
+abbrev pub field_trees : Fields → Notes → Trees
+field_trees columns.none n = none
+field_trees (columns.more h children rest) n =
+    more (table kinds.Field (field_parts h (first_pairs n) (field_trees children (first_below n)))) (field_trees rest (first_rest n))
+
+-- the fields of a Schema table
+abbrev pub schema_parts : SchemaShape → Trees
+schema_parts s = more (of_number 0) (more (tables (field_trees s.fields s.notes)) (more (metadata_tree s.pairs) none))
+
+-- the fields of a RecordBatch table
+abbrev pub batch_parts : PlainBatch → Trees
+batch_parts b =
+    more (of_number (cast_unsigned w64 b.length)) (more (leaf (pairs (map node_pair b.nodes)))
+    (more (leaf (pairs (map buffer_pair b.buffers))) (more (leaf absent) none)))
+
+-- the fields of a DictionaryBatch table
+abbrev pub dictionary_parts : ℤ → Bool → PlainBatch → Trees
+dictionary_parts id delta b =
+    more (of_number (cast_unsigned w64 id)) (more (table kinds.RecordBatch (batch_parts b)) (more (of_number (flag delta)) none))
+
+-- the header's table
+abbrev pub header_tree : PlainHeader → Tree
+header_tree (schema s) = table kinds.Schema (schema_parts s)
+header_tree (dictionary id delta b) = table kinds.DictionaryBatch (dictionary_parts id delta b)
+header_tree (batch b) = table kinds.RecordBatch (batch_parts b)
+
+-- the fields of a Message table
+abbrev pub message_parts : PlainMessage → Trees
+message_parts m =
+    more (of_number (cast_unsigned w16 m.version)) (more (of_number (header_code m.header)) (more (header_tree m.header)
+    (more (of_number m.body_len) none)))
+
+-- a message
+abbrev pub message_tree : PlainMessage → Tree
+message_tree m = table kinds.Message (message_parts m)

@@ -1,0 +1,168 @@
+//! Where the tables of a message end, without what belongs to them (`Message.fbs`, `Schema.fbs`).
+//!
+//! Places are those of `sizes`: in bytes, over the greatest size all as one. Each list here has the
+//! widths of a table's fields by number; the numbers and the places in them do not matter.
+ghost use Rattle.std.specs.Prelude.{◌≡◌, ◌≤◌, ℕ, ℤ, Bool, List, length, is_some, Some};
+ghost use Rattle.arrow_flatbuf.specs.Layout.{table_end};
+ghost use Rattle.arrow_flatbuf.specs.Nodes.{Nodes, after, cells_place, text as text_node, byte_string};
+ghost use Rattle.arrow_meta_reader.specs.Means.{PlainBatch, PlainMessage};
+ghost use Rattle.arrow_meta_writer.specs.Capped.{capped};
+ghost use Rattle.arrow_meta_writer.specs.Layouts.{type_cells, encoding_cells, field_cells};
+ghost use Rattle.arrow_meta_writer.specs.Layouts.{schema_cells, batch_cells, dictionary_cells};
+ghost use Rattle.arrow_meta_writer.specs.Layouts.{message_cells, metadata_cells, pair_cells};
+ghost use Rattle.arrow_types.specs.DataType.{timestamp};
+ghost use Rattle.arrow_flatbuf.specs.Nodes.{count};
+ghost use Rattle.arrow_types.specs.Field.{Head};
+ghost use Rattle.arrow_types.specs.Notes.{KeyValue, SchemaShape};
+ghost use Rattle.arrow_types.specs.declared.data_type.TimeUnit.{TimeUnit};
+ghost use Rattle.arrow_types.specs.declared.field.Encoding.{Encoding};
+
+use arrow_flatbuf::{Slot, Width, bytes_end, table_end, text_end};
+
+/// One more than the greatest number of bytes that metadata have.
+pub(crate) const TOP: usize = 1_073_741_825;
+
+/// The first place after a message's table.
+pub(crate) fn message_table_end(place: usize) -> usize
+    requires { place ≤ 1073741825 }
+    ensures end { (m : PlainMessage) → result ≡ capped (cells_place place (message_cells m)) }
+    ensures near { result ≤ 1073741825 }
+{
+    let version = Slot::Scalar(Width::Two, 0);
+    let code = Slot::Scalar(Width::One, 0);
+    table_after(
+        place,
+        &[
+            version,
+            code,
+            Slot::Target(0),
+            Slot::Scalar(Width::Eight, 0),
+        ],
+    )
+}
+
+/// The first place after a schema's table, which has so many fields for its metadata: 1 or none.
+pub(crate) fn schema_table_end(place: usize, metadata: usize) -> usize
+    requires low { place ≤ 1073741825 }
+    requires few { metadata ≤ 1 }
+    ensures end { (s : SchemaShape) → count (metadata_cells s.pairs) ≡ metadata
+        → result ≡ capped (cells_place place (schema_cells s)) }
+    ensures near { result ≤ 1073741825 }
+{
+    let target = Slot::Target(0);
+    let slots = [Slot::Scalar(Width::Two, 0), target, target];
+    table_after(place, &slots[..2 + metadata])
+}
+
+/// The first place after a field's table, which has an encoding or none, and so many fields for its
+/// metadata: 1 or none.
+pub(crate) fn field_table_end(place: usize, has_encoding: bool, metadata: usize) -> usize
+    requires low { place ≤ 1073741825 }
+    requires few { metadata ≤ 1 }
+    ensures end { (head : Head) (ps : List KeyValue) (children : Nodes)
+        → is_some head.encoding ≡ has_encoding → count (metadata_cells ps) ≡ metadata
+        → result ≡ capped (cells_place place (field_cells head ps children)) }
+    ensures near { result ≤ 1073741825 }
+{
+    let byte = Slot::Scalar(Width::One, 0);
+    let target = Slot::Target(0);
+    let encoding = if has_encoding { target } else { Slot::Absent };
+    let slots = [target, byte, byte, target, encoding, target, target];
+    table_after(place, &slots[..6 + metadata])
+}
+
+/// The first place after the table of a pair of metadata.
+pub(crate) fn pair_table_end(place: usize) -> usize
+    requires { place ≤ 1073741825 }
+    ensures end { (p : KeyValue) → result ≡ capped (cells_place place (pair_cells p)) }
+    ensures near { result ≤ 1073741825 }
+{
+    table_after(place, &[Slot::Target(0), Slot::Target(0)])
+}
+
+/// The first place after an encoding's table.
+pub(crate) fn encoding_table_end(place: usize) -> usize
+    requires { place ≤ 1073741825 }
+    ensures end { (e : Encoding) → result ≡ capped (cells_place place (encoding_cells e)) }
+    ensures near { result ≤ 1073741825 }
+{
+    let id = Slot::Scalar(Width::Eight, 0);
+    let ordered = Slot::Scalar(Width::One, 0);
+    table_after(
+        place,
+        &[id, Slot::Target(0), ordered, Slot::Scalar(Width::Two, 0)],
+    )
+}
+
+/// The first place after the table of a timestamp with a zone.
+pub(crate) fn zone_table_end(place: usize) -> usize
+    requires { place ≤ 1073741825 }
+    ensures end { (unit : TimeUnit) (zone : List ℕ)
+        → result ≡ capped (cells_place place (type_cells (timestamp unit (Some zone)))) }
+    ensures near { result ≤ 1073741825 }
+{
+    table_after(place, &[Slot::Scalar(Width::Two, 0), Slot::Target(0)])
+}
+
+/// The first place after a dictionary batch's table.
+pub(crate) fn dictionary_table_end(place: usize) -> usize
+    requires { place ≤ 1073741825 }
+    ensures end { (id : ℤ) (delta : Bool) (b : PlainBatch)
+        → result ≡ capped (cells_place place (dictionary_cells id delta b)) }
+    ensures near { result ≤ 1073741825 }
+{
+    let id = Slot::Scalar(Width::Eight, 0);
+    table_after(place, &[id, Slot::Target(0), Slot::Scalar(Width::One, 0)])
+}
+
+/// The first place after a record batch's table.
+pub(crate) fn batch_table_end(place: usize) -> usize
+    requires { place ≤ 1073741825 }
+    ensures end { (b : PlainBatch) → result ≡ capped (cells_place place (batch_cells b)) }
+    ensures near { result ≤ 1073741825 }
+{
+    table_after(
+        place,
+        &[
+            Slot::Scalar(Width::Eight, 0),
+            Slot::Target(0),
+            Slot::Target(0),
+        ],
+    )
+}
+
+/// The first place after a table of these fields, without what belongs to it.
+pub(crate) fn table_after(place: usize, slots: &[Slot]) -> usize
+    requires low { place ≤ 1073741825 }
+    requires few { length slots.now ≤ 1000 }
+    ensures end { result ≡ capped (table_end place slots.now) }
+    ensures near { result ≤ 1073741825 }
+{
+    capped(table_end(place, slots))
+}
+
+/// The first place after a text.
+pub(crate) fn text_after(place: usize, text: &str) -> usize
+    requires { place ≤ 1073741825 }
+    ensures end { result ≡ capped (after place (text_node text.now)) }
+    ensures near { result ≤ 1073741825 }
+{
+    capped(text_end(place, text))
+}
+
+/// The first place after a string of these bytes.
+pub(crate) fn bytes_after(place: usize, bytes: &[u8]) -> usize
+    requires { place ≤ 1073741825 }
+    ensures end { result ≡ capped (after place (byte_string bytes.now)) }
+    ensures near { result ≤ 1073741825 }
+{
+    capped(bytes_end(place, bytes))
+}
+
+/// A place, or `TOP` where it is behind that.
+pub(crate) fn capped(place: usize) -> usize
+    ensures end { result ≡ capped place }
+    ensures near { result ≤ 1073741825 }
+{
+    place.min(TOP)
+}

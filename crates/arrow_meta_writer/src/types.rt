@@ -1,0 +1,229 @@
+//! Types as they are written: the code in the field's table, and the type's own table
+//! (`Schema.fbs`, union `Type`, tables `Int`, `Date`, `Time`, `Timestamp`, `FixedSizeBinary`,
+//! `Duration`).
+//!
+//! The table of a type that no reader opens has no fields. Units are the numbers of their enums, a
+//! width is a number of bits, or for `FixedSizeBinary` of bytes.
+ghost use Rattle.std.specs.Prelude.{◌≡◌, ◌≤◌, ◌<◌, option_map, string_bytes, true, Some, OnOk};
+ghost use Rattle.arrow_flatbuf.specs.Nodes.{count, table as table_node};
+ghost use Rattle.arrow_meta_reader.specs.Codes.{type_code as code_named};
+ghost use Rattle.arrow_meta_reader.specs.Conditions.{children_fit};
+ghost use Rattle.arrow_meta_writer.specs.Appends.{HasRoom, Appends};
+ghost use Rattle.arrow_meta_writer.specs.Layouts.{int_cells, type_cells, flag, tag_code};
+ghost use Rattle.arrow_meta_writer.specs.Layouts.{date_number, time_number};
+ghost use Rattle.arrow_meta_writer.specs.Writable.{HasTextZone};
+ghost use Rattle.arrow_types.specs.DataType.{date, duration, fixed_size_binary, time};
+ghost use Rattle.arrow_types.specs.DataType.{timestamp};
+ghost use Rattle.arrow_types.specs.Field.{width as field_width};
+ghost use Rattle.arrow_types.specs.View.{type_view};
+
+use crate::tables::zone_table_end;
+use arrow_flatbuf::{Slot, TableWriter, Width, aligned};
+use arrow_types::{BitWidth, DataType, DateUnit, TimeUnit};
+use std::alloc::AllocError;
+
+/// The code of a type (`Schema.fbs`, union `Type`). A value of the type has the children that it
+/// can have.
+pub(crate) fn type_code(data_type: &DataType) -> u64
+    ensures code { result ≡ tag_code (type_view data_type.now).tag }
+    ensures small { result < 256 }
+    ensures fits { children_fit (code_named (tag_code (type_view data_type.now).tag))
+        (field_width (type_view data_type.now).children) ≡ true }
+{
+    match data_type {
+        DataType::Null => 1,
+        DataType::Int { .. } => 2,
+        DataType::Binary => 4,
+        DataType::Utf8 => 5,
+        DataType::Bool => 6,
+        DataType::Date(_) => 8,
+        DataType::Time(_) => 9,
+        DataType::Timestamp(..) => 10,
+        DataType::List(_) => 12,
+        DataType::Struct(_) => 13,
+        DataType::FixedSizeBinary(_) => 15,
+        DataType::Duration(_) => 18,
+        DataType::LargeBinary => 19,
+        DataType::LargeUtf8 => 20,
+        DataType::LargeList(_) => 21,
+    }
+}
+
+/// How many fields a type's table has.
+pub(crate) fn type_fields(data_type: &DataType) -> usize
+    ensures count { result ≡ count (type_cells (type_view data_type.now).tag) }
+    ensures few { result ≤ 2 }
+{
+    match data_type {
+        DataType::Int { .. } => 2,
+        DataType::Date(_) => 1,
+        DataType::Time(_) => 2,
+        DataType::Timestamp(unit, zone) => timestamp_fields(*unit, zone),
+        DataType::FixedSizeBinary(_) => 1,
+        DataType::Duration(_) => 1,
+        DataType::Null
+        | DataType::Bool
+        | DataType::Binary
+        | DataType::Utf8
+        | DataType::List(_)
+        | DataType::Struct(_)
+        | DataType::LargeBinary
+        | DataType::LargeUtf8
+        | DataType::LargeList(_) => 0,
+    }
+}
+
+/// How many fields a timestamp's table has.
+fn timestamp_fields(unit: TimeUnit, zone: &Option<String>) -> usize
+    ensures count { result
+        ≡ count (type_cells (timestamp unit (option_map string_bytes zone.now))) }
+    ensures few { result ≤ 2 }
+{
+    match zone {
+        None => 1,
+        Some(_) => 2,
+    }
+}
+
+/// Appends a type's table and what belongs to it.
+pub(crate) fn write_type(writer: &mut TableWriter, data_type: &DataType) -> Result<(), AllocError>
+    requires room { HasRoom writer.old (table_node (type_cells (type_view data_type.now).tag)) }
+    ensures bytes { OnOk result
+        (Appends writer.old (table_node (type_cells (type_view data_type.now).tag)) writer.new) }
+    ensures typed { OnOk result (HasTextZone (type_view data_type.now).tag) }
+{
+    match data_type {
+        DataType::Int { bits, signed } => write_int(writer, *bits, *signed),
+        DataType::Date(unit) => write_date(writer, *unit),
+        DataType::Time(unit) => write_time(writer, *unit),
+        DataType::Timestamp(unit, zone) => write_timestamp(writer, *unit, zone),
+        DataType::FixedSizeBinary(width) => write_fixed_size(writer, *width),
+        DataType::Duration(unit) => write_duration(writer, *unit),
+        DataType::Null
+        | DataType::Bool
+        | DataType::Binary
+        | DataType::Utf8
+        | DataType::List(_)
+        | DataType::Struct(_)
+        | DataType::LargeBinary
+        | DataType::LargeUtf8
+        | DataType::LargeList(_) => writer.table(&[]),
+    }
+}
+
+/// Appends a timestamp's table, and its zone.
+fn write_timestamp(
+    writer: &mut TableWriter,
+    unit: TimeUnit,
+    zone: &Option<String>,
+) -> Result<(), AllocError>
+    requires room { HasRoom writer.old
+        (table_node (type_cells (timestamp unit (option_map string_bytes zone.now)))) }
+    ensures bytes { OnOk result
+        (Appends writer.old
+        (table_node (type_cells (timestamp unit (option_map string_bytes zone.now)))) writer.new) }
+    ensures typed { OnOk result
+        (HasTextZone (timestamp unit (option_map string_bytes zone.now))) }
+{
+    match zone {
+        None => writer.table(&[Slot::Scalar(Width::Two, time_number(unit))]),
+        Some(zone) => {
+            write_zone(writer, unit, zone)?;
+            Ok(())
+        }
+    }
+}
+
+/// Appends the table of a timestamp with a zone, and the zone.
+fn write_zone(writer: &mut TableWriter, unit: TimeUnit, zone: &str) -> Result<(), AllocError>
+    requires room { HasRoom writer.old (table_node (type_cells (timestamp unit (Some zone.now)))) }
+    ensures { OnOk result
+        (Appends writer.old (table_node (type_cells (timestamp unit (Some zone.now)))) writer.new) }
+{
+    let end = zone_table_end(writer.place());
+    writer.table(&[
+        Slot::Scalar(Width::Two, time_number(unit)),
+        Slot::Target(aligned(end, Width::Four)),
+    ])?;
+    writer.text(zone)?;
+    Ok(())
+}
+
+/// Appends a time's table.
+fn write_time(writer: &mut TableWriter, unit: TimeUnit) -> Result<(), AllocError>
+    ensures { OnOk result (Appends writer.old (table_node (type_cells (time unit))) writer.new) }
+{
+    writer.table(&[
+        Slot::Scalar(Width::Two, time_number(unit)),
+        Slot::Scalar(Width::Four, u64::from(unit.time_width().bits())),
+    ])
+}
+
+/// Appends a date's table.
+fn write_date(writer: &mut TableWriter, unit: DateUnit) -> Result<(), AllocError>
+    ensures { OnOk result (Appends writer.old (table_node (type_cells (date unit))) writer.new) }
+{
+    writer.table(&[Slot::Scalar(Width::Two, date_number(unit))])
+}
+
+/// Appends the table of byte strings of a fixed size.
+fn write_fixed_size(writer: &mut TableWriter, width: u32) -> Result<(), AllocError>
+    ensures { OnOk result
+        (Appends writer.old (table_node (type_cells (fixed_size_binary width))) writer.new) }
+{
+    writer.table(&[Slot::Scalar(Width::Four, u64::from(width))])
+}
+
+/// Appends a duration's table.
+fn write_duration(writer: &mut TableWriter, unit: TimeUnit) -> Result<(), AllocError>
+    ensures { OnOk result
+        (Appends writer.old (table_node (type_cells (duration unit))) writer.new) }
+{
+    writer.table(&[Slot::Scalar(Width::Two, time_number(unit))])
+}
+
+/// Appends an Int table.
+pub(crate) fn write_int(
+    writer: &mut TableWriter,
+    bits: BitWidth,
+    signed: bool,
+) -> Result<(), AllocError>
+    ensures { OnOk result (Appends writer.old (table_node (int_cells bits signed)) writer.new) }
+{
+    writer.table(&[
+        Slot::Scalar(Width::Four, u64::from(bits.bits())),
+        Slot::Scalar(Width::One, bit(signed)),
+    ])
+}
+
+/// A truth value as a byte.
+pub(crate) fn bit(truth: bool) -> u64
+    ensures value { result ≡ flag truth }
+    ensures small { result < 2 }
+{
+    u64::from(truth)
+}
+
+/// The number of a date's unit (`Schema.fbs`, enum `DateUnit`).
+fn date_number(unit: DateUnit) -> u64
+    ensures number { result ≡ date_number unit }
+    ensures small { result < 256 }
+{
+    match unit {
+        DateUnit::Day => 0,
+        DateUnit::Millisecond => 1,
+    }
+}
+
+/// The number of the unit of a time, a timestamp or a duration (`Schema.fbs`, enum `TimeUnit`).
+fn time_number(unit: TimeUnit) -> u64
+    ensures number { result ≡ time_number unit }
+    ensures small { result < 256 }
+{
+    match unit {
+        TimeUnit::Second => 0,
+        TimeUnit::Millisecond => 1,
+        TimeUnit::Microsecond => 2,
+        TimeUnit::Nanosecond => 3,
+    }
+}

@@ -1,0 +1,123 @@
+//! Messages as the bytes of their metadata, front to back (`Message.fbs`; Columnar Format,
+//! "Encapsulated message format").
+//!
+//! Places count in bytes from the metadata's first. An offset is written before what it names, so
+//! the place of that is counted first (`sizes`, `tables`), and nothing that was written is changed.
+//! Each call appends a part from the first free place on, with all that belongs to it. The only
+//! error is `AllocError`, a growth that was refused.
+ghost use Rattle.std.specs.Prelude.{◌≡◌, ◌≤◌, ◌<◌, ◌↔◌, length, Some, IsSome, OnOk, IfOk};
+ghost use Rattle.std.specs.Int.{cast_unsigned, w16};
+ghost use Rattle.arrow_flatbuf.specs.Nodes.{after, cells_place, slots, count, table as table_node};
+ghost use Rattle.arrow_meta_reader.specs.Judges.{MetadataMeans};
+ghost use Rattle.arrow_meta_reader.specs.Means.{header_view, message_view};
+ghost use Rattle.arrow_meta_writer.specs.Aligned.{LiesAligned};
+ghost use Rattle.arrow_meta_writer.specs.Appends.{HasRoom, Appends};
+ghost use Rattle.arrow_meta_writer.specs.Layouts.{header_cells, message_cells, message_node, header_code};
+ghost use Rattle.arrow_meta_writer.specs.Metadata.{size_of, metadata};
+ghost use Rattle.arrow_meta_writer.specs.Writable.{IsHeader, Allows};
+ghost use Rattle.arrow_meta_writer.specs.Written.{message_tree};
+ghost use Rattle.arrow_types.specs.Limits.{LimitNumbers};
+
+use crate::batches::{write_batch, write_dictionary};
+use crate::fields::write_schema;
+use crate::metadata::metadata_fields;
+use crate::sizes::encoded_size;
+use crate::tables::message_table_end;
+use arrow_flatbuf::{Slot, TableWriter, Width, table_place};
+use arrow_meta_reader::{Header, Message};
+use std::alloc::{AllocError, Global};
+
+/// The bytes of a message's metadata (Columnar Format, "Encapsulated message format"), padded with
+/// zero bytes to a multiple of 8.
+///
+/// Condition: [`encoded_size`] answers a number for it, which is that of the bytes. They mean the
+/// message to every reader whose limits it keeps to; each number stands at a multiple of its size,
+/// and a 0 byte after every name and zone. The bytes grow once, to their size; `AllocError` where
+/// that was refused. They keep their meaning with any bytes after them: the header is one of which
+/// [`crate::laws::written`] says so.
+pub fn encode(alloc: Global, message: &Message) -> Result<Vec<u8>, AllocError>
+    requires { IsSome (size_of (message_view message.now)) }
+    ensures bytes { IfOk result (λ v. v.items ≡ metadata (message_view message.now)) }
+    ensures lies { IfOk result
+        (λ v. LiesAligned (message_tree (message_view message.now)) v.items) }
+    ensures means { IfOk result
+        (λ v. (limits : LimitNumbers)
+        → MetadataMeans limits v.items (message_view message.now)
+        ↔ Allows limits (message_view message.now)) }
+    ensures size { IfOk result (λ v. Some (length v.items) ≡ size_of (message_view message.now)) }
+    ensures typed { IfOk result (λ v. IsHeader (header_view message.now.header)) }
+{
+    let size = encoded_size(message).unwrap_or(0);
+    let mut writer = TableWriter::with_capacity(alloc, size as usize)?;
+    writer.offset(table_place(4, 4))?;
+    write_message(&mut writer, message)?;
+    writer.pad(8)?;
+    Ok(writer.into_bytes())
+}
+
+/// Appends a message.
+fn write_message(writer: &mut TableWriter, message: &Message) -> Result<(), AllocError>
+    requires room { HasRoom writer.old (message_node (message_view message.now)) }
+    requires body { message.now.body_len ≤ 1099511627776 }
+    ensures bytes { OnOk result
+        (Appends writer.old (message_node (message_view message.now)) writer.new) }
+    ensures typed { OnOk result (IsHeader (header_view message.now.header)) }
+{
+    let slots = message_slots(writer.place(), message);
+    writer.table(&slots)?;
+    write_header(writer, &message.header)?;
+    Ok(())
+}
+
+/// The fields of a message's table that is laid out from a place on.
+fn message_slots(place: usize, message: &Message) -> [Slot; 4]
+    requires room { after place (message_node (message_view message.now)) ≤ 1073741824 }
+    ensures slots { let cells = message_cells (message_view message.now)
+        in result ≡ slots (cells_place place cells) cells }
+    ensures short { cast_unsigned w16 message.now.version < 65536 }
+{
+    let end = message_table_end(place);
+    [
+        Slot::Scalar(Width::Two, u64::from(message.version.cast_unsigned())),
+        Slot::Scalar(Width::One, header_code(&message.header)),
+        Slot::Target(table_place(end, header_fields(&message.header))),
+        Slot::Scalar(Width::Eight, message.body_len),
+    ]
+}
+
+/// The code of a header (`Message.fbs`, union `MessageHeader`).
+fn header_code(header: &Header) -> u64
+    ensures code { result ≡ header_code (header_view header.now) }
+    ensures small { result < 256 }
+{
+    match header {
+        Header::Schema(_) => 1,
+        Header::Dictionary(..) => 2,
+        Header::Batch(_) => 3,
+    }
+}
+
+/// How many fields a header's table has.
+fn header_fields(header: &Header) -> usize
+    ensures count { result ≡ count (header_cells (header_view header.now)) }
+    ensures few { result ≤ 3 }
+{
+    match header {
+        Header::Schema(schema) => 2 + metadata_fields(schema.metadata()),
+        Header::Dictionary(..) | Header::Batch(_) => 3,
+    }
+}
+
+/// Appends a header.
+fn write_header(writer: &mut TableWriter, header: &Header) -> Result<(), AllocError>
+    requires room { HasRoom writer.old (table_node (header_cells (header_view header.now))) }
+    ensures bytes { OnOk result
+        (Appends writer.old (table_node (header_cells (header_view header.now))) writer.new) }
+    ensures typed { OnOk result (IsHeader (header_view header.now)) }
+{
+    match header {
+        Header::Schema(schema) => write_schema(writer, schema),
+        Header::Dictionary(id, delta, batch) => write_dictionary(writer, *id, *delta, batch),
+        Header::Batch(batch) => write_batch(writer, batch),
+    }
+}

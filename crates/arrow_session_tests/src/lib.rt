@@ -1,8 +1,0 @@
-//! Tests of `arrow_writer` and `arrow_session`, in a crate of their own so that the libraries are
-//! not proved once more with them.
-#![tactic(auto)]
-
-#[cfg(test)]
-mod tests;
-#[cfg(test)]
-mod written;

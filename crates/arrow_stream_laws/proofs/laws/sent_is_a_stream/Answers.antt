@@ -1,0 +1,5 @@
+use Rattle.arrow_stream_laws.proofs.Writers.{broken_delivered, stream_sent}
+use Rattle.arrow_stream_laws.proofs.laws.sent_is_a_stream.Goals as goal
+
+pub returns : goal.returns
+returns c = record { stream = stream_sent; broken = broken_delivered }

@@ -1,0 +1,10 @@
+pub mod Sizes
+pub mod Rows
+pub mod Built
+pub mod Plan
+pub mod Frames
+pub mod Admission
+pub mod Text
+pub mod Laws
+pub mod Writer
+pub mod Standing

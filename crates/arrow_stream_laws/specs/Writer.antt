@@ -1,0 +1,164 @@
+-- What a writer shows, and what its calls answer.
+use Rattle.std.specs.Prelude.{◌≡◌, ℕ, ℤ, ◌+◌, true, false, Bool, List, [], ◌∷◌, ◌++◌, length, Option, Some, None, Result, Ok, Err}
+use Rattle.std.specs.Io.KnownBytes.{Appends}
+use Rattle.arrow_types.specs.Limits.{LimitNumbers}
+use Rattle.arrow_types.specs.Notes.{SchemaShape}
+use Rattle.arrow_data.specs.Batch.{Table}
+use Rattle.arrow_data.specs.Column.{ValueList}
+use Rattle.arrow_meta_reader.specs.Means.{schema}
+use Rattle.arrow_sink.specs.Sinks.{AcceptsBeginning}
+use Rattle.arrow_stream_reader.specs.State.{nothing_yet}
+use Rattle.arrow_sink.specs.declared.status.Status.{Status}
+use Rattle.arrow_sink.specs.declared.status.Status.TheVariants as statuses
+use Rattle.arrow_sink.specs.declared.write_fault.WriteFault.{WriteFault}
+use Rattle.arrow_sink.specs.declared.write_fault.WriteFault.TheVariants.{SchemaDiffers, TooLarge, DictionariesDiffer, Sink, Broken, Finished, Memory}
+use Rattle.arrow_stream_laws.specs.Sizes.{Options, schema_size}
+use Rattle.arrow_stream_laws.specs.Plan.{lists_after}
+use Rattle.arrow_stream_laws.specs.Admission.{admission, schema_admission, marker_fits, part_size}
+use Rattle.arrow_stream_laws.specs.Frames.{Frame, frames_bytes, left_by, IsFrameOf, IsMarker}
+use Rattle.arrow_stream_laws.specs.Text.{IsPart, Written, joined}
+
+-- What a writer shows: what it was started with, the dictionaries that were sent, the place of the next frame, whether it takes
+-- more, and of its sink what it accepted, where it tells, and how many of its calls failed.
+pub record Shows : Type 0 where
+  pub limits : LimitNumbers
+  pub options : Options
+  pub shape : SchemaShape
+  pub sent : List (ℤ × ValueList)
+  pub place : ℕ
+  pub status : Status
+  pub contents : Option (List ℕ)
+  pub failures : ℕ
+
+-- what a writer is at that is not broken: closed, or not
+abbrev pub status_of : Bool → Status
+status_of false = statuses.Writing
+status_of true = statuses.Finished
+
+-- A writer, whose sink held base at its start, stands at these parts and these batches, closed or not.
+pub record Stands (w : Shows) (base : Option (List ℕ)) (closed : Bool) (parts : List (List ℕ)) (batches : List Table) : Type 0 where
+  pub frames : List Frame
+  pub written : Written w.limits w.options w.shape closed parts batches frames
+  pub sent_are : w.sent ≡ (left_by nothing_yet frames).dictionaries
+  pub place_is : w.place ≡ length (joined parts)
+  pub accepted : Appends base w.contents (joined parts)
+  pub status_is : w.status ≡ status_of closed
+
+-- the part of the batch was accepted whole
+pub record Accepts (old : Shows) (t : Table) (new : Shows) : Type 0 where
+  pub open_before : old.status ≡ statuses.Writing
+  pub frames : List Frame
+  pub is_part : IsPart old.limits old.options old.shape old.sent old.place t frames
+  pub accepted : Appends old.contents new.contents (frames_bytes frames)
+  pub new_is : new ≡ record old {
+    sent = lists_after old.options.updates old.shape.fields old.sent t;
+    place = old.place + part_size old.options old.shape.fields old.sent t;
+    contents = new.contents;
+  }
+  pub stands : (base : Option (List ℕ)) (parts : List (List ℕ)) (batches : List Table) → Stands old base false parts batches →
+      Stands new base false (parts ++ frames_bytes frames ∷ []) (batches ++ t ∷ [])
+
+-- the sink failed in the part, of which it accepted a beginning; what it accepted in all is a beginning of a text's parts
+pub record Fails (old : Shows) (t : Table) (new : Shows) : Type 0 where
+  pub open_before : old.status ≡ statuses.Writing
+  pub frames : List Frame
+  pub is_part : IsPart old.limits old.options old.shape old.sent old.place t frames
+  pub accepted : AcceptsBeginning old.contents new.contents (frames_bytes frames)
+  pub new_is : new ≡ record old { status = statuses.Broken; contents = new.contents; failures = old.failures + 1 }
+  pub in_all : (base : Option (List ℕ)) (parts : List (List ℕ)) (batches : List Table) → Stands old base false parts batches →
+      AcceptsBeginning base new.contents (joined (parts ++ frames_bytes frames ∷ []))
+
+-- an open writer refused the batch, and nothing has changed
+pub record Refuses (old : Shows) (t : Table) (k : WriteFault) (new : Shows) : Type 0 where
+  pub open_before : old.status ≡ statuses.Writing
+  pub refusal : admission old.limits old.options old.shape old.sent old.place t ≡ Some k
+  pub unchanged : new ≡ old
+
+-- nothing has changed of a writer with this status
+pub record Stays (old : Shows) (status : Status) (new : Shows) : Type 0 where
+  pub before : old.status ≡ status
+  pub unchanged : new ≡ old
+
+-- what a write answers
+abbrev pub Writes : Shows → Table → Result (Unit {0}) WriteFault → Shows → Type 0
+Writes old t (Ok done) new = Accepts old t new
+Writes old t (Err SchemaDiffers) new = Refuses old t SchemaDiffers new
+Writes old t (Err TooLarge) new = Refuses old t TooLarge new
+Writes old t (Err DictionariesDiffer) new = Refuses old t DictionariesDiffer new
+Writes old t (Err Sink) new = Fails old t new
+Writes old t (Err Broken) new = Stays old statuses.Broken new
+Writes old t (Err Finished) new = Stays old statuses.Finished new
+Writes old t (Err Memory) new = Stays old statuses.Writing new
+
+-- the place behind a schema's frame
+abbrev pub first_place : Options → SchemaShape → ℕ
+first_place o shape = 8 + schema_size o.align shape
+
+-- where a start leaves a writer: the schema's frame is accepted
+pub record Starts (limits : LimitNumbers) (o : Options) (shape : SchemaShape) (base : Option (List ℕ)) (failures : ℕ) (new : Shows) : Type 0 where
+  pub part : List ℕ
+  pub new_is : new ≡ record {
+    limits = limits;
+    options = o;
+    shape = shape;
+    sent = [];
+    place = first_place o shape;
+    status = statuses.Writing;
+    contents = new.contents;
+    failures = failures;
+  }
+  pub stands : Stands new base false (part ∷ []) []
+
+-- the sink failed in the schema's frame
+pub record FailsAtStart (limits : LimitNumbers) (o : Options) (shape : SchemaShape) (base : Option (List ℕ)) (failures : ℕ) (contents : Option (List ℕ)) (now : ℕ) : Type 0 where
+  pub admitted : schema_admission limits o shape ≡ None
+  pub part : List ℕ
+  pub is_frame : IsFrameOf limits (schema_size o.align shape) (schema shape) [] part
+  pub accepted : AcceptsBeginning base contents part
+  pub failed : now ≡ failures + 1
+
+-- what a start that is refused leaves of the sink, which held base
+abbrev pub StartFails : LimitNumbers → Options → SchemaShape → Option (List ℕ) → ℕ → WriteFault → Option (List ℕ) → ℕ → Type 0
+StartFails limits o shape base failures TooLarge contents now = (schema_admission limits o shape ≡ Some TooLarge) × (contents ≡ base) × (now ≡ failures)
+StartFails limits o shape base failures Memory contents now = (contents ≡ base) × (now ≡ failures)
+StartFails limits o shape base failures Sink contents now = FailsAtStart limits o shape base failures contents now
+StartFails limits o shape base failures k contents now = ⊥
+
+-- the end marker was accepted
+pub record Ends (old new : Shows) : Type 0 where
+  pub open_before : old.status ≡ statuses.Writing
+  pub marker : List ℕ
+  pub is_marker : IsMarker marker
+  pub fits_in : marker_fits old.place ≡ true
+  pub accepted : Appends old.contents new.contents marker
+  pub new_is : new ≡ record old { place = old.place + 8; status = statuses.Finished; contents = new.contents }
+  pub stands : (base : Option (List ℕ)) (parts : List (List ℕ)) (batches : List Table) → Stands old base false parts batches →
+      Stands new base true (parts ++ marker ∷ []) batches
+
+-- the sink failed in the end marker, or as it was flushed
+pub record FailsAtEnd (old new : Shows) : Type 0 where
+  pub open_before : old.status ≡ statuses.Writing
+  pub marker : List ℕ
+  pub is_marker : IsMarker marker
+  pub fits_in : marker_fits old.place ≡ true
+  pub accepted : AcceptsBeginning old.contents new.contents marker
+  pub new_is : new ≡ record old { status = statuses.Broken; contents = new.contents; failures = old.failures + 1 }
+  pub in_all : (base : Option (List ℕ)) (parts : List (List ℕ)) (batches : List Table) → Stands old base false parts batches →
+      AcceptsBeginning base new.contents (joined (parts ++ marker ∷ []))
+
+-- an end marker would pass the last place, and nothing has changed
+pub record PassesPlace (old new : Shows) : Type 0 where
+  pub open_before : old.status ≡ statuses.Writing
+  pub passes : marker_fits old.place ≡ false
+  pub unchanged : new ≡ old
+
+-- what a finish answers
+abbrev pub Finishes : Shows → Result (Unit {0}) WriteFault → Shows → Type 0
+Finishes old (Ok done) new = Ends old new
+Finishes old (Err TooLarge) new = PassesPlace old new
+Finishes old (Err Sink) new = FailsAtEnd old new
+Finishes old (Err Broken) new = Stays old statuses.Broken new
+Finishes old (Err Finished) new = Stays old statuses.Finished new
+Finishes old (Err Memory) new = ⊥
+Finishes old (Err SchemaDiffers) new = ⊥
+Finishes old (Err DictionariesDiffer) new = ⊥

@@ -1,0 +1,58 @@
+-- A metadata means one thing, no message has a body over the limit, and what the layer below answers is what is meant.
+use Rattle.std.proofs.Common.{◌≡◌, ℕ, ◌≤◌, List, ◌+◌, length, refl, sym, ap, ◌∙◌, subst, arith, inl, inr, Result, Ok, Err}
+use Rattle.std.specs.Prelude.{is_some}
+use Rattle.arrow_types.specs.Limits.{LimitNumbers}
+use Rattle.arrow_meta_reader.specs.declared.fault.MetaFault.{MetaFault}
+use Rattle.arrow_meta_reader.specs.declared.fault.MetaFault.TheVariants as faults
+use Rattle.arrow_meta_reader.specs.Judges.{Decodes, MetadataMeans}
+use Rattle.arrow_meta_reader.specs.Means.{PlainMessage}
+use Rattle.arrow_meta_reader.proofs.Least.{meaning_length}
+use Rattle.arrow_meta_reader.proofs.OneAnswer.{never_both, one_fault, one_message}
+use Rattle.arrow_stream_reader.specs.Message.{Message}
+use Rattle.arrow_stream_reader.specs.declared.message.Message.{Message as Held}
+use Rattle.arrow_stream_reader.specs.declared.message.Stop.{Stop}
+use Rattle.arrow_stream_reader.specs.declared.message.Stop.TheVariants.{Refused, Memory}
+use Rattle.arrow_stream_reader.specs.Views.{Placed, StopsBy, Understood}
+use Rattle.arrow_stream_reader.specs.Meaning.{Means, announced}
+use Rattle.arrow_stream_reader.specs.State.{StreamState}
+
+-- a metadata means one thing
+pub one_meaning : (l : LimitNumbers) (b : List ℕ) (r q : Result Message MetaFault) → Means l b r → Means l b q → r ≡ q
+one_meaning l b (Ok m) (Ok n) h k = ap Ok (h.2 ∙ ap announced (one_message l b h.0 k.0 h.1 k.1) ∙ sym k.2)
+one_meaning l b (Ok m) (Err f) h k = absurd (never_both l b h.0 f h.1 k)
+one_meaning l b (Err f) (Ok m) h k = absurd (never_both l b k.0 f k.1 h)
+one_meaning l b (Err f) (Err g) h k = ap Err (one_fault l b f g h k)
+
+-- the body of a message that a metadata means is within the limit
+pub meaning_small : (l : LimitNumbers) (b : List ℕ) (m : Message) → Means l b (Ok m) → m.body_len ≤ l.max_body
+meaning_small l b m h =
+    let same = ap (λ (u : Message). u.body_len) h.2 in
+    omega (arith, same, meaning_length l.max_body h.1.0 h.0 h.1.2)
+
+-- what the layer below answers is what is meant
+pub decoded_means : (l : LimitNumbers) (b : List ℕ) (m : PlainMessage) → MetadataMeans l b m → Means l b (Ok (announced m))
+decoded_means l b m h = (m, h, refl)
+
+-- so is a fault, but for want of memory
+pub decoded_fault : (l : LimitNumbers) (b : List ℕ) (f : MetaFault) → (f ≡ faults.Memory → ⊥) → Decodes (Err f) l b → Means l b (Err f)
+decoded_fault l b faults.Metadata n h = h
+decoded_fault l b faults.Version n h = h
+decoded_fault l b faults.Header n h = h
+decoded_fault l b faults.BodyLength n h = h
+decoded_fault l b (faults.Unsupported k) n h = h
+decoded_fault l b (faults.Schema k) n h = h
+decoded_fault l b (faults.Compressed j k) n h = h
+decoded_fault l b faults.Memory n h = absurd (n refl)
+
+-- what is understood of a metadata with a fault
+pub fault_understood : (l : LimitNumbers) (s : StreamState) (start : ℕ) (b : List ℕ) (f : MetaFault) (stop : Stop) →
+    Decodes (Err f) l b → StopsBy stop (is_some s.schema) (start + length b) f → Understood l s start b (Err stop)
+fault_understood l s start b f Memory d h = inl (subst (λ x. Decodes (Err x) l b) h d)
+fault_understood l s start b f (Refused k) d h = record { meant = Err f; means = decoded_fault l b f h.0 d; says = ap Err h.1 }
+
+-- what is understood of a metadata that means a message
+pub message_understood : (l : LimitNumbers) (s : StreamState) (start : ℕ) (b : List ℕ) (m : PlainMessage) (r : Result Held Stop) →
+    MetadataMeans l b m → Placed l.max_rows s (start + length b) m r → Understood l s start b r
+message_understood l s start b m (Ok t) h p = record { meant = Ok (announced m); means = decoded_means l b m h; says = p }
+message_understood l s start b m (Err (Refused k)) h p = record { meant = Ok (announced m); means = decoded_means l b m h; says = p }
+message_understood l s start b m (Err Memory) h p = inr (announced m, record { meant = Ok (announced m); means = decoded_means l b m h; says = sym p })

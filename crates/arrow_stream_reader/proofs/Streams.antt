@@ -1,0 +1,202 @@
+-- How a step of the work moves a reader along its stream.
+use Rattle.std.proofs.Common.{◌≡◌, ℕ, ◌+◌, ◌-◌, ◌<◌, ◌≤◌, List, [], ◌∷◌, ◌++◌, length, take, drop, refl, sym, ap, ◌∙◌, subst, arith, length-append, length-take, inl, inr}
+use Rattle.std.proofs.Math.Seq.{take-append-add, take-append_seam}
+use Rattle.std.proofs.lemmas.Bool.{cases_lt}
+use Rattle.std.proofs.Math.ListN.{drop_of_length-le}
+use Rattle.std.proofs.lemmas.List.{append-nil, take-append-le}
+use Rattle.arrow_types.specs.Limits.{LimitNumbers}
+use Rattle.arrow_stream_reader.specs.declared.kind.Refusal.{Refusal}
+use Rattle.arrow_stream_reader.specs.declared.item.Item.{Item}
+use Rattle.arrow_stream_reader.specs.declared.item.Item.TheVariants.{End}
+use Rattle.arrow_stream_reader.specs.declared.reader.Verdict.{Verdict}
+use Rattle.arrow_stream_reader.specs.declared.reader.Verdict.TheVariants.{Open, Done, Bad}
+use Rattle.arrow_stream_reader.specs.declared.work.Work.{Work}
+use Rattle.arrow_stream_reader.specs.State.{StreamState, ended, nothing_yet}
+use Rattle.arrow_stream_reader.specs.Frame.{Outcome, First, whole, marker, refused, waits, short_prefix}
+use Rattle.arrow_stream_reader.specs.Front.{Entry, Standing, FrontOf, rests, fails, closes, goes_on}
+use Rattle.arrow_stream_reader.specs.Views.{plain, given}
+use Rattle.arrow_stream_reader.specs.Work.{Waited, Gave, Marked, FirstAt}
+use Rattle.arrow_stream_reader.specs.Stream.{Shows, Stands, fresh}
+use Rattle.arrow_stream_reader.proofs.Firsts.{First-take, marker-take, First-within, marker-within, one_first}
+use Rattle.arrow_stream_reader.proofs.Fronts.{front_then, front_ended, front_place, at_bytes}
+
+-- what a reader shows, by its work and its verdict
+abbrev pub shown_by : Work → Verdict → Shows
+shown_by w o = record { limits = w.limits; at = record { state = plain w.state; place = w.place; rest = w.held.items; verdict = o } }
+
+abbrev pub standing : StreamState → ℕ → List ℕ → Verdict → Standing
+standing s p r o = record { state = s; place = p; rest = r; verdict = o }
+
+-- the same front under other names
+moved : {l : LimitNumbers} {b : List ℕ} {es : List Entry} {s : StreamState} {p : ℕ} {r : List ℕ} {o : Verdict} (l' : LimitNumbers) (s' : StreamState) (p' : ℕ) (o' : Verdict) → l' ≡ l → s' ≡ s → p' ≡ p → o' ≡ o → FrontOf l b es (standing s p r o) → FrontOf l' b es (standing s' p' r o')
+moved {l} {b} {es} {s} {p} {r} {o} l' s' p' o' a c d e x =
+    subst (λ y. FrontOf y b es (standing s' p' r o')) (sym a)
+    (subst (λ y. FrontOf l b es (standing y p' r o')) (sym c)
+    (subst (λ y. FrontOf l b es (standing s y r o')) (sym d)
+    (subst (λ y. FrontOf l b es (standing s p r y)) (sym e) x)))
+
+-- the same outcome where the work changed nothing of what it is of
+pub first_moved : {o : Outcome} (w v : Work) (b c : List ℕ) → v.limits ≡ w.limits → plain v.state ≡ plain w.state →
+    v.place ≡ w.place → c ≡ b → FirstAt w b o → FirstAt v c o
+first_moved {o} w v b c l s p e x =
+    subst (λ y. First y (plain v.state) v.place c o) (sym l)
+    (subst (λ y. First w.limits y v.place c o) (sym s)
+    (subst (λ y. First w.limits (plain w.state) y c o) (sym p)
+    (subst (λ y. First w.limits (plain w.state) w.place y o) (sym e) x)))
+
+-- where nothing is held, less than a message is
+pub waits_at_nothing : (w : Work) → w.held.items ≡ [] → FirstAt w w.held.items waits
+waits_at_nothing w e = short_prefix (let n = ap length e in omega arith)
+
+module _ (w : Work) (waiting : FirstAt w w.held.items waits) (piece : List ℕ) where
+  -- the bytes of a message of this size, which are those held and the first of the piece
+  own_bytes : (size : ℕ) → length w.held.items ≤ size →
+      take size (w.held.items ++ piece) ≡ w.held.items ++ take (size - length w.held.items) piece
+  own_bytes size h =
+      let e : size ≡ length w.held.items + (size - length w.held.items) = omega arith in
+      ap (λ k. take k (w.held.items ++ piece)) e ∙ take-append-add w.held.items piece (size - length w.held.items)
+
+  own_length : (size : ℕ) → length w.held.items ≤ size → size ≤ length (w.held.items ++ piece) →
+      length (w.held.items ++ take (size - length w.held.items) piece) ≡ size
+  own_length size h k = let n = length-append w.held.items piece in simp (length-append, length-take) (omega arith)
+
+  -- a message that what is held does not hold takes a byte of the piece at least
+  takes_some : {A : Outcome} (size : ℕ) → (A ≡ waits → ⊥) →
+      FirstAt w (w.held.items ++ take (size - length w.held.items) piece) A → 0 < size - length w.held.items
+  takes_some {A} size n x =
+      elim (cases_lt 0 (size - length w.held.items)) [
+        | inl h ↦ h
+        | inr h ↦
+            let none : take (size - length w.held.items) piece ≡ [] = ap (λ k. take k piece) (let z : size - length w.held.items ≡ 0 = omega arith in z) in
+            let same : w.held.items ++ take (size - length w.held.items) piece ≡ w.held.items = ap (λ y. w.held.items ++ y) none ∙ append-nil w.held.items in
+            absurd (n (one_first (subst (λ y. FirstAt w y A) same x) waiting))
+      ]
+
+  -- a whole message stands at the front of its own bytes
+  whole_first : (item : Item) (v : Work) (x : Gave w (w.held.items ++ piece) item v) →
+      FirstAt w (w.held.items ++ take (x.size - length w.held.items) piece) (whole x.size (plain v.state) (given item))
+  whole_first item v x =
+      subst (λ y. FirstAt w y (whole x.size (plain v.state) (given item))) (own_bytes x.size x.covers)
+      (First-take x.size (omega arith) (First-within x.first) x.first)
+
+  -- a whole message takes a byte of the piece at least
+  pub whole_some : (item : Item) (v : Work) (x : Gave w (w.held.items ++ piece) item v) →
+      0 < x.size - length w.held.items
+  whole_some item v x = takes_some x.size (λ q. cc) (whole_first item v x)
+
+  marker_first : (m : Work) → Marked w (w.held.items ++ piece) m →
+      FirstAt w (w.held.items ++ take (8 - length w.held.items) piece) marker
+  marker_first m x =
+      subst (λ y. FirstAt w y marker) (own_bytes 8 x.covers)
+      (marker-take 8 (omega arith) (marker-within x.first) x.first)
+
+  -- so does an end marker
+  pub marker_some : (m : Work) → Marked w (w.held.items ++ piece) m → 0 < 8 - length w.held.items
+  marker_some m x = takes_some 8 (λ q. cc) (marker_first m x)
+
+  -- no more is taken than there is
+  pub taken_within : (size : ℕ) → size ≤ length (w.held.items ++ piece) → size - length w.held.items ≤ length piece
+  taken_within size k = omega (arith, length-append w.held.items piece)
+
+  module _ (o : Verdict) (open_now : o ≡ Open) (t : List ℕ) (es : List Entry) (at : Stands (shown_by w o) t es) where
+    -- the front where the reader stands, whose rest is held
+    open_front : FrontOf w.limits t es (standing (plain w.state) w.place w.held.items Open)
+    open_front =
+        subst (λ r. FrontOf w.limits t es (standing (plain w.state) w.place r Open)) (at.held open_now)
+        (subst (λ y. FrontOf w.limits t es (standing (plain w.state) w.place at.rest y)) open_now at.front)
+
+    place_at : w.place + length w.held.items ≡ length t
+    place_at = front_place open_front ∙ omega arith
+
+    -- with less than a message the reader stands behind the piece
+    pub short_stands : (v : Work) → Waited w (w.held.items ++ piece) v → Stands (shown_by v o) (t ++ piece) es
+    short_stands v x = record {
+      rest = w.held.items ++ piece;
+      front =
+          let f = front_then piece open_front refl (rests x.first) in
+          let g = subst (λ y. FrontOf w.limits (t ++ piece) y (standing (plain w.state) w.place (w.held.items ++ piece) Open)) (append-nil es) f in
+          moved v.limits (plain v.state) v.place o x.same.limits x.same.state x.same.place open_now g;
+      held = λ _. sym x.held;
+    }
+
+    -- with a whole message it stands behind its last byte, and the message is the newest entry
+    pub whole_stands : (item : Item) (v : Work) (x : Gave w (w.held.items ++ piece) item v) →
+        Stands (shown_by v o) (t ++ take (x.size - length w.held.items) piece) (es ++ record { given = given item; end = length t + (x.size - length w.held.items) } ∷ [])
+    whole_stands item v x =
+        let n = x.size - length w.held.items in
+        let b = w.held.items ++ take n piece in
+        let first = whole_first item v x in
+        let len : length b ≡ x.size = own_length x.size x.covers (First-within x.first) in
+        let none : drop x.size b ≡ [] = drop_of_length-le b (omega (arith, len)) in
+        let f = front_then (take n piece) open_front refl (goes_on first (at_bytes (sym none) (rests (short_prefix (omega arith))))) in
+        let end : w.place + x.size ≡ length t + n = omega (arith, place_at, x.covers) in
+        record {
+          rest = [];
+          front =
+              let g = subst (λ y. FrontOf w.limits (t ++ take n piece) (es ++ record { given = given item; end = y } ∷ []) (standing (plain v.state) (w.place + x.size) [] Open)) end f in
+              moved v.limits (plain v.state) v.place o x.limits refl x.place open_now g;
+          held = λ _. sym x.held;
+        }
+
+    -- so with the end marker
+    pub marker_stands : (m v : Work) → Marked w (w.held.items ++ piece) m → v.limits ≡ m.limits →
+        plain v.state ≡ plain m.state → v.place ≡ m.place + 8 →
+        Stands (shown_by v Done) (t ++ take (8 - length w.held.items) piece) (es ++ record { given = given End; end = length t + (8 - length w.held.items) } ∷ [])
+    marker_stands m v x limits state place =
+        let n = 8 - length w.held.items in
+        let b = w.held.items ++ take n piece in
+        let f = front_then (take n piece) open_front refl (closes (marker_first m x)) in
+        let end : w.place + 8 ≡ length t + n = omega (arith, place_at, x.covers) in
+        record {
+          rest = drop 8 b;
+          front =
+              let g = subst (λ y. FrontOf w.limits (t ++ take n piece) (es ++ record { given = ended; end = y } ∷ []) (standing (plain w.state) (w.place + 8) (drop 8 b) Done)) end f in
+              moved v.limits (plain v.state) v.place Done (limits ∙ x.same.limits) (state ∙ x.same.state) (place ∙ ap (λ y. y + 8) x.same.place) refl g;
+          held = λ q. absurd (cc);
+        }
+
+    -- with a refusal it stands behind the piece
+    pub refusal_stands : (k : Refusal) (v : Work) → FirstAt w (w.held.items ++ piece) (refused k) →
+        v.limits ≡ w.limits → plain v.state ≡ plain w.state → v.place ≡ w.place →
+        Stands (shown_by v (Bad k)) (t ++ piece) es
+    refusal_stands k v x limits state place =
+        let f = front_then piece open_front refl (fails x) in
+        let g = subst (λ y. FrontOf w.limits (t ++ piece) y (standing (plain w.state) w.place (w.held.items ++ piece) (Bad k))) (append-nil es) f in
+        record {
+          rest = w.held.items ++ piece;
+          front = moved v.limits (plain v.state) v.place (Bad k) limits state place refl g;
+          held = λ q. absurd (cc);
+        }
+
+-- where a reader has ended, more bytes change nothing
+pub ended_stands : (r : Shows) (t : List ℕ) (es : List Entry) (c : List ℕ) → (r.at.verdict ≡ Open → ⊥) →
+    Stands r t es → Stands r (t ++ c) es
+ended_stands r t es c n at = record { rest = at.rest ++ c; front = front_ended c n at.front; held = λ q. absurd (n q) }
+
+-- a reader to which nothing was given stands at nothing
+pub fresh_stands : (l : LimitNumbers) → Stands (fresh l) [] []
+fresh_stands l = record { rest = []; front = rests (short_prefix (omega arith)); held = λ _. refl }
+
+-- what a reader shows is told by its parts
+pub same_shows : (w : Work) (o : Verdict) (l : LimitNumbers) (s : StreamState) (p : ℕ) (h : List ℕ) (q : Verdict) →
+    w.limits ≡ l → plain w.state ≡ s → w.place ≡ p → w.held.items ≡ h → o ≡ q →
+    shown_by w o ≡ record { limits = l; at = standing s p h q }
+same_shows w o l s p h q a b c d e =
+    ap (λ y. record { limits = y; at = standing (plain w.state) w.place w.held.items o }) a
+    ∙ ap (λ y. record { limits = l; at = standing y w.place w.held.items o }) b
+    ∙ ap (λ y. record { limits = l; at = standing s y w.held.items o }) c
+    ∙ ap (λ y. record { limits = l; at = standing s p y o }) d
+    ∙ ap (λ y. record { limits = l; at = standing s p h y }) e
+
+-- so does one whose parts are those of such a reader
+pub anew_stands : (l : LimitNumbers) (s : StreamState) (p : ℕ) (h : List ℕ) → s ≡ nothing_yet → p ≡ 0 → h ≡ [] →
+    Stands (record { limits = l; at = standing s p h Open }) [] []
+anew_stands l s p h a b c =
+    subst (λ y. Stands (record { limits = l; at = standing y p h Open }) [] []) (sym a)
+    (subst (λ y. Stands (record { limits = l; at = standing nothing_yet y h Open }) [] []) (sym b)
+    (subst (λ y. Stands (record { limits = l; at = standing nothing_yet 0 y Open }) [] []) (sym c) (fresh_stands l)))
+
+-- what is a beginning of the same bytes, and as long
+pub beginning : (a p m r : List ℕ) (k : ℕ) → k ≡ length a → a ++ p ≡ m ++ r → length a ≤ length m → take k m ≡ a
+beginning a p m r k e q h =
+    ap (λ i. take i m) e ∙ sym (take-append-le (length a) m r h) ∙ ap (take (length a)) (sym q) ∙ take-append_seam a p

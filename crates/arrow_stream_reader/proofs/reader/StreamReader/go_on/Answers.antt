@@ -1,0 +1,144 @@
+use Rattle.std.proofs.Common.{◌≡◌, ◌-◌, [], ◌++◌, ◌∷◌, ◌+◌, length, take, ap, sym, refl, ◌∙◌, subst, arith, add-zero, inl, inr}
+use Rattle.std.proofs.lemmas.List.{take_all}
+use Rattle.arrow_stream_reader.specs.declared.reader.Verdict.TheVariants.{Open, Done}
+use Rattle.arrow_stream_reader.specs.declared.kind.Kind.TheVariants.{Memory}
+use Rattle.arrow_stream_reader.specs.declared.item.Item.TheVariants.{End}
+use Rattle.arrow_stream_reader.specs.Views.{plain, given}
+use Rattle.arrow_stream_reader.specs.Stream.{Stands}
+use Rattle.arrow_stream_reader.proofs.Firsts.{First-within, marker-within}
+use Rattle.arrow_stream_reader.proofs.Streams.{shown_by, first_moved, waits_at_nothing, short_stands, whole_stands, marker_stands, refusal_stands, taken_within, whole_some, marker_some, same_shows, beginning}
+use Rattle.arrow_stream_reader.proofs.reader.StreamReader.go_on.Goals as goal
+
+pub returns-in-Ok-Short-clause-reads : goal.returns-in-Ok-Short-clause-reads
+returns-in-Ok-Short-clause-reads c = λ t es at.
+    let open_now : c.self.inside.verdict ≡ Open = ap (λ r. r.at.verdict) c.self.view_is ∙ c.requires.open in
+    let at' = subst (λ r. Stands r t es) (sym c.self.view_is) at in
+    let x = rw c.in-Ok-Short.field-0-is at c.in-Ok-Short.ensures.works in
+    let piece = c.args.piece.now in
+    let w = c.self.inside.work in
+    record {
+      stands = subst (λ y. Stands (shown_by c.step.new.self c.self.inside.verdict) (t ++ y) es) (sym (take_all (length piece) piece (omega arith)))
+          (short_stands w (c.self.invariant.waiting open_now) piece c.self.inside.verdict open_now t es at' c.step.new.self x);
+      all = λ _. refl;
+      same = ap (λ r. r.at.verdict) c.self.view_is;
+      none = λ q. absurd (let e = c.requires.open in cc);
+    }
+
+pub returns-in-Ok-Whole-clause-takes : goal.returns-in-Ok-Whole-clause-takes
+returns-in-Ok-Whole-clause-takes c =
+    let open_now : c.self.inside.verdict ≡ Open = ap (λ r. r.at.verdict) c.self.view_is ∙ c.requires.open in
+    let x = rw c.in-Ok-Whole.field-0-is at c.in-Ok-Whole.ensures.works in
+    let piece = c.args.piece.now in
+    let w = c.self.inside.work in
+    let waiting = c.self.invariant.waiting open_now in
+    let taken : x.size - length w.held.items ≡ c.step.new.self.place - w.place - c.len-before.result = omega (arith, x.place, c.len-before.ensures.count) in
+    (rw (← taken) (whole_some w waiting piece c.in-Ok-Whole.item c.step.new.self x), rw (← taken) (taken_within w waiting piece x.size (First-within x.first)))
+
+pub returns-in-Ok-Whole-clause-reads : goal.returns-in-Ok-Whole-clause-reads
+returns-in-Ok-Whole-clause-reads c = λ t es at.
+    let open_now : c.self.inside.verdict ≡ Open = ap (λ r. r.at.verdict) c.self.view_is ∙ c.requires.open in
+    let at' = subst (λ r. Stands r t es) (sym c.self.view_is) at in
+    let x = rw c.in-Ok-Whole.field-0-is at c.in-Ok-Whole.ensures.works in
+    let piece = c.args.piece.now in
+    let w = c.self.inside.work in
+    let waiting = c.self.invariant.waiting open_now in
+    let taken : x.size - length w.held.items ≡ c.step.new.self.place - w.place - c.len-before.result = omega (arith, x.place, c.len-before.ensures.count) in
+    record {
+      some = rw (← taken) (whole_some w waiting piece c.in-Ok-Whole.item c.step.new.self x);
+      within = rw (← taken) (taken_within w waiting piece x.size (First-within x.first));
+      stands = subst (λ n. Stands (shown_by c.step.new.self c.self.inside.verdict) (t ++ take n piece) (es ++ record { given = given c.in-Ok-Whole.item; end = length t + n } ∷ [])) taken
+          (whole_stands w waiting piece c.self.inside.verdict open_now t es at' c.in-Ok-Whole.item c.step.new.self x);
+    }
+
+pub invariant_of-self-in-Ok-Whole : goal.invariant_of-self-in-Ok-Whole
+invariant_of-self-in-Ok-Whole c =
+    let open_now : c.self.inside.verdict ≡ Open = ap (λ r. r.at.verdict) c.self.view_is ∙ c.requires.open in
+    let x = rw c.in-Ok-Whole.field-0-is at c.in-Ok-Whole.ensures.works in
+    record {
+      at = x.at;
+      waiting = λ _. waits_at_nothing c.step.new.self x.held;
+      empty = λ n. absurd (n open_now);
+    }
+
+pub returns-in-Ok-EndMarker-clause-takes : goal.returns-in-Ok-EndMarker-clause-takes
+returns-in-Ok-EndMarker-clause-takes c =
+    let open_now : c.self.inside.verdict ≡ Open = ap (λ r. r.at.verdict) c.self.view_is ∙ c.requires.open in
+    let x = rw c.in-Ok-EndMarker.field-0-is at c.in-Ok-EndMarker.ensures.works in
+    let piece = c.args.piece.now in
+    let w = c.self.inside.work in
+    let waiting = c.self.invariant.waiting open_now in
+    let taken : 8 - length w.held.items ≡ 8 - c.len-before.result = omega (arith, c.len-before.ensures.count) in
+    (rw (← taken) (marker_some w waiting piece c.step.new.self x), rw (← taken) (taken_within w waiting piece 8 (marker-within x.first)))
+
+pub returns-in-Ok-EndMarker-clause-reads : goal.returns-in-Ok-EndMarker-clause-reads
+returns-in-Ok-EndMarker-clause-reads c = λ t es at.
+    let open_now : c.self.inside.verdict ≡ Open = ap (λ r. r.at.verdict) c.self.view_is ∙ c.requires.open in
+    let at' = subst (λ r. Stands r t es) (sym c.self.view_is) at in
+    let x = rw c.in-Ok-EndMarker.field-0-is at c.in-Ok-EndMarker.ensures.works in
+    let piece = c.args.piece.now in
+    let w = c.self.inside.work in
+    let waiting = c.self.invariant.waiting open_now in
+    let taken : 8 - length w.held.items ≡ 8 - c.len-before.result = omega (arith, c.len-before.ensures.count) in
+    record {
+      some = rw (← taken) (marker_some w waiting piece c.step.new.self x);
+      within = rw (← taken) (taken_within w waiting piece 8 (marker-within x.first));
+      stands = subst (λ n. Stands (shown_by c.pass.new.self Done) (t ++ take n piece) (es ++ record { given = given End; end = length t + n } ∷ [])) taken
+          (marker_stands w waiting piece c.self.inside.verdict open_now t es at' c.step.new.self c.pass.new.self x c.pass.ensures.limits c.pass.ensures.state c.pass.ensures.place);
+    }
+
+pub returns-in-Err-Refused-clause-reads : goal.returns-in-Err-Refused-clause-reads
+returns-in-Err-Refused-clause-reads c = λ t es at.
+    let open_now : c.self.inside.verdict ≡ Open = ap (λ r. r.at.verdict) c.self.view_is ∙ c.requires.open in
+    let at' = subst (λ r. Stands r t es) (sym c.self.view_is) at in
+    let x = rw c.in-Err-Refused.field-0-is at c.in-Err-Refused.ensures.works in
+    let y = c.pass-in-Err-Refused.ensures in
+    let w = c.self.inside.work in
+    let place : c.pass-in-Err-Refused.new.self.place ≡ w.place = y.place ∙ add-zero _ ∙ x.stopped.same.place in
+    inr (record {
+      refusal = c.in-Err-Refused.refusal;
+      kind = c.kind.ensures.same;
+      verdict = refl;
+      place = sym place;
+      stands = refusal_stands w (c.self.invariant.waiting open_now) c.args.piece.now c.self.inside.verdict open_now t es at' c.in-Err-Refused.refusal c.pass-in-Err-Refused.new.self x.first (y.limits ∙ x.stopped.same.limits) (y.state ∙ x.stopped.same.state) place;
+      held = y.held;
+    })
+
+pub returns-in-Err-Memory-clause-reads : goal.returns-in-Err-Memory-clause-reads
+returns-in-Err-Memory-clause-reads c = λ t es at.
+    let x = rw c.in-Err-Memory.field-0-is at c.in-Err-Memory.ensures.works in
+    let y = c.rewind.ensures.rewound in
+    let w = c.self.inside.work in
+    let v = c.rewind.new.self in
+    let held : v.held.items ≡ w.held.items = y.held ∙ beginning w.held.items c.args.piece.now c.step.new.self.held.items x.more c.len-before.result c.len-before.ensures.count x.held x.covers in
+    let same = same_shows v c.self.inside.verdict w.limits (plain w.state) w.place w.held.items c.self.inside.verdict (y.same.limits ∙ x.same.limits) (y.same.state ∙ x.same.state) (y.same.place ∙ x.same.place) held refl in
+    inl (record {
+      fault_is = ap (λ p. record { kind = Memory; place = p }) (ap (λ r. r.at.place) c.self.view_is);
+      same = same ∙ c.self.view_is;
+    })
+
+pub returns-in-Err-Memory-clause-memory : goal.returns-in-Err-Memory-clause-memory
+returns-in-Err-Memory-clause-memory c = λ q.
+    let x = rw c.in-Err-Memory.field-0-is at c.in-Err-Memory.ensures.works in
+    let y = c.rewind.ensures.rewound in
+    let w = c.self.inside.work in
+    let v = c.rewind.new.self in
+    let held : v.held.items ≡ w.held.items = y.held ∙ beginning w.held.items c.args.piece.now c.step.new.self.held.items x.more c.len-before.result c.len-before.ensures.count x.held x.covers in
+    let same = same_shows v c.self.inside.verdict w.limits (plain w.state) w.place w.held.items c.self.inside.verdict (y.same.limits ∙ x.same.limits) (y.same.state ∙ x.same.state) (y.same.place ∙ x.same.place) held refl in
+    record {
+      fault_is = ap (λ p. record { kind = Memory; place = p }) (ap (λ r. r.at.place) c.self.view_is);
+      same = same ∙ c.self.view_is;
+    }
+
+pub invariant_of-self-in-Err-Memory : goal.invariant_of-self-in-Err-Memory
+invariant_of-self-in-Err-Memory c =
+    let open_now : c.self.inside.verdict ≡ Open = ap (λ r. r.at.verdict) c.self.view_is ∙ c.requires.open in
+    let x = rw c.in-Err-Memory.field-0-is at c.in-Err-Memory.ensures.works in
+    let y = c.rewind.ensures.rewound in
+    let w = c.self.inside.work in
+    let v = c.rewind.new.self in
+    let held : v.held.items ≡ w.held.items = y.held ∙ beginning w.held.items c.args.piece.now c.step.new.self.held.items x.more c.len-before.result c.len-before.ensures.count x.held x.covers in
+    record {
+      at = y.at;
+      waiting = λ _. first_moved w v w.held.items v.held.items (y.same.limits ∙ x.same.limits) (y.same.state ∙ x.same.state) (y.same.place ∙ x.same.place) held (c.self.invariant.waiting open_now);
+      empty = λ n. absurd (n open_now);
+    }

@@ -1,0 +1,17 @@
+use Rattle.std.proofs.Common.{refl, ap, length, arith}
+use Rattle.arrow_stream_reader.specs.Frame.{short_prefix}
+use Rattle.arrow_stream_reader.specs.Views.{plain}
+use Rattle.arrow_stream_reader.proofs.Streams.{anew_stands}
+use Rattle.arrow_stream_reader.proofs.reader.StreamReader.new.Goals as goal
+
+pub invariant_of-result : goal.invariant_of-result
+invariant_of-result c =
+    let none = ap length c.new-2.ensures.none in
+    record {
+      at = record { shown = omega arith; near = omega arith; fit = c.new.ensures.fit };
+      waiting = λ _. short_prefix (omega arith);
+      empty = λ n. absurd (n refl);
+    }
+
+pub returns-clause-start : goal.returns-clause-start
+returns-clause-start c = anew_stands c.args.limits (plain c.new.result) 0 c.new-2.result.items c.new.ensures.nothing refl c.new-2.ensures.none

@@ -1,0 +1,79 @@
+use Rattle.std.proofs.Common.{◌≡◌, sym, ap, ◌∙◌, subst, Ok}
+use Rattle.arrow_types.specs.Notes.{SchemaShape}
+use Rattle.arrow_types.specs.Schema.{IsSchema}
+use Rattle.arrow_types.specs.View.{fields_view}
+use Rattle.arrow_data.specs.Batch.{HaveRows}
+use Rattle.arrow_data.specs.Column.{AreOf}
+use Rattle.arrow_body_reader.specs.Sound.{AreFit}
+use Rattle.arrow_meta_reader.specs.Means.{batch_view}
+use Rattle.arrow_stream_reader.specs.Batch.{Holds}
+use Rattle.arrow_stream_reader.specs.State.{fields_in, schema_in}
+use Rattle.arrow_stream_reader.specs.Views.{HasNoColumns, plain}
+use Rattle.arrow_stream_reader.proofs.Fitness.{state_fit}
+use Rattle.arrow_stream_reader.proofs.States.{batch_applicable, batch_read, batch_refused, held_fits}
+use Rattle.arrow_stream_reader.proofs.state.State.batch.Goals as goal
+
+pub hold-requires-clause-fit : goal.hold-requires-clause-fit
+hold-requires-clause-fit c =
+    let s = plain c.args.self.now in
+    let held = ap (λ (x : SchemaShape). x.fields) (c.deref.ensures ∙ c.shared-schema.ensures.same) ∙ sym (ap fields_in c.in-Some.is) in
+    let known = subst IsSchema held c.fields.ensures.limits in
+    let same : fields_in s.schema ≡ fields_view c.fields.result.now = sym (c.fields.ensures.same ∙ held) in
+    subst (λ x. AreFit x (fields_view c.fields.result.now)) (sym c.entries-dictionaries.ensures.all)
+    (subst (λ x. AreFit s.dictionaries x) same (state_fit s c.requires.fit known))
+
+pub returns-in-Err : goal.returns-in-Err
+returns-in-Err c =
+    let s = plain c.args.self.now in
+    let outline = batch_view c.args.outline.now in
+    let body = c.args.body.now in
+    let same : fields_view c.fields.result.now ≡ fields_in s.schema = c.fields.ensures.same ∙ ap (λ (x : SchemaShape). x.fields) (c.deref.ensures ∙ c.shared-schema.ensures.same) ∙ sym (ap fields_in c.in-Some.is) in
+    record {
+      gives = batch_refused s outline body c.in-Err.stop
+          (subst (λ x. HasNoColumns body x (fields_in s.schema) outline c.in-Err.stop) c.entries-dictionaries.ensures.all
+          (subst (λ x. HasNoColumns body c.entries-dictionaries.result.now x outline c.in-Err.stop) same c.in-Err.ensures.held));
+    }
+
+pub returns : goal.returns
+returns c =
+    let s = plain c.args.self.now in
+    let outline = batch_view c.args.outline.now in
+    let body = c.args.body.now in
+    let cs = c.in-Ok.arrays.items in
+    let held = ap (λ (x : SchemaShape). x.fields) c.shared-schema.ensures.same ∙ sym (ap fields_in c.in-Some.is) in
+    let same : fields_view c.fields.result.now ≡ fields_in s.schema = c.fields.ensures.same ∙ ap (λ (x : SchemaShape). x.fields) c.deref.ensures ∙ held in
+    record {
+      gives = batch_read s outline body cs c.new_unchecked.result
+          (subst (λ x. Holds body x (fields_in s.schema) outline (Ok cs)) c.entries-dictionaries.ensures.all
+          (subst (λ x. Holds body c.entries-dictionaries.result.now x outline (Ok cs)) same c.in-Ok.ensures.held))
+          (c.new_unchecked.ensures
+          ∙ ap (λ x. record { schema = x; columns = cs; rows = c.row_count.result }) (c.in-Ok-clone.ensures.cases ∙ c.shared-schema.ensures.same ∙ sym (ap schema_in c.in-Some.is))
+          ∙ ap (λ n. record { schema = schema_in s.schema; columns = cs; rows = n }) c.row_count.ensures.count);
+    }
+
+pub returns-in_default-clone : goal.returns-in_default-clone
+returns-in_default-clone c =
+    let s = plain c.args.self.now in
+    let outline = batch_view c.args.outline.now in
+    let body = c.args.body.now in
+    let cs = c.in-Ok.arrays.items in
+    let held = ap (λ (x : SchemaShape). x.fields) c.shared-schema.ensures.same ∙ sym (ap fields_in c.in-Some.is) in
+    let same : fields_view c.fields.result.now ≡ fields_in s.schema = c.fields.ensures.same ∙ ap (λ (x : SchemaShape). x.fields) c.deref.ensures ∙ held in
+    let holds : Holds body s.dictionaries (fields_in s.schema) outline (Ok cs) =
+    subst (λ x. Holds body x (fields_in s.schema) outline (Ok cs)) c.entries-dictionaries.ensures.all
+    (subst (λ x. Holds body c.entries-dictionaries.result.now x outline (Ok cs)) same c.in-Ok.ensures.held) in
+    record { gives = batch_applicable s outline body cs holds }
+
+pub new_unchecked-requires : goal.new_unchecked-requires
+new_unchecked-requires c =
+    let s = plain c.args.self.now in
+    let outline = batch_view c.args.outline.now in
+    let body = c.args.body.now in
+    let cs = c.in-Ok.arrays.items in
+    let held = ap (λ (x : SchemaShape). x.fields) c.shared-schema.ensures.same ∙ sym (ap fields_in c.in-Some.is) in
+    let same : fields_view c.fields.result.now ≡ fields_in s.schema = c.fields.ensures.same ∙ ap (λ (x : SchemaShape). x.fields) c.deref.ensures ∙ held in
+    let holds : Holds body s.dictionaries (fields_in s.schema) outline (Ok cs) =
+    subst (λ x. Holds body x (fields_in s.schema) outline (Ok cs)) c.entries-dictionaries.ensures.all
+    (subst (λ x. Holds body c.entries-dictionaries.result.now x outline (Ok cs)) same c.in-Ok.ensures.held) in
+    let fits = held_fits holds in
+    record { typed = subst (λ f. AreOf f cs) (sym (ap (λ (x : SchemaShape). x.fields) c.in-Ok-clone.ensures.cases ∙ held)) fits.0; long = subst (λ n. HaveRows n cs) (sym c.row_count.ensures.count) fits.1 }

@@ -1,0 +1,39 @@
+use Rattle.std.proofs.Common.{◌≡◌, ◌+◌, ◌<◌, length, drop, refl, sym, arith}
+use Rattle.arrow_stream_reader.specs.Frame.{short_metadata}
+use Rattle.arrow_stream_reader.proofs.Firsts.{HasPrefix-append, prefix_held}
+use Rattle.arrow_stream_reader.proofs.Works.{size_small, metadata_read, metadata_stops, all_taken, filled}
+use Rattle.arrow_stream_reader.proofs.work.Work.read_metadata.Goals as goal
+
+pub returns-then-len-whole : goal.returns-then-len-whole
+returns-then-len-whole c =
+    let short : length c.fill.new.self.items < 8 + c.args.size = omega (arith, c.len.ensures.count) in
+    let held = all_taken c.in-Ok.ensures.filled short in
+    record {
+      works = record {
+        same = record { limits = refl; state = refl; place = refl };
+        held = held;
+        at = record { shown = (prefix_held _ _ held c.requires.known, omega arith); near = omega (arith, (size_small c.requires.known).1); fit = c.requires.fit };
+        first = short_metadata (HasPrefix-append c.args.piece.now c.requires.known) (rw (← held) short);
+      };
+    }
+
+pub read_body-requires-clause-known : goal.read_body-requires-clause-known
+read_body-requires-clause-known c =
+    let whole : length c.fill.new.self.items ≡ 8 + c.args.size = filled c.in-Ok.ensures.filled (omega (arith, c.len.ensures.count)) in
+    let known = prefix_held _ _ c.in-Ok.ensures.filled.took c.requires.known in
+    metadata_read c.as_slice.result.now c.as_slice.ensures.same known whole c.in-Ok-understand.ensures.says
+
+pub returns-in-Err : goal.returns-in-Err
+returns-in-Err c =
+    let whole : length c.fill.new.self.items ≡ 8 + c.args.size = filled c.in-Ok.ensures.filled (omega (arith, c.len.ensures.count)) in
+    let known = prefix_held _ _ c.in-Ok.ensures.filled.took c.requires.known in
+    record {
+      works = metadata_stops c.as_slice.result.now (drop c.in-Ok.taken c.args.piece.now) c.in-Err.stop c.as_slice.ensures.same known whole c.in-Ok.ensures.filled.rest c.in-Err.ensures.says
+          (record {
+            same = record { limits = refl; state = refl; place = refl };
+            more = drop c.in-Ok.taken c.args.piece.now;
+            held = sym c.in-Ok.ensures.filled.rest;
+            covers = omega arith;
+            at = record { shown = (known, omega arith); near = omega (arith, (size_small c.requires.known).1); fit = c.requires.fit };
+          });
+    }

@@ -1,0 +1,83 @@
+-- What a batch and its body say (Message.fbs, tables "RecordBatch" and "DictionaryBatch"). The outline of a batch is
+-- what its metadata tell of the body: the number of rows, the nodes and the buffers.
+use Rattle.std.specs.Prelude.{◌≡◌, ℕ, ℤ, pos, negsuc, Bool, true, false, ◌||◌, nat_lt, List, [], ◌∷◌, ◌++◌, take, Option, None, Some, Result, Ok, Err}
+use Rattle.std.specs.List.{AllByRecursion, list_any}
+use Rattle.arrow_types.specs.Field.{Fields, none, fields_of, TypeShape}
+use Rattle.arrow_types.specs.Notes.{SchemaShape}
+use Rattle.arrow_types.specs.Schema.{dictionary_fields}
+use Rattle.arrow_types.specs.declared.node.FieldNode.{FieldNode}
+use Rattle.arrow_data.specs.Column.{Column, ValueList}
+use Rattle.arrow_data.specs.Listed.{listed}
+use Rattle.arrow_data.specs.PlainValue.{PlainValue}
+use Rattle.arrow_body_reader.specs.Held.{count_of}
+use Rattle.arrow_body_reader.specs.Sound.{AreIndexed, AreLaid, AreText, columns_of, lengths_of}
+use Rattle.arrow_body_reader.specs.Taken.{AreThere, taken_nodes}
+use Rattle.arrow_dict.specs.Dictionaries.{placed}
+use Rattle.arrow_dict.specs.ValueTypes.{value_field, value_type_of}
+use Rattle.arrow_meta_reader.specs.Means.{PlainBatch}
+use Rattle.arrow_stream_reader.specs.declared.kind.Refusal.{Refusal}
+use Rattle.arrow_stream_reader.specs.declared.kind.Refusal.TheVariants.{Layout, Text, Index}
+use Rattle.arrow_stream_reader.specs.State.{StreamState, Given, dictionary_given, batch_given, fields_in, schema_in}
+
+-- the one field of the values of a dictionary, of which this is known to be the type
+abbrev pub field_of_type : Option TypeShape → Fields
+field_of_type None = none
+field_of_type (Some t) = fields_of (value_field t ∷ [])
+
+-- The field of the values of a dictionary: its type is the value type of the first field that gives the id.
+abbrev pub value_fields : Option SchemaShape → ℤ → Fields
+value_fields schema id = field_of_type (value_type_of (dictionary_fields (fields_in schema)) id)
+
+-- a number of rows that is negative or over the limit
+abbrev pub is_bad_length : ℕ → ℤ → Bool
+is_bad_length max (pos n) = nat_lt max n
+is_bad_length max (negsuc n) = true
+
+-- the length of the batch, or that of a node which the fields take, is
+abbrev pub has_bad_length : ℕ → Fields → PlainBatch → Bool
+has_bad_length max fields outline =
+    is_bad_length max outline.length
+    || list_any (λ (n : FieldNode). is_bad_length max n.length) (take (taken_nodes fields) outline.nodes)
+
+-- the values that a delta finds, none where the batch is no delta or there is no dictionary
+abbrev pub base_of : Bool → Option ValueList → List PlainValue
+base_of true (Some d) = d.values
+base_of true None = []
+base_of false d = []
+
+-- the columns have as many slots as the batch has rows
+abbrev pub AreLong : Fields → PlainBatch → Type 0
+AreLong fields outline = AllByRecursion (λ (n : ℕ). n ≡ count_of outline.length) (lengths_of fields outline.nodes)
+
+-- nodes and buffers are there, lie in the body as the fields ask for, and the columns have the batch's length
+pub record IsLayout (body : List ℕ) (fields : Fields) (outline : PlainBatch) : Type 0 where
+  pub there : AreThere fields outline.nodes outline.buffers
+  pub laid : AreLaid body fields outline.nodes outline.buffers
+  pub long : AreLong fields outline
+
+-- What a body says that holds these columns: them, or the first of Layout, Text and Index that applies to any of them.
+pub data Holds (body : List ℕ) (ds : List (ℤ × ValueList)) (fields : Fields) (outline : PlainBatch) : Result (List Column) Refusal → Type 0 where
+  columns : IsLayout body fields outline → AreText body fields outline.nodes outline.buffers → AreIndexed body ds fields outline.nodes outline.buffers →
+      Holds body ds fields outline (Ok (columns_of body ds fields outline.nodes outline.buffers))
+  bad_layout : (IsLayout body fields outline → ⊥) → Holds body ds fields outline (Err Layout)
+  bad_text : IsLayout body fields outline → (AreText body fields outline.nodes outline.buffers → ⊥) → Holds body ds fields outline (Err Text)
+  bad_index : IsLayout body fields outline → AreText body fields outline.nodes outline.buffers →
+      (AreIndexed body ds fields outline.nodes outline.buffers → ⊥) → Holds body ds fields outline (Err Index)
+
+-- The state behind a dictionary batch of this one column: its values stand in place of those of its id, or, where the
+-- batch is a delta, behind them.
+abbrev pub with_values : StreamState → ℤ → Bool → List Column → StreamState
+with_values s id delta [] = s
+with_values s id delta (c ∷ cs) = record s {
+  dictionaries = placed id (record { data_type = c.data_type; values = base_of delta (listed s.dictionaries id) ++ c.raw }) s.dictionaries;
+}
+
+-- what a dictionary batch leaves and gives
+abbrev pub dictionary_left : StreamState → ℤ → Bool → Result (List Column) Refusal → Result (StreamState × Given) Refusal
+dictionary_left s id delta (Ok cs) = Ok (with_values s id delta cs, dictionary_given id)
+dictionary_left s id delta (Err k) = Err k
+
+-- what a record batch leaves and gives
+abbrev pub batch_left : StreamState → PlainBatch → Result (List Column) Refusal → Result (StreamState × Given) Refusal
+batch_left s outline (Ok cs) = Ok (s, batch_given (record { schema = schema_in s.schema; columns = cs; rows = count_of outline.length }))
+batch_left s outline (Err k) = Err k

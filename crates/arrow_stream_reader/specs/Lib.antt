@@ -1,0 +1,15 @@
+pub mod Kind
+pub mod State
+pub mod Message
+pub mod Meaning
+pub mod Batch
+pub mod Frame
+pub mod Front
+pub mod Laws
+pub mod Held
+pub mod Views
+pub mod Work
+pub mod Stream
+pub mod Stored
+pub mod Inside
+pub mod Tables

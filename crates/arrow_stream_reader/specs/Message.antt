@@ -1,0 +1,8 @@
+-- What the metadata of a message announce (Message.fbs, table "Message").
+use Rattle.std.specs.Prelude.{ℕ}
+use Rattle.arrow_meta_reader.specs.Means.{PlainHeader}
+
+-- a message: what it holds, and how many bytes of body follow its metadata
+pub record Message : Type 0 where
+  pub content : PlainHeader
+  pub body_len : ℕ

@@ -1,0 +1,175 @@
+//! The body of a message, and the columns that it holds.
+
+ghost use Rattle.std.specs.Prelude.{◌≡◌, ◌≤◌, ◌≤ℤ◌, pos, length, drop, IfOk, MatchResult, Ok};
+ghost use Rattle.arrow_data.specs.Shared.{node_types};
+ghost use Rattle.arrow_types.specs.View.{fields_view};
+ghost use Rattle.arrow_body_reader.specs.Held.{count_of};
+ghost use Rattle.arrow_body_reader.specs.Sound.{AreFit, Explains, IsSound, columns_of};
+ghost use Rattle.arrow_meta_reader.specs.Means.{batch_view};
+ghost use Rattle.arrow_stream_reader.specs.Batch.{Holds};
+ghost use Rattle.arrow_stream_reader.specs.Views.{HasNoColumns};
+
+use crate::kind::Refusal;
+use crate::message::Stop;
+use arrow_body_reader::{BodyFault, check, have_length, load_typed};
+use arrow_data::{Array, Dictionary, SharedType};
+use arrow_meta_reader::RecordBatch;
+use arrow_types::Field;
+use bytes::Bytes;
+use std::alloc::{AllocError, Global};
+use std::marker::Model;
+
+/// The body of a message. A clause sees its bytes.
+#[derive(Drop)]
+pub(crate) struct Body<'a> {
+    source: Source<'a>,
+}
+
+/// Where the bytes of a body lie.
+#[derive(Drop)]
+pub(crate) enum Source<'a> {
+    /// In memory that is lent: columns have a copy.
+    Lent(&'a [u8]),
+    /// In the memory of the whole message, from this place on: columns share it.
+    Shared(&'a Bytes, usize),
+}
+
+impl<'a> Model for Body<'a> {
+    ghost use Rattle.std.specs.Prelude.{ℕ, List};
+
+    ghost Value = { List ℕ };
+
+    ghost use Rattle.arrow_stream_reader.specs.Held.{IsInside, body_bytes};
+
+    ghost view = { λ b. body_bytes b.source };
+
+    ghost invariant = { λ b. IsInside b.source };
+}
+
+impl<'a> Body<'a> {
+    /// Bytes of which columns have a copy.
+    pub(crate) fn lent(bytes: &'a [u8]) -> Body<'a>
+        ensures same { result ≡ bytes.now }
+    {
+        Body {
+            source: Source::Lent(bytes),
+        }
+    }
+
+    /// The bytes of a message from `start` on, which columns share.
+    pub(crate) fn shared(message: &'a Bytes, start: usize) -> Body<'a>
+        requires within { start ≤ length message.now }
+        ensures same { result ≡ drop start message.now }
+    {
+        Body {
+            source: Source::Shared(message, start),
+        }
+    }
+
+    /// The bytes.
+    pub(crate) fn as_slice(&self) -> &[u8]
+        ensures same { result.now ≡ self.now }
+    {
+        match &self.source {
+            Source::Lent(bytes) => bytes,
+            Source::Shared(message, start) => &message.as_slice()[*start..],
+        }
+    }
+
+    /// The bytes for columns: a copy of those that are lent, or the shared ones.
+    fn own(&self, alloc: Global) -> Result<Bytes, AllocError>
+        ensures same { IfOk result (λ b. b ≡ self.now) }
+    {
+        match &self.source {
+            Source::Lent(bytes) => Bytes::copy_from_slice(alloc, bytes),
+            Source::Shared(message, start) => message.slice(*start..),
+        }
+    }
+}
+
+/// How many rows a batch has whose length is not negative.
+pub(crate) fn row_count(outline: &RecordBatch) -> usize
+    requires sign { pos 0 ≤ℤ outline.now.length }
+    ensures count { result ≡ count_of outline.now.length }
+{
+    outline.length as usize
+}
+
+/// The columns of the fields that a body holds, or the first of Layout, Text and Index that applies
+/// to any of them. They share one body, which is copied where it is lent, and shared itself where it
+/// is not. They also share the types of the nodes.
+///
+/// The outline is what the metadata tell of the body: the number of its rows, its nodes and its
+/// buffers.
+pub(crate) fn hold(
+    alloc: Global,
+    fields: &[Field],
+    types: &[SharedType],
+    outline: &RecordBatch,
+    body: &Body,
+    dictionaries: &[(i64, Dictionary)],
+) -> Result<Vec<Array>, Stop>
+    requires sign { pos 0 ≤ℤ outline.now.length }
+    requires typed { types.now ≡ node_types (fields_view fields.now) }
+    requires fit { AreFit dictionaries.now (fields_view fields.now) }
+    ensures held { MatchResult result
+        (λ columns. Holds body.now dictionaries.now (fields_view fields.now)
+        (batch_view outline.now) (Ok columns.items))
+        (λ stop. HasNoColumns body.now dictionaries.now (fields_view fields.now)
+        (batch_view outline.now) stop) }
+{
+    if !have_length(fields, &outline.nodes, row_count(outline)) {
+        return Err(Stop::Refused(Refusal::Layout));
+    }
+    match columns_in(alloc, fields, types, outline, body, dictionaries) {
+        Ok(columns) => Ok(columns),
+        Err(BodyFault::Layout) => Err(Stop::Refused(Refusal::Layout)),
+        Err(BodyFault::Text) => Err(Stop::Refused(Refusal::Text)),
+        Err(BodyFault::Index) => Err(Stop::Refused(Refusal::Index)),
+        Err(BodyFault::Memory) => Err(Stop::Memory),
+    }
+}
+
+// The same, whatever the number of rows is; where the copy of the body is refused its fault is told
+// first, as ever.
+fn columns_in(
+    alloc: Global,
+    fields: &[Field],
+    types: &[SharedType],
+    outline: &RecordBatch,
+    body: &Body,
+    dictionaries: &[(i64, Dictionary)],
+) -> Result<Vec<Array>, BodyFault>
+    requires typed { types.now ≡ node_types (fields_view fields.now) }
+    requires fit { AreFit dictionaries.now (fields_view fields.now) }
+    ensures { MatchResult result
+        (λ columns. IsSound body.now dictionaries.now (fields_view fields.now)
+        (batch_view outline.now).nodes (batch_view outline.now).buffers
+        × (columns.items ≡ columns_of body.now dictionaries.now (fields_view fields.now)
+        (batch_view outline.now).nodes (batch_view outline.now).buffers))
+        (λ fault. Explains fault body.now dictionaries.now (fields_view fields.now)
+        (batch_view outline.now).nodes (batch_view outline.now).buffers) }
+{
+    match body.own(alloc) {
+        Ok(owned) => load_typed(
+            alloc,
+            fields,
+            types,
+            &outline.nodes,
+            &outline.buffers,
+            &owned,
+            dictionaries,
+        ),
+        Err(_) => {
+            let bytes = body.as_slice();
+            check(
+                fields,
+                &outline.nodes,
+                &outline.buffers,
+                bytes,
+                dictionaries,
+            )?;
+            Err(BodyFault::Memory)
+        }
+    }
+}

@@ -1,0 +1,180 @@
+//! The bytes that are held of the message in work.
+
+ghost use Rattle.std.specs.Prelude.{◌≡◌, ◌≤◌, ◌<◌, ◌+◌, ◌^◌, ◌++◌, ◌⊎◌, [], length, take, drop};
+ghost use Rattle.std.specs.Prelude.{IfOk, OnErr};
+ghost use Rattle.arrow_stream_reader.specs.Work.{Filled};
+
+use crate::body::Body;
+use bytes::Bytes;
+use std::alloc::{AllocError, AllocFailed, Global};
+use std::marker::Model;
+use std::mem;
+
+/// From how many bytes on a body is shared, and not copied: columns of a shorter one have a copy of
+/// their own. The copy of a short body costs less than the memory that every owner of the message
+/// keeps alive, and a reader goes on with the memory that it has.
+const SHARED: usize = 65_536;
+
+/// The bytes of the message in work. A clause sees them as `items`.
+#[derive(Drop)]
+pub(crate) struct Held {
+    alloc: Global,
+    storage: Storage,
+    /// For how many bytes there was room in memory that was shared, where it was most.
+    room: usize,
+}
+
+/// Where bytes are held.
+#[derive(Drop)]
+pub(crate) enum Storage {
+    /// In memory that takes more of them.
+    Growing(Vec<u8>),
+    /// In memory that columns may share.
+    Whole(Bytes),
+}
+
+impl Model for Held {
+    ghost use Rattle.arrow_stream_reader.specs.Held.{HeldBytes, bytes_in};
+
+    ghost Value = { HeldBytes };
+
+    ghost view = { λ h. record { items = bytes_in h.storage } };
+}
+
+impl Held {
+    /// No bytes. It takes no memory.
+    pub(crate) fn new(alloc: Global) -> Held
+        ensures none { result.items ≡ [] }
+    {
+        Held {
+            alloc,
+            storage: Storage::Growing(Vec::new(alloc)),
+            room: 0,
+        }
+    }
+
+    /// How many bytes are held.
+    pub(crate) fn len(&self) -> usize
+        ensures count { result ≡ length self.now.items }
+        ensures bound { result < 2 ^ 63 }
+    {
+        match &self.storage {
+            Storage::Growing(bytes) => bytes.len(),
+            Storage::Whole(bytes) => bytes.len(),
+        }
+    }
+
+    /// The bytes.
+    pub(crate) fn as_slice(&self) -> &[u8]
+        ensures same { result.now ≡ self.now.items }
+    {
+        match &self.storage {
+            Storage::Growing(bytes) => bytes.as_slice(),
+            Storage::Whole(bytes) => bytes.as_slice(),
+        }
+    }
+
+    /// Takes bytes of a piece until `want` bytes are held or the piece ends, and answers how many
+    /// it took. After `AllocError` nothing has changed.
+    ///
+    /// Shared bytes, which are there only after a growth was refused, are copied first.
+    pub(crate) fn fill(&mut self, piece: &[u8], want: usize) -> Result<usize, AllocError>
+        requires room { length self.old.items ≤ want }
+        ensures filled { IfOk result
+            (λ n. Filled self.old.items piece.now want n self.new.items) }
+        ensures unchanged { OnErr result (self.new.items ≡ self.old.items) }
+    {
+        match &mut self.storage {
+            Storage::Growing(bytes) => append(bytes, piece, want, self.room),
+            Storage::Whole(bytes) => {
+                let mut copy = Vec::from_slice(self.alloc, bytes.as_slice())?;
+                let taken = append(&mut copy, piece, want, self.room)?;
+                self.storage = Storage::Growing(copy);
+                Ok(taken)
+            }
+        }
+    }
+
+    /// Lets columns share the body that begins at `start`, where it is long enough and at least
+    /// half of what its memory has room for. After `AllocError` nothing has changed.
+    pub(crate) fn share(&mut self, start: usize) -> Result<(), AllocError>
+        requires within { start ≤ length self.old.items }
+        ensures same { self.new.items ≡ self.old.items }
+    {
+        let Storage::Growing(bytes) = &mut self.storage else {
+            return Ok(());
+        };
+        let body_len = bytes.len() - start;
+        let room = bytes.capacity();
+        if body_len < SHARED || body_len < room / 2 {
+            return Ok(());
+        }
+        match Bytes::from_vec(mem::replace(bytes, Vec::new(self.alloc))) {
+            Ok(message) => {
+                self.storage = Storage::Whole(message);
+                self.room = room.max(self.room);
+                Ok(())
+            }
+            Err(AllocFailed { value }) => {
+                self.storage = Storage::Growing(value);
+                Err(AllocError)
+            }
+        }
+    }
+
+    /// The body that begins at `start` of the bytes held and those of `rest` after them. Either no
+    /// byte of it is held, or all are.
+    pub(crate) fn body<'a>(&'a self, start: usize, rest: &'a [u8]) -> Body<'a>
+        requires within { start ≤ length self.now.items }
+        requires apart { (length self.now.items ≡ start) ⊎ (rest.now ≡ []) }
+        ensures body { result ≡ drop start (self.now.items ++ rest.now) }
+    {
+        if self.len() == start {
+            return Body::lent(rest);
+        }
+        match &self.storage {
+            Storage::Growing(bytes) => Body::lent(&bytes[start..]),
+            Storage::Whole(message) => Body::shared(message, start),
+        }
+    }
+
+    /// Keeps the first bytes, no more than `count`.
+    pub(crate) fn truncate(&mut self, count: usize)
+        ensures items { self.new.items ≡ take count self.old.items }
+    {
+        match &mut self.storage {
+            Storage::Growing(bytes) => bytes.truncate(count),
+            Storage::Whole(bytes) => bytes.truncate(count),
+        }
+    }
+
+    /// Keeps no bytes, and no memory that columns may share. It takes no memory.
+    pub(crate) fn clear(&mut self)
+        ensures items { self.new.items ≡ [] }
+    {
+        match &mut self.storage {
+            Storage::Growing(bytes) => bytes.clear(),
+            Storage::Whole(_) => self.storage = Storage::Growing(Vec::new(self.alloc)),
+        }
+    }
+}
+
+/// Takes bytes of a piece until there are `want` of them or the piece ends, and answers how many it
+/// took. After `AllocError` nothing has changed.
+///
+/// Where there is no room the memory grows to twice its size, or to `room` bytes, but to no more
+/// than `want`: so it grows with what has come, and a message that is shared fills its memory.
+fn append(bytes: &mut Vec<u8>, piece: &[u8], want: usize, room: usize) -> Result<usize, AllocError>
+    requires room { length bytes.old.items ≤ want }
+    ensures filled { IfOk result (λ n. Filled bytes.old.items piece.now want n bytes.new.items) }
+    ensures unchanged { OnErr result (bytes.new.items ≡ bytes.old.items) }
+{
+    let missing = want - bytes.len();
+    let count = piece.len().min(missing);
+    if count > bytes.capacity() - bytes.len() {
+        let more = bytes.capacity().max(room).min(missing);
+        bytes.reserve_exact(more.max(count))?;
+    }
+    bytes.extend_from_slice(&piece[..count])?;
+    Ok(count)
+}

@@ -1,0 +1,125 @@
+//! What a message announces: what its metadata mean where they stand.
+
+ghost use Rattle.std.specs.Prelude.{◌≡◌, ◌^◌, ◌+◌, ◌≤◌, length, IfOk};
+ghost use Rattle.arrow_meta_reader.specs.Means.{header_view, message_view};
+ghost use Rattle.arrow_stream_reader.specs.Frame.{misplaced};
+ghost use Rattle.arrow_stream_reader.specs.Views.{Placed, StopsBy, Understood, content_of, plain};
+
+use crate::kind::Refusal;
+use crate::refusals::{against, is_out_of_order, misplaced};
+use crate::state::State;
+use crate::stream_schema::StreamSchema;
+use arrow_meta_reader::{Header, Message as Judged, MetaFault, RecordBatch, decode};
+use arrow_types::Limits;
+use std::alloc::{AllocError, Global};
+
+/// What a message holds, by its header.
+#[derive(Drop)]
+pub(crate) enum Content {
+    /// The schema of the stream.
+    Schema(StreamSchema),
+    /// Values for the dictionary of this id: with true they are appended to it, with false they
+    /// replace it.
+    Dictionary(i64, bool, RecordBatch),
+    /// Rows.
+    Batch(RecordBatch),
+}
+
+/// What the metadata of a message announce.
+#[derive(Drop)]
+pub(crate) struct Message {
+    pub(crate) content: Content,
+    /// How many bytes of body follow the metadata.
+    pub(crate) body_len: u64,
+}
+
+/// Why a message is not read on.
+#[derive(Clone, Copy, Debug, PartialEq, Eq)]
+pub(crate) enum Stop {
+    /// Its bytes are refused.
+    Refused(Refusal),
+    /// A growth was refused.
+    Memory,
+}
+
+/// What a metadata says that begins at the place `start` of a stream, behind what was read before.
+/// What the message needs to be applied is made here, but for what its body holds.
+pub(crate) fn understand(
+    alloc: Global,
+    limits: &Limits,
+    state: &State,
+    start: u64,
+    metadata: &[u8],
+) -> Result<Message, Stop>
+    requires near { start + length metadata.now ≤ 2 ^ 62 }
+    ensures says { Understood limits.now (plain state.now) start metadata.now result }
+    ensures ceiling { limits.now.max_rows ≤ 2147483647 }
+{
+    let end = start + metadata.len() as u64;
+    let max_rows = limits.max_rows();
+    match decode(alloc, metadata, limits) {
+        Ok(message) => place(alloc, max_rows, state, end, message),
+        Err(fault) => Err(stop_by(state.schema.is_some(), end, fault)),
+    }
+}
+
+/// The message where its metadata end at the place `end`, or the least kind that its place and what
+/// was read before decide.
+fn place(
+    alloc: Global,
+    max_rows: u64,
+    state: &State,
+    end: u64,
+    message: Judged,
+) -> Result<Message, Stop>
+    requires near { end ≤ 2 ^ 62 }
+    ensures placed { Placed max_rows (plain state.now) end (message_view message) result }
+{
+    let out_of_order = is_out_of_order(state.schema.is_some(), &message.header);
+    if let Some(refusal) = misplaced(end, message.body_len, out_of_order) {
+        return Err(Stop::Refused(refusal));
+    }
+    if let Some(refusal) = against(max_rows, state, &message.header) {
+        return Err(Stop::Refused(refusal));
+    }
+    let body_len = message.body_len;
+    match content_by(alloc, message.header) {
+        Ok(content) => Ok(Message { content, body_len }),
+        Err(_) => Err(Stop::Memory),
+    }
+}
+
+/// What a message with this header holds.
+fn content_by(alloc: Global, header: Header) -> Result<Content, AllocError>
+    ensures same { IfOk result (λ c. content_of c ≡ header_view header) }
+{
+    Ok(match header {
+        Header::Schema(schema) => Content::Schema(StreamSchema::of(alloc, schema)?),
+        Header::Dictionary(id, is_delta, outline) => Content::Dictionary(id, is_delta, outline),
+        Header::Batch(outline) => Content::Batch(outline),
+    })
+}
+
+/// Why a metadata with this fault is not read on that ends at the place `end`: the least kind of
+/// its own and of those that the place decides.
+fn stop_by(has_schema: bool, end: u64, fault: MetaFault) -> Stop
+    requires near { end ≤ 2 ^ 62 }
+    ensures stop { StopsBy result has_schema end fault }
+{
+    match fault {
+        MetaFault::Memory => Stop::Memory,
+        MetaFault::Metadata => Stop::Refused(Refusal::Metadata),
+        MetaFault::Version => Stop::Refused(Refusal::Version),
+        MetaFault::Header => Stop::Refused(Refusal::Header),
+        MetaFault::BodyLength => Stop::Refused(Refusal::BodyLength),
+        MetaFault::Unsupported { body_len } => {
+            Stop::Refused(misplaced(end, body_len, has_schema).unwrap_or(Refusal::Unsupported))
+        }
+        MetaFault::Schema { body_len } => {
+            Stop::Refused(misplaced(end, body_len, has_schema).unwrap_or(Refusal::Schema))
+        }
+        MetaFault::Compressed { body_len, .. } => {
+            Stop::Refused(misplaced(end, body_len, !has_schema).unwrap_or(Refusal::Compressed))
+        }
+    }
+}

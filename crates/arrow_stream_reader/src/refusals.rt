@@ -1,0 +1,124 @@
+//! What stands against a message by what was read before it.
+
+ghost use Rattle.std.specs.Prelude.{◌≡◌, ◌≤◌, ◌^◌, ◌+◌, nat_lt};
+ghost use Rattle.std.specs.List.{list_any};
+ghost use Rattle.arrow_types.specs.View.{fields_view};
+ghost use Rattle.arrow_meta_reader.specs.Means.{batch_view, header_view};
+ghost use Rattle.arrow_stream_reader.specs.Batch.{is_bad_length, has_bad_length};
+ghost use Rattle.arrow_stream_reader.specs.Frame.{against, against_dictionary, is_out_of_order, misplaced};
+ghost use Rattle.arrow_stream_reader.specs.Views.{plain};
+
+use crate::body::row_count;
+use crate::kind::Refusal;
+use crate::state::State;
+use arrow_body_reader::nodes_of;
+use arrow_meta_reader::{Header, RecordBatch};
+use arrow_types::{Field, FieldNode, Limits};
+
+/// The kind that the place of a message decides, if one does: a body that would end past the last
+/// place, or the order of messages.
+pub(crate) fn misplaced(end: u64, body_len: u64, out_of_order: bool) -> Option<Refusal>
+    requires near { end ≤ 2 ^ 62 }
+    ensures kind { result ≡ misplaced end body_len out_of_order }
+{
+    if Limits::LAST_PLACE - end < body_len {
+        return Some(Refusal::BodyLength);
+    }
+    if out_of_order {
+        return Some(Refusal::Order);
+    }
+    None
+}
+
+/// Whether a message with this header may not stand here: a schema behind a schema, a batch before
+/// it.
+pub(crate) fn is_out_of_order(has_schema: bool, header: &Header) -> bool
+    ensures order { result ≡ is_out_of_order has_schema (header_view header.now) }
+{
+    match header {
+        Header::Schema(_) => has_schema,
+        Header::Dictionary(_, _, _) => !has_schema,
+        Header::Batch(_) => !has_schema,
+    }
+}
+
+/// The kind that stands against the message by what was read before it, if one does.
+pub(crate) fn against(max_rows: u64, state: &State, header: &Header) -> Option<Refusal>
+    ensures kind { result ≡ against max_rows (plain state.now) (header_view header.now) }
+{
+    match header {
+        Header::Schema(_) => None,
+        Header::Dictionary(id, is_delta, outline) => {
+            against_dictionary(max_rows, state, *id, *is_delta, outline)
+        }
+        Header::Batch(outline) => {
+            if has_bad_length(max_rows, state.fields(), outline) {
+                Some(Refusal::Rows)
+            } else {
+                None
+            }
+        }
+    }
+}
+
+/// The kind that stands against a dictionary batch, if one does.
+fn against_dictionary(
+    max_rows: u64,
+    state: &State,
+    id: i64,
+    is_delta: bool,
+    outline: &RecordBatch,
+) -> Option<Refusal>
+    ensures kind { result
+        ≡ against_dictionary max_rows (plain state.now) id is_delta (batch_view outline.now) }
+{
+    let Some(field) = state.value_field(id) else {
+        return Some(Refusal::UnknownId);
+    };
+    let base = state.base_len(id);
+    if is_delta && base.is_none() {
+        return Some(Refusal::NoBase);
+    }
+    if has_bad_length(max_rows, field.fields(), outline) {
+        return Some(Refusal::Rows);
+    }
+    let found = if is_delta { base.unwrap_or(0) } else { 0 };
+    if grows_over(max_rows, found, row_count(outline)) {
+        return Some(Refusal::Rows);
+    }
+    None
+}
+
+/// Whether values and those behind them are more than the limit.
+fn grows_over(max_rows: u64, found: usize, more: usize) -> bool
+    ensures over { result ≡ nat_lt max_rows (found + more) }
+{
+    max_rows < found as u64 || max_rows - (found as u64) < more as u64
+}
+
+/// Whether the length of the batch, or that of a node which the fields take, is negative or over
+/// the limit.
+fn has_bad_length(max: u64, fields: &[Field], outline: &RecordBatch) -> bool
+    ensures bad { result ≡ has_bad_length max (fields_view fields.now) (batch_view outline.now) }
+{
+    is_bad_length(max, outline.length) || have_bad_length(max, nodes_of(fields, &outline.nodes))
+}
+
+/// Whether the length of a node is negative or over the limit.
+fn have_bad_length(max: u64, nodes: &[FieldNode]) -> bool
+    ensures bad { result ≡ list_any (λ n. is_bad_length max n.length) nodes.now }
+{
+    for node in nodes {
+        if is_bad_length(max, node.length) {
+            return true;
+        }
+    }
+    false
+}
+
+/// Whether a number of rows is negative or over the limit.
+fn is_bad_length(max: u64, length: i64) -> bool
+    ensures bad { result ≡ is_bad_length max length }
+{
+    length < 0 || max < length as u64
+}

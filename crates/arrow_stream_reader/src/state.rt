@@ -1,0 +1,216 @@
+//! What the messages of a stream leave to the ones behind them.
+
+ghost use Rattle.std.specs.Prelude.{◌≡◌, ◌≤ℤ◌, pos, [], false, Some, None, is_some, option_map};
+ghost use Rattle.std.specs.Prelude.{length, IsTrue};
+ghost use Rattle.arrow_types.specs.Schema.{dictionary_fields, has_encoding};
+ghost use Rattle.arrow_types.specs.Field.{TypeShape};
+ghost use Rattle.arrow_types.specs.View.{fields_view};
+ghost use Rattle.arrow_data.specs.Listed.{listed};
+ghost use Rattle.arrow_dict.specs.ValueTypes.{value_field, value_type_of};
+ghost use Rattle.arrow_meta_reader.specs.Means.{batch_view, dictionary, batch};
+ghost use Rattle.arrow_stream_reader.specs.State.{fields_in, nothing_yet};
+ghost use Rattle.arrow_stream_reader.specs.Views.{Applies, Gives, HeldValues, IsFit, Ready, Updates};
+ghost use Rattle.arrow_stream_reader.specs.Views.{content_of, plain};
+
+use crate::body::{Body, hold, row_count};
+use crate::item::Item;
+use crate::message::{Content, Stop};
+use crate::stream_schema::StreamSchema;
+use arrow_data::{Array, Batch, Dictionary};
+use arrow_dict::{Store, StoreFault, ValueField};
+use arrow_meta_reader::RecordBatch;
+use arrow_types::Field;
+use std::alloc::Global;
+
+/// What the whole messages have left.
+#[derive(Drop)]
+pub(crate) struct State {
+    /// The stream's schema, once its message was whole.
+    pub(crate) schema: Option<StreamSchema>,
+    /// The dictionaries as they stand.
+    pub(crate) dictionaries: Store,
+}
+
+impl State {
+    /// What a stream begins with.
+    pub(crate) fn new(alloc: Global) -> State
+        ensures nothing { plain result ≡ nothing_yet }
+        ensures fit { IsFit (plain result) }
+    {
+        State {
+            schema: None,
+            dictionaries: Store::new(alloc),
+        }
+    }
+
+    /// The fields of the stream's batches, none before its schema.
+    pub(crate) fn fields(&self) -> &[Field]
+        ensures same { fields_view result.now ≡ fields_in (plain self.now).schema }
+    {
+        match &self.schema {
+            Some(schema) => schema.shared().fields(),
+            None => &[],
+        }
+    }
+
+    /// The field of the values of the dictionary with this id, if a field of the schema gives the
+    /// id.
+    pub(crate) fn value_field(&self, id: i64) -> Option<&ValueField>
+        ensures field { option_map (λ f. f.now) result
+            ≡ option_map value_field
+            (value_type_of (dictionary_fields (fields_in (plain self.now).schema)) id) }
+        ensures flat { (t : TypeShape)
+            → value_type_of (dictionary_fields (fields_in (plain self.now).schema)) id ≡ Some t
+            → has_encoding t.children ≡ false }
+    {
+        match &self.schema {
+            Some(schema) => schema.value_field(id),
+            None => None,
+        }
+    }
+
+    /// How many values the dictionary with this id has, if there is one.
+    pub(crate) fn base_len(&self, id: i64) -> Option<usize>
+        ensures count { result
+            ≡ option_map (λ d. length d.values) (listed (plain self.now).dictionaries id) }
+    {
+        match self.dictionaries.get(id) {
+            Some(dictionary) => Some(dictionary.len()),
+            None => None,
+        }
+    }
+
+    /// Begins a new stream.
+    pub(crate) fn clear(&mut self)
+        ensures nothing { plain self.new ≡ nothing_yet }
+        ensures fit { IsFit (plain self.new) }
+    {
+        self.schema = None;
+        self.dictionaries.clear();
+    }
+
+    /// Begins a stream of this schema.
+    fn begin(&mut self, schema: StreamSchema)
+        ensures begun { plain self.new ≡ record { schema = Some schema; dictionaries = [] } }
+        ensures fit { IsFit (plain self.new) }
+    {
+        self.clear();
+        self.schema = Some(schema);
+    }
+
+    /// The rows of a record batch with this body.
+    fn batch(&self, alloc: Global, outline: &RecordBatch, body: &Body) -> Result<Batch, Stop>
+        requires ready { Ready (plain self.now) (batch (batch_view outline.now)) }
+        requires fit { IsFit (plain self.now) }
+        ensures gives { Gives (plain self.now) (batch_view outline.now) body.now result }
+    {
+        let Some(schema) = &self.schema else {
+            unreachable!();
+        };
+        let types = schema.types();
+        let schema = schema.shared();
+        let dictionaries = self.dictionaries.entries();
+        let arrays = match hold(alloc, schema.fields(), types, outline, body, dictionaries) {
+            Ok(arrays) => arrays,
+            Err(stop) => return Err(stop),
+        };
+        let Ok(schema) = schema.clone() else {
+            return Err(Stop::Memory);
+        };
+        Ok(Batch::new_unchecked(schema, arrays, row_count(outline)))
+    }
+
+    /// The values of a dictionary batch with this body.
+    fn values(
+        &self,
+        alloc: Global,
+        id: i64,
+        outline: &RecordBatch,
+        body: &Body,
+    ) -> Result<Array, Stop>
+        requires sign { pos 0 ≤ℤ outline.now.length }
+        requires named { IsTrue
+            (is_some (value_type_of (dictionary_fields (fields_in (plain self.now).schema)) id)) }
+        ensures values { HeldValues (plain self.now) id (batch_view outline.now) body.now result }
+    {
+        let Some(field) = self.value_field(id) else {
+            unreachable!();
+        };
+        match hold(alloc, field.fields(), field.types(), outline, body, &[]) {
+            Ok(mut arrays) => match arrays.pop() {
+                Some(values) => Ok(values),
+                None => unreachable!(),
+            },
+            Err(stop) => Err(stop),
+        }
+    }
+
+    /// Takes the values of a dictionary batch with this body: in place of those of its id, or
+    /// behind them.
+    fn update(
+        &mut self,
+        alloc: Global,
+        id: i64,
+        is_delta: bool,
+        outline: &RecordBatch,
+        body: &Body,
+    ) -> Result<(), Stop>
+        requires ready { Ready (plain self.old) (dictionary id is_delta (batch_view outline.now)) }
+        requires fit { IsFit (plain self.old) }
+        ensures updates { Updates (plain self.old) id is_delta (batch_view outline.now) body.now
+            result (plain self.new) }
+        ensures fit { IsFit (plain self.new) }
+    {
+        let values = match self.values(alloc, id, outline, body) {
+            Ok(values) => values,
+            Err(stop) => return Err(stop),
+        };
+        if is_delta {
+            return match self.dictionaries.append(alloc, id, values) {
+                Ok(()) => Ok(()),
+                Err(StoreFault::Memory) => Err(Stop::Memory),
+                Err(StoreFault::NoBase) => unreachable!(),
+                Err(StoreFault::TooLong) => unreachable!(),
+            };
+        }
+        let Ok(dictionary) = Dictionary::from_array(alloc, values) else {
+            return Err(Stop::Memory);
+        };
+        match self.dictionaries.replace(id, dictionary) {
+            Ok(()) => Ok(()),
+            Err(_) => Err(Stop::Memory),
+        }
+    }
+}
+
+/// Applies a message whose body is whole, and answers what it gives. Where the body is refused or a
+/// growth is, nothing has changed and the message is handed back.
+pub(crate) fn apply(
+    state: &mut State,
+    alloc: Global,
+    content: Content,
+    body: &Body,
+) -> Result<Item, (Stop, Content)>
+    requires ready { Ready (plain state.old) (content_of content) }
+    requires fit { IsFit (plain state.old) }
+    ensures applies { Applies (plain state.old) (content_of content) body.now result
+        (plain state.new) }
+    ensures fit { IsFit (plain state.new) }
+{
+    match content {
+        Content::Schema(schema) => {
+            state.begin(schema);
+            Ok(Item::Schema)
+        }
+        Content::Dictionary(id, is_delta, outline) => {
+            match state.update(alloc, id, is_delta, &outline, body) {
+                Ok(()) => Ok(Item::Dictionary(id)),
+                Err(stop) => Err((stop, Content::Dictionary(id, is_delta, outline))),
+            }
+        }
+        Content::Batch(outline) => match state.batch(alloc, &outline, body) {
+            Ok(batch) => Ok(Item::Batch(batch)),
+            Err(stop) => Err((stop, Content::Batch(outline))),
+        },
+    }
+}

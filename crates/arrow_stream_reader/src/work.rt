@@ -1,0 +1,224 @@
+//! One message at a time, from bytes that come in pieces.
+
+ghost use Rattle.std.specs.Prelude.{◌≡◌, ◌+◌, ◌^◌, ◌<◌, ◌≤◌, ◌⊎◌, [], ◌++◌, length, Ok};
+ghost use Rattle.arrow_stream_reader.specs.declared.prefix.Prefix.TheVariants as prefixes;
+ghost use Rattle.arrow_stream_reader.specs.Frame.{HasPrefix, HasMetadata};
+ghost use Rattle.arrow_stream_reader.specs.State.{nothing_yet};
+ghost use Rattle.arrow_stream_reader.specs.Views.{IsFit, plain, message_of};
+ghost use Rattle.arrow_stream_reader.specs.Work.{Finishes, IsAt, Works, Rewound};
+
+use crate::held::Held;
+use crate::item::Item;
+use crate::message::{Message, Stop, understand};
+use crate::prefix::{Prefix, read_prefix};
+use crate::state::{State, apply};
+use arrow_types::Limits;
+use std::alloc::Global;
+use std::mem;
+
+/// How far the message in work has come.
+#[derive(Drop)]
+pub(crate) enum Phase {
+    /// Its first eight bytes are not whole.
+    Prefix,
+    /// Its metadata, of this size, are not whole.
+    Metadata(u64),
+    /// Its metadata have this size and announce this message, whose body is not whole.
+    Body(u64, Message),
+}
+
+/// What a piece brought.
+#[derive(Drop)]
+pub(crate) enum Step {
+    /// Less than a whole message.
+    Short,
+    /// The end marker.
+    EndMarker,
+    /// A whole message.
+    Whole(Item),
+}
+
+/// The message in work, and what the messages before it left.
+#[derive(Drop)]
+pub(crate) struct Work {
+    pub(crate) alloc: Global,
+    pub(crate) limits: Limits,
+    pub(crate) state: State,
+    /// Where the message in work begins.
+    pub(crate) place: u64,
+    /// The bytes of the message in work.
+    pub(crate) held: Held,
+    pub(crate) phase: Phase,
+}
+
+impl Work {
+    /// Goes on with a piece, up to the end of one message.
+    pub(crate) fn step(&mut self, piece: &[u8]) -> Result<Step, Stop>
+        requires at { IsAt self.old }
+        ensures works { Works self.old (self.old.held.items ++ piece.now) result self.new }
+    {
+        match mem::replace(&mut self.phase, Phase::Prefix) {
+            Phase::Prefix => self.read_prefix(piece),
+            Phase::Metadata(size) => self.read_metadata(size, piece),
+            Phase::Body(size, message) => self.read_body(size, message, piece),
+        }
+    }
+
+    /// Goes on where nothing is known of the message.
+    fn read_prefix(&mut self, piece: &[u8]) -> Result<Step, Stop>
+        requires within { length self.old.held.items ≤ 8 }
+        requires near { self.old.place ≤ 2 ^ 62 }
+        requires fit { IsFit (plain self.old.state) }
+        ensures works { Works self.old (self.old.held.items ++ piece.now) result self.new }
+    {
+        self.phase = Phase::Prefix;
+        let Ok(taken) = self.held.fill(piece, 8) else {
+            return Err(Stop::Memory);
+        };
+        if self.held.len() < 8 {
+            return Ok(Step::Short);
+        }
+        let has_schema = self.state.schema.is_some();
+        match read_prefix(&self.limits, has_schema, self.place, self.held.as_slice()) {
+            Ok(Prefix::Metadata(size)) => self.read_metadata(size, &piece[taken..]),
+            Ok(Prefix::EndMarker) => Ok(Step::EndMarker),
+            Err(refusal) => Err(Stop::Refused(refusal)),
+        }
+    }
+
+    /// Goes on where the size of the metadata is known.
+    fn read_metadata(&mut self, size: u64, piece: &[u8]) -> Result<Step, Stop>
+        requires known { HasPrefix self.old.limits (plain self.old.state) self.old.place
+            self.old.held.items (Ok (prefixes.Metadata size)) }
+        requires within { length self.old.held.items ≤ 8 + size }
+        requires fit { IsFit (plain self.old.state) }
+        ensures works { Works self.old (self.old.held.items ++ piece.now) result self.new }
+    {
+        self.phase = Phase::Metadata(size);
+        let whole = 8 + size as usize;
+        let Ok(taken) = self.held.fill(piece, whole) else {
+            return Err(Stop::Memory);
+        };
+        if self.held.len() < whole {
+            return Ok(Step::Short);
+        }
+        let start = self.place + 8;
+        match understand(
+            self.alloc,
+            &self.limits,
+            &self.state,
+            start,
+            &self.held.as_slice()[8..],
+        ) {
+            Ok(message) => self.read_body(size, message, &piece[taken..]),
+            Err(stop) => Err(stop),
+        }
+    }
+
+    /// Goes on where the metadata are known.
+    fn read_body(&mut self, size: u64, message: Message, piece: &[u8]) -> Result<Step, Stop>
+        requires known { HasMetadata self.old.limits (plain self.old.state) self.old.place
+            self.old.held.items size (Ok (message_of message)) }
+        requires within { length self.old.held.items ≤ 8 + size + message.body_len }
+        requires ceiling { self.old.limits.max_rows ≤ 2147483647 }
+        requires fit { IsFit (plain self.old.state) }
+        ensures works { Works self.old (self.old.held.items ++ piece.now) result self.new }
+    {
+        let start = 8 + size as usize;
+        let body_len = message.body_len as usize;
+        if self.held.len() == start && body_len <= piece.len() {
+            return self.finish(size, message, &piece[..body_len]);
+        }
+        let whole = start + body_len;
+        let Ok(_) = self.held.fill(piece, whole) else {
+            self.phase = Phase::Body(size, message);
+            return Err(Stop::Memory);
+        };
+        if self.held.len() < whole {
+            self.phase = Phase::Body(size, message);
+            return Ok(Step::Short);
+        }
+        let Ok(()) = self.held.share(start) else {
+            self.phase = Phase::Body(size, message);
+            return Err(Stop::Memory);
+        };
+        self.finish(size, message, &[])
+    }
+
+    /// Applies a message of which all bytes are there, and no others: those held, and those of
+    /// `rest` after them. Either no byte of its body is held, or all are.
+    fn finish(&mut self, size: u64, message: Message, rest: &[u8]) -> Result<Step, Stop>
+        requires known { HasMetadata self.old.limits (plain self.old.state) self.old.place
+            self.old.held.items size (Ok (message_of message)) }
+        requires whole { length self.old.held.items + length rest.now
+            ≡ 8 + size + message.body_len }
+        requires apart { (length self.old.held.items ≡ 8 + size) ⊎ (rest.now ≡ []) }
+        requires ceiling { self.old.limits.max_rows ≤ 2147483647 }
+        requires fit { IsFit (plain self.old.state) }
+        ensures finishes { Finishes self.old (self.old.held.items ++ rest.now) size
+            (message_of message) result self.new }
+    {
+        let body_len = message.body_len;
+        let body = self.held.body(8 + size as usize, rest);
+        match apply(&mut self.state, self.alloc, message.content, &body) {
+            Ok(item) => {
+                self.place += self.held.len() as u64 + rest.len() as u64;
+                self.held.clear();
+                self.phase = Phase::Prefix;
+                Ok(Step::Whole(item))
+            }
+            Err((stop, content)) => {
+                self.phase = Phase::Body(size, Message { content, body_len });
+                Err(stop)
+            }
+        }
+    }
+
+    /// Goes back to the first bytes held.
+    pub(crate) fn rewind(&mut self, count: usize)
+        requires at { IsAt self.old }
+        requires within { count ≤ length self.old.held.items }
+        ensures rewound { Rewound self.old count self.new }
+    {
+        self.held.truncate(count);
+        if count < 8 {
+            self.phase = Phase::Prefix;
+            return;
+        }
+        if let Phase::Body(size, _) = &self.phase {
+            let size = *size;
+            if count < 8 + size as usize {
+                self.phase = Phase::Metadata(size);
+            }
+        }
+    }
+
+    /// Goes past this many bytes, all that are held among them.
+    pub(crate) fn pass(&mut self, count: u64)
+        requires near { self.old.place + count ≤ 2 ^ 62 }
+        requires fit { IsFit (plain self.old.state) }
+        ensures at { IsAt self.new }
+        ensures limits { self.new.limits ≡ self.old.limits }
+        ensures state { plain self.new.state ≡ plain self.old.state }
+        ensures place { self.new.place ≡ self.old.place + count }
+        ensures held { self.new.held.items ≡ [] }
+    {
+        self.place += count;
+        self.held.clear();
+        self.phase = Phase::Prefix;
+    }
+
+    /// Begins a new stream.
+    pub(crate) fn restart(&mut self)
+        ensures at { IsAt self.new }
+        ensures limits { self.new.limits ≡ self.old.limits }
+        ensures state { plain self.new.state ≡ nothing_yet }
+        ensures place { self.new.place ≡ 0 }
+        ensures held { self.new.held.items ≡ [] }
+    {
+        self.state.clear();
+        self.place = 0;
+        self.held.clear();
+        self.phase = Phase::Prefix;
+    }
+}

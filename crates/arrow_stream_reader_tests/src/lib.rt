@@ -1,0 +1,8 @@
+//! Tests of `arrow_stream_reader`, in a crate of their own so that the library is not proved once
+//! more with them.
+#![tactic(auto)]
+
+#[cfg(test)]
+mod frames;
+#[cfg(test)]
+mod tests;

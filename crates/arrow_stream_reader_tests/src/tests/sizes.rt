@@ -1,0 +1,281 @@
+// Bodies about as long as the shortest that columns share, 65,536 bytes: whole in a piece, and in
+// parts.
+
+use super::values::MEMORY;
+use crate::frames::letters::{ABC, DE, FIRST, SECOND};
+use crate::frames::{BATCH, END_MARKER, SCHEMA, letters};
+use arrow_data::{Array, Batch};
+use arrow_stream_reader::{Item, StreamReader};
+use arrow_types::Limits;
+use std::alloc::Global;
+use std::process::Abort;
+
+// How the bytes of a stream come.
+#[derive(Clone, Copy, Debug, PartialEq, Eq)]
+enum Pieces {
+    // All at once.
+    One,
+    // So many at a time.
+    Each(usize),
+    // Up to a place, and from there on.
+    Cut(usize),
+    // One by one near the beginning and near the end, and those between in pieces of 4,096.
+    SlowEnds,
+}
+
+// How many bytes the piece has that begins at a place of a stream of so many bytes.
+fn piece_len(pieces: Pieces, place: usize, len: usize) -> usize {
+    let rest = len.saturating_sub(place);
+    match pieces {
+        Pieces::One => rest,
+        Pieces::Each(count) => count.min(rest),
+        Pieces::Cut(cut) if place < cut => cut.min(len).saturating_sub(place),
+        Pieces::Cut(_) => rest,
+        Pieces::SlowEnds if place < 400 || rest <= 100 => 1.min(rest),
+        Pieces::SlowEnds => rest.saturating_sub(100).min(4_096),
+    }
+}
+
+// Gives a reader a piece, what it leaves of it again and again, and keeps the batches.
+fn give(rt: &impl Abort, reader: &mut StreamReader, piece: &[u8], batches: &mut Vec<Batch>) {
+    let mut rest = piece;
+    for _ in 0..16 {
+        match reader.read(rest) {
+            Ok((taken, Some(item))) => {
+                if let Item::Batch(batch) = item {
+                    batches.push(batch).expect(rt, MEMORY);
+                }
+                rest = &rest[taken..];
+            }
+            Ok((_, None)) => return,
+            Err(fault) => panic!(rt; "{fault:?}"),
+        }
+    }
+}
+
+// The batches of a stream, whose reader is gone.
+fn batches_of(rt: &impl Abort, alloc: Global, bytes: &[u8], pieces: Pieces) -> Vec<Batch> {
+    let mut reader = StreamReader::new(alloc, Limits::standard());
+    let mut batches = Vec::new(alloc);
+    let mut rest = bytes;
+    for _ in 0..=bytes.len() {
+        let place = bytes.len().saturating_sub(rest.len());
+        let (piece, behind) = rest.split_at(piece_len(pieces, place, bytes.len()).min(rest.len()));
+        give(rt, &mut reader, piece, &mut batches);
+        rest = behind;
+        if rest.is_empty() {
+            break;
+        }
+    }
+    assert_eq!(rt; reader.end(), Ok(()));
+    assert_eq!(rt; reader.held(), 0);
+    assert_eq!(rt; reader.place(), bytes.len() as u64);
+    batches
+}
+
+// Appends a frame without its body, with numbers of 64 bits in place of those that begin at places
+// of it.
+fn push_front(rt: &impl Abort, bytes: &mut Vec<u8>, front: &[u8], numbers: &[(usize, u64)]) {
+    let start = bytes.len();
+    bytes.extend_from_slice(front).expect(rt, MEMORY);
+    for (place, number) in numbers {
+        for (k, byte) in number.to_le_bytes().iter().enumerate() {
+            let at = start.saturating_add(*place).saturating_add(k);
+            *bytes.get_mut(at).expect(rt, "a place of the frame") = *byte;
+        }
+    }
+}
+
+// Appends zeros until there are so many bytes.
+fn fill_up(rt: &impl Abort, bytes: &mut Vec<u8>, len: usize) {
+    bytes.resize(len, 0).expect(rt, MEMORY);
+}
+
+// Appends a batch of the numbers `i * i + 7` for each row `i` in a body of so many bytes, without
+// a bitmap of those that are valid.
+fn push_squares(rt: &impl Abort, bytes: &mut Vec<u8>, body_len: usize) {
+    let rows = body_len / 4;
+    let numbers = [
+        (40, body_len as u64),
+        (72, rows as u64),
+        (96, rows as u64),
+        (104, 0),
+        (120, 0),
+        (128, 0),
+        (136, 0),
+        (144, (rows as u64).saturating_mul(4)),
+    ];
+    push_front(rt, bytes, &BATCH[..152], &numbers);
+    let end = bytes.len().saturating_add(body_len);
+    for i in 0..u32::try_from(rows).expect(rt, "so many rows") {
+        let number = i.wrapping_mul(i).wrapping_add(7);
+        bytes
+            .extend_from_slice(&number.to_le_bytes())
+            .expect(rt, MEMORY);
+    }
+    fill_up(rt, bytes, end);
+}
+
+// The sum of a column's numbers, each of which is that of its row.
+fn sum_of_squares(rt: &impl Abort, column: &Array) -> i128 {
+    let mut sum: i128 = 0;
+    for i in 0..column.len() {
+        let number = column.int_at(i).expect(rt, "a number");
+        let root = i as i128;
+        assert_eq!(rt; number, root.wrapping_mul(root).wrapping_add(7), "row {i}");
+        sum = sum.wrapping_add(number);
+    }
+    sum
+}
+
+// The third number of a column, if there are three.
+fn third_of(column: &Array) -> Option<i128> {
+    if column.len() > 2 {
+        column.int_at(2)
+    } else {
+        None
+    }
+}
+
+// The lengths of bodies, with how many numbers they have and the sum of these.
+const BODIES: [(usize, usize, i128); 5] = [
+    (65_528, 16_382, 1_465_344_630_765),
+    (65_535, 16_383, 1_465_613_000_696),
+    (65_536, 16_384, 1_465_881_403_392),
+    (65_537, 16_384, 1_465_881_403_392),
+    (65_544, 16_386, 1_466_418_307_087),
+];
+
+// That the batches of two such bodies, with one of three rows between them, are read so.
+fn are_squares(rt: &impl Abort, alloc: Global, body: (usize, usize, i128), pieces: Pieces) {
+    let (body_len, rows, sum) = body;
+    let mut bytes = Vec::new(alloc);
+    bytes.extend_from_slice(&SCHEMA).expect(rt, MEMORY);
+    push_squares(rt, &mut bytes, body_len);
+    bytes.extend_from_slice(&BATCH).expect(rt, MEMORY);
+    push_squares(rt, &mut bytes, body_len);
+    bytes.extend_from_slice(&END_MARKER).expect(rt, MEMORY);
+    let batches = batches_of(rt, alloc, &bytes, pieces);
+    assert_eq!(rt; batches.len(), 3);
+    for (k, batch) in batches.iter().enumerate() {
+        let column = batch.columns().first().expect(rt, "a column");
+        if k == 1 {
+            assert_eq!(rt; third_of(column), Some(3), "{body_len} bytes, {pieces:?}");
+        } else {
+            assert_eq!(rt; batch.rows(), rows, "{body_len} bytes, {pieces:?}");
+            assert_eq!(rt; column.len(), rows);
+            assert_eq!(rt; sum_of_squares(rt, column), sum);
+        }
+    }
+}
+
+#[test]
+fn numbers_that_come_whole(rt: HostRuntime) {
+    for body in BODIES {
+        are_squares(&rt, rt.alloc(), body, Pieces::One);
+    }
+}
+
+#[test]
+fn numbers_that_come_in_parts(rt: HostRuntime) {
+    for body in BODIES {
+        are_squares(&rt, rt.alloc(), body, Pieces::Each(4_096));
+    }
+}
+
+#[test]
+fn numbers_that_end_byte_by_byte(rt: HostRuntime) {
+    for body in BODIES {
+        are_squares(&rt, rt.alloc(), body, Pieces::SlowEnds);
+    }
+}
+
+// The body begins at place 304: it is whole in the second piece, or all but a byte of it.
+#[test]
+fn numbers_whose_body_comes_by_itself(rt: HostRuntime) {
+    are_squares(&rt, rt.alloc(), BODIES[2], Pieces::Cut(304));
+    are_squares(&rt, rt.alloc(), BODIES[2], Pieces::Cut(305));
+    are_squares(&rt, rt.alloc(), BODIES[0], Pieces::Cut(305));
+}
+
+// Appends a dictionary batch in a body of so many bytes, in which 16 of offsets stand before the
+// texts. All texts but one, which takes the rest, are of one letter.
+fn push_texts(rt: &impl Abort, bytes: &mut Vec<u8>, front: &[u8], body_len: usize, texts: &[u8]) {
+    let data_len = body_len.saturating_sub(16);
+    let long = data_len.saturating_sub(texts.len()).saturating_add(1);
+    let offsets_len = (texts.len() as u64).saturating_add(1).saturating_mul(4);
+    let numbers = [
+        (40, body_len as u64),
+        (176, offsets_len),
+        (184, 16),
+        (192, data_len as u64),
+    ];
+    push_front(rt, bytes, front, &numbers);
+    let start = bytes.len();
+    let mut offset: u32 = 0;
+    for k in 0..=texts.len() {
+        bytes
+            .extend_from_slice(&offset.to_le_bytes())
+            .expect(rt, MEMORY);
+        let len = if k == 1 {
+            u32::try_from(long).expect(rt, "so many letters")
+        } else {
+            1
+        };
+        offset = offset.wrapping_add(len);
+    }
+    fill_up(rt, bytes, start.saturating_add(16));
+    for (k, letter) in texts.iter().enumerate() {
+        let len = if k == 1 { long } else { 1 };
+        let end = bytes.len().saturating_add(len);
+        bytes.resize(end, *letter).expect(rt, MEMORY);
+    }
+}
+
+// That a slot refers to a text of so many letters, all the same.
+fn is_text(rt: &impl Abort, column: &Array, i: usize, letter: u8, len: usize) {
+    assert!(rt; i < column.len());
+    let (values, place) = column.resolved(i).expect(rt, "an index");
+    assert!(rt; place < values.len());
+    let text = values.text_at(place).expect(rt, "a text").as_bytes();
+    assert_eq!(rt; text.len(), len, "slot {i}");
+    for byte in text {
+        assert_eq!(rt; *byte, letter, "slot {i}");
+    }
+}
+
+// That a dictionary in a body of so many bytes is read, and one that grows by another.
+fn are_letters(rt: &impl Abort, alloc: Global, body_len: usize, pieces: Pieces) {
+    let mut bytes = Vec::new(alloc);
+    bytes.extend_from_slice(&letters::SCHEMA).expect(rt, MEMORY);
+    push_texts(rt, &mut bytes, &ABC[..200], body_len, b"abc");
+    bytes.extend_from_slice(&FIRST).expect(rt, MEMORY);
+    push_texts(rt, &mut bytes, &DE[..200], body_len, b"de");
+    bytes.extend_from_slice(&SECOND).expect(rt, MEMORY);
+    let batches = batches_of(rt, alloc, &bytes, pieces);
+    assert_eq!(rt; batches.len(), 2);
+    let first = batches[0].columns().first().expect(rt, "a column");
+    is_text(rt, first, 0, b'a', 1);
+    is_text(rt, first, 1, b'b', body_len.saturating_sub(18));
+    is_text(rt, first, 2, b'c', 1);
+    let second = batches[1].columns().first().expect(rt, "a column");
+    is_text(rt, second, 0, b'e', body_len.saturating_sub(17));
+    is_text(rt, second, 1, b'a', 1);
+}
+
+const LENGTHS: [usize; 3] = [65_528, 65_536, 65_544];
+
+#[test]
+fn dictionaries_that_come_whole(rt: HostRuntime) {
+    for body_len in LENGTHS {
+        are_letters(&rt, rt.alloc(), body_len, Pieces::One);
+    }
+}
+
+#[test]
+fn dictionaries_that_come_in_parts(rt: HostRuntime) {
+    for body_len in LENGTHS {
+        are_letters(&rt, rt.alloc(), body_len, Pieces::Each(4_096));
+        are_letters(&rt, rt.alloc(), body_len, Pieces::SlowEnds);
+    }
+}

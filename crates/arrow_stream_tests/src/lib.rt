@@ -1,8 +1,0 @@
-//! Tests of `arrow_stream`, in a crate of their own so that the library is not proved once more
-//! with them.
-#![tactic(auto)]
-
-#[cfg(test)]
-mod frames;
-#[cfg(test)]
-mod tests;

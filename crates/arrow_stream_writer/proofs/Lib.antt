@@ -1,0 +1,12 @@
+pub mod Framing
+pub mod Sizing
+pub mod Finding
+pub mod Gathering
+pub mod Found
+pub mod Adding
+pub mod Storable
+pub mod Framed
+pub mod Closing
+pub mod Showing
+pub mod Delivering
+pub mod Rests

@@ -1,0 +1,61 @@
+use Rattle.std.proofs.Common.{◌≡◌, ◌≤◌, ◌<◌, ◌+◌, ◌^◌, length, sym, ◌∙◌, arith}
+use Rattle.arrow_types.specs.Equality.{is_equal_decides}
+use Rattle.arrow_types.specs.Stored.{schema_code}
+use Rattle.arrow_stream_writer.specs.Terms.{terms_of}
+use Rattle.arrow_stream_writer.specs.Updating.{work_of}
+use Rattle.arrow_stream_writer.proofs.Closing.{part_of, place_refused, record_refused}
+use Rattle.arrow_stream_writer.proofs.parts.PartBuilder.put_frames.Goals as goal
+
+-- the schemas are equal
+pub put_updates-requires-clause-schema : goal.put_updates-requires-clause-schema
+put_updates-requires-clause-schema c =
+    sym c.schema.ensures.same ∙ (is_equal_decides schema_code c.schema.result.now c.deref.result.now).0 (sym c.if-not-same.ensures.gives) ∙ c.deref.ensures
+
+-- the record batch was refused
+pub returns-in-Err-put_record-clause-built : goal.returns-in-Err-put_record-clause-built
+returns-in-Err-put_record-clause-built c =
+    let terms = terms_of c.args.self.now.settings in
+    let t = c.args.batch.now in
+    let sent = c.args.self.now.tracker.sent in
+    let same : t.schema ≡ terms.shape =
+    sym c.schema.ensures.same ∙ (is_equal_decides schema_code c.schema.result.now c.deref.result.now).0 (sym c.if-not-same.ensures.gives) ∙ c.deref.ensures in
+    let equal = (is_equal_decides schema_code t.schema terms.shape).1 same in
+    let x = c.in-Ok.ensures in (
+      record_refused terms c.args.place t sent c.in-Err-put_record.fault c.put_updates.new.bytes.items c.put_record.new.out.items same equal x.one c.in-Err-put_record.ensures,
+      x.is_work.sent,
+    )
+
+-- the part would end past the last place
+pub returns-then-len-place-clause-built : goal.returns-then-len-place-clause-built
+returns-then-len-place-clause-built c =
+    let terms = terms_of c.args.self.now.settings in
+    let t = c.args.batch.now in
+    let sent = c.args.self.now.tracker.sent in
+    let same : t.schema ≡ terms.shape =
+    sym c.schema.ensures.same ∙ (is_equal_decides schema_code c.schema.result.now c.deref.result.now).0 (sym c.if-not-same.ensures.gives) ∙ c.deref.ensures in
+    let equal = (is_equal_decides schema_code t.schema terms.shape).1 same in
+    let x = c.in-Ok.ensures in
+    let bytes = c.put_record.new.out.items in
+    let long = c.len.ensures in
+    let past = c.if-len-place.true in
+    let over : 2 ^ 62 < c.args.place + length bytes = omega arith in (
+      place_refused terms c.args.place t sent same (work_of c.put_updates.new.bytes.items c.put_updates.new.tracker) bytes x.is_work c.in-Ok-put_record.ensures equal x.one over,
+      x.is_work.sent,
+    )
+
+-- the part was built
+pub returns-clause-built : goal.returns-clause-built
+returns-clause-built c =
+    let terms = terms_of c.args.self.now.settings in
+    let t = c.args.batch.now in
+    let sent = c.args.self.now.tracker.sent in
+    let same : t.schema ≡ terms.shape =
+    sym c.schema.ensures.same ∙ (is_equal_decides schema_code c.schema.result.now c.deref.result.now).0 (sym c.if-not-same.ensures.gives) ∙ c.deref.ensures in
+    let equal = (is_equal_decides schema_code t.schema terms.shape).1 same in
+    let x = c.in-Ok.ensures in
+    let bytes = c.put_record.new.out.items in
+    let long = c.len.ensures in
+    let inside = c.if-len-place.false in
+    let place_near = c.requires.near in
+    let near : c.args.place + length bytes ≤ 2 ^ 62 = omega arith in
+    part_of terms c.args.place t sent same (work_of c.put_updates.new.bytes.items c.put_updates.new.tracker) bytes x.is_work c.in-Ok-put_record.ensures equal x.one x.known near

@@ -1,0 +1,36 @@
+use Rattle.std.proofs.Common.{◌≡◌, ◌≤◌, ◌<◌, ◌-◌, ◌^◌, List, length, drop, ap, sym, ◌∙◌, subst, arith, rules, refl, length-drop, w64, to_z, of_z}
+use Rattle.arrow_body_writer.specs.Storing.{body_view}
+use Rattle.arrow_types.specs.Notes.{SchemaShape}
+use Rattle.arrow_types.specs.Schema.{IsSchema}
+use Rattle.arrow_stream_writer.specs.Framing.{update_load}
+use Rattle.arrow_stream_writer.specs.Terms.{terms_of}
+use Rattle.arrow_stream_writer.specs.Updating.{sending_of}
+use Rattle.arrow_stream_writer.proofs.Rests.{never_rest, puts_update, stored_rest}
+use Rattle.arrow_stream_writer.proofs.settings.Settings.put_update.Goals as goal
+
+-- the values cannot be stored
+pub returns-in-None : goal.returns-in-None
+returns-in-None c named =
+    let terms = terms_of c.args.self.now in
+    let update = c.args.update.now in
+    let body_limit = c.max_body-max_body.ensures.value in
+    let body_ceiling = c.max_body-max_body.ensures.ceiling in
+    let row_limit = c.max_rows-max_rows.ensures.value in
+    let row_ceiling = c.max_rows-max_rows.ensures.ceiling in
+    let known = subst (λ (shape : SchemaShape). IsSchema shape.fields) c.deref.ensures c.fields.ensures.limits in
+    never_rest terms update.id update.is_delta update.from update.dictionary.now named (omega arith) (omega arith) known c.in-None.ensures.size
+
+-- they were stored
+pub returns-in-Ok-Some : goal.returns-in-Ok-Some
+returns-in-Ok-Some c named =
+    let terms = terms_of c.args.self.now in
+    let update = c.args.update.now in
+    let d = update.dictionary.now in
+    let same = rw c.in-Ok-Some.field-0-is at c.in-Ok-Some.ensures.same in
+    let stored = stored_rest terms update.id update.is_delta update.from d named (body_view c.in-Ok-Some.body) c.in-Some.ensures.raws same.0.told.small same.1 in
+    let rows = length-drop update.from d.values ∙ ap (λ n. n - update.from) (sym c.len-len.ensures) in
+    let row_limit = c.max_rows-max_rows.ensures.value in
+    let long = c.len-len.ensures in
+    let few_rows = c.if-len-max_rows.false in
+    puts_update terms update.id update.is_delta update.from d named c.put_stored.result c.args.out.now.items c.put_stored.new.out.items (omega arith)
+    (c.put_stored.ensures (update_load terms.shape.fields (sending_of update)) (search rules) rows stored)

@@ -1,0 +1,18 @@
+use Rattle.std.proofs.Common.{◌≡◌, None, Some, ap, sym, ◌∙◌, w64}
+use Rattle.std.proofs.lemmas.Int.{to_z-of_z}
+use Rattle.arrow_stream_writer.specs.Lists.{dictionary_in}
+use Rattle.arrow_stream_writer.proofs.Adding.{delta_inside}
+use Rattle.arrow_stream_writer.proofs.updating.Updater.add_one.Goals as goal
+
+-- the id has a dictionary
+pub returns-in-None : goal.returns-in-None
+returns-in-None c d there named =
+    let passed = to_z-of_z w64 c.args.id c.ranges.id in
+    let clash : None ≡ Some d = c.in-None.ensures ∙ ap (dictionary_in c.args.self.now.lists.now) passed ∙ there in
+    absurd (cc)
+
+-- a delta begins inside of the values
+pub send-requires-in-Delta : goal.send-requires-in-Delta
+send-requires-in-Delta c = record {
+  inside = delta_inside c.args.self.now.settings.now.updates _ c.in-Some.dictionary.now.values c.in-Delta.from (sym c.in-Delta.ensures);
+}

@@ -1,0 +1,11 @@
+pub mod Frame
+pub mod Sizes
+pub mod Lists
+pub mod Terms
+pub mod Framing
+pub mod Updating
+pub mod Parts
+pub mod Marker
+pub mod Taking
+pub mod Shown
+pub mod Delivery

@@ -1,0 +1,79 @@
+//! Frames and the end marker, appended to bytes.
+
+ghost use Rattle.std.specs.Prelude.{◌≡◌, ◌≤◌, ◌<◌, ◌+◌, ◌++◌, IsSome, OnOk, Ok, IfOk, length, replicate};
+ghost use Rattle.arrow_body_laws.specs.Stored.{rounded};
+ghost use Rattle.arrow_stream_writer.specs.Frame.{AppendsFrame, AppendsMarker, prefix_bytes};
+ghost use Rattle.arrow_meta_reader.specs.Means.{message_view};
+ghost use Rattle.arrow_meta_writer.specs.Metadata.{size_of};
+
+use arrow_bits::put_int;
+use arrow_meta_reader::Message;
+use arrow_meta_writer::encode;
+use std::alloc::{AllocError, Global};
+
+// The bytes of a number, rounded up to a multiple of the alignment.
+fn rounded(align: usize, len: usize) -> usize
+    requires some { 1 ≤ align }
+    requires few { align ≤ 64 }
+    requires short { len ≤ 2147483648 }
+    ensures { result ≡ rounded align len }
+{
+    len.div_ceil(align) * align
+}
+
+// Appends zero bytes.
+fn put_zeros(out: &mut Vec<u8>, count: usize) -> Result<(), AllocError>
+    ensures { OnOk result (out.new.items ≡ out.old.items ++ replicate count 0) }
+{
+    for _k in 0..count {
+        out.push(0)?;
+    }
+    Ok(())
+}
+
+// Appends the eight bytes before metadata of so many bytes (Columnar Format, "Encapsulated message
+// format").
+fn put_prefix(out: &mut Vec<u8>, size: usize) -> Result<(), AllocError>
+    requires { size ≤ 2147483648 }
+    ensures { OnOk result (out.new.items ≡ out.old.items ++ prefix_bytes size) }
+{
+    out.extend_from_slice(&[255; 4])?;
+    put_int(out, 4, size as i128)
+}
+
+/// Appends the end marker.
+///
+/// The only error is `AllocError`.
+pub fn put_end_marker(out: &mut Vec<u8>) -> Result<(), AllocError>
+    ensures { OnOk result (AppendsMarker out.old.items out.new.items) }
+{
+    put_prefix(out, 0)
+}
+
+/// Appends the frame of a message with this body, the metadata padded with zero bytes so that they
+/// end at a multiple of the alignment where the frame begins at one.
+///
+/// Conditions: the alignment is from 1 to 64, `encoded_size` answers a number for the message, and
+/// the message tells the body's length. The only error is `AllocError`; a part of the frame may then
+/// stand behind the bytes.
+pub fn put_frame(
+    out: &mut Vec<u8>,
+    alloc: Global,
+    align: usize,
+    message: &Message,
+    body: &[u8],
+) -> Result<(), AllocError>
+    requires some { 1 ≤ align }
+    requires few { align ≤ 64 }
+    requires sendable { IsSome (size_of (message_view message.now)) }
+    requires told { message.now.body_len ≡ length body.now }
+    ensures { OnOk result (AppendsFrame align (message_view message.now) body.now
+        out.old.items out.new.items) }
+{
+    let metadata = encode(alloc, message)?;
+    let size = rounded(align, 8 + metadata.len()) - 8;
+    put_prefix(out, size)?;
+    out.extend_from_slice(&metadata)?;
+    put_zeros(out, size - metadata.len())?;
+    out.extend_from_slice(body)
+}

@@ -1,0 +1,231 @@
+//! The frames of record batches and dictionary batches, built of columns.
+//!
+//! What would not keep to the limits is refused before a byte of its frame is appended: the body is
+//! measured before it is stored, then its nodes are looked at, then the metadata are measured.
+
+ghost use Rattle.std.specs.Prelude.{◌≡◌, ◌≤◌, ◌<◌, ◌^◌, IsSome, MatchOption, length, pos};
+ghost use Rattle.std.specs.List.{list_any};
+ghost use Rattle.arrow_body_writer.specs.Align.{alignment_of};
+ghost use Rattle.arrow_body_writer.specs.Storing.{body_view};
+ghost use Rattle.arrow_meta_reader.specs.Means.{batch_view, header_view, message_view};
+ghost use Rattle.arrow_meta_writer.specs.Metadata.{size_of};
+ghost use Rattle.arrow_stream_reader.specs.Batch.{is_bad_length};
+ghost use Rattle.arrow_stream_laws.specs.Sizes.{header_size};
+ghost use Rattle.arrow_stream_writer.specs.Framing.{IsStored, Load, Puts, PutsMessage, header_of, record_load};
+ghost use Rattle.arrow_stream_writer.specs.Terms.{terms_of};
+ghost use Rattle.arrow_stream_writer.specs.Updating.{IsNamed, PutsUpdate, sending_of};
+
+use crate::frame::put_frame;
+use crate::settings::Settings;
+use arrow_body_writer::{Align, Body, body_size, rest_size, store, store_rest};
+use arrow_data::{Batch, Dictionary};
+use arrow_meta_reader::{Header, Message, RecordBatch};
+use arrow_meta_writer::encoded_size;
+use arrow_sink::WriteFault;
+use arrow_types::FieldNode;
+
+/// What a batch is to a reader (`Message.fbs`, union `MessageHeader`).
+#[derive(Clone, Copy)]
+pub(crate) enum BatchKind {
+    /// Rows of the stream.
+    Record,
+    /// Values for the dictionary of this id: with true they are appended to it, with false they
+    /// replace it.
+    Dictionary(i64, bool),
+}
+
+/// A dictionary batch that is to be sent: the values of a dictionary from one on, as a delta or for
+/// themselves (`Message.fbs`, table `DictionaryBatch`).
+#[derive(Clone, Copy)]
+pub(crate) struct DictionaryBatch<'a> {
+    pub(crate) id: i64,
+    pub(crate) is_delta: bool,
+    pub(crate) from: usize,
+    pub(crate) dictionary: &'a Dictionary,
+}
+
+// The header of the message that holds the batch.
+fn header_of(kind: BatchKind, batch: RecordBatch) -> Header
+    ensures { header_view result ≡ header_of kind (batch_view batch) }
+{
+    match kind {
+        BatchKind::Record => Header::Batch(batch),
+        BatchKind::Dictionary(id, is_delta) => Header::Dictionary(id, is_delta, batch),
+    }
+}
+
+// Whether a number of slots is negative or over the limit.
+fn is_bad_length(max: u64, length: i64) -> bool
+    ensures { result ≡ is_bad_length max length }
+{
+    length < 0 || max < length as u64
+}
+
+// Whether that of a node is.
+fn have_bad_length(max: u64, nodes: &[FieldNode]) -> bool
+    ensures { result ≡ list_any (λ n. is_bad_length max n.length) nodes.now }
+{
+    for node in nodes {
+        if is_bad_length(max, node.length) {
+            return true;
+        }
+    }
+    false
+}
+
+// How many bytes the metadata of the message take in a frame, with their padding; None where they
+// are over the ceiling of all limits.
+fn metadata_len(align: Align, message: &Message) -> Option<u64>
+    requires version { message.now.version ≡ pos 4 }
+    requires body { message.now.body_len ≤ 2 ^ 40 }
+    ensures { MatchOption result
+        (2 ^ 30 < header_size (alignment_of align) (header_view message.now.header))
+        (λ len. IsSome (size_of (message_view message.now))
+        × (len ≡ header_size (alignment_of align) (header_view message.now.header))) }
+{
+    match encoded_size(message) {
+        Some(size) => {
+            let align = align.bytes() as u64;
+            Some((8 + size).div_ceil(align) * align - 8)
+        }
+        None => None,
+    }
+}
+
+impl Settings {
+    /// Appends the frame of the message with this body.
+    pub(crate) fn put_message(
+        &self,
+        message: &Message,
+        body: &[u8],
+        out: &mut Vec<u8>,
+    ) -> Result<(), WriteFault>
+        requires version { message.now.version ≡ pos 4 }
+        requires told { message.now.body_len ≡ length body.now }
+        requires short { length body.now ≤ self.now.limits.max_body }
+        ensures { PutsMessage (terms_of self.now) (message_view message.now).header body.now
+            out.old.items result out.new.items }
+    {
+        let (_, max_metadata) = (self.limits.max_body(), self.limits.max_metadata());
+        let len = match metadata_len(self.align, message) {
+            Some(len) => len,
+            None => return Err(WriteFault::TooLarge),
+        };
+        if len > max_metadata {
+            return Err(WriteFault::TooLarge);
+        }
+        // One growth makes room for all of the frame.
+        let Ok(()) = out.reserve(8 + len as usize + body.len()) else {
+            return Err(WriteFault::Memory);
+        };
+        match put_frame(out, self.alloc, self.align.bytes(), message, body) {
+            Ok(()) => Ok(()),
+            Err(_) => Err(WriteFault::Memory),
+        }
+    }
+
+    /// Appends the frame of a batch whose columns were stored. After a fault what stands behind the
+    /// bytes is a rest of which nothing is said.
+    pub(crate) fn put_stored(
+        &self,
+        kind: BatchKind,
+        rows: usize,
+        body: Body,
+        out: &mut Vec<u8>,
+    ) -> Result<(), WriteFault>
+        ensures { (load : Load) → load.kind ≡ kind → load.rows ≡ rows
+            → IsStored (terms_of self.now).align load (body_view body)
+            → Puts (terms_of self.now) load out.old.items result out.new.items }
+    {
+        let Body {
+            nodes,
+            buffers,
+            bytes,
+        } = body;
+        let max_rows = self.limits.max_rows();
+        if rows as u64 > max_rows {
+            return Err(WriteFault::TooLarge);
+        }
+        if bytes.len() as u64 > self.limits.max_body() {
+            return Err(WriteFault::TooLarge);
+        }
+        if have_bad_length(max_rows, &nodes) {
+            return Err(WriteFault::TooLarge);
+        }
+        let batch = RecordBatch {
+            length: rows as i64,
+            nodes,
+            buffers,
+        };
+        let message = Message {
+            version: 4,
+            header: header_of(kind, batch),
+            body_len: bytes.len() as u64,
+        };
+        self.put_message(&message, &bytes, out)
+    }
+
+    /// Appends the frame of the batch's record batch. After a fault what stands behind the bytes is a
+    /// rest of which nothing is said.
+    pub(crate) fn put_record(&self, batch: &Batch, out: &mut Vec<u8>) -> Result<(), WriteFault>
+        ensures { Puts (terms_of self.now) (record_load batch.now) out.old.items result
+            out.new.items }
+    {
+        // The proof has by it at hand what is known of every batch.
+        let _ = batch.schema();
+        let columns = batch.columns();
+        let (max_body, max_rows) = (self.limits.max_body(), self.limits.max_rows());
+        let size = match body_size(self.align, columns) {
+            Some(size) => size,
+            None => return Err(WriteFault::TooLarge),
+        };
+        if size as u64 > max_body {
+            return Err(WriteFault::TooLarge);
+        }
+        if batch.rows() as u64 > max_rows {
+            return Err(WriteFault::TooLarge);
+        }
+        match store(self.alloc, self.align, columns) {
+            Ok(Some(body)) => self.put_stored(BatchKind::Record, batch.rows(), body, out),
+            Ok(None) => Err(WriteFault::TooLarge),
+            Err(_) => Err(WriteFault::Memory),
+        }
+    }
+
+    /// Appends the frame of the dictionary batch. After a fault what stands behind the bytes is a
+    /// rest of which nothing is said.
+    pub(crate) fn put_update(
+        &self,
+        update: &DictionaryBatch,
+        out: &mut Vec<u8>,
+    ) -> Result<(), WriteFault>
+        requires { update.now.from ≤ length update.now.dictionary.now.values }
+        ensures { IsNamed self.now.schema.value.fields update.now.id update.now.dictionary.now.data_type
+            → PutsUpdate (terms_of self.now) (sending_of update.now) out.old.items result
+            out.new.items }
+    {
+        // The proof has by it at hand what is known of every schema.
+        let _ = self.schema.fields();
+        let dictionary = update.dictionary;
+        let (max_body, max_rows) = (self.limits.max_body(), self.limits.max_rows());
+        let len = dictionary.len();
+        if len as u64 > max_rows {
+            return Err(WriteFault::TooLarge);
+        }
+        let size = match rest_size(self.align, dictionary, update.from) {
+            Some(size) => size,
+            None => return Err(WriteFault::TooLarge),
+        };
+        if size as u64 > max_body {
+            return Err(WriteFault::TooLarge);
+        }
+        match store_rest(self.alloc, self.align, dictionary, update.from) {
+            Ok(Some(body)) => {
+                let kind = BatchKind::Dictionary(update.id, update.is_delta);
+                self.put_stored(kind, len - update.from, body, out)
+            }
+            Ok(None) => Err(WriteFault::TooLarge),
+            Err(_) => Err(WriteFault::Memory),
+        }
+    }
+}

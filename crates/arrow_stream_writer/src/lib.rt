@@ -1,0 +1,46 @@
+//! The writer of a stream (Columnar Format, "IPC Streaming Format"): batches go in, frames come out,
+//! into any sink.
+//!
+//! A [`StreamWriter`] takes batches whose columns were read or made by whom they like, and sends
+//! for each the frames of the dictionary batches that it needs and of its record batch. What its
+//! calls answer and where they leave it is said in the words of `arrow_stream_laws`, of what it
+//! shows (`specs/Shown.antt`); by the laws there, and by [`laws::delivered_whole`], what a sink
+//! accepted of it is a stream of just the rows of the batches that were accepted.
+//!
+//! A part is built whole before a byte of it is sent (`parts.rt`), so that a refusal leaves all as it
+//! was. `BatchLists` (`lists.rt`) finds the dictionaries of a batch at its columns, on every level
+//! (Columnar Format, "Dictionary-encoded Layout"). `Updater` (`updating.rt`) goes through the ids of
+//! the schema, appends the frames of the dictionary batches that are to be sent, and stages the
+//! dictionaries. `frames.rt` builds frames of columns within the limits. `send_part` and `send_end`
+//! (`sending.rt`) send what was built: only where the sink took all of a part are the staged
+//! dictionaries sent ones. A frame is eight bytes of prefix, the metadata of a message and its body
+//! (Columnar Format, "Encapsulated message format"): `frame.rt` appends it, and the end marker.
+//!
+//! | Notion | Definition |
+//! |---|---|
+//! | what a writer over a sink shows | `specs/Shown.antt`: `shown` |
+//! | the part of a batch, built | `specs/Parts.antt`: `IsPartBuilt`, `BuildsPart` |
+//! | a frame, the end marker, appended | `specs/Frame.antt`: `AppendsFrame`, `AppendsMarker` |
+//! | sizes that hang on fields alone | `specs/Sizes.antt`: `BatchesSized`, `DictionariesSized` |
+//! | the frame of columns, within the limits | `specs/Framing.antt`: `Puts`; `specs/Terms.antt`: `Terms` |
+//! | the dictionaries of a batch | `specs/Lists.antt`: `AreListsOf`, `FindsLists` |
+//! | those that are to be sent | `specs/Updating.antt`: `AddsPlan` |
+//! | whether it takes more | `specs/Taking.antt`: `taking`; `specs/Marker.antt` |
+//! | what a reader has of it | `specs/Delivery.antt`: `DeliveredWhole` |
+#![tactic(auto)]
+
+mod frame;
+pub(crate) mod frames;
+pub mod laws;
+pub(crate) mod lists;
+pub(crate) mod parts;
+pub(crate) mod sending;
+pub(crate) mod settings;
+mod stream_writer;
+pub(crate) mod updating;
+
+pub use arrow_body_writer::Align;
+pub use arrow_dict::Updates;
+pub use arrow_sink::WriteFault;
+pub use frame::{put_end_marker, put_frame};
+pub use stream_writer::{Options, StreamWriter};

@@ -1,0 +1,161 @@
+//! The part of a batch, built whole before a byte of it is sent.
+
+ghost use Rattle.std.specs.Prelude.{◌≡◌, ◌≤◌, ◌^◌, [], IfOk};
+ghost use Rattle.arrow_body_writer.specs.Align.{alignment_of};
+ghost use Rattle.arrow_meta_reader.specs.Means.{schema};
+ghost use Rattle.arrow_types.specs.Schema.{IsNoted};
+ghost use Rattle.arrow_stream_writer.specs.Framing.{PutsMessage};
+ghost use Rattle.arrow_stream_writer.specs.Parts.{BuildsOrDrops, BuildsPart, PutsUpdates};
+ghost use Rattle.arrow_stream_writer.specs.Terms.{terms_of};
+ghost use Rattle.arrow_stream_writer.specs.Updating.{work_of};
+
+use crate::lists::{BatchLists, ListsFault};
+use crate::settings::Settings;
+use crate::stream_writer::Options;
+use crate::updating::Updater;
+use arrow_data::Batch;
+use arrow_dict::Tracker;
+use arrow_meta_reader::{Header, Message};
+use arrow_sink::WriteFault;
+use arrow_types::{Limits, Schema};
+use std::alloc::{AllocError, Global};
+use std::rc::Rc;
+
+/// What builds the parts of a connection, one after another.
+#[derive(Drop)]
+pub(crate) struct PartBuilder {
+    /// By what it builds.
+    pub(crate) settings: Settings,
+    /// The dictionaries that were sent, and those that the part in work brings.
+    pub(crate) tracker: Tracker,
+    /// The bytes of the part that was built last. They keep their room.
+    pub(crate) part: Vec<u8>,
+}
+
+impl PartBuilder {
+    /// What builds the parts of a connection with a copy of this schema, before the first one.
+    pub(crate) fn new(
+        alloc: Global,
+        schema: &Schema,
+        options: Options,
+        limits: Limits,
+    ) -> Result<PartBuilder, AllocError>
+        ensures settings { IfOk result (λ b. terms_of b.settings ≡ record {
+          limits = limits;
+          align = alignment_of options.align;
+          shape = schema.now;
+          updates = options.updates;
+        }) }
+        ensures nothing_sent { IfOk result (λ b. b.tracker ≡ record { sent = []; next = [] }) }
+    {
+        let copy = schema.copy(alloc)?;
+        let schema = Rc::new(alloc, copy)?;
+        Ok(PartBuilder {
+            settings: Settings {
+                alloc,
+                limits,
+                schema,
+                updates: options.updates,
+                align: options.align,
+            },
+            tracker: Tracker::new(alloc),
+            part: Vec::new(alloc),
+        })
+    }
+
+    /// Puts the frame of the schema in place of the part before.
+    pub(crate) fn put_schema(&mut self) -> Result<(), WriteFault>
+        ensures settings { self.new.settings ≡ self.old.settings }
+        ensures tracker { self.new.tracker ≡ self.old.tracker }
+        ensures known { IsNoted self.old.settings.schema.value }
+        ensures ceiling { self.old.settings.limits.max_metadata ≤ 2 ^ 30 }
+        ensures put { PutsMessage (terms_of self.old.settings)
+            (schema self.old.settings.schema.value) [] [] result self.new.part.items }
+    {
+        // The proof has by it at hand what is known of every schema, and of all limits.
+        let _ = self.settings.limits.max_metadata();
+        let _ = self.settings.schema.metadata();
+        self.part.clear();
+        let message = match self.settings.schema.copy(self.settings.alloc) {
+            Ok(copy) => Message {
+                version: 4,
+                header: Header::Schema(copy),
+                body_len: 0,
+            },
+            Err(_) => return Err(WriteFault::Memory),
+        };
+        self.settings.put_message(&message, &[], &mut self.part)
+    }
+
+    /// Builds the part of the batch, which is to begin at this place, and stages its dictionaries.
+    /// After a fault nothing is staged.
+    pub(crate) fn build(&mut self, place: u64, batch: &Batch) -> Result<(), WriteFault>
+        requires near { place ≤ 2 ^ 62 }
+        requires committed { self.old.tracker.next ≡ self.old.tracker.sent }
+        ensures settings { self.new.settings ≡ self.old.settings }
+        ensures built { BuildsOrDrops (terms_of self.old.settings) place batch.now
+            self.old.tracker.sent result self.new.part.items self.new.tracker }
+    {
+        match self.put_frames(place, batch) {
+            Ok(()) => Ok(()),
+            Err(fault) => {
+                self.tracker.discard();
+                Err(fault)
+            }
+        }
+    }
+
+    // Puts the frames of the part in place of the one before. After a fault some dictionaries may
+    // be staged.
+    fn put_frames(&mut self, place: u64, batch: &Batch) -> Result<(), WriteFault>
+        requires near { place ≤ 2 ^ 62 }
+        requires committed { self.old.tracker.next ≡ self.old.tracker.sent }
+        ensures settings { self.new.settings ≡ self.old.settings }
+        ensures built { BuildsPart (terms_of self.old.settings) place batch.now
+            self.old.tracker.sent result self.new.part.items self.new.tracker }
+    {
+        self.part.clear();
+        let same = *batch.schema() == *self.settings.schema;
+        if !same {
+            return Err(WriteFault::SchemaDiffers);
+        }
+        match put_updates(&self.settings, batch, &mut self.tracker, &mut self.part) {
+            Ok(()) => {}
+            Err(fault) => return Err(fault),
+        }
+        match self.settings.put_record(batch, &mut self.part) {
+            Ok(()) => {}
+            Err(fault) => return Err(fault),
+        }
+        if self.part.len() as u64 > Limits::LAST_PLACE - place {
+            return Err(WriteFault::TooLarge);
+        }
+        Ok(())
+    }
+}
+
+// Puts the frames of the batch's dictionaries into empty bytes, and stages the dictionaries.
+fn put_updates(
+    settings: &Settings,
+    batch: &Batch,
+    tracker: &mut Tracker,
+    bytes: &mut Vec<u8>,
+) -> Result<(), WriteFault>
+    requires schema { batch.now.schema ≡ settings.now.schema.value }
+    requires empty { bytes.old.items ≡ [] }
+    requires committed { tracker.old.next ≡ tracker.old.sent }
+    ensures { PutsUpdates (terms_of settings.now) batch.now
+        (work_of bytes.old.items tracker.old) result (work_of bytes.new.items tracker.new) }
+{
+    match BatchLists::of(settings.alloc, batch) {
+        Ok(lists) => {
+            let updater = Updater {
+                settings,
+                lists: &lists,
+            };
+            updater.add_all(tracker, bytes)
+        }
+        Err(ListsFault::DictionariesDiffer) => Err(WriteFault::DictionariesDiffer),
+        Err(ListsFault::Memory) => Err(WriteFault::Memory),
+    }
+}

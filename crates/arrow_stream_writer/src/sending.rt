@@ -1,0 +1,65 @@
+//! Sending a part that was built, and the end marker.
+
+ghost use Rattle.std.specs.Prelude.{◌≡◌, ◌<◌, ◌+◌, ◌-◌, ◌^◌, IfErr, OnErr, OnOk};
+ghost use Rattle.std.specs.Io.KnownBytes.{Appends};
+ghost use Rattle.arrow_sink.specs.Sinks.{AcceptsBeginning};
+ghost use Rattle.arrow_stream_writer.specs.Marker.{marker};
+ghost use Rattle.arrow_sink.specs.declared.write_fault.WriteFault.TheVariants.{Sink};
+
+use arrow_dict::Tracker;
+use arrow_sink::{Sink, WriteFault, send};
+
+/// Sends a part. What was staged becomes what was sent only where the sink took all of the part;
+/// else it is dropped, and the fault is `Sink`.
+pub(crate) fn send_part<S: Sink>(
+    sink: &mut S,
+    part: &[u8],
+    tracker: &mut Tracker,
+) -> Result<(), WriteFault>
+    requires { S.failed sink.old < 2 ^ 64 - 1 }
+    ensures all { OnOk result (Appends (S.contents sink.old) (S.contents sink.new) part.now) }
+    ensures fine { OnOk result (S.failed sink.new ≡ S.failed sink.old) }
+    ensures committed { OnOk result (tracker.new.sent ≡ tracker.old.next) }
+    ensures fault { IfErr result (λ fault. fault ≡ Sink) }
+    ensures beginning { OnErr result
+        (AcceptsBeginning (S.contents sink.old) (S.contents sink.new) part.now) }
+    ensures failed { OnErr result (S.failed sink.new ≡ S.failed sink.old + 1) }
+    ensures discarded { OnErr result (tracker.new.sent ≡ tracker.old.sent) }
+    ensures none_staged { tracker.new.next ≡ tracker.new.sent }
+{
+    match send(sink, part) {
+        Ok(()) => {
+            tracker.commit();
+            Ok(())
+        }
+        Err(_) => {
+            tracker.discard();
+            Err(WriteFault::Sink)
+        }
+    }
+}
+
+// The bytes of the end marker: the continuation, and the size 0 (Columnar Format, "IPC Streaming
+// Format").
+const MARKER: [u8; 8] = [255, 255, 255, 255, 0, 0, 0, 0];
+
+/// Sends the end marker, and then flushes the sink once. Takes no memory.
+pub(crate) fn send_end<S: Sink>(sink: &mut S) -> Result<(), WriteFault>
+    requires { S.failed sink.old < 2 ^ 64 - 1 }
+    ensures all { OnOk result (Appends (S.contents sink.old) (S.contents sink.new) marker) }
+    ensures fine { OnOk result (S.failed sink.new ≡ S.failed sink.old) }
+    ensures passed { OnOk result (S.is_passed_on sink.new) }
+    ensures fault { IfErr result (λ fault. fault ≡ Sink) }
+    ensures beginning { OnErr result
+        (AcceptsBeginning (S.contents sink.old) (S.contents sink.new) marker) }
+    ensures failed { OnErr result (S.failed sink.new ≡ S.failed sink.old + 1) }
+{
+    match send(sink, &MARKER) {
+        Ok(()) => {}
+        Err(_) => return Err(WriteFault::Sink),
+    }
+    match sink.flush() {
+        Ok(()) => Ok(()),
+        Err(_) => Err(WriteFault::Sink),
+    }
+}

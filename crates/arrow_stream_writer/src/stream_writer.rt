@@ -1,0 +1,221 @@
+//! Batches go in, frames come out.
+
+ghost use Rattle.std.specs.Prelude.{◌≡◌, ◌≢◌, ◌<◌, ◌-◌, ◌≤◌, ◌^◌, IfErr, IfOk, OnOk};
+ghost use Rattle.arrow_dict.specs.Dictionaries.{entries_code};
+ghost use Rattle.arrow_stream_writer.specs.Taking.{taking};
+ghost use Rattle.std.specs.Coded.{Coded-set};
+
+use crate::parts::PartBuilder;
+use crate::sending::{send_end, send_part};
+use crate::settings::Settings;
+use arrow_body_writer::Align;
+use arrow_data::Batch;
+use arrow_dict::{Tracker, Updates};
+use arrow_sink::{Sink, Status, WriteFault, send};
+use arrow_types::{Limits, Schema};
+use std::alloc::Global;
+
+/// How a writer sends.
+#[derive(Clone, Copy, Debug, PartialEq, Eq)]
+pub struct Options {
+    /// How it sends dictionaries that grew (Columnar Format, "Dictionary Messages").
+    pub updates: Updates,
+    /// To how many bytes it pads buffers and metadata (Columnar Format, "Buffer Alignment and
+    /// Padding").
+    pub align: Align,
+}
+
+/// Dictionaries that grew are sent as deltas, and buffers are padded to 64 bytes.
+impl Default for Options {
+    ghost use Rattle.arrow_body_writer.specs.declared.align.Align.TheVariants.{SixtyFour};
+    ghost use Rattle.arrow_dict.specs.declared.update.Updates.TheVariants.{Delta};
+
+    ghost is_default = { λ o. o ≡ record { updates = Delta; align = SixtyFour } };
+
+    fn default() -> Options {
+        Options {
+            updates: Updates::Delta,
+            align: Align::SixtyFour,
+        }
+    }
+}
+
+/// The writer of a stream: a schema, then batches of it, then the end marker, each sent to the sink
+/// as whole frames (Columnar Format, "IPC Streaming Format").
+///
+/// What it shows is said by `shown`, and what each call may answer and leave by
+/// `arrow_stream_laws`: `Starts`, `Writes`, `Finishes`. By its laws what the sink accepted, where
+/// it tells, is a stream of just the rows of the batches that were accepted, and after a failure of
+/// the sink a beginning of such a stream.
+#[derive(Drop)]
+pub struct StreamWriter<S> {
+    sink: S,
+    builder: PartBuilder,
+    // The place of the next frame, in bytes from the stream's first.
+    place: u64,
+    status: Status,
+    ghost near: { place ≤ 2 ^ 62 },
+    ghost committed: { builder.tracker.next ≡ builder.tracker.sent } by { Coded-set entries_code builder.tracker.next builder.tracker.sent },
+}
+
+impl<S: Sink> StreamWriter<S> {
+    ghost use Rattle.arrow_stream_laws.specs.Writer.{Finishes, StartFails, Starts, Writes};
+    ghost use Rattle.arrow_sink.specs.declared.write_fault.WriteFault.TheVariants.{Sink};
+    ghost use Rattle.arrow_stream_writer.specs.Shown.{options_view, shown};
+
+    /// Sends the frame of the schema, and answers a writer of batches of this schema.
+    ///
+    /// Faults: `TooLarge` where the metadata of the schema do not keep to the limits, `Memory` where
+    /// a growth was refused; then the sink comes back untouched. `Sink` where the sink failed: it
+    /// may have accepted a beginning of the frame.
+    ///
+    /// Condition: the sink has failed less than 2^64 - 1 times.
+    pub fn start(
+        alloc: Global,
+        sink: S,
+        schema: &Schema,
+        options: Options,
+        limits: Limits,
+    ) -> Result<StreamWriter<S>, (WriteFault, S)>
+        requires { S.failed sink < 2 ^ 64 - 1 }
+        ensures starts { IfOk result (λ w. Starts limits (options_view options) schema.now
+            (S.contents sink) (S.failed sink) (shown S.contents S.failed w)) }
+        ensures fails { IfErr result (λ e. StartFails limits (options_view options) schema.now
+            (S.contents sink) (S.failed sink) e.0 (S.contents e.1) (S.failed e.1)) }
+        ensures untouched { IfErr result (λ e. e.0 ≢ Sink → e.1 ≡ sink) }
+    {
+        let mut sink = sink;
+        let mut builder = match PartBuilder::new(alloc, schema, options, limits) {
+            Ok(builder) => builder,
+            Err(_) => return Err((WriteFault::Memory, sink)),
+        };
+        match builder.put_schema() {
+            Ok(()) => {}
+            Err(fault) => return Err((fault, sink)),
+        }
+        match send(&mut sink, &builder.part) {
+            Ok(()) => {
+                let place = builder.part.len() as u64;
+                Ok(StreamWriter {
+                    sink,
+                    builder,
+                    place,
+                    status: Status::Writing,
+                })
+            }
+            Err(_) => Err((WriteFault::Sink, sink)),
+        }
+    }
+
+    /// Sends the part of a batch: the frames of the dictionary batches that are needed, in the order
+    /// in which the schema's fields give their ids first, then that of its record batch. All is
+    /// built before the first byte is sent.
+    ///
+    /// Faults, tested in this order: `Broken` and `Finished` where the writer takes nothing more;
+    /// `SchemaDiffers`, `DictionariesDiffer`, `TooLarge` where the batch is refused; `Memory` where
+    /// a growth was refused, which may be told before `TooLarge`. After these nothing was sent and
+    /// nothing has changed. `Sink` where the sink failed: it may have accepted a beginning of the
+    /// part, what was sent before stays in `sent`, and the writer is broken for good.
+    ///
+    /// Condition: the sink has failed less than 2^64 - 1 times.
+    pub fn write(&mut self, batch: &Batch) -> Result<(), WriteFault>
+        requires { S.failed self.old.sink < 2 ^ 64 - 1 }
+        ensures { Writes (shown S.contents S.failed self.old) batch.now result
+            (shown S.contents S.failed self.new) }
+    {
+        match taking(self.status) {
+            Ok(()) => {}
+            Err(fault) => return Err(fault),
+        }
+        match self.builder.build(self.place, batch) {
+            Ok(()) => {}
+            Err(fault) => return Err(fault),
+        }
+        match send_part(
+            &mut self.sink,
+            &self.builder.part,
+            &mut self.builder.tracker,
+        ) {
+            Ok(()) => {
+                self.place += self.builder.part.len() as u64;
+                Ok(())
+            }
+            Err(fault) => {
+                self.status = Status::Broken;
+                Err(fault)
+            }
+        }
+    }
+
+    /// Sends the end marker, and flushes the sink once. Takes no memory.
+    ///
+    /// Faults: `Broken` and `Finished` where the writer takes nothing more, `TooLarge` where the
+    /// marker would end past the last place; then nothing was sent and nothing has changed. `Sink`
+    /// where the sink failed in the marker, or as it was flushed; then the writer is broken for good.
+    ///
+    /// Condition: the sink has failed less than 2^64 - 1 times.
+    pub fn finish(&mut self) -> Result<(), WriteFault>
+        requires { S.failed self.old.sink < 2 ^ 64 - 1 }
+        ensures answer { Finishes (shown S.contents S.failed self.old) result
+            (shown S.contents S.failed self.new) }
+        ensures passed { OnOk result (S.is_passed_on self.new.sink) }
+    {
+        match taking(self.status) {
+            Ok(()) => {}
+            Err(fault) => return Err(fault),
+        }
+        if self.place > Limits::LAST_PLACE - 8 {
+            return Err(WriteFault::TooLarge);
+        }
+        match send_end(&mut self.sink) {
+            Ok(()) => {
+                self.place += 8;
+                self.status = Status::Finished;
+                Ok(())
+            }
+            Err(fault) => {
+                self.status = Status::Broken;
+                Err(fault)
+            }
+        }
+    }
+
+    /// The dictionaries that were sent; none are staged. Takes no memory.
+    pub fn sent(&self) -> &Tracker
+        ensures sent { result.now.sent ≡ (shown S.contents S.failed self.now).sent }
+        ensures none_staged { result.now.next ≡ result.now.sent }
+    {
+        &self.builder.tracker
+    }
+
+    /// The sink. Takes no memory.
+    pub fn sink(&self) -> &S
+        ensures { result.now ≡ self.now.sink }
+    {
+        &self.sink
+    }
+
+    /// The sink, without the writer. Takes no memory.
+    pub fn into_sink(self) -> S
+        ensures { result ≡ self.sink }
+    {
+        let StreamWriter {
+            sink,
+            builder: _,
+            place: _,
+            status: _,
+        } = self;
+        sink
+    }
+}
+
+// Whether a writer with this status takes more, or why not.
+fn taking(status: Status) -> Result<(), WriteFault>
+    ensures { result ≡ taking status }
+{
+    match status {
+        Status::Broken => Err(WriteFault::Broken),
+        Status::Finished => Err(WriteFault::Finished),
+        Status::Writing => Ok(()),
+    }
+}

@@ -1,0 +1,102 @@
+//! The frames of a batch's dictionaries.
+
+ghost use Rattle.std.specs.Prelude.{◌≡◌, ◌≤◌, ◌∷◌, [], length};
+ghost use Rattle.arrow_stream_writer.specs.Lists.{dictionary_in};
+ghost use Rattle.arrow_stream_writer.specs.Updating.{AddsId, AddsOne, AddsPlan};
+ghost use Rattle.arrow_stream_writer.specs.Terms.{terms_of};
+ghost use Rattle.arrow_stream_writer.specs.Updating.{IsNamed, sending_of, work_of};
+
+use crate::frames::DictionaryBatch;
+use crate::lists::BatchLists;
+use crate::settings::Settings;
+use arrow_dict::{Tracker, Update};
+use arrow_sink::WriteFault;
+
+/// What builds the frames of a batch's dictionaries.
+#[derive(Drop)]
+pub(crate) struct Updater<'s, 'l, 'd> {
+    pub(crate) settings: &'s Settings,
+    pub(crate) lists: &'l BatchLists<'d>,
+}
+
+impl<'s, 'l, 'd> Updater<'s, 'l, 'd> {
+    /// Puts the frames of the batch's dictionaries into empty bytes, id by id in the order of the
+    /// schema, and stages the dictionaries.
+    pub(crate) fn add_all(
+        &self,
+        tracker: &mut Tracker,
+        bytes: &mut Vec<u8>,
+    ) -> Result<(), WriteFault>
+        requires empty { bytes.old.items ≡ [] }
+        requires committed { tracker.old.next ≡ tracker.old.sent }
+        ensures { AddsPlan (terms_of self.now.settings.now)
+            (dictionary_in self.now.lists.now) (work_of bytes.old.items tracker.old) result
+            (work_of bytes.new.items tracker.new) }
+    {
+        let ids = self.settings.schema.dictionary_ids();
+        for k in 0..ids.len() {
+            match self.add_one(ids[k], tracker, bytes) {
+                Ok(()) => {}
+                Err(fault) => return Err(fault),
+            }
+        }
+        Ok(())
+    }
+
+    // Appends the frame for one id, if there is one to send, and stages the dictionary.
+    fn add_one(&self, id: i64, tracker: &mut Tracker, bytes: &mut Vec<u8>) -> Result<(), WriteFault>
+        ensures { AddsId (terms_of self.now.settings.now) (dictionary_in self.now.lists.now)
+            id (work_of bytes.old.items tracker.old) result
+            (work_of bytes.new.items tracker.new) }
+    {
+        let dictionary = match self.lists.get(id) {
+            Some(dictionary) => dictionary,
+            None => return Ok(()),
+        };
+        match tracker.plan(id, dictionary, self.settings.updates) {
+            Update::None => Ok(()),
+            Update::New | Update::Replace => {
+                let update = DictionaryBatch {
+                    id,
+                    is_delta: false,
+                    from: 0,
+                    dictionary,
+                };
+                self.send(&update, tracker, bytes)
+            }
+            Update::Delta(from) => {
+                let update = DictionaryBatch {
+                    id,
+                    is_delta: true,
+                    from,
+                    dictionary,
+                };
+                self.send(&update, tracker, bytes)
+            }
+        }
+    }
+
+    // Appends the frame of the dictionary batch, and stages its dictionary.
+    fn send(
+        &self,
+        update: &DictionaryBatch,
+        tracker: &mut Tracker,
+        bytes: &mut Vec<u8>,
+    ) -> Result<(), WriteFault>
+        requires inside { update.now.from ≤ length update.now.dictionary.now.values }
+        ensures { IsNamed self.now.settings.now.schema.value.fields update.now.id
+            update.now.dictionary.now.data_type
+            → AddsOne (terms_of self.now.settings.now) (sending_of update.now ∷ [])
+            (work_of bytes.old.items tracker.old) result
+            (work_of bytes.new.items tracker.new) }
+    {
+        match self.settings.put_update(update, bytes) {
+            Ok(()) => {}
+            Err(fault) => return Err(fault),
+        }
+        match tracker.stage(self.settings.alloc, update.id, update.dictionary) {
+            Ok(()) => Ok(()),
+            Err(_) => Err(WriteFault::Memory),
+        }
+    }
+}

@@ -1,5 +1,0 @@
-use Rattle.arrow_writer.proofs.Delivering.{delivered_whole}
-use Rattle.arrow_writer.proofs.laws.delivered_whole.Goals as goal
-
-pub returns : goal.returns
-returns c = delivered_whole

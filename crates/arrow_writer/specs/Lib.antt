@@ -1,9 +1,0 @@
-pub mod Lists
-pub mod Terms
-pub mod Framing
-pub mod Updating
-pub mod Parts
-pub mod Marker
-pub mod Taking
-pub mod Shown
-pub mod Delivery

@@ -1,5 +1,0 @@
-use Rattle.arrow_written.proofs.Aligning.{text_aligned}
-use Rattle.arrow_written.proofs.laws.frames_are_aligned.Goals as goal
-
-pub returns : goal.returns
-returns c = record { aligned = λ limits o fields parts batches frames some text. text_aligned some text }

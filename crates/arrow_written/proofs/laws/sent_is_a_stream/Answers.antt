@@ -1,5 +1,0 @@
-use Rattle.arrow_written.proofs.Writers.{broken_delivered, stream_sent}
-use Rattle.arrow_written.proofs.laws.sent_is_a_stream.Goals as goal
-
-pub returns : goal.returns
-returns c = record { stream = stream_sent; broken = broken_delivered }

@@ -1,0 +1,75 @@
+-- How far an input is read until its stream is decided.
+use Rattle.std.proofs.Common.{◌≡◌, ℕ, ◌+◌, ◌-◌, ◌^◌, ◌<◌, ◌≤◌, List, [], ◌++◌, length, take, Result, Ok, Err, refl, sym, ap, arith, append-nil, length-append, length-drop}
+use Rattle.std.specs.Prelude.{IsErr}
+use Rattle.std.proofs.lemmas.Bool.{false≢true}
+use Rattle.arrow_types.specs.Limits.{LimitNumbers}
+use Rattle.arrow_stream_reader.specs.declared.reader.Verdict.TheVariants.{Open}
+use Rattle.arrow_stream_reader.specs.Frame.{Outcome, First, whole, waits, short_prefix, short_metadata, short_body, bad_prefix, bad_metadata, bad_body, end_marker, message_comes}
+use Rattle.arrow_stream_reader.specs.Front.{Entry, Standing, Front, rests, fails, closes, goes_on}
+use Rattle.arrow_stream_reader.specs.State.{StreamState, Given}
+use Rattle.arrow_stream_reader.specs.Stream.{Shows, Stands}
+use Rattle.arrow_stream_reader.proofs.Firsts.{First-within, whole_says}
+use Rattle.arrow_stream_reader.proofs.Fronts.{front_place}
+use Rattle.arrow_stream_reader.proofs.Works.{size_small, frame_small}
+use Rattle.arrowflow_report.specs.Reads.{IsReadWhile, answer_by}
+use Rattle.arrowflow_report.specs.declared.pieces.ReadFailed.{ReadFailed}
+use Rattle.arrowflow_report.specs.declared.tool_fault.ToolFault.{ToolFault}
+use Rattle.arrowflow_report.specs.declared.tool_fault.ToolFault.TheVariants.{Input}
+
+-- less than a message ends within eight bytes of the last place
+waits_near : {l : LimitNumbers} {s : StreamState} {p : ℕ} {b : List ℕ} {o : Outcome} → First l s p b o → o ≡ waits → p ≤ 2 ^ 62 → p + length b ≤ 2 ^ 62 + 8
+waits_near (short_prefix h) e n = omega (arith, h, n)
+waits_near (short_metadata h i) e n = let w = size_small h in omega (arith, i, w.1)
+waits_near (short_body h i) e n = let w = frame_small h in omega (arith, i, w.2)
+waits_near (bad_prefix h) e n = absurd (cc)
+waits_near (bad_metadata h) e n = absurd (cc)
+waits_near (bad_body h) e n = absurd (cc)
+waits_near (end_marker h) e n = absurd (cc)
+waits_near (message_comes h) e n = absurd (cc)
+
+-- a whole message ends by the last place
+whole_near : {l : LimitNumbers} {s : StreamState} {p : ℕ} {b : List ℕ} {o : Outcome} → First l s p b o → (n : ℕ) (s' : StreamState) (g : Given) → o ≡ whole n s' g → p + n ≤ 2 ^ 62
+whole_near first n s' g e =
+    let frame = whole_says first n s' g e in
+    let w = frame_small frame.body.metadata in
+    omega (arith, w.2, frame.ends)
+
+-- so does a stream that goes on
+open_near : {l : LimitNumbers} {s : StreamState} {p : ℕ} {b : List ℕ} {es : List Entry} {e : Standing} → Front l s p b es e → e.verdict ≡ Open → p ≤ 2 ^ 62 → p + length b ≤ 2 ^ 62 + 8
+open_near (rests x) o n = waits_near x refl n
+open_near (fails x) o n = absurd (cc)
+open_near (closes x) o n = absurd (cc)
+open_near {p = p} {b = b} (goes_on {n = m} {s' = s'} {g = g} x xs) o n =
+    let i = open_near xs o (whole_near x m s' g refl) in
+    omega (arith, i, length-drop m b, First-within x)
+
+-- how many bytes of its stream a reader has taken that goes on
+abbrev pub reached : Shows → ℕ
+reached r = r.at.place + length r.at.rest
+
+reached_is : (r : Shows) (t : List ℕ) (es : List Entry) → Stands r t es → r.at.verdict ≡ Open → reached r ≡ length t
+reached_is r t es s o = omega (arith, ap length (s.held o), front_place s.front)
+
+-- with each piece less is left that a stream can have
+pub less_left : (old new : Shows) (t piece : List ℕ) (es fs : List Entry) → Stands old t es → old.at.verdict ≡ Open → Stands new (t ++ piece) fs → new.at.verdict ≡ Open → 0 < length piece
+    → 2 ^ 62 + 9 - reached new < 2 ^ 62 + 9 - reached old
+less_left old new t piece es fs s o s' o' some =
+    let near : 0 + length (t ++ piece) ≤ 2 ^ 62 + 8 = open_near s'.front o' (omega arith) in
+    omega (arith, near, reached_is old t es s o, reached_is new (t ++ piece) fs s' o', length-append t piece, some)
+
+-- a read that answers no end gave bytes
+pub piece_some : (n : ℕ) (room : List ℕ) → (n ≡ 0 → ⊥) → (n ≤ length room) × (n ≡ length (take n room)) → 0 < length (take n room)
+piece_some n room some within = omega (arith, some, within.1)
+
+-- no piece is read behind bytes that call for more
+pub read_all : (P : List ℕ → Type 0) (bytes : List ℕ) → P bytes → IsReadWhile P bytes
+read_all P bytes p = record { before = bytes; piece = []; joined = sym (append-nil bytes); size = omega arith; wanting = p }
+
+-- nor behind the piece that was read behind such
+pub read_last : (P : List ℕ → Type 0) (bytes : List ℕ) (n : ℕ) (room : List ℕ) → length room ≡ 65536 → (n ≤ length room) × (n ≡ length (take n room)) → P bytes → IsReadWhile P (bytes ++ take n room)
+read_last P bytes n room size within p = record { before = bytes; piece = take n room; joined = refl; size = omega (arith, size, within.0, within.1); wanting = p }
+
+-- a read that failed is told as an input that did
+pub answer_failed : (r : Result (Result (Unit {0}) ToolFault) ReadFailed) → IsErr r → answer_by r ≡ Err (Input 0)
+answer_failed (Ok answer) e = absurd (false≢true e)
+answer_failed (Err failed) e = refl

@@ -1,0 +1,112 @@
+use Rattle.std.proofs.Common.{◌≡◌, ◌<◌, ◌++◌, take, length, Ok, refl, sym, ap, ◌∙◌, subst, append-nil, arith}
+use Rattle.std.specs.Io.KnownBytes.{Consumes}
+use Rattle.std.proofs.KnownBytes.{Consumes-kept, Consumes-trans}
+use Rattle.arrowflow_report.specs.Reports.{IsOpenAt, Reports}
+use Rattle.arrowflow_report.proofs.Reading.{answer_failed, less_left, piece_some, read_all, read_last}
+use Rattle.arrowflow_report.proofs.Reporting.{end_flushed, end_reported, open_at, piece_blameless, piece_reported, marker_flushed, standing_of, written}
+use Rattle.arrowflow_report.proofs.reports.report_pieces.Goals as goal
+
+pub returns-in_err-count-clause-written : goal.returns-in_err-count-clause-written
+returns-in_err-count-clause-written g c =
+    let inv = c.loop-count.invariant in
+    let limits = c.args.reader.now.limits in
+    let r = c.loop-count.reader in
+    let left = g.R.Read.remaining c.read_piece.new.input in
+    let before = g.S.Sink.contents c.args.output.now in
+    let start = g.S.Sink.failed c.args.output.now in
+    let held = g.S.Sink.contents c.loop-count.output in
+    let failed = g.S.Sink.failed c.loop-count.output in
+    let x = inv.2.1 in
+    let w = written c.args.report limits inv.0 left before start held c.loop-count.teller.number r inv.2.0 inv.4 x in (
+      inv.0,
+      Consumes-kept _ _ _ _ inv.1 c.in_err-count.ensures.bytes,
+      read_all (IsOpenAt limits) inv.0 (open_at limits inv.0 r inv.2.0 x.stands inv.4 inv.5),
+      subst (λ a. Reports c.args.report limits inv.0 left before start a held failed) (sym (answer_failed _ c.from_residual.ensures.0)) (refl, (standing_of r x.stands.rest, inv.5, w), inv.3),
+    )
+
+pub returns-in-Ok-clause-written : goal.returns-in-Ok-clause-written
+returns-in-Ok-clause-written g c =
+    let inv = c.loop-count.invariant in
+    let buf = c.read_piece.new.room in
+    let had = g.R.Read.remaining c.args.input.now in
+    let left = g.R.Read.remaining c.read_piece.new.input in
+    let room : 0 < length buf = omega arith in
+    let none : inv.0 ++ take c.in_ok-count.count buf ≡ inv.0 = ap (λ k. inv.0 ++ take k buf) c.if-count-eq0.true ∙ append-nil inv.0 in (
+      inv.0,
+      subst (Consumes had left) none (Consumes-trans _ _ _ _ _ inv.1 c.in_ok-count.ensures.bytes.0),
+      read_all (IsOpenAt c.args.reader.now.limits) inv.0 (open_at c.args.reader.now.limits inv.0 c.loop-count.reader inv.2.0 inv.2.1.stands inv.4 inv.5),
+      end_flushed c.args.report c.args.reader.now.limits inv.0 left (g.S.Sink.contents c.args.output.now) (g.S.Sink.failed c.args.output.now) (g.S.Sink.contents c.loop-count.output) c.loop-count.teller.number (g.S.Sink.failed c.loop-count.output) c.loop-count.reader inv.2.0
+          inv.4 inv.3 (c.in_ok-count.ensures.bytes.1 c.if-count-eq0.true room) inv.2.1 inv.5 (g.S.Sink.contents c.tell_end.new.output) (g.S.Sink.contents c.flush.new.output) (g.S.Sink.failed c.tell_end.new.output) (g.S.Sink.failed c.flush.new.output)
+          c.flush.result c.in-Ok.ensures c.flush.ensures.kept,
+    )
+
+pub returns-in-Err-clause-written : goal.returns-in-Err-clause-written
+returns-in-Err-clause-written g c =
+    let inv = c.loop-count.invariant in
+    let buf = c.read_piece.new.room in
+    let had = g.R.Read.remaining c.args.input.now in
+    let left = g.R.Read.remaining c.read_piece.new.input in
+    let room : 0 < length buf = omega arith in
+    let none : inv.0 ++ take c.in_ok-count.count buf ≡ inv.0 = ap (λ k. inv.0 ++ take k buf) c.if-count-eq0.true ∙ append-nil inv.0 in (
+      inv.0,
+      subst (Consumes had left) none (Consumes-trans _ _ _ _ _ inv.1 c.in_ok-count.ensures.bytes.0),
+      read_all (IsOpenAt c.args.reader.now.limits) inv.0 (open_at c.args.reader.now.limits inv.0 c.loop-count.reader inv.2.0 inv.2.1.stands inv.4 inv.5),
+      end_reported c.args.report c.args.reader.now.limits inv.0 left (g.S.Sink.contents c.args.output.now) (g.S.Sink.failed c.args.output.now) (g.S.Sink.contents c.loop-count.output) c.loop-count.teller.number (g.S.Sink.failed c.loop-count.output) c.loop-count.reader inv.2.0
+          inv.4 inv.3 (c.in_ok-count.ensures.bytes.1 c.if-count-eq0.true room) inv.2.1 c.in-Err.fault (g.S.Sink.contents c.tell_end.new.output) (g.S.Sink.failed c.tell_end.new.output) c.in-Err.ensures,
+    )
+
+pub flush-requires-in-Ok-true : goal.flush-requires-in-Ok-true
+flush-requires-in-Ok-true g c =
+    let inv = c.loop-count.invariant in
+    let told = c.in-Ok-true.ensures.told (g.S.Sink.contents c.args.output.now) inv.0 inv.2.0 inv.2.1 in
+    let same = told.1 ∙ inv.3 in
+    subst (λ n. n < 18446744073709551615) (sym same) c.requires.failed
+
+pub returns-in-Ok-true-clause-written : goal.returns-in-Ok-true-clause-written
+returns-in-Ok-true-clause-written g c =
+    let inv = c.loop-count.invariant in
+    let piece = take c.in_ok-count.count c.read_piece.new.room in
+    let first = g.S.Sink.contents c.args.output.now in
+    let told = rw c.in-Ok-true.field-0-test at (c.in-Ok-true.ensures.told first inv.0 inv.2.0 inv.2.1) in (
+      inv.0 ++ piece,
+      Consumes-trans _ _ _ _ _ inv.1 c.in_ok-count.ensures.bytes.0,
+      read_last (IsOpenAt c.args.reader.now.limits) inv.0 c.in_ok-count.count c.read_piece.new.room (omega arith) c.in_ok-count.ensures.bound (open_at c.args.reader.now.limits inv.0 c.loop-count.reader inv.2.0 inv.2.1.stands inv.4 inv.5),
+      marker_flushed c.args.report c.args.reader.now.limits inv.0 piece (g.R.Read.remaining c.read_piece.new.input) first (g.S.Sink.contents c.tell_piece.new.output) (g.S.Sink.failed c.args.output.now) (g.S.Sink.failed c.loop-count.output) (g.S.Sink.failed c.tell_piece.new.output)
+          c.tell_piece.new.teller.number c.tell_piece.new.reader (c.in-Ok-true.ensures.limits ∙ inv.4) inv.3 (g.S.Sink.contents c.flush-in-Ok-true.new.output) (g.S.Sink.failed c.flush-in-Ok-true.new.output) c.flush-in-Ok-true.result told c.flush-in-Ok-true.ensures.kept,
+    )
+
+pub returns-in-Err-tell_piece-clause-written : goal.returns-in-Err-tell_piece-clause-written
+returns-in-Err-tell_piece-clause-written g c =
+    let inv = c.loop-count.invariant in
+    let piece = take c.in_ok-count.count c.read_piece.new.room in
+    let first = g.S.Sink.contents c.args.output.now in
+    let told = c.in-Err-tell_piece.ensures.told first inv.0 inv.2.0 inv.2.1 in (
+      inv.0 ++ piece,
+      Consumes-trans _ _ _ _ _ inv.1 c.in_ok-count.ensures.bytes.0,
+      read_last (IsOpenAt c.args.reader.now.limits) inv.0 c.in_ok-count.count c.read_piece.new.room (omega arith) c.in_ok-count.ensures.bound (open_at c.args.reader.now.limits inv.0 c.loop-count.reader inv.2.0 inv.2.1.stands inv.4 inv.5),
+      piece_reported c.args.report c.args.reader.now.limits inv.0 piece (g.R.Read.remaining c.read_piece.new.input) first (g.S.Sink.contents c.tell_piece.new.output) (g.S.Sink.failed c.args.output.now) (g.S.Sink.failed c.loop-count.output) (g.S.Sink.failed c.tell_piece.new.output)
+          c.tell_piece.new.teller.number c.tell_piece.new.reader (c.in-Err-tell_piece.ensures.limits ∙ inv.4) inv.3 c.in-Err-tell_piece.fault told,
+    )
+
+pub loop-count-preserved : goal.loop-count-preserved
+loop-count-preserved g c =
+    let inv = c.loop-count.invariant in
+    let told = c.in-Ok-false.ensures.told (g.S.Sink.contents c.args.output.now) inv.0 inv.2.0 inv.2.1 in
+    (inv.0 ++ take c.in_ok-count.count c.read_piece.new.room, Consumes-trans _ _ _ _ _ inv.1 c.in_ok-count.ensures.bytes.0, told.0, told.1 ∙ inv.3, c.in-Ok-false.ensures.limits ∙ inv.4, c.in-Ok-false.ensures.open inv.5 (ap Ok c.in-Ok-false.field-0-test))
+
+pub returns-in-Err-tell_piece-clause-blameless : goal.returns-in-Err-tell_piece-clause-blameless
+returns-in-Err-tell_piece-clause-blameless g c =
+    let inv = c.loop-count.invariant in
+    let piece = take c.in_ok-count.count c.read_piece.new.room in
+    let first = g.S.Sink.contents c.args.output.now in
+    let told = c.in-Err-tell_piece.ensures.told first inv.0 inv.2.0 inv.2.1 in
+    piece_blameless c.args.report c.args.reader.now.limits inv.0 piece (g.R.Read.remaining c.read_piece.new.input) first (g.S.Sink.contents c.tell_piece.new.output) (g.S.Sink.failed c.args.output.now) (g.S.Sink.failed c.loop-count.output) (g.S.Sink.failed c.tell_piece.new.output)
+    c.tell_piece.new.teller.number c.tell_piece.new.reader (c.in-Err-tell_piece.ensures.limits ∙ inv.4) inv.3 c.in-Err-tell_piece.fault told
+
+pub loop-count-smaller : goal.loop-count-smaller
+loop-count-smaller g c =
+    let inv = c.loop-count.invariant in
+    let n = c.in_ok-count.count in
+    let room = c.read_piece.new.room in
+    let told = c.in-Ok-false.ensures.told (g.S.Sink.contents c.args.output.now) inv.0 inv.2.0 inv.2.1 in
+    less_left c.loop-count.reader c.tell_piece.new.reader inv.0 (take n room) inv.2.0 told.0.0 inv.2.1.stands inv.5 told.0.1.stands (c.in-Ok-false.ensures.open inv.5 (ap Ok c.in-Ok-false.field-0-test)) (piece_some n room c.if-count-eq0.false c.in_ok-count.ensures.bound)

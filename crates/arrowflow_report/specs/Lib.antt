@@ -1,0 +1,11 @@
+pub mod Escapes
+pub mod Faults
+pub mod SchemaCall
+pub mod SchemaText
+pub mod Session
+pub mod Pieces
+pub mod Reads
+pub mod Lines
+pub mod Reports
+pub mod TypeNames
+pub mod Shown

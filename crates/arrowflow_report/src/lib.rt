@@ -1,0 +1,49 @@
+//! What the program `arrowflow` does, as calls over readers and values.
+//!
+//! [`session::receive`] gives a reader the bytes of one connection in pieces, and hands out the
+//! batches at their front, the dictionaries that the whole messages left, and the ending. The rest
+//! takes an input with a stream and gives text to print, or a [`ToolFault`] with the line and the
+//! exit status that the program ends with. The program opens files, makes one of these calls and
+//! prints what it gives; it adds nothing of its own.
+//!
+//! What is received of bytes is said by `Receives` (`specs/Session.antt`). The text of a schema is
+//! a definition, `schema_lines` (`specs/SchemaText.antt`), and [`schema_lines_of`] gives it for
+//! every schema. Which bytes of an input decide what [`schema_text`] answers is said by
+//! `AnswersInput` (`specs/SchemaCall.antt`), in the words of the layer that reads streams; what is
+//! said of a fault by `specs/Faults.antt`. [`show`] writes the rows of a stream and [`check`] a
+//! line for each of its messages, as they come: what is written, and how that ends, is said by
+//! `ReportsInput` (`specs/Reports.antt`). How far both read their input is said by
+//! `specs/Reads.antt`. What each message adds to the text of a stream's rows is said by
+//! `specs/Shown.antt`, and that the text grows so by [`laws`].
+//!
+//! | Notion | Definition |
+//! |---|---|
+//! | what is received of bytes | `specs/Session.antt`: `Receives`; `specs/Pieces.antt`: `Feeds` |
+//! | the text of a schema | `specs/SchemaText.antt`: `schema_lines`; `specs/TypeNames.antt`; `specs/Escapes.antt` |
+//! | what an input answers with it | `specs/SchemaCall.antt`: `AnswersInput` |
+//! | what is written of a stream | `specs/Reports.antt`: `ReportsInput`; `specs/Shown.antt`: `text_at` |
+//! | the lines of messages | `specs/Lines.antt`: `message_line`, `AreLines` |
+//! | how far an input is read | `specs/Reads.antt`: `IsReadWhile` |
+//! | what is said of a fault | `specs/Faults.antt`: `fault_line`, `status_of` |
+#![tactic(auto)]
+
+mod escapes;
+pub mod laws;
+mod lines;
+pub mod pieces;
+mod report;
+mod reports;
+mod schema_call;
+mod schema_lines;
+mod sending;
+pub mod session;
+mod telling;
+mod tool_fault;
+mod type_names;
+mod what;
+
+pub use reports::{check, show};
+pub use schema_call::schema_text;
+pub use schema_lines::schema_lines_of;
+pub use tool_fault::ToolFault;
+pub use what::What;

@@ -1,0 +1,136 @@
+//! Streams told as they come: their messages, or their rows.
+
+ghost use Rattle.std.specs.Prelude.{◌≡◌, ◌<◌, ◌-◌, ◌^◌, [], IfOk, OnOk, length};
+ghost use Rattle.arrow_stream_reader.specs.declared.reader.Verdict.TheVariants.{Open};
+ghost use Rattle.arrow_stream_reader.specs.Stream.{Stands};
+ghost use Rattle.arrowflow_report.specs.Reads.{BlamesNoInput, answer_by};
+ghost use Rattle.arrowflow_report.specs.Reports.{ReportsInput};
+ghost use Rattle.arrowflow_report.specs.declared.report.Report.TheVariants.{Messages, Rows};
+
+use crate::pieces::{ReadFailed, answer_of, read_piece, room_for_a_piece};
+use crate::report::Report;
+use crate::sending::flush;
+use crate::telling::{Teller, tell_end, tell_piece};
+use crate::tool_fault::ToolFault;
+use arrow_sink::Sink;
+use arrow_stream_reader::StreamReader;
+use arrow_types::Limits;
+use std::alloc::Global;
+use std::io::Read;
+
+/// Writes a line for each message of a stream, and hands the output back.
+///
+/// `at P: schema, K columns`, `at P: dictionary ID, now N values`, `at P: batch B, N rows`, and
+/// last `at P: end marker` or `at P: end of input`, where `P` is the place of the message's first
+/// byte and batches are counted from 0. Where the stream is refused, or ends too early, the lines
+/// of the whole messages stand there, and no last one (`specs/Lines.antt`). Of how many values a
+/// line tells that a dictionary has, the contract of the whole says only that some dictionaries had
+/// as many; that of the line itself says that it is the dictionary of that id, as it stands then.
+///
+/// The input is read, and the call ends, as [`show`] does.
+pub fn check<R: Read, S: Sink>(
+    alloc: Global,
+    input: &mut R,
+    output: S,
+    limits: &Limits,
+) -> (S, Result<(), ToolFault>)
+    requires { S.failed output < 2 ^ 64 - 1 }
+    ensures written { ReportsInput Messages limits.now (R.remaining input.old)
+        (R.remaining input.new) (S.contents output) (S.failed output) result.1
+        (S.contents result.0) (S.failed result.0) }
+    ensures passed { OnOk result.1 (S.is_passed_on result.0) }
+{
+    let mut output = output;
+    let answer = report(alloc, Report::Messages, input, &mut output, limits);
+    (output, answer)
+}
+
+/// Writes the rows of a stream as records of comma-separated values, and hands the output back.
+///
+/// A record of the word `batch` and the names of the columns comes first, then one for each row:
+/// the number of its batch, counted from 0, and the texts of its values, with indices looked up
+/// (`arrow_csv`). Rows are written as their batches come, so that memory is bounded by a message,
+/// whatever the stream's length.
+///
+/// The input is read in pieces of 65,536 bytes up to an end marker, or to its end; the output is
+/// flushed once, before `Ok`. `Stream` where the stream is refused, or where it ends without being
+/// at the end of a message behind its schema; `Input(0)` where a read failed, an interrupted one
+/// included: then the rows of the whole messages stand there. `Output` where the output failed, and
+/// `Memory` where a growth was refused: then a beginning of them does.
+pub fn show<R: Read, S: Sink>(
+    alloc: Global,
+    input: &mut R,
+    output: S,
+    limits: &Limits,
+) -> (S, Result<(), ToolFault>)
+    requires { S.failed output < 2 ^ 64 - 1 }
+    ensures written { ReportsInput Rows limits.now (R.remaining input.old)
+        (R.remaining input.new) (S.contents output) (S.failed output) result.1
+        (S.contents result.0) (S.failed result.0) }
+    ensures passed { OnOk result.1 (S.is_passed_on result.0) }
+{
+    let mut output = output;
+    let answer = report(alloc, Report::Rows, input, &mut output, limits);
+    (output, answer)
+}
+
+/// Tells a stream from its beginning.
+fn report<R: Read, S: Sink>(
+    alloc: Global,
+    report: Report,
+    input: &mut R,
+    output: &mut S,
+    limits: &Limits,
+) -> Result<(), ToolFault>
+    requires { S.failed output.old < 2 ^ 64 - 1 }
+    ensures written { ReportsInput report limits.now (R.remaining input.old)
+        (R.remaining input.new) (S.contents output.old) (S.failed output.old) result
+        (S.contents output.new) (S.failed output.new) }
+    ensures passed { OnOk result (S.is_passed_on output.new) }
+{
+    let mut reader = StreamReader::new(alloc, *limits);
+    let mut teller = Teller::new(alloc);
+    match room_for_a_piece(alloc) {
+        Ok(mut room) => {
+            answer_of(report_pieces(report, &mut reader, &mut teller, input, output, &mut room))
+        }
+        Err(_) => Err(ToolFault::Memory),
+    }
+}
+
+/// Tells the pieces of a stream, one by one. No stream is longer than the last place allows, so
+/// that this ends.
+fn report_pieces<R: Read, S: Sink>(
+    report: Report,
+    reader: &mut StreamReader,
+    teller: &mut Teller,
+    input: &mut R,
+    output: &mut S,
+    room: &mut [u8],
+) -> Result<Result<(), ToolFault>, ReadFailed>
+    requires failed { S.failed output.old < 2 ^ 64 - 1 }
+    requires start { Stands reader.old [] [] }
+    requires open { reader.old.at.verdict ≡ Open }
+    requires none { teller.old.number ≡ 0 }
+    requires room { length room.old ≡ 65536 }
+    ensures written { ReportsInput report reader.old.limits (R.remaining input.old)
+        (R.remaining input.new) (S.contents output.old) (S.failed output.old) (answer_by result)
+        (S.contents output.new) (S.failed output.new) }
+    ensures blameless { IfOk result BlamesNoInput }
+    ensures passed { OnOk (answer_by result) (S.is_passed_on output.new) }
+{
+    loop {
+        let count = read_piece(input, room)?;
+        if count == 0 {
+            return Ok(match tell_end(report, reader, teller, output) {
+                Ok(()) => flush(output),
+                Err(fault) => Err(fault),
+            });
+        }
+        match tell_piece(report, reader, teller, output, &room[..count]) {
+            Ok(true) => return Ok(flush(output)),
+            Ok(false) => {}
+            Err(fault) => return Ok(Err(fault)),
+        }
+    }
+}

@@ -1,0 +1,71 @@
+//! Texts on their way to an output.
+
+ghost use Rattle.std.specs.Prelude.{◌<◌, ◌-◌, ◌^◌, [], OnOk};
+ghost use Rattle.arrow_csv.specs.Records.{batch_rows};
+ghost use Rattle.arrowflow_report.specs.Reports.{Sends};
+
+use crate::tool_fault::ToolFault;
+use arrow_csv::BatchRows;
+use arrow_data::Batch;
+use arrow_sink::{Sink, send};
+use std::alloc::Global;
+
+/// How many rows are put into text at once.
+const ROWS: usize = 1_024;
+
+/// Sends a text.
+pub(crate) fn send_text<S: Sink>(output: &mut S, text: &[u8]) -> Result<(), ToolFault>
+    requires { S.failed output.old < 2 ^ 64 - 1 }
+    ensures { Sends (S.contents output.old) (S.failed output.old) text.now result
+        (S.contents output.new) (S.failed output.new) }
+{
+    match send(output, text) {
+        Ok(()) => Ok(()),
+        Err(_) => Err(ToolFault::Output),
+    }
+}
+
+/// Sends the records of the rows of the batch that has this number, some of them at a time, which
+/// are made in the room of a text.
+pub(crate) fn send_rows<S: Sink>(
+    alloc: Global,
+    text: &mut Vec<u8>,
+    number: u64,
+    batch: &Batch,
+    output: &mut S,
+) -> Result<(), ToolFault>
+    requires { S.failed output.old < 2 ^ 64 - 1 }
+    ensures { Sends (S.contents output.old) (S.failed output.old)
+        (batch_rows number batch.now 0 batch.now.rows) result (S.contents output.new)
+        (S.failed output.new) }
+{
+    let Ok(rows) = BatchRows::new(alloc, number, batch) else {
+        return Err(ToolFault::Memory);
+    };
+    let mut start = 0;
+    while start < batch.rows() {
+        let end = start + ROWS.min(batch.rows() - start);
+        text.clear();
+        let Ok(()) = rows.push(alloc, text, start, end) else {
+            return Err(ToolFault::Memory);
+        };
+        match send_text(output, text) {
+            Ok(()) => start = end,
+            Err(fault) => return Err(fault),
+        }
+    }
+    Ok(())
+}
+
+/// Passes on what was sent.
+pub(crate) fn flush<S: Sink>(output: &mut S) -> Result<(), ToolFault>
+    requires { S.failed output.old < 2 ^ 64 - 1 }
+    ensures kept { Sends (S.contents output.old) (S.failed output.old) [] result
+        (S.contents output.new) (S.failed output.new) }
+    ensures passed { OnOk result (S.is_passed_on output.new) }
+{
+    match output.flush() {
+        Ok(()) => Ok(()),
+        Err(_) => Err(ToolFault::Output),
+    }
+}

@@ -1,0 +1,180 @@
+//! Faults of the program's commands, with the line and the exit status of each.
+
+ghost use Rattle.std.specs.Prelude.{◌≡◌, ◌++◌, IfOk, OnOk, string_bytes};
+ghost use Rattle.arrowflow_report.specs.Faults.{fault_line, is_memory, kind_name, refusal_name};
+ghost use Rattle.arrowflow_report.specs.Faults.{status_of, told, what_text};
+
+use crate::what::What;
+use arrow_sink::WriteFault;
+use arrow_stream_reader::{Fault, Kind};
+use std::alloc::{AllocError, Global};
+use std::fmt::Write;
+use thiserror::Error;
+
+/// Why a command gives no answer.
+#[derive(Debug, Drop, Error)]
+pub enum ToolFault {
+    /// The input of this number, counted from 0, could not be read. An interrupted read counts as
+    /// failed.
+    #[error("cannot read input {0}")]
+    Input(u64),
+    /// The output failed.
+    #[error("cannot write the output")]
+    Output,
+    /// A stream was refused, or ended too early.
+    #[error("fault at byte {}: {:?}", .0.place, .0.kind)]
+    Stream(Fault),
+    /// The writer refused the schema, a batch or the end marker.
+    #[error("refused {0:?}: {1:?}")]
+    Refused(What, WriteFault),
+    /// A growth was refused.
+    #[error("out of memory")]
+    Memory,
+}
+
+/// A reader's fault: `Memory` where a growth was refused, else `Stream`.
+impl From<Fault> for ToolFault {
+    ghost from_gives = { λ fault tool. tool ≡ told fault };
+
+    fn from(fault: Fault) -> ToolFault {
+        if is_memory(fault.kind) {
+            ToolFault::Memory
+        } else {
+            ToolFault::Stream(fault)
+        }
+    }
+}
+
+impl ToolFault {
+    /// The line that the program prints of the fault to standard error, without its line feed, or
+    /// `AllocError` where a growth was refused. `read` is the name of the input that failed, and
+    /// `written` that of the output.
+    ///
+    /// `cannot read NAME`, `cannot write NAME`, `fault at byte P: KIND` with the place of the
+    /// message in bytes from the stream's beginning and the kind by its name, `refused schema:
+    /// KIND`, `refused batch B: KIND`, `refused end: KIND`, or `out of memory`.
+    pub fn line(&self, alloc: Global, read: &str, written: &str) -> Result<String, AllocError>
+        ensures { IfOk result (λ line. string_bytes line
+            ≡ fault_line self.now read.now written.now) }
+    {
+        let mut line = String::new(alloc);
+        match self {
+            ToolFault::Input(_) => {
+                line.push_str("cannot read ")?;
+                line.push_str(read)?;
+            }
+            ToolFault::Output => {
+                line.push_str("cannot write ")?;
+                line.push_str(written)?;
+            }
+            ToolFault::Stream(fault) => {
+                line.push_str("fault at byte ")?;
+                write!(line, "{}", fault.place)?;
+                line.push_str(": ")?;
+                line.push_str(kind_name(fault.kind))?;
+            }
+            ToolFault::Refused(what, kind) => {
+                line.push_str("refused ")?;
+                push_what(&mut line, *what)?;
+                line.push_str(": ")?;
+                line.push_str(refusal_name(*kind))?;
+            }
+            ToolFault::Memory => line.push_str("out of memory")?,
+        }
+        Ok(line)
+    }
+
+    /// The program's exit status: 1 where a stream or a write was refused, 2 where an input, the
+    /// output or memory failed.
+    pub fn status(&self) -> u8
+        ensures { result ≡ status_of self.now }
+    {
+        match self {
+            ToolFault::Stream(_) | ToolFault::Refused(_, _) => 1,
+            ToolFault::Input(_) | ToolFault::Output | ToolFault::Memory => 2,
+        }
+    }
+}
+
+/// Whether the kind is want of memory, which says nothing of the stream.
+pub(crate) fn is_memory(kind: Kind) -> bool
+    ensures { result ≡ is_memory kind }
+{
+    match kind {
+        Kind::Continuation
+        | Kind::MetadataSize
+        | Kind::Metadata
+        | Kind::Version
+        | Kind::Header
+        | Kind::BodyLength
+        | Kind::Order
+        | Kind::Unsupported
+        | Kind::Schema
+        | Kind::Compressed
+        | Kind::UnknownId
+        | Kind::NoBase
+        | Kind::Rows
+        | Kind::Layout
+        | Kind::Text
+        | Kind::Index
+        | Kind::NoSchema
+        | Kind::Truncated => false,
+        Kind::Memory => true,
+    }
+}
+
+/// Appends what was refused.
+fn push_what(line: &mut String, what: What) -> Result<(), AllocError>
+    ensures { OnOk result (string_bytes line.new ≡ string_bytes line.old ++ what_text what) }
+{
+    match what {
+        What::Start => line.push_str("schema"),
+        What::Batch(number) => {
+            line.push_str("batch ")?;
+            Ok(write!(line, "{number}")?)
+        }
+        What::Finish => line.push_str("end"),
+    }
+}
+
+/// The name of a writer's refusal.
+fn refusal_name(kind: WriteFault) -> &'static str
+    ensures { result.now ≡ refusal_name kind }
+{
+    match kind {
+        WriteFault::SchemaDiffers => "SchemaDiffers",
+        WriteFault::TooLarge => "TooLarge",
+        WriteFault::DictionariesDiffer => "DictionariesDiffer",
+        WriteFault::Sink => "Sink",
+        WriteFault::Broken => "Broken",
+        WriteFault::Finished => "Finished",
+        WriteFault::Memory => "Memory",
+    }
+}
+
+/// The name of a kind.
+fn kind_name(kind: Kind) -> &'static str
+    ensures { result.now ≡ kind_name kind }
+{
+    match kind {
+        Kind::Continuation => "Continuation",
+        Kind::MetadataSize => "MetadataSize",
+        Kind::Metadata => "Metadata",
+        Kind::Version => "Version",
+        Kind::Header => "Header",
+        Kind::BodyLength => "BodyLength",
+        Kind::Order => "Order",
+        Kind::Unsupported => "Unsupported",
+        Kind::Schema => "Schema",
+        Kind::Compressed => "Compressed",
+        Kind::UnknownId => "UnknownId",
+        Kind::NoBase => "NoBase",
+        Kind::Rows => "Rows",
+        Kind::Layout => "Layout",
+        Kind::Text => "Text",
+        Kind::Index => "Index",
+        Kind::NoSchema => "NoSchema",
+        Kind::Truncated => "Truncated",
+        Kind::Memory => "Memory",
+    }
+}

@@ -1,0 +1,90 @@
+-- What is reported of a connection: what was sent, and what was received of the first bytes of it. (This project's own; Columnar
+-- Format, "IPC Streaming Format".)
+use Rattle.std.specs.Prelude.{◌≡◌, ℕ, ℤ, ◌≤◌, nat_lt, if◌then◌else◌, List, [], ◌∷◌, length, take, map, Option, Some, None, Vec}
+use Rattle.std.specs.List.{AllByRecursion}
+use Rattle.std.specs.declared.alloc.Global.{Global}
+use Rattle.arrow_types.specs.Limits.{LimitNumbers}
+use Rattle.arrow_data.specs.Batch.{Table}
+use Rattle.arrow_data.specs.Column.{ValueList}
+use Rattle.arrow_stream_reader.specs.declared.kind.Kind.TheVariants.{NoSchema, Truncated}
+use Rattle.arrow_stream_reader.specs.State.{nothing_yet}
+use Rattle.arrow_sink.specs.declared.write_fault.WriteFault.{WriteFault}
+use Rattle.arrow_stream_laws.specs.Rows.{rows_of}
+use Rattle.arrow_stream_laws.specs.Admission.{schema_admission}
+use Rattle.arrow_stream_laws.specs.Frames.{Frame, IsStream, frames_bytes, left_by, lying}
+use Rattle.arrow_stream_laws.specs.Text.{Written, joined, whole_batches}
+use Rattle.arrowflow_report.specs.declared.session.Ending.{Ending}
+use Rattle.arrowflow_report.specs.declared.session.Ending.TheVariants.{Clean, Fault}
+use Rattle.arrowflow_session.specs.Asked.{Asked, asked_of, outcome_of}
+use Rattle.arrowflow_session.specs.declared.refusal.Refusal.{Refusal}
+use Rattle.arrowflow_session.specs.declared.session.Connection.{Connection}
+use Rattle.arrowflow_session.specs.declared.session.Report.{Report}
+
+-- What is told of a connection: the parts that were sent, the refusals, the dictionaries of the writer at the end; the batches that
+-- the reader handed out, its dictionaries at the end, and how the delivered bytes ended.
+pub record Told : Type 0 where
+  pub parts : List (List ℕ)
+  pub refused : List Refusal
+  pub writer_dictionaries : List (ℤ × ValueList)
+  pub handed : List Table
+  pub reader_dictionaries : List (ℤ × ValueList)
+  pub ending : Ending
+
+-- these lists of bytes
+abbrev pub items_of : List (Vec ℕ Global) → List (List ℕ)
+items_of vs = map (λ v. v.items) vs
+
+-- what a report tells
+abbrev pub told_by : Report → Told
+told_by r = record {
+  parts = items_of r.parts.items;
+  refused = r.refused.items;
+  writer_dictionaries = r.writer_dictionaries.items;
+  handed = r.received.handed.items;
+  reader_dictionaries = r.received.reader_dictionaries.items;
+  ending = r.received.ending;
+}
+
+-- The parts are the text of the admitted batches, of these frames; with a schema that is refused there are none.
+abbrev pub Sends : Option WriteFault → LimitNumbers → Asked → List (List ℕ) → List Frame → Type 0
+Sends None limits c parts frames = Written limits c.options c.shape (outcome_of limits c).closed parts (outcome_of limits c).admitted frames
+Sends (Some k) limits c parts frames = (parts ≡ []) × (frames ≡ [])
+
+-- the frames that were delivered whole
+abbrev pub whole_frames : Asked → List Frame → List Frame
+whole_frames c frames = lying c.deliver frames
+
+-- How so many bytes end, of which these frames are whole: without a schema where not even the first one is, which is the schema's;
+-- cut off at the end of the last one where bytes stand after it; else well.
+abbrev pub ending_after : List Frame → ℕ → Ending
+ending_after [] count = Fault (record { kind = NoSchema; place = 0 })
+ending_after (f ∷ fs) count =
+    if nat_lt (length (frames_bytes (f ∷ fs))) count then Fault (record { kind = Truncated; place = length (frames_bytes (f ∷ fs)) }) else Clean
+
+-- The headline, of one connection: what was sent is a stream of the admitted batches and the others were refused; what was handed
+-- out are the rows of just those whose last byte was delivered, in their order, each with the schema of the connection and its
+-- indices looked up in the dictionaries of the batch that the caller gave; after each frame that was delivered both ends had the
+-- same dictionaries; and how it ended.
+pub record IsReport (limits : LimitNumbers) (c : Asked) (r : Told) : Type 0 where
+  pub frames : List Frame
+  -- what was sent
+  pub refused_are : r.refused ≡ (outcome_of limits c).refused
+  pub sends : Sends (schema_admission limits c.options c.shape) limits c r.parts frames
+  pub is_stream : schema_admission limits c.options c.shape ≡ None →
+      IsStream limits (joined r.parts) c.shape (map rows_of (outcome_of limits c).admitted) r.writer_dictionaries
+  pub writer_dictionaries_are : r.writer_dictionaries ≡ (outcome_of limits c).sent
+  -- what was received of the delivered bytes
+  pub handed_are : map rows_of r.handed ≡ take (whole_batches r.parts (outcome_of limits c).admitted c.deliver) (map rows_of (outcome_of limits c).admitted)
+  pub schemas_are : AllByRecursion (λ (t : Table). t.schema ≡ c.shape) r.handed
+  pub reader_dictionaries_are : r.reader_dictionaries ≡ (left_by nothing_yet (whole_frames c frames)).dictionaries
+  pub ending_is : r.ending ≡ ending_after (whole_frames c frames) (length (take c.deliver (joined r.parts)))
+  -- where all was delivered
+  pub all_handed : length (joined r.parts) ≤ c.deliver → map rows_of r.handed ≡ map rows_of (outcome_of limits c).admitted
+  pub same_dictionaries : length (joined r.parts) ≤ c.deliver → r.reader_dictionaries ≡ r.writer_dictionaries
+
+-- The headline: a report of each connection, in their order.
+abbrev pub Reports : LimitNumbers → List Connection → List Report → Type 0
+Reports limits [] [] = Unit {0}
+Reports limits [] (r ∷ rs) = ⊥
+Reports limits (c ∷ cs) [] = ⊥
+Reports limits (c ∷ cs) (r ∷ rs) = IsReport limits (asked_of c) (told_by r) × Reports limits cs rs
