@@ -1,6 +1,6 @@
 //! The body of columns, written.
 
-ghost use Rattle.std.specs.Prelude.{◌≡◌, ◌<◌, ℕ, Some, [], ◌∷◌, IfOk, IfSome, MatchOption};
+ghost use Rattle.std.specs.Prelude.{◌≡◌, ◌<◌, ℕ, Some, [], ◌∷◌, IfOk};
 ghost use Rattle.arrow_body_laws.specs.Laws.{IsBodyOf, raws_of};
 ghost use Rattle.arrow_body_laws.specs.Tidy.{IsTidy};
 ghost use Rattle.arrow_body_laws.specs.Raws.{AreRaws, IsSmall};
@@ -154,61 +154,61 @@ fn begun(alloc: Global, nodes: usize, size: usize) -> Result<Body, AllocError>
 
 /// The body of the columns, laid out anew: each node with the slots that it is sent and no others,
 /// each buffer without a byte that no value needs, padded with zero bytes to the alignment. Nothing
-/// is copied that stood under a null. None where `body_size` is None; the bytes are as many as it
-/// says. Nodes, buffers and bytes take one growth each. The body is read as the raw values of the
-/// columns, and it is tidy. `AllocError` where a growth was refused.
-pub fn store(alloc: Global, align: Align, arrays: &[Array]) -> Result<Option<Body>, AllocError>
-    ensures same { IfOk result (λ body. MatchOption body
-        (CanBeStored (alignment_of align) arrays.now → ⊥) (λ b.
-        CanBeStored (alignment_of align) arrays.now
-        × (body_view b ≡ stored (alignment_of align)
-        (fields_of_columns arrays.now) (raws_of arrays.now)))) }
-    ensures read { IfOk result (λ body. IfSome body (λ b. IsBodyOf (alignment_of align)
-        (fields_of_columns arrays.now) (raws_of arrays.now) (body_view b))) }
-    ensures tidy { IfOk result (λ body. IfSome body (λ b. IsTidy (alignment_of align)
-        (fields_of_columns arrays.now) b.nodes.items b.buffers.items b.bytes.items)) }
+/// is copied that stood under a null. Nodes, buffers and bytes take one growth each, and the bytes
+/// are as many as `body_size` says. The body is read as the raw values of the columns, and it is
+/// tidy. `AllocError` where a growth was refused.
+///
+/// Condition: the columns can be stored, that is, `body_size` answers a number.
+pub fn store(alloc: Global, arrays: &[Array], align: Align) -> Result<Body, AllocError>
+    requires { CanBeStored (alignment_of align) arrays.now }
+    ensures same { IfOk result (λ b. body_view b ≡ stored (alignment_of align)
+        (fields_of_columns arrays.now) (raws_of arrays.now)) }
+    ensures read { IfOk result (λ b. IsBodyOf (alignment_of align)
+        (fields_of_columns arrays.now) (raws_of arrays.now) (body_view b)) }
+    ensures tidy { IfOk result (λ b. IsTidy (alignment_of align)
+        (fields_of_columns arrays.now) b.nodes.items b.buffers.items b.bytes.items) }
 {
-    let Some(size) = body_size(align, arrays) else {
-        return Ok(None);
+    let Some(size) = body_size(arrays, align) else {
+        unreachable!();
     };
-    let empty = begun(alloc, nodes_in_all(arrays), size)?;
+    let empty = begun(alloc, nodes_in_all(arrays), size as usize)?;
     let mut body = empty;
     for array in arrays {
         body = put_column(body, align, array)?;
     }
-    Ok(Some(body))
+    Ok(body)
 }
 
 /// The body of one column without an encoding whose slots hold the values of the dictionary from
 /// value `from` on (`Message.fbs`, table `DictionaryBatch`), as `store` would lay it out; from a
 /// place after the last value on there are none. The values come array by array, as they lie in the
-/// dictionary. None where `rest_size` is None; the bytes are as many as it says. Nodes, buffers and
-/// bytes take one growth each. The body is read as these values, and it is tidy. `AllocError` where
-/// a growth was refused.
+/// dictionary. Nodes, buffers and bytes take one growth each, and the bytes are as many as
+/// `rest_size` says. The body is read as these values, and it is tidy. `AllocError` where a growth
+/// was refused.
+///
+/// Condition: the column can be stored, that is, `rest_size` answers a number.
 pub fn store_rest(
     alloc: Global,
-    align: Align,
     dictionary: &Dictionary,
     from: usize,
-) -> Result<Option<Body>, AllocError>
-    ensures same { IfOk result (λ body. MatchOption body
-        (CanBeStored (alignment_of align) (rest_of dictionary.now from ∷ []) → ⊥) (λ b.
-        CanBeStored (alignment_of align) (rest_of dictionary.now from ∷ [])
-        × (body_view b ≡ stored (alignment_of align)
+    align: Align,
+) -> Result<Body, AllocError>
+    requires { CanBeStored (alignment_of align) (rest_of dictionary.now from ∷ []) }
+    ensures same { IfOk result (λ b. body_view b ≡ stored (alignment_of align)
         (fields_of_columns (rest_of dictionary.now from ∷ []))
-        (raws_of (rest_of dictionary.now from ∷ []))))) }
-    ensures read { IfOk result (λ body. IfSome body (λ b. IsBodyOf (alignment_of align)
+        (raws_of (rest_of dictionary.now from ∷ []))) }
+    ensures read { IfOk result (λ b. IsBodyOf (alignment_of align)
         (fields_of_columns (rest_of dictionary.now from ∷ []))
-        (raws_of (rest_of dictionary.now from ∷ [])) (body_view b))) }
-    ensures tidy { IfOk result (λ body. IfSome body (λ b. IsTidy (alignment_of align)
+        (raws_of (rest_of dictionary.now from ∷ [])) (body_view b)) }
+    ensures tidy { IfOk result (λ b. IsTidy (alignment_of align)
         (fields_of_columns (rest_of dictionary.now from ∷ []))
-        b.nodes.items b.buffers.items b.bytes.items)) }
+        b.nodes.items b.buffers.items b.bytes.items) }
 {
-    let Some(size) = rest_size(align, dictionary, from) else {
-        return Ok(None);
+    let Some(size) = rest_size(dictionary, from, align) else {
+        unreachable!();
     };
     let source = Source::Rest(dictionary, from);
-    let empty = begun(alloc, nodes_in(&source), size)?;
+    let empty = begun(alloc, nodes_in(&source), size as usize)?;
     let rest = put_by_number(empty, align, &source)?;
-    Ok(Some(rest))
+    Ok(rest)
 }

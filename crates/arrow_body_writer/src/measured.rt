@@ -107,11 +107,11 @@ fn column_size(align: Align, array: &Array) -> Option<u64>
 }
 
 // The size where a body may be so long, None where it is more than 2^62 bytes.
-fn allowed(size: u64) -> Option<usize>
+fn allowed(size: u64) -> Option<u64>
     ensures { MatchOption result (2 ^ 62 < size) (λ len. (len ≡ size) × (len ≤ 2 ^ 62)) }
 {
     if size <= 4_611_686_018_427_387_904 {
-        Some(size as usize)
+        Some(size)
     } else {
         None
     }
@@ -122,7 +122,7 @@ fn allowed(size: u64) -> Option<usize>
 /// slots, where an offset could not be told by a number of its width, and where it would be more
 /// than 2^62 bytes; and where a column has 2^64 - 1 nodes or more, which no memory holds. The raw
 /// values of arrays are always such as can be stored. Takes no memory.
-pub fn body_size(align: Align, arrays: &[Array]) -> Option<usize>
+pub fn body_size(arrays: &[Array], align: Align) -> Option<u64>
     ensures size { MatchOption result (CanBeStored (alignment_of align) arrays.now → ⊥) (λ size.
         CanBeStored (alignment_of align) arrays.now
         × (size ≡ columns_size (alignment_of align) arrays.now)) }
@@ -145,7 +145,7 @@ pub fn body_size(align: Align, arrays: &[Array]) -> Option<usize>
 /// be None: where a node would have more than 2,147,483,647 slots, as one of more values than an
 /// array can have; where an offset could not be told by a number of its width; where it would be
 /// more than 2^62 bytes; and where the column has 2^64 - 1 nodes or more. Takes no memory.
-pub fn rest_size(align: Align, dictionary: &Dictionary, from: usize) -> Option<usize>
+pub fn rest_size(dictionary: &Dictionary, from: usize, align: Align) -> Option<u64>
     ensures size { MatchOption result
         (CanBeStored (alignment_of align) (rest_of dictionary.now from ∷ []) → ⊥) (λ size.
         CanBeStored (alignment_of align) (rest_of dictionary.now from ∷ [])

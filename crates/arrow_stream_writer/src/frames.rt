@@ -175,19 +175,18 @@ impl Settings {
         let _ = batch.schema();
         let columns = batch.columns();
         let (max_body, max_rows) = (self.limits.max_body(), self.limits.max_rows());
-        let size = match body_size(self.align, columns) {
+        let size = match body_size(columns, self.align) {
             Some(size) => size,
             None => return Err(WriteFault::TooLarge),
         };
-        if size as u64 > max_body {
+        if size > max_body {
             return Err(WriteFault::TooLarge);
         }
         if batch.rows() as u64 > max_rows {
             return Err(WriteFault::TooLarge);
         }
-        match store(self.alloc, self.align, columns) {
-            Ok(Some(body)) => self.put_stored(BatchKind::Record, batch.rows(), body, out),
-            Ok(None) => Err(WriteFault::TooLarge),
+        match store(self.alloc, columns, self.align) {
+            Ok(body) => self.put_stored(BatchKind::Record, batch.rows(), body, out),
             Err(_) => Err(WriteFault::Memory),
         }
     }
@@ -212,19 +211,18 @@ impl Settings {
         if len as u64 > max_rows {
             return Err(WriteFault::TooLarge);
         }
-        let size = match rest_size(self.align, dictionary, update.from) {
+        let size = match rest_size(dictionary, update.from, self.align) {
             Some(size) => size,
             None => return Err(WriteFault::TooLarge),
         };
-        if size as u64 > max_body {
+        if size > max_body {
             return Err(WriteFault::TooLarge);
         }
-        match store_rest(self.alloc, self.align, dictionary, update.from) {
-            Ok(Some(body)) => {
+        match store_rest(self.alloc, dictionary, update.from, self.align) {
+            Ok(body) => {
                 let kind = BatchKind::Dictionary(update.id, update.is_delta);
                 self.put_stored(kind, len - update.from, body, out)
             }
-            Ok(None) => Err(WriteFault::TooLarge),
             Err(_) => Err(WriteFault::Memory),
         }
     }

@@ -23,7 +23,7 @@ struct Case {
     buffers: Pairs<'static>,
     times: usize,
     from: usize,
-    size: Option<usize>,
+    size: Option<u64>,
 }
 
 // Two texts, of one letter and of the others, behind offsets of 32 and of 64 bits.
@@ -154,7 +154,7 @@ fn the_most_values_and_bytes(rt: HostRuntime) {
     for (k, case) in CASES.iter().enumerate() {
         let whole = again_and_again(&rt, case).expect(&rt, "the body is sound");
         assert_eq!(rt;
-            rest_size(Align::Eight, &whole, case.from),
+            rest_size(&whole, case.from, Align::Eight),
             case.size,
             "case {k}"
         );

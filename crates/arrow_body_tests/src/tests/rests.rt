@@ -247,10 +247,10 @@ fn append(
 
 // Whether the rest is stored as the case says.
 fn is_stored(alloc: Global, dictionary: &Dictionary, case: &Case) -> bool {
-    if rest_size(case.align, dictionary, case.from) != Some(case.size) {
+    let Some(size) = rest_size(dictionary, case.from, case.align) else {
         return false;
-    }
-    let Ok(Some(body)) = store_rest(alloc, case.align, dictionary, case.from) else {
+    };
+    let Ok(body) = store_rest(alloc, dictionary, case.from, case.align) else {
         return false;
     };
     let nodes = body.nodes.iter().map(|node| (node.length, node.null_count));
@@ -262,6 +262,7 @@ fn is_stored(alloc: Global, dictionary: &Dictionary, case: &Case) -> bool {
         && buffers.eq(case.buffers.iter().copied())
         && zeros.iter().all(|byte| *byte == 0)
         && body.bytes.len() == case.size
+        && size == case.size as u64
 }
 
 #[test]

@@ -138,10 +138,10 @@ static CASES: [Case; 7] = [
 
 // Whether the columns are stored as the case says.
 pub(super) fn is_stored(alloc: Global, columns: &[Array], case: &Case) -> bool {
-    if body_size(case.align, columns) != Some(case.size) {
+    let Some(size) = body_size(columns, case.align) else {
         return false;
-    }
-    let Ok(Some(body)) = store(alloc, case.align, columns) else {
+    };
+    let Ok(body) = store(alloc, columns, case.align) else {
         return false;
     };
     let nodes = body.nodes.iter().map(|node| (node.length, node.null_count));
@@ -153,6 +153,7 @@ pub(super) fn is_stored(alloc: Global, columns: &[Array], case: &Case) -> bool {
         && buffers.eq(case.stored_buffers.iter().copied())
         && zeros.iter().all(|byte| *byte == 0)
         && body.bytes.len() == case.size
+        && size == case.size as u64
 }
 
 // Whether the columns that are read are stored as the case says.

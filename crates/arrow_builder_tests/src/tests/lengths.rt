@@ -3,7 +3,7 @@
 
 use super::kinds::{Kind, builder};
 use super::sums::SUMS;
-use arrow_body_writer::{Align, Body, store};
+use arrow_body_writer::{Align, Body, body_size, store};
 use arrow_data::{Array, Value};
 use arrow_types::{BitWidth, DateUnit, TimeUnit};
 use std::process::Abort;
@@ -217,8 +217,10 @@ fn sum_of(so_far: u32, body: &Body) -> u32 {
 }
 
 fn sum_stored(rt: &(impl Abort + AllocGlobal), so_far: u32, align: Align, column: &Array) -> u32 {
-    let body = store(rt.alloc(), align, std::slice::from_ref(column));
-    sum_of(so_far, &body.expect(rt, MEMORY).expect(rt, "a body"))
+    let columns = std::slice::from_ref(column);
+    let _ = body_size(columns, align).expect(rt, "a body");
+    let body = store(rt.alloc(), columns, align);
+    sum_of(so_far, &body.expect(rt, MEMORY))
 }
 
 // The sum over how the columns of a kind and a length are laid out.

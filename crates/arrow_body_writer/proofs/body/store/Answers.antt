@@ -53,22 +53,20 @@ returns-clause-same c =
     let all = c.args.arrays.now in
     let align = alignment_of c.args.align in
     let none = none_left all c.loop-array.array-index c.loop-array-test.false in
-    (c.in-Some.ensures.size.0, leads_end align all c.loop-array.body (subst (λ cs. LeadsTo align cs all c.loop-array.body) none c.loop-array.invariant.2))
+    leads_end align all c.loop-array.body (subst (λ cs. LeadsTo align cs all c.loop-array.body) none c.loop-array.invariant.2)
 
 -- so it is read as them
 pub returns-clause-read : goal.returns-clause-read
 returns-clause-read c =
     let all = c.args.arrays.now in
     let align = alignment_of c.args.align in
-    let same = returns-clause-same c in
-    subst (IsBodyOf align (fields_of_columns all) (raws_of all)) (sym same.1)
-    (is_read align (fields_of_columns all) (raws_of all) (some_alignment c.args.align) c.in-Some.ensures.raws same.0.told.small)
+    subst (IsBodyOf align (fields_of_columns all) (raws_of all)) (sym (returns-clause-same c))
+    (is_read align (fields_of_columns all) (raws_of all) (some_alignment c.args.align) c.in-Some.ensures.raws c.in-Some.ensures.size.0.told.small)
 
 -- and tidy
 pub returns-clause-tidy : goal.returns-clause-tidy
 returns-clause-tidy c =
     let all = c.args.arrays.now in
     let align = alignment_of c.args.align in
-    let same = returns-clause-same c in
-    subst (λ (b : PlainBody). IsTidy align (fields_of_columns all) b.nodes b.buffers b.bytes) (sym same.1)
-    (is_tidy align (fields_of_columns all) (raws_of all) (some_alignment c.args.align) c.in-Some.ensures.raws same.0.told.small)
+    subst (λ (b : PlainBody). IsTidy align (fields_of_columns all) b.nodes b.buffers b.bytes) (sym (returns-clause-same c))
+    (is_tidy align (fields_of_columns all) (raws_of all) (some_alignment c.args.align) c.in-Some.ensures.raws c.in-Some.ensures.size.0.told.small)

@@ -14,22 +14,20 @@ pub returns-clause-same : goal.returns-clause-same
 returns-clause-same c =
     let rest = rest_of c.args.dictionary.now c.args.from ∷ [] in
     let empty = c.in_ok-empty.ensures in
-    (c.in-Some.ensures.size.0, leads_start (alignment_of c.args.align) rest c.in_ok-empty.empty empty.no_nodes empty.no_buffers empty.no_bytes c.in_ok-rest.rest c.in_ok-rest.ensures)
+    leads_start (alignment_of c.args.align) rest c.in_ok-empty.empty empty.no_nodes empty.no_buffers empty.no_bytes c.in_ok-rest.rest c.in_ok-rest.ensures
 
 -- so it is read as the values
 pub returns-clause-read : goal.returns-clause-read
 returns-clause-read c =
     let rest = rest_of c.args.dictionary.now c.args.from ∷ [] in
     let align = alignment_of c.args.align in
-    let same = returns-clause-same c in
-    subst (IsBodyOf align (fields_of_columns rest) (raws_of rest)) (sym same.1)
-    (is_read align (fields_of_columns rest) (raws_of rest) (some_alignment c.args.align) c.in-Some.ensures.raws same.0.told.small)
+    subst (IsBodyOf align (fields_of_columns rest) (raws_of rest)) (sym (returns-clause-same c))
+    (is_read align (fields_of_columns rest) (raws_of rest) (some_alignment c.args.align) c.in-Some.ensures.raws c.in-Some.ensures.size.0.told.small)
 
 -- and tidy
 pub returns-clause-tidy : goal.returns-clause-tidy
 returns-clause-tidy c =
     let rest = rest_of c.args.dictionary.now c.args.from ∷ [] in
     let align = alignment_of c.args.align in
-    let same = returns-clause-same c in
-    subst (λ (b : PlainBody). IsTidy align (fields_of_columns rest) b.nodes b.buffers b.bytes) (sym same.1)
-    (is_tidy align (fields_of_columns rest) (raws_of rest) (some_alignment c.args.align) c.in-Some.ensures.raws same.0.told.small)
+    subst (λ (b : PlainBody). IsTidy align (fields_of_columns rest) b.nodes b.buffers b.bytes) (sym (returns-clause-same c))
+    (is_tidy align (fields_of_columns rest) (raws_of rest) (some_alignment c.args.align) c.in-Some.ensures.raws c.in-Some.ensures.size.0.told.small)
