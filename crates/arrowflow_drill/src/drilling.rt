@@ -1,6 +1,6 @@
 //! Connections rehearsed, and what is told of them.
 
-ghost use Rattle.std.specs.Prelude.{◌≡◌, ◌<◌, ◌^◌, ◌≤◌, IfOk, length};
+ghost use Rattle.std.specs.Prelude.{◌≡◌, ◌^◌, ◌≤◌, IfOk, length};
 ghost use Rattle.arrowflow_session.specs.Report.{Reports};
 ghost use Rattle.arrow_stream_writer.specs.Shown.{options_view};
 ghost use Rattle.arrowflow_drill.specs.Drill.{AskTheSame, Drills};
@@ -15,7 +15,7 @@ use std::io::Read;
 
 /// Reads each input as one connection, writes its batches again, with an end marker, as the options
 /// say, delivers the first so many bytes of it in pieces of a length, and tells what came of it
-/// (Columnar Format, "IPC Streaming Format").
+/// (Columnar Format, "IPC Streaming Format"). By a length of 0 they are one piece.
 ///
 /// The inputs are read one after the other, in pieces of 65,536 bytes, each up to an end marker or
 /// to its end. The first that cannot be read or is refused ends it, before anything is sent:
@@ -33,7 +33,6 @@ pub fn drill<R: Read>(
     piece: u64,
     limits: &Limits,
 ) -> Result<String, ToolFault>
-    requires { 0 < piece }
     ensures { Drills R.remaining (record {
       limits = limits.now;
       options = options_view options;
@@ -47,7 +46,7 @@ pub fn drill<R: Read>(
         deliver: bytes,
     };
     let mut connections = read_all(&terms, inputs)?;
-    let Ok(reports) = rehearse(alloc, *limits, &mut connections, piece) else {
+    let Ok(reports) = rehearse(alloc, limits, &mut connections, piece) else {
         return Err(ToolFault::Memory);
     };
     match text_of(alloc, &connections, &reports, piece) {
@@ -60,12 +59,11 @@ pub fn drill<R: Read>(
 /// of them.
 fn rehearse(
     alloc: Global,
-    limits: Limits,
+    limits: &Limits,
     connections: &mut [Connection],
     piece: u64,
 ) -> Result<Vec<Report>, AllocError>
-    requires { 0 < piece }
-    ensures reports { IfOk result (λ reports. Reports limits connections.new reports.items) }
+    ensures reports { IfOk result (λ reports. Reports limits.now connections.new reports.items) }
     ensures same { AskTheSame connections.old connections.new }
 {
     let whole = run(alloc, limits, connections)?;
@@ -81,8 +79,7 @@ fn cut_up(
     reports: &[Report],
     piece: u64,
 ) -> Result<(), AllocError>
-    requires piece { 0 < piece }
-    requires reports { length reports.now ≡ length connections.old }
+    requires { length reports.now ≡ length connections.old }
     ensures { AskTheSame connections.old connections.new }
 {
     for (number, connection) in connections.iter_mut().enumerate() {
@@ -92,11 +89,10 @@ fn cut_up(
     Ok(())
 }
 
-/// The lengths of the pieces of so many bytes, but for the last one.
-fn cuts(alloc: Global, bytes: u64, piece: u64) -> Result<Vec<usize>, AllocError>
-    requires { 0 < piece }
-{
-    let count = bytes.saturating_sub(1) / piece;
+/// The lengths of the pieces of so many bytes, but for the last one. Pieces of no bytes would never
+/// give all of them: so by a length of 0 they are one piece.
+fn cuts(alloc: Global, bytes: u64, piece: u64) -> Result<Vec<usize>, AllocError> {
+    let count = bytes.saturating_sub(1).checked_div(piece).unwrap_or(0);
     Vec::from_elem(alloc, piece as usize, count as usize)
 }
 

@@ -1,7 +1,5 @@
 //! The command `drill`: connections rehearsed over the streams in files.
 
-ghost use Rattle.std.specs.Prelude.{◌<◌};
-
 use crate::ends::{Source, open};
 use crate::{print_text, tell};
 use arrowflow::{Limits, Options, ToolFault, drill};
@@ -20,7 +18,6 @@ pub(crate) fn drill_files<R: Files + Input + Print + Eprint>(
 ) -> u8
 where
     R::File: Drop,
-    requires { 0 < delivery.1 }
 {
     let mut inputs = match open_all(rt, alloc, names) {
         Ok(inputs) => inputs,

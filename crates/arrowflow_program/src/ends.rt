@@ -102,8 +102,12 @@ where
     }
 }
 
-/// Whether both names are of one regular file, as far as the system tells.
+/// Whether both names are of one regular file, as far as the system tells. A name that stands for
+/// standard input or output is of none, whatever file has it.
 pub(crate) fn is_same_file<R: Files>(rt: &R, one: &str, other: &str) -> bool {
+    if one == STANDARD || other == STANDARD {
+        return false;
+    }
     let (Ok(one), Ok(other)) = (fs::metadata(rt, one), fs::metadata(rt, other)) else {
         return false;
     };

@@ -2,8 +2,6 @@
 //! prints what that gives, and ends with the call's exit status.
 #![tactic(auto)]
 
-ghost use Rattle.arrowflow_program.specs.Plans.{HasPieces};
-
 mod drilling;
 mod ends;
 mod pipe;
@@ -65,7 +63,6 @@ where
 fn carry_out<R: Files + Input + Print + Eprint>(rt: &R, alloc: Global, plan: &Plan) -> u8
 where
     R::File: Drop,
-    requires { HasPieces plan.now }
 {
     match plan {
         Plan::Schema(name) => print_schema(rt, alloc, name),

@@ -62,15 +62,15 @@ pub struct Report {
 /// `AllocError` where a growth was refused.
 pub fn run(
     alloc: Global,
-    limits: Limits,
+    limits: &Limits,
     connections: &[Connection],
 ) -> Result<Vec<Report>, AllocError>
-    ensures { IfOk result (λ reports. Reports limits connections.now reports.items) }
+    ensures { IfOk result (λ reports. Reports limits.now connections.now reports.items) }
 {
-    let mut reader = StreamReader::new(alloc, limits);
+    let mut reader = StreamReader::new(alloc, *limits);
     let mut reports = Vec::new(alloc);
     for connection in connections {
-        reports.push(run_one(alloc, limits, &mut reader, connection)?)?;
+        reports.push(run_one(alloc, *limits, &mut reader, connection)?)?;
     }
     Ok(reports)
 }

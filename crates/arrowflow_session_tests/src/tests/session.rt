@@ -77,7 +77,7 @@ fn assert_reports(
     expected: &[(&str, &[u8])],
     row: usize,
 ) {
-    let reports = run(rt.alloc(), limits, connections).expect(rt, MEMORY);
+    let reports = run(rt.alloc(), &limits, connections).expect(rt, MEMORY);
     assert_eq!(rt; reports.len(), expected.len());
     for (report, (text, stream)) in reports.iter().zip(expected) {
         assert_report(rt, report, text, stream, row);
@@ -339,7 +339,7 @@ fn a_list_after_a_gap(rt: HostRuntime) {
     assert!(rt; given.len() == 1 && given[0].columns().len() == 1);
     let before = list_told(&rt, given[0].column(0));
     assert!(rt; before == (1, 2, 2, Some(8)));
-    let reports = run(rt.alloc(), Limits::standard(), &connections).expect(&rt, MEMORY);
+    let reports = run(rt.alloc(), &Limits::standard(), &connections).expect(&rt, MEMORY);
     assert!(rt; reports.len() == 1);
     assert!(rt; sent(&rt, &reports[0]).as_slice() == ClosedGap.bytes());
     let handed = &reports[0].received.handed;

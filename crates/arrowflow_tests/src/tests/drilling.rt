@@ -42,7 +42,6 @@ pub(super) fn drilled<R: Read>(
     limits: &Limits,
 ) -> String {
     let (bytes, piece) = delivery;
-    assert!(rt; piece > 0);
     match drill(alloc, inputs, options, bytes, piece, limits) {
         Ok(text) => text,
         Err(ToolFault::Input(number)) => {
@@ -71,7 +70,7 @@ fn assert_drilled(
 }
 
 // How growing dictionaries are delivered and sent, and what is told of them.
-static GROWN: [(Delivery, Options, &str); 8] = [
+static GROWN: [(Delivery, Options, &str); 9] = [
     (
         (975, 1),
         NARROW,
@@ -110,6 +109,16 @@ connection 0: wrote 1376 bytes in 5 parts, delivered 975 in pieces of 65
 connection 0: handed out 1 of 3 batches, 3 rows
 connection 0: dictionaries reader 0=5, writer 0=4
 connection 0: ending Truncated at 816
+",
+    ),
+    (
+        (976, 0),
+        NARROW,
+        "\
+connection 0: wrote 1376 bytes in 5 parts, delivered 976 in pieces of 0
+connection 0: handed out 2 of 3 batches, 5 rows
+connection 0: dictionaries reader 0=5, writer 0=4
+connection 0: ending clean
 ",
     ),
     (

@@ -7,7 +7,7 @@ use Rattle.arrowflow_session.proofs.session.run.Goals as goal
 pub loop-connection-preserved : goal.loop-connection-preserved
 loop-connection-preserved c =
     let i = c.loop-connection.invariant in
-    let l = c.args.limits in
+    let l = c.args.limits.now in
     let n = c.loop-connection.connection-index in
     let cs = c.args.connections.now in
     let x = c.connection-item.result in
