@@ -9,8 +9,8 @@ use thiserror::Error;
 #[derive(Debug, Drop, Error)]
 pub enum ReadError {
     /// The stream is refused, or ends too early.
-    #[error("byte {}: {:?}", .0.place, .0.kind)]
-    Stream(Fault),
+    #[error(transparent)]
+    Stream(#[from] Fault),
     /// A growth was refused.
     #[error(transparent)]
     Memory(#[from(alloc)] AllocError),

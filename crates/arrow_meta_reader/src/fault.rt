@@ -1,5 +1,7 @@
 //! Why the metadata of a message are refused.
 
+use thiserror::Error;
+
 /// Which message holds a record batch.
 #[derive(Clone, Copy, Debug, PartialEq, Eq)]
 pub enum BatchKind {
@@ -16,29 +18,37 @@ pub enum BatchKind {
 /// So the variants from `Unsupported` on say what the message was, and how many bytes of body
 /// follow: a number that is not negative and keeps to the limit. Only a schema is `Unsupported` or
 /// `Schema`.
-#[derive(Clone, Copy, Debug, PartialEq, Eq)]
+#[derive(Clone, Copy, Debug, PartialEq, Eq, Error)]
 pub enum MetaFault {
     /// Something that is looked at is not readable, a limit of the tree is passed, or a table that
     /// must be there is absent: that of an Int, a Date, a Time, a Timestamp, a FixedSizeBinary or a
     /// Duration, or the data of a dictionary batch.
+    #[error("the metadata are not readable")]
     Metadata,
     /// The version is neither V4 nor V5.
+    #[error("the version is neither V4 nor V5")]
     Version,
     /// The header is none of a schema, a dictionary batch or a record batch, or it is absent.
+    #[error("the header is none of a schema, a dictionary batch and a record batch")]
     Header,
     /// The body's length is negative or over the limit.
+    #[error("the body's length is negative or over the limit")]
     BodyLength,
     /// A schema is big-endian, or has a type outside the profile, a dictionary of an unknown kind,
     /// or a dictionary below a dictionary.
+    #[error("the schema has something that is not supported")]
     Unsupported { body_len: u64 },
     /// A schema has a width or a unit outside its list, a negative number of bytes for a width, a
     /// time of another unit's width, a type with another number of children, or one dictionary id
     /// with unequal value types.
+    #[error("the schema contradicts itself")]
     Schema { body_len: u64 },
     /// The body of a batch is compressed.
+    #[error("the body is compressed")]
     Compressed { batch: BatchKind, body_len: u64 },
     /// A growth was refused. Of the metadata no more is said than that reading them asks for
     /// memory.
+    #[error("out of memory")]
     Memory,
 }
 

@@ -1,5 +1,7 @@
 -- The kinds by which a reader tells its faults. Their names and numbers are this project's own.
-use Rattle.std.specs.Prelude.{ℕ}
+use Rattle.std.specs.Prelude.{ℕ, List, ◌++◌, codes}
+use Rattle.std.specs.Fmt.{decimal}
+use Rattle.arrow_stream_reader.specs.declared.fault.Fault.{Fault}
 use Rattle.arrow_stream_reader.specs.declared.kind.Kind.{Kind}
 use Rattle.arrow_stream_reader.specs.declared.kind.Kind.TheVariants as kinds
 use Rattle.arrow_stream_reader.specs.declared.kind.Refusal.{Refusal}
@@ -46,3 +48,29 @@ number_of kinds.Index = 16
 number_of kinds.NoSchema = 17
 number_of kinds.Truncated = 18
 number_of kinds.Memory = 19
+
+-- the name of a kind
+abbrev pub name_of : Kind → List ℕ
+name_of kinds.Continuation = codes "Continuation"
+name_of kinds.MetadataSize = codes "MetadataSize"
+name_of kinds.Metadata = codes "Metadata"
+name_of kinds.Version = codes "Version"
+name_of kinds.Header = codes "Header"
+name_of kinds.BodyLength = codes "BodyLength"
+name_of kinds.Order = codes "Order"
+name_of kinds.Unsupported = codes "Unsupported"
+name_of kinds.Schema = codes "Schema"
+name_of kinds.Compressed = codes "Compressed"
+name_of kinds.UnknownId = codes "UnknownId"
+name_of kinds.NoBase = codes "NoBase"
+name_of kinds.Rows = codes "Rows"
+name_of kinds.Layout = codes "Layout"
+name_of kinds.Text = codes "Text"
+name_of kinds.Index = codes "Index"
+name_of kinds.NoSchema = codes "NoSchema"
+name_of kinds.Truncated = codes "Truncated"
+name_of kinds.Memory = codes "Memory"
+
+-- what is told of a fault: the place of its message, and the kind's name
+abbrev pub fault_text : Fault → List ℕ
+fault_text fault = codes "fault at byte " ++ decimal fault.place ++ codes ": " ++ name_of fault.kind

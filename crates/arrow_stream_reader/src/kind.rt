@@ -1,4 +1,7 @@
-//! Why a stream is refused, with the numbers by which the kinds are told.
+//! Why a stream is refused, with the numbers and the names by which the kinds are told.
+
+use std::error::Error;
+use std::fmt;
 
 /// Why the bytes of a stream are refused: the kinds 1 to 17, in the order of their numbers. What
 /// stands here is said of bytes alone, so that no reader can have failed by want of memory or by an
@@ -109,7 +112,7 @@ impl Refusal {
 
 impl Kind {
     ghost use Rattle.std.specs.Prelude.{◌≡◌};
-    ghost use Rattle.arrow_stream_reader.specs.Kind.{number_of};
+    ghost use Rattle.arrow_stream_reader.specs.Kind.{name_of, number_of};
 
     /// The kind's number, from 1.
     pub fn number(self) -> u8
@@ -137,4 +140,44 @@ impl Kind {
             Kind::Memory => 19,
         }
     }
+
+    /// The kind's name, which is that of its variant.
+    pub fn name(self) -> &'static str
+        ensures name { result.now ≡ name_of self }
+    {
+        match self {
+            Kind::Continuation => "Continuation",
+            Kind::MetadataSize => "MetadataSize",
+            Kind::Metadata => "Metadata",
+            Kind::Version => "Version",
+            Kind::Header => "Header",
+            Kind::BodyLength => "BodyLength",
+            Kind::Order => "Order",
+            Kind::Unsupported => "Unsupported",
+            Kind::Schema => "Schema",
+            Kind::Compressed => "Compressed",
+            Kind::UnknownId => "UnknownId",
+            Kind::NoBase => "NoBase",
+            Kind::Rows => "Rows",
+            Kind::Layout => "Layout",
+            Kind::Text => "Text",
+            Kind::Index => "Index",
+            Kind::NoSchema => "NoSchema",
+            Kind::Truncated => "Truncated",
+            Kind::Memory => "Memory",
+        }
+    }
 }
+
+impl fmt::Display for Kind {
+    ghost use Rattle.std.specs.Prelude.{Some};
+    ghost use Rattle.arrow_stream_reader.specs.Kind.{name_of};
+
+    ghost output = { λ kind. Some (name_of kind) };
+
+    fn fmt<W: fmt::Write>(&self, f: &mut fmt::Formatter<W>) -> fmt::Result {
+        f.write_str(self.name())
+    }
+}
+
+impl Error for Kind {}

@@ -4,34 +4,13 @@ use Rattle.std.specs.Fmt.{decimal}
 use Rattle.arrow_stream_reader.specs.declared.fault.Fault.{Fault}
 use Rattle.arrow_stream_reader.specs.declared.kind.Kind.{Kind}
 use Rattle.arrow_stream_reader.specs.declared.kind.Kind.TheVariants as kinds
+use Rattle.arrow_stream_reader.specs.Kind.{fault_text}
 use Rattle.arrow_sink.specs.declared.write_fault.WriteFault.{WriteFault}
 use Rattle.arrow_sink.specs.declared.write_fault.WriteFault.TheVariants as refusals
 use Rattle.arrowflow_report.specs.declared.what.What.{What}
 use Rattle.arrowflow_report.specs.declared.what.What.TheVariants.{Start, Batch, Finish}
 use Rattle.arrowflow_report.specs.declared.tool_fault.ToolFault.{ToolFault}
 use Rattle.arrowflow_report.specs.declared.tool_fault.ToolFault.TheVariants.{Input, Output, Stream, Refused, Memory}
-
--- a kind by its name
-abbrev pub kind_name : Kind → List ℕ
-kind_name kinds.Continuation = codes "Continuation"
-kind_name kinds.MetadataSize = codes "MetadataSize"
-kind_name kinds.Metadata = codes "Metadata"
-kind_name kinds.Version = codes "Version"
-kind_name kinds.Header = codes "Header"
-kind_name kinds.BodyLength = codes "BodyLength"
-kind_name kinds.Order = codes "Order"
-kind_name kinds.Unsupported = codes "Unsupported"
-kind_name kinds.Schema = codes "Schema"
-kind_name kinds.Compressed = codes "Compressed"
-kind_name kinds.UnknownId = codes "UnknownId"
-kind_name kinds.NoBase = codes "NoBase"
-kind_name kinds.Rows = codes "Rows"
-kind_name kinds.Layout = codes "Layout"
-kind_name kinds.Text = codes "Text"
-kind_name kinds.Index = codes "Index"
-kind_name kinds.NoSchema = codes "NoSchema"
-kind_name kinds.Truncated = codes "Truncated"
-kind_name kinds.Memory = codes "Memory"
 
 -- a writer's refusal by its name
 abbrev pub refusal_name : WriteFault → List ℕ
@@ -53,7 +32,7 @@ what_text Finish = codes "end"
 abbrev pub fault_line : ToolFault → List ℕ → List ℕ → List ℕ
 fault_line (Input number) read written = codes "cannot read " ++ read
 fault_line Output read written = codes "cannot write " ++ written
-fault_line (Stream fault) read written = codes "fault at byte " ++ decimal fault.place ++ codes ": " ++ kind_name fault.kind
+fault_line (Stream fault) read written = fault_text fault
 fault_line (Refused what kind) read written = codes "refused " ++ what_text what ++ codes ": " ++ refusal_name kind
 fault_line Memory read written = codes "out of memory"
 

@@ -1,8 +1,8 @@
 //! Faults of the program's commands, with the line and the exit status of each.
 
 ghost use Rattle.std.specs.Prelude.{◌≡◌, ◌++◌, IfOk, OnOk, string_bytes};
-ghost use Rattle.arrowflow_report.specs.Faults.{fault_line, is_memory, kind_name, refusal_name};
-ghost use Rattle.arrowflow_report.specs.Faults.{status_of, told, what_text};
+ghost use Rattle.arrowflow_report.specs.Faults.{fault_line, is_memory, refusal_name, status_of};
+ghost use Rattle.arrowflow_report.specs.Faults.{told, what_text};
 
 use crate::what::What;
 use arrow_sink::WriteFault;
@@ -22,7 +22,7 @@ pub enum ToolFault {
     #[error("cannot write the output")]
     Output,
     /// A stream was refused, or ended too early.
-    #[error("fault at byte {}: {:?}", .0.place, .0.kind)]
+    #[error(transparent)]
     Stream(Fault),
     /// The writer refused the schema, a batch or the end marker.
     #[error("refused {0:?}: {1:?}")]
@@ -67,12 +67,7 @@ impl ToolFault {
                 line.push_str("cannot write ")?;
                 line.push_str(written)?;
             }
-            ToolFault::Stream(fault) => {
-                line.push_str("fault at byte ")?;
-                write!(line, "{}", fault.place)?;
-                line.push_str(": ")?;
-                line.push_str(kind_name(fault.kind))?;
-            }
+            ToolFault::Stream(fault) => write!(line, "{fault}")?,
             ToolFault::Refused(what, kind) => {
                 line.push_str("refused ")?;
                 push_what(&mut line, *what)?;
@@ -149,32 +144,5 @@ fn refusal_name(kind: WriteFault) -> &'static str
         WriteFault::Broken => "Broken",
         WriteFault::Finished => "Finished",
         WriteFault::Memory => "Memory",
-    }
-}
-
-/// The name of a kind.
-fn kind_name(kind: Kind) -> &'static str
-    ensures { result.now ≡ kind_name kind }
-{
-    match kind {
-        Kind::Continuation => "Continuation",
-        Kind::MetadataSize => "MetadataSize",
-        Kind::Metadata => "Metadata",
-        Kind::Version => "Version",
-        Kind::Header => "Header",
-        Kind::BodyLength => "BodyLength",
-        Kind::Order => "Order",
-        Kind::Unsupported => "Unsupported",
-        Kind::Schema => "Schema",
-        Kind::Compressed => "Compressed",
-        Kind::UnknownId => "UnknownId",
-        Kind::NoBase => "NoBase",
-        Kind::Rows => "Rows",
-        Kind::Layout => "Layout",
-        Kind::Text => "Text",
-        Kind::Index => "Index",
-        Kind::NoSchema => "NoSchema",
-        Kind::Truncated => "Truncated",
-        Kind::Memory => "Memory",
     }
 }

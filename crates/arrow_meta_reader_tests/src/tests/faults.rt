@@ -327,27 +327,46 @@ fn metadata_that_are_cut_off(rt: HostRuntime) {
     }
 }
 
-// The faults by their numbers.
-static NUMBERED: [(MetaFault, u8); 8] = [
-    (MetaFault::Metadata, 3),
-    (MetaFault::Version, 4),
-    (MetaFault::Header, 5),
-    (MetaFault::BodyLength, 6),
-    (MetaFault::Unsupported { body_len: 0 }, 8),
-    (MetaFault::Schema { body_len: 0 }, 9),
+// The faults with their numbers and words.
+static WORDED: [(MetaFault, u8, &str); 8] = [
+    (MetaFault::Metadata, 3, "the metadata are not readable"),
+    (MetaFault::Version, 4, "the version is neither V4 nor V5"),
+    (
+        MetaFault::Header,
+        5,
+        "the header is none of a schema, a dictionary batch and a record batch",
+    ),
+    (
+        MetaFault::BodyLength,
+        6,
+        "the body's length is negative or over the limit",
+    ),
+    (
+        MetaFault::Unsupported { body_len: 0 },
+        8,
+        "the schema has something that is not supported",
+    ),
+    (
+        MetaFault::Schema { body_len: 0 },
+        9,
+        "the schema contradicts itself",
+    ),
     (
         MetaFault::Compressed {
             batch: BatchKind::Record,
             body_len: 24,
         },
         10,
+        "the body is compressed",
     ),
-    (MetaFault::Memory, 19),
+    (MetaFault::Memory, 19, "out of memory"),
 ];
 
 #[test]
-fn faults_have_their_numbers(rt: HostRuntime) {
-    for &(fault, number) in &NUMBERED {
+fn faults_have_their_numbers_and_words(rt: HostRuntime) {
+    for &(fault, number, words) in &WORDED {
+        let shown = format!(in rt.alloc(); "{fault}").expect(&rt, "memory");
         assert_eq!(rt; fault.number(), number, "{fault:?}");
+        assert_eq!(rt; shown.as_str(), words);
     }
 }

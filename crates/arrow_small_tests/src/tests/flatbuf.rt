@@ -353,3 +353,9 @@ fn a_record_batch_message(rt: HostRuntime) {
     assert_pairs(&rt, &batch, 1, &[(3, 1)]);
     assert_pairs(&rt, &batch, 2, &[(0, 1), (8, 12)]);
 }
+
+#[test]
+fn what_is_not_readable_in_words(rt: HostRuntime) {
+    let shown = format!(in rt.alloc(); "{}", Unreadable).expect(&rt, "memory");
+    assert_eq!(rt; shown.as_str(), "nothing readable stands there");
+}

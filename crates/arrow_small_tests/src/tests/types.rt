@@ -332,7 +332,7 @@ fn many_fields_come_before_a_width(rt: HostRuntime) {
 }
 
 // Each fault with its number and what it says.
-static WORDS: [(SchemaFault, u8, &str); 6] = [
+static WORDS: [(SchemaFault, u8, &str); 7] = [
     (SchemaFault::TooDeep, 1, "more than 32 levels of fields"),
     (SchemaFault::TooManyFields, 2, "more than 65,536 fields"),
     (
@@ -350,6 +350,11 @@ static WORDS: [(SchemaFault, u8, &str); 6] = [
         SchemaFault::ByteWidth,
         6,
         "byte strings of more than 2,147,483,647 bytes",
+    ),
+    (
+        SchemaFault::TooManyPairs,
+        7,
+        "more than 65,536 pairs of metadata",
     ),
 ];
 

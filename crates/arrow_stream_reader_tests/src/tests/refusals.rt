@@ -5,7 +5,7 @@ use super::telling::{A_TO_C, LETTERS, NOTHING, NUMBERS, READ, Streams, TEXT, Tol
 use crate::frames::columns::{COMPRESSED, LIST_ROWS, LISTS, TEXTS, THREE_TEXTS};
 use crate::frames::encoded::{GROUPS, MIXED, MIXED_ROWS, TWO_GROUPS};
 use crate::frames::{BATCH, SCHEMA, letters};
-use arrow_stream_reader::Kind;
+use arrow_stream_reader::{Fault, Kind};
 
 const BELOW_ZERO: [u8; 8] = [0xff; 8];
 
@@ -246,30 +246,45 @@ fn a_text_is_refused(rt: HostRuntime) {
     are_told(&rt, rt.alloc(), &TWO_COLUMNS);
 }
 
+// The kinds with their numbers and names.
+static KINDS: [(Kind, u8, &str); 19] = [
+    (Kind::Continuation, 1, "Continuation"),
+    (Kind::MetadataSize, 2, "MetadataSize"),
+    (Kind::Metadata, 3, "Metadata"),
+    (Kind::Version, 4, "Version"),
+    (Kind::Header, 5, "Header"),
+    (Kind::BodyLength, 6, "BodyLength"),
+    (Kind::Order, 7, "Order"),
+    (Kind::Unsupported, 8, "Unsupported"),
+    (Kind::Schema, 9, "Schema"),
+    (Kind::Compressed, 10, "Compressed"),
+    (Kind::UnknownId, 11, "UnknownId"),
+    (Kind::NoBase, 12, "NoBase"),
+    (Kind::Rows, 13, "Rows"),
+    (Kind::Layout, 14, "Layout"),
+    (Kind::Text, 15, "Text"),
+    (Kind::Index, 16, "Index"),
+    (Kind::NoSchema, 17, "NoSchema"),
+    (Kind::Truncated, 18, "Truncated"),
+    (Kind::Memory, 19, "Memory"),
+];
+
 #[test]
-fn kinds_have_their_numbers(rt: HostRuntime) {
-    static NUMBERED: [(Kind, u8); 19] = [
-        (Kind::Continuation, 1),
-        (Kind::MetadataSize, 2),
-        (Kind::Metadata, 3),
-        (Kind::Version, 4),
-        (Kind::Header, 5),
-        (Kind::BodyLength, 6),
-        (Kind::Order, 7),
-        (Kind::Unsupported, 8),
-        (Kind::Schema, 9),
-        (Kind::Compressed, 10),
-        (Kind::UnknownId, 11),
-        (Kind::NoBase, 12),
-        (Kind::Rows, 13),
-        (Kind::Layout, 14),
-        (Kind::Text, 15),
-        (Kind::Index, 16),
-        (Kind::NoSchema, 17),
-        (Kind::Truncated, 18),
-        (Kind::Memory, 19),
-    ];
-    for &(kind, number) in &NUMBERED {
-        assert_eq!(rt; kind.number(), number, "{kind:?}");
+fn kinds_have_their_numbers_and_names(rt: HostRuntime) {
+    for &(kind, number, name) in &KINDS {
+        let shown = format!(in rt.alloc(); "{kind}").expect(&rt, "memory");
+        assert_eq!(rt; kind.number(), number, "{name}");
+        assert_eq!(rt; kind.name(), name);
+        assert_eq!(rt; shown.as_str(), name);
     }
+}
+
+#[test]
+fn faults_tell_their_place_and_kind(rt: HostRuntime) {
+    let fault = Fault {
+        kind: Kind::Truncated,
+        place: 816,
+    };
+    let shown = format!(in rt.alloc(); "{fault}").expect(&rt, "memory");
+    assert_eq!(rt; shown.as_str(), "fault at byte 816: Truncated");
 }
