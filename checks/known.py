@@ -17,6 +17,8 @@ TYPE = re.compile(rf"^[ \t]*{PUB}(?:struct|enum|trait|type) (\w+)", re.M)
 CONSTANT = re.compile(rf"^[ \t]*{PUB}(?:const|static) (\w+):", re.M)
 # A variant or a field of a type.
 MEMBER = re.compile(rf"^    {PUB}(\w+)\s*(?:[:,(]|\{{|$)", re.M)
+# What a crate hands out of others.
+HANDED_OUT = re.compile(r"^pub use ([^;]*);", re.M)
 DEFINED = re.compile(r"(?:abbrev |unfoldable | *)pub (?!mod )(record |data )?([^\s:(){}]+)")
 PART = re.compile(r" +(?:pub )?([^\s:(){}]+) :")
 LEMMA = re.compile(r"^(?:abbrev |unfoldable )?(?:pub )?([^\s:(){}]+) :", re.M)
@@ -79,6 +81,7 @@ class Crate:
 
     def __init__(self, name):
         self.name, self.files, self.functions, self.types, self.definitions = name, {}, [], {}, {}
+        self.handed_out = set()
         for file in crates.sources(name):
             with open(file, encoding="utf-8") as it:
                 self.files[os.path.relpath(file, f"{TOP}/crates/{name}")] = it.read()
@@ -104,6 +107,7 @@ class Crate:
     def read_code(self, path, text):
         module = [it for it in path.removesuffix(".rt").split("/")[1:] if it not in ("lib", "main", "mod")]
         its, starts = [*blocks(text)], [*FUNCTION.finditer(text)]
+        self.handed_out.update(re.findall(r"\w+", " ".join(HANDED_OUT.findall(text))))
         for m in TYPE.finditer(text):
             closes = text.find("\n}", m.end())
             self.types.setdefault(m[1], set()).update(MEMBER.findall(text[m.end() : max(closes, m.end())]))
@@ -125,10 +129,11 @@ class Crate:
         return set().union(*found) if found else None
 
     def has(self, path):
-        """Whether these words name a function, a type or what belongs to one, a constant, a module, or a lemma by its file."""
+        """Whether these words name a function, a type or what belongs to one, a constant, a module, what is handed out of another
+        crate, or a lemma by its file."""
         if path[0] in crates.PARTS:
             return path[-1] in LEMMA.findall(self.files.get(f"{'/'.join(path[:-1])}.antt", ""))
-        if self.called(path) or path[-1] in self.types or path[-1] in self.types.get("::".join(path[-2:-1]), ()):
+        if self.called(path) or path[-1] in self.handed_out or path[-1] in self.types or path[-1] in self.types.get("::".join(path[-2:-1]), ()):
             return True
         return any(f"src/{path[-1]}{it}.rt" in self.files for it in ("", "/mod"))
 
