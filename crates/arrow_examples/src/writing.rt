@@ -1,8 +1,8 @@
 //! A batch built, and written.
 
 use arrowflow::{
-    Align, ArrayBuilder, ArrayFault, Batch, BatchFault, BitWidth, Counted, DataType, Field, Limits,
-    Options, PushFault, Schema, SchemaFault, StreamWriter, Updates, Value, WriteFault,
+    ArrayBuilder, ArrayFault, Batch, BatchFault, BitWidth, Counted, DataType, Field, Limits,
+    Options, PushFault, Schema, SchemaFault, StreamWriter, Value, WriteFault,
 };
 use std::alloc::{AllocError, Global};
 use std::rc::Rc;
@@ -31,12 +31,6 @@ pub enum WriteError {
     Memory(#[from(alloc)] AllocError),
 }
 
-/// How streams are written here.
-const OPTIONS: Options = Options {
-    updates: Updates::Delta,
-    align: Align::SixtyFour,
-};
-
 /// Writes numbers, some of them null, as a stream of one batch with one nullable column `n`.
 pub fn write_numbers(alloc: Global, numbers: &[Option<i64>]) -> Result<Vec<u8>, WriteError> {
     let data_type = DataType::Int {
@@ -57,7 +51,8 @@ pub fn write_numbers(alloc: Global, numbers: &[Option<i64>]) -> Result<Vec<u8>, 
 /// The stream of one batch.
 fn stream_of(alloc: Global, batch: &Batch) -> Result<Vec<u8>, WriteFault> {
     let sink = Counted::new(Vec::new(alloc));
-    let started = StreamWriter::start(alloc, sink, batch.schema(), OPTIONS, Limits::standard());
+    let (options, limits) = (Options::default(), Limits::standard());
+    let started = StreamWriter::start(alloc, sink, batch.schema(), options, limits);
     let mut writer = started.map_err(|(fault, _)| fault)?;
     writer.write(batch)?;
     writer.finish()?;
