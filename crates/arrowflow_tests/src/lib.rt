@@ -1,5 +1,5 @@
-//! Tests of `arrowflow`, in a crate of their own so that the library is not proved once more with
-//! them.
+//! Tests of `arrowflow_report`, `arrowflow_copy`, `arrowflow_drill` and `arrowflow_line`, in a crate
+//! of their own so that these are not proved once more with them.
 #![tactic(auto)]
 
 #[cfg(test)]

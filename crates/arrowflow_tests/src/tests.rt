@@ -10,6 +10,7 @@ mod failures;
 mod fault_lines;
 mod growing;
 mod help_pages;
+mod numbers;
 mod reports;
 mod rooms;
 mod schema_call;

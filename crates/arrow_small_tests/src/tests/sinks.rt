@@ -72,6 +72,37 @@ fn errors_of_a_writer_are_told_and_counted(rt: HostRuntime) -> Result<(), Fail> 
     Ok(())
 }
 
+// A writer that is interrupted at its first call and takes all from then on.
+#[derive(Drop)]
+struct Late {
+    calls: u64,
+}
+
+impl Write for Late {
+    fn write(&mut self, buf: &[u8]) -> io::Result<usize> {
+        self.calls = self.calls.saturating_add(1);
+        if self.calls == 1 {
+            return Err(io::Error::from(ErrorKind::Interrupted));
+        }
+        Ok(buf.len())
+    }
+
+    fn flush(&mut self) -> io::Result<()> {
+        Ok(())
+    }
+}
+
+#[test]
+fn an_interrupted_write_is_told_and_not_made_again(rt: HostRuntime) -> Result<(), Fail> {
+    let mut sink = Counted::new(Late { calls: 0 });
+    assert!(rt; sink.put(b"frame").is_err());
+    assert_eq!(rt; sink.failures(), 1);
+    assert_eq!(rt; sink.put(b"frame"), Ok(5));
+    assert_eq!(rt; sink.failures(), 1);
+    assert_eq!(rt; sink.into_inner().calls, 2);
+    Ok(())
+}
+
 #[test]
 fn a_narrow_sink_fails_as_it_is_told(rt: HostRuntime) -> Result<(), Fail> {
     let mut sink = Narrow::new(rt.alloc(), 3, 4, Failing::AtFlush);

@@ -5,7 +5,7 @@ use super::edits::{Edit, edited};
 use super::growing::GROWING;
 use super::reports::{LETTERS, NUMBERS};
 use super::streams::{NOTED, NOTED_64, ONE_BATCH};
-use super::told::{Call, assert_told};
+use super::told::{Call, assert_told, error_at};
 use arrow_body_writer::Align;
 use arrow_dict::Updates;
 use arrow_sink::probe::{Failing, Narrow, Trickle};
@@ -142,7 +142,7 @@ fn whole_messages(count: usize) -> usize {
 
 /// Of an input that fails after so many bytes the whole messages are copied.
 fn assert_copied_to_failure(rt: &impl Abort, alloc: Global, place: usize) {
-    let fails = Some((place, ErrorKind::Interrupted));
+    let fails = Some((place, error_at(place)));
     let mut input = Trickle::new(ONE_BATCH.as_slice(), 7, fails);
     let (bytes, ending) = copied(rt, alloc, &mut input, DELTA, &Limits::standard());
     assert_eq!(rt; ending.as_str(), "2 cannot read in", "{place} bytes");

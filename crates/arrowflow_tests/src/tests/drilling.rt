@@ -2,6 +2,7 @@
 
 use super::growing::GROWING;
 use super::streams::{GROUPS, ONE_BATCH, SHARED};
+use super::told::error_at;
 use arrow_body_writer::Align;
 use arrow_dict::Updates;
 use arrow_sink::probe::Trickle;
@@ -10,7 +11,7 @@ use arrow_types::Limits;
 use arrowflow_drill::drill;
 use arrowflow_report::ToolFault;
 use std::alloc::Global;
-use std::io::{ErrorKind, Read};
+use std::io::Read;
 use std::process::Abort;
 
 pub(super) const NARROW: Options = Options {
@@ -317,7 +318,7 @@ fn one_failing(
     let mut inputs = Vec::new(alloc);
     for at in 0..3 {
         let fails = if at == number {
-            Some((place, ErrorKind::Interrupted))
+            Some((place, error_at(place)))
         } else {
             None
         };

@@ -4,20 +4,19 @@ use super::growing::GROWING;
 use super::reports::{LETTERS, NUMBERS};
 use super::schema_call::ONE_COLUMN;
 use super::streams::ONE_BATCH;
-use super::told::{Call, assert_told_of, written};
+use super::told::{Call, assert_told_of, error_at, written};
 use arrow_sink::Sink;
 use arrow_sink::probe::{Failing, Narrow, Trickle};
 use arrow_types::Limits;
 use arrowflow_report::show;
 use std::alloc::Global;
-use std::io::ErrorKind;
 use std::process::Abort;
 
 #[test]
 fn schema_where_the_input_fails(rt: HostRuntime) {
     let stream = ONE_COLUMN.as_slice();
     for place in 0..160 {
-        let mut input = Trickle::new(stream, 1, Some((place, ErrorKind::Interrupted)));
+        let mut input = Trickle::new(stream, 1, Some((place, error_at(place))));
         let expected = if place < stream.len() {
             "2 cannot read in"
         } else {
@@ -42,9 +41,29 @@ fn rows_at_failure(place: usize) -> &'static str {
 fn show_where_the_input_fails(rt: HostRuntime) {
     let stream = ONE_BATCH.as_slice();
     for place in 0..=stream.len() {
-        let mut input = Trickle::new(stream, 1, Some((place, ErrorKind::Interrupted)));
+        let mut input = Trickle::new(stream, 1, Some((place, error_at(place))));
         let expected = rows_at_failure(place);
         assert_told_of(&rt, rt.alloc(), Call::Show, &mut input, expected);
+    }
+}
+
+/// What is told of the messages of one batch by an input that fails at this place.
+fn messages_at_failure(place: usize) -> &'static str {
+    match place {
+        0..152 => "2 cannot read in",
+        152..328 => "at 0: schema, 1 columns\n2 cannot read in",
+        328..336 => "at 0: schema, 1 columns\nat 152: batch 0, 3 rows\n2 cannot read in",
+        _ => "at 0: schema, 1 columns\nat 152: batch 0, 3 rows\nat 328: end marker\n",
+    }
+}
+
+#[test]
+fn check_where_the_input_fails(rt: HostRuntime) {
+    let stream = ONE_BATCH.as_slice();
+    for place in 0..=stream.len() {
+        let mut input = Trickle::new(stream, 1, Some((place, error_at(place))));
+        let expected = messages_at_failure(place);
+        assert_told_of(&rt, rt.alloc(), Call::Check, &mut input, expected);
     }
 }
 

@@ -6,7 +6,7 @@ use arrow_sink::probe::Trickle;
 use arrow_types::Limits;
 use arrowflow_report::{ToolFault, check, schema_text, show};
 use std::alloc::{AllocError, Global};
-use std::io::Read;
+use std::io::{ErrorKind, Read};
 use std::process::Abort;
 
 /// Which of the calls.
@@ -15,6 +15,16 @@ pub(super) enum Call {
     Schema,
     Check,
     Show,
+}
+
+/// The error by which an input fails at this place: each is told alike.
+pub(super) fn error_at(place: usize) -> ErrorKind {
+    match place % 4 {
+        0 => ErrorKind::Interrupted,
+        1 => ErrorKind::BrokenPipe,
+        2 => ErrorKind::UnexpectedEof,
+        _ => ErrorKind::Other,
+    }
 }
 
 /// Appends the status and the line of a fault.
