@@ -1,0 +1,209 @@
+"""Columns, dictionaries and batches as chance will have them: streams of all types, laid out by examples/frames.py, and the rows
+that `arrowflow show` has to print of them, by docs/FORMAT.md alone.
+
+A kind is a type, with what stands below it, and perhaps the dictionary by which its values are told. A value is None where it
+is null, else a truth, a number, bytes, a text, a list, or a tuple of the fields of a struct; by a dictionary it is an index.
+"""
+import pathlib
+import struct
+import sys
+
+sys.dont_write_bytecode = True
+sys.path.insert(0, str(pathlib.Path(__file__).resolve().parent.parent / "examples"))
+import bodies
+import frames
+
+TEXTS = ["", "a", "b,c", 'say "no"', "é€", "line\nbreak", "return\r", "a;b", "x" * 40, "null", "0"]
+NAMES = ["n", "column", "", "ä", "a b", 'q"', "c,d"]
+WIDTHS = {8: "b", 16: "h", 32: "i", 64: "q"}
+
+
+class Kind:
+    """A type without children, by its code and table, by what chance makes of it, and how its values are laid out and shown."""
+
+    def __init__(self, of, any_value, laid, shown):
+        self.of, self.any_value, self.laid, self.shown = of, any_value, laid, lambda value, held: shown(value)
+
+    def field(self, name, nullable=True, encoding=None):
+        return frames.field(name, self.of, nullable=nullable, encoding=encoding)
+
+    def value(self, chance, held):
+        return None if chance.random() < chance.nulls else self.any_value(chance)
+
+
+def number(of, bits, signed=True):
+    form = WIDTHS[bits] if signed else WIDTHS[bits].upper()
+    low, high = (-2 ** (bits - 1), 2 ** (bits - 1) - 1) if signed else (0, 2 ** bits - 1)
+    return Kind(of, lambda chance: chance.choice([low, high, 0, 1, chance.randint(low, high)]),
+                lambda values: frames.numbers(values, form), str)
+
+
+def any_bytes(chance):
+    return bytes(chance.randrange(256) for _ in range(chance.choice([0, 1, 3, 20])))
+
+
+def fixed(width):
+    return Kind(frames.fixed_size_binary(width), lambda chance: bytes(chance.randrange(256) for _ in range(width)),
+                lambda values: bodies.fixed(values, width), bytes.hex)
+
+
+def any_plain(chance):
+    """A kind without children."""
+    unit = chance.randrange(4)
+    return chance.choice([
+        lambda: Kind(frames.NULL, lambda chance: None, lambda values: frames.nulls(len(values)), str),
+        lambda: Kind(frames.BOOL, lambda chance: chance.random() < 0.5, frames.bools, lambda it: "true" if it else "false"),
+        lambda: (lambda bits, signed: number(frames.integer(bits, signed), bits, signed))(chance.choice([*WIDTHS]), unit % 2 == 0),
+        lambda: Kind(frames.BINARY, any_bytes, frames.strings, bytes.hex),
+        lambda: Kind(frames.LARGE_BINARY, any_bytes, bodies.large_strings, bytes.hex),
+        lambda: Kind(frames.UTF8, lambda chance: chance.choice(TEXTS).encode(), frames.strings, bytes.decode),
+        lambda: Kind(frames.LARGE_UTF8, lambda chance: chance.choice(TEXTS).encode(), bodies.large_strings, bytes.decode),
+        lambda: fixed(chance.choice([0, 1, 3, 16])),
+        lambda: number(frames.date(unit % 2), 64 if unit % 2 else 32),
+        lambda: number(frames.time(unit), 32 if unit < 2 else 64),
+        lambda: number(frames.timestamp(unit, chance.choice([None, "", "UTC"])), 64),
+        lambda: number(frames.duration(unit), 64),
+    ])()
+
+
+def inside(kind, value, held):
+    """What is shown of a value inside of another."""
+    return "null" if is_null(kind, value, held) else kind.shown(value, held)
+
+
+def is_null(kind, value, held):
+    """Whether a value is null, or is that of a dictionary at its index."""
+    return value is None or isinstance(kind, Encoded) and held[kind.number][value] is None
+
+
+class Lists:
+    """Lists of a kind, with offsets of 32 or of 64 bits."""
+
+    def __init__(self, item, large):
+        self.item, self.of = item, frames.LARGE_LIST if large else frames.LIST
+        self.layout = bodies.large_lists if large else frames.lists
+
+    def field(self, name, nullable=True, encoding=None):
+        return frames.field(name, self.of, [self.item.field("item")], nullable, encoding)
+
+    def value(self, chance, held):
+        if chance.random() < chance.nulls:
+            return None
+        return [self.item.value(chance, held) for _ in range(chance.choice([0, 1, 2, 5]))]
+
+    def laid(self, values):
+        return self.layout(values, self.item.laid)
+
+    def shown(self, value, held):
+        return "[" + ";".join(inside(self.item, it, held) for it in value) + "]"
+
+
+class Structs:
+    """Structs of kinds by their names."""
+
+    def __init__(self, parts):
+        self.parts = parts
+
+    def field(self, name, nullable=True, encoding=None):
+        return frames.field(name, frames.STRUCT, [kind.field(part) for part, kind in self.parts], nullable, encoding)
+
+    def value(self, chance, held):
+        if chance.random() < chance.nulls:
+            return None
+        return tuple(kind.value(chance, held) for _, kind in self.parts)
+
+    def laid(self, values):
+        children = [kind.laid([it and it[at] for it in values]) for at, (_, kind) in enumerate(self.parts)]
+        return frames.structs([None if it is None else () for it in values], *children)
+
+    def shown(self, value, held):
+        return "{" + ";".join(f"{part}={inside(kind, it, held)}" for (part, kind), it in zip(self.parts, value)) + "}"
+
+
+class Encoded:
+    """Values of a kind, told by their places in the dictionary of a number."""
+
+    def __init__(self, number, kind, bits, signed):
+        self.number, self.kind, self.bits, self.signed = number, kind, bits, signed
+
+    def field(self, name, nullable=True, encoding=None):
+        return self.kind.field(name, nullable, frames.dictionary(self.number, self.bits, self.signed))
+
+    def value(self, chance, held):
+        places = min(len(held[self.number]), 2 ** (self.bits - self.signed))
+        return chance.randrange(places) if places and chance.random() >= chance.nulls else None
+
+    def laid(self, values):
+        return frames.numbers(values, WIDTHS[self.bits] if self.signed else WIDTHS[self.bits].upper())
+
+    def shown(self, value, held):
+        return self.kind.shown(held[self.number][value], held)
+
+
+def any_kind(chance, levels, known, may_encode=True):
+    """A kind of at most so many levels; `known` are those with dictionaries, by their numbers."""
+    if may_encode and chance.random() < 0.3:
+        bits, signed = chance.choice([*WIDTHS]), chance.random() < 0.5
+        if known and chance.random() < 0.3:
+            other = chance.choice([*known.values()])
+            return Encoded(other.number, other.kind, bits, signed)
+        number = chance.choice([it for it in (0, 1, 7, -1, 2 ** 63 - 1, -2 ** 63, *range(100, 140)) if it not in known])
+        known[number] = Encoded(number, any_kind(chance, levels, known, False), bits, signed)
+        return known[number]
+    if levels > 1 and chance.random() < 0.4:
+        if chance.random() < 0.5:
+            return Lists(any_kind(chance, levels - 1, known, may_encode), chance.random() < 0.5)
+        count = chance.randrange(4)
+        return Structs([(chance.choice(NAMES), any_kind(chance, levels - 1, known, may_encode)) for _ in range(count)])
+    return any_plain(chance)
+
+
+def quoted(field):
+    return '"' + field.replace('"', '""') + '"' if any(it in field for it in ',"\r\n') else field
+
+
+class Table:
+    """A stream that grows by chance, and the rows that are shown of it."""
+
+    def __init__(self, chance, levels=4):
+        chance.nulls = chance.choice([0, 0.1, 0.5, 1])
+        self.chance, self.known, self.held, self.batches = chance, {}, {}, 0
+        self.columns = [(chance.choice(NAMES), any_kind(chance, chance.randint(1, levels), self.known)) for _ in range(chance.randrange(5))]
+        self.stream = frames.schema(*(kind.field(name) for name, kind in self.columns))
+        self.rows = [",".join(quoted(it) for it in ["batch", *(name for name, _ in self.columns)])]
+
+    def update(self, number):
+        """A dictionary that comes, grows, shrinks, changes, comes again, or stays as it is."""
+        kind, old = self.known[number].kind, self.held.get(number)
+        what = self.chance.choice(["new", "more", "more", "less", "same", "none", "none"]) if old is not None else "new"
+        more = [kind.value(self.chance, {}) for _ in range(self.chance.choice([0, 1, 2, 5, 300 if self.chance.random() < 0.1 else 3]))]
+        if what == "none":
+            return
+        new = {"new": more, "more": (old or []) + more, "less": (old or [])[:-1], "same": old}[what]
+        is_delta = what == "more" and self.chance.random() < 0.7
+        self.held[number] = new
+        self.stream += frames.dictionary_batch(number, kind.laid(more if is_delta else new), is_delta)
+
+    def add_batch(self):
+        for number in self.known:
+            self.update(number)
+        count = self.chance.choice([0, 1, 2, 3, 8, 9, 20, 65, self.chance.choice([200, 2_000])])
+        columns = [[kind.value(self.chance, self.held) for _ in range(count)] for _, kind in self.columns]
+        self.stream += frames.batch(*(kind.laid(values) for (_, kind), values in zip(self.columns, columns)), length=count)
+        for at in range(count):
+            fields = ["" if is_null(kind, values[at], self.held) else kind.shown(values[at], self.held)
+                      for (_, kind), values in zip(self.columns, columns)]
+            self.rows.append(",".join(quoted(it) for it in [str(self.batches), *fields]))
+        self.batches += 1
+
+    def text(self):
+        return "".join(it + "\n" for it in self.rows).encode()
+
+
+def any_table(chance):
+    table = Table(chance)
+    for _ in range(chance.randrange(6)):
+        table.add_batch()
+    if chance.random() < 0.8:
+        table.stream += frames.END_MARKER
+    return table
