@@ -1,4 +1,5 @@
-use Rattle.std.proofs.Common.{◌≡◌, ◌≤◌, length, map, ap, sym, ◌∙◌, subst, refl}
+use Rattle.std.proofs.lemmas.Grind.{common_steps}
+use Rattle.std.proofs.Common.{◌≡◌, ◌≤◌, length, map, ap, sym, ◌∙◌, subst, refl, arith}
 use Rattle.arrow_types.specs.Field.{none}
 use Rattle.arrow_types.specs.View.{type_view}
 use Rattle.arrow_data.specs.Form.{HasFieldsOf, buffers_of, form_of}
@@ -65,3 +66,54 @@ returns-in-Texts-clause-same c =
     let s = c.strings-in-Texts.ensures in
     leaf_same t (forms.Texts w) c.args.len (map (bytes_of c.args.body.now) c.args.buffers.now) c.args.children.items (utf8_at c.args.body.now c.strings-in-Texts.result) form leaf c.requires.children refl
     (λ children. strings_same c.args.body.now c.args.buffers.now c.strings-in-Texts.result three s.validity s.offsets s.bytes (utf8_slot c.strings-in-Texts.result.width) ∙ ap (λ x. value_slot (forms.Texts x) (map (bytes_of c.args.body.now) c.args.buffers.now) children) s.width)
+
+pub bools-requires : goal.bools-requires
+bools-requires c = grind (arith, common_steps)
+
+pub numbers-requires : goal.numbers-requires
+numbers-requires c = grind (arith, common_steps)
+
+pub strings-requires : goal.strings-requires
+strings-requires c = grind (arith, common_steps)
+
+pub strings-requires-in-Texts : goal.strings-requires-in-Texts
+strings-requires-in-Texts c = grind (arith, common_steps)
+
+pub fixed-requires : goal.fixed-requires
+fixed-requires c = grind (arith, common_steps)
+
+pub bounds-buffers-0 : goal.bounds-buffers-0
+bounds-buffers-0 c = grind (arith, common_steps)
+
+pub bounds-buffers-1 : goal.bounds-buffers-1
+bounds-buffers-1 c = grind (arith, common_steps)
+
+pub returns-in_err-new-in-Lists-clause-lies : goal.returns-in_err-new-in-Lists-clause-lies
+returns-in_err-new-in-Lists-clause-lies c = grind (arith, common_steps)
+
+pub returns-in_err-new-in-Lists-clause-same : goal.returns-in_err-new-in-Lists-clause-same
+returns-in_err-new-in-Lists-clause-same c = grind (arith, common_steps)
+
+pub bounds-buffers-0-in-Structs : goal.bounds-buffers-0-in-Structs
+bounds-buffers-0-in-Structs c = grind (arith, common_steps)
+
+pub returns-in-Nulls-clause-lies : goal.returns-in-Nulls-clause-lies
+returns-in-Nulls-clause-lies c = grind (arith, common_steps)
+
+pub returns-in-Nulls-clause-same : goal.returns-in-Nulls-clause-same
+returns-in-Nulls-clause-same c = grind (arith, common_steps)
+
+pub returns-in-Bits-clause-lies : goal.returns-in-Bits-clause-lies
+returns-in-Bits-clause-lies c = grind (arith, common_steps)
+
+pub returns-in-Numbers-clause-lies : goal.returns-in-Numbers-clause-lies
+returns-in-Numbers-clause-lies c = grind (arith, common_steps)
+
+pub returns-in-Bytes-clause-lies : goal.returns-in-Bytes-clause-lies
+returns-in-Bytes-clause-lies c = grind (arith, common_steps)
+
+pub returns-in-Texts-clause-lies : goal.returns-in-Texts-clause-lies
+returns-in-Texts-clause-lies c = grind (arith, common_steps)
+
+pub returns-in-FixedBytes-clause-lies : goal.returns-in-FixedBytes-clause-lies
+returns-in-FixedBytes-clause-lies c = grind (arith, common_steps)

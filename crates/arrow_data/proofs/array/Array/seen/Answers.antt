@@ -5,7 +5,7 @@ use Rattle.arrow_data.specs.Node.{AreRanges, column_by, raw_slot, resolved_slot,
 use Rattle.arrow_data.specs.Slots.{slots, list_slot, struct_slot, is_valid_at, place_of}
 use Rattle.arrow_data.specs.declared.array.Ranges.TheVariants.{Lists}
 use Rattle.arrow_data.proofs.Children.{items_of_column}
-use Rattle.arrow_data.proofs.Shown.{parts_shown, length_slots}
+use Rattle.arrow_data.proofs.Shown.{parts_shown, length_slots, shown}
 use Rattle.arrow_data.proofs.array.Array.seen.Goals as goal
 
 pub returns-in-Structs : goal.returns-in-Structs
@@ -42,3 +42,96 @@ returns-in-Some-range_at c =
     let top : c.in-Some-range_at.end ≤ length child.raw = search rules in
     let shown = items_of_column c.args.self.now t w a.len v o child c.args.i c.in-Some-range_at.start c.in-Some-range_at.end is ok.2.typed ok.2.known within valid low high order top in
     rw c.deref-in-Some-range_at.ensures shown
+
+pub at-requires-clause-slot : goal.at-requires-clause-slot
+at-requires-clause-slot c = grind (arith, shown)
+
+pub at-requires-clause-lies : goal.at-requires-clause-lies
+at-requires-clause-lies c = grind (arith, shown)
+
+pub binary_at-requires-clause-slot : goal.binary_at-requires-clause-slot
+binary_at-requires-clause-slot c = grind (arith, shown)
+
+pub binary_at-requires-clause-lies : goal.binary_at-requires-clause-lies
+binary_at-requires-clause-lies c = grind (arith, shown)
+
+pub text_at-requires-clause-slot : goal.text_at-requires-clause-slot
+text_at-requires-clause-slot c = grind (arith, shown)
+
+pub text_at-requires-clause-lies : goal.text_at-requires-clause-lies
+text_at-requires-clause-lies c = grind (arith, shown)
+
+pub text_at-requires-clause-texts : goal.text_at-requires-clause-texts
+text_at-requires-clause-texts c = grind (arith, shown)
+
+pub fact_in-text : goal.fact_in-text
+fact_in-text c = grind (arith, shown)
+
+pub at-requires-in-FixedBytes-clause-slot : goal.at-requires-in-FixedBytes-clause-slot
+at-requires-in-FixedBytes-clause-slot c = grind (arith, shown)
+
+pub at-requires-in-FixedBytes-clause-lies : goal.at-requires-in-FixedBytes-clause-lies
+at-requires-in-FixedBytes-clause-lies c = grind (arith, shown)
+
+pub bytes_in-marks-requires : goal.bytes_in-marks-requires
+bytes_in-marks-requires c = grind (arith, shown)
+
+pub bytes_in-places-requires : goal.bytes_in-places-requires
+bytes_in-places-requires c = grind (arith, shown)
+
+pub range_at-requires-clause-slot : goal.range_at-requires-clause-slot
+range_at-requires-clause-slot c = grind (arith, shown)
+
+pub range_at-requires-clause-bits : goal.range_at-requires-clause-bits
+range_at-requires-clause-bits c = grind (arith, shown)
+
+pub range_at-requires-clause-offsets : goal.range_at-requires-clause-offsets
+range_at-requires-clause-offsets c = grind (arith, shown)
+
+pub bytes_in-requires : goal.bytes_in-requires
+bytes_in-requires c = grind (arith, shown)
+
+pub is_valid-requires : goal.is_valid-requires
+is_valid-requires c = grind (arith, shown)
+
+pub at-requires-in-Ints-clause-slot : goal.at-requires-in-Ints-clause-slot
+at-requires-in-Ints-clause-slot c = grind (arith, shown)
+
+pub at-requires-in-Ints-clause-lies : goal.at-requires-in-Ints-clause-lies
+at-requires-in-Ints-clause-lies c = grind (arith, shown)
+
+pub returns-in-Some : goal.returns-in-Some
+returns-in-Some c = grind (arith, shown)
+
+pub returns-in-None : goal.returns-in-None
+returns-in-None c = grind (arith, shown)
+
+pub returns-in-Some-binary_at : goal.returns-in-Some-binary_at
+returns-in-Some-binary_at c = grind (arith, shown)
+
+pub returns-in-None-binary_at : goal.returns-in-None-binary_at
+returns-in-None-binary_at c = grind (arith, shown)
+
+pub returns-in-Some-text_at : goal.returns-in-Some-text_at
+returns-in-Some-text_at c = grind (arith, shown)
+
+pub returns-in-None-text_at : goal.returns-in-None-text_at
+returns-in-None-text_at c = grind (arith, shown)
+
+pub returns-in-Some-at : goal.returns-in-Some-at
+returns-in-Some-at c = grind (arith, shown)
+
+pub returns-in-None-at : goal.returns-in-None-at
+returns-in-None-at c = grind (arith, shown)
+
+pub returns-in-None-range_at : goal.returns-in-None-range_at
+returns-in-None-range_at c = grind (arith, shown)
+
+pub returns-in-Nulls : goal.returns-in-Nulls
+returns-in-Nulls c = grind (arith, shown)
+
+pub returns-in-Some-at-2 : goal.returns-in-Some-at-2
+returns-in-Some-at-2 c = grind (arith, shown)
+
+pub returns-in-None-at-2 : goal.returns-in-None-at-2
+returns-in-None-at-2 c = grind (arith, shown)
