@@ -119,6 +119,13 @@ class Crate:
             owner = next((it[2] for it in its if it[0] < m.start() < it[1]), "")
             self.types.setdefault(owner, set()).add(m[1])
 
+    def hand_out(self, behind):
+        """A crate without a function of its own is a front door: it has what the crates that it uses have."""
+        if self.handed_out and not self.functions:
+            self.functions = [it for crate in behind for it in crate.functions]
+            self.clauses = set().union(*(crate.clauses for crate in behind))
+            self.types = {name: its for crate in behind for name, its in crate.types.items()}
+
     def called(self, path):
         """The functions that these words name."""
         return [it for it in self.functions if it.is_called(path)]
@@ -149,6 +156,8 @@ class Known:
     def __init__(self):
         self.uses = crates.listed()
         self.crates = {name: Crate(name) for name in self.uses}
+        for name, its in self.crates.items():
+            its.hand_out([self.crates[it] for it in self.uses[name] if it in self.crates])
         self.kit = {it for its in self.uses.values() for it in its if it not in self.uses} | {"std", "core", "alloc"}
 
     def near(self, name):
