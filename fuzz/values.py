@@ -169,7 +169,7 @@ class Table:
         chance.nulls = chance.choice([0, 0.1, 0.5, 1])
         self.chance, self.known, self.held, self.batches = chance, {}, {}, 0
         self.columns = [(chance.choice(NAMES), any_kind(chance, chance.randint(1, levels), self.known)) for _ in range(chance.randrange(5))]
-        self.stream = frames.schema(*(kind.field(name) for name, kind in self.columns))
+        self.frames = [frames.schema(*(kind.field(name) for name, kind in self.columns))]
         self.rows = [",".join(quoted(it) for it in ["batch", *(name for name, _ in self.columns)])]
 
     def update(self, number):
@@ -182,19 +182,22 @@ class Table:
         new = {"new": more, "more": (old or []) + more, "less": (old or [])[:-1], "same": old}[what]
         is_delta = what == "more" and self.chance.random() < 0.7
         self.held[number] = new
-        self.stream += frames.dictionary_batch(number, kind.laid(more if is_delta else new), is_delta)
+        self.frames.append(frames.dictionary_batch(number, kind.laid(more if is_delta else new), is_delta))
 
     def add_batch(self):
         for number in self.known:
             self.update(number)
         count = self.chance.choice([0, 1, 2, 3, 8, 9, 20, 65, self.chance.choice([200, 2_000])])
         columns = [[kind.value(self.chance, self.held) for _ in range(count)] for _, kind in self.columns]
-        self.stream += frames.batch(*(kind.laid(values) for (_, kind), values in zip(self.columns, columns)), length=count)
+        self.frames.append(frames.batch(*(kind.laid(values) for (_, kind), values in zip(self.columns, columns)), length=count))
         for at in range(count):
             fields = ["" if is_null(kind, values[at], self.held) else kind.shown(values[at], self.held)
                       for (_, kind), values in zip(self.columns, columns)]
             self.rows.append(",".join(quoted(it) for it in [str(self.batches), *fields]))
         self.batches += 1
+
+    def stream(self):
+        return b"".join(self.frames)
 
     def text(self):
         return "".join(it + "\n" for it in self.rows).encode()
@@ -205,5 +208,5 @@ def any_table(chance):
     for _ in range(chance.randrange(6)):
         table.add_batch()
     if chance.random() < 0.8:
-        table.stream += frames.END_MARKER
+        table.frames.append(frames.END_MARKER)
     return table
