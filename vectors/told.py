@@ -1,0 +1,101 @@
+"""What a reader has to answer of a stream, call by call, in plain text: by the model in fuzz/stream.py, which was written from
+docs/FORMAT.md alone. README.md says what the lines mean."""
+import json
+import pathlib
+import sys
+
+sys.dont_write_bytecode = True
+TOP = pathlib.Path(__file__).resolve().parent.parent
+sys.path[:0] = [str(TOP / "fuzz"), str(TOP / "examples")]
+import model
+import stream
+from model import FIXED_SIZE, LARGE_LIST, LIST, STRUCT
+
+
+def value(column, at):
+    """A slot's value; by a dictionary, the index and what it refers to."""
+    if not column.is_valid(at):
+        return "null"
+    if column.field["encoding"]:
+        return f"{column.index(at)} -> {value(*column.entry(at))}"
+    code = column.field["code"]
+    if code == stream.BOOL:
+        return column.text(at)
+    if code in stream.TEXTS:
+        return json.dumps(column.text(at), ensure_ascii=False)
+    if code in (stream.BINARY, stream.LARGE_BINARY, FIXED_SIZE):
+        return f'x"{column.text(at)}"'
+    if code in (LIST, LARGE_LIST):
+        return "[" + ", ".join(value(column.children[0], it) for it in range(*column.span(at))) + "]"
+    if code == STRUCT:
+        names = (json.dumps(it.field["name"].decode(), ensure_ascii=False) for it in column.children)
+        return "{" + ", ".join(f"{name}: {value(it, at)}" for name, it in zip(names, column.children)) + "}"
+    return column.text(at)
+
+
+def pairs(noted):
+    return "".join(f' x"{key.hex()}"=x"{held.hex()}"' for key, held in noted)
+
+
+def columns(fields, level=1):
+    """The lines of a schema's columns, and of the custom metadata of each."""
+    for field in fields:
+        yield "  " * level + "column " + model.lines([{**field, "children": []}]).decode().rstrip("\n")
+        if field["pairs"]:
+            yield "  " * level + "  metadata" + pairs(field["pairs"])
+        yield from columns(field["children"], level + 1)
+
+
+class Teller(stream.Reader):
+    """A reader that tells each message as it is taken."""
+
+    def __init__(self, held):
+        super().__init__(held)
+        self.told = []
+
+    def take(self, message, batch, body):
+        super().take(message, batch, body)
+        self.now = message, batch
+
+    def message(self):
+        place, known = self.place, self.batches
+        was_whole = super().message()
+        if self.is_done:
+            self.told.append("take 8 end")
+        elif was_whole:
+            self.told += [f"take {self.place - place} {it}" if not at else it for at, it in enumerate(self.item(known))]
+        return was_whole
+
+    def item(self, known):
+        message, batch = self.now
+        if batch is None:
+            yield "schema"
+            if self.schema.pairs:
+                yield "  metadata" + pairs(self.schema.pairs)
+            yield from columns(self.schema.fields)
+        elif message.code == 2:
+            yield f"dictionary {batch.number} of {self.count(batch.number)}"
+            yield from (f"  value {value(it, at)}" for it in self.dictionaries[batch.number] for at in range(it.length))
+        else:
+            yield f"batch of {batch.length}"
+            for at in range(batch.length):
+                yield ("  row " + ", ".join(value(it, at) for it in self.records[-1][2])).rstrip()
+
+
+def answers(held):
+    """The lines of all calls of `read` in one piece and of `end`."""
+    teller = Teller(held)
+    kind = teller.run()
+    left = len(held) - teller.place
+    if teller.is_done:
+        ending = ["take 0 nothing", "end clean"]
+    elif kind in (None, "Truncated") or kind == "NoSchema" and not is_refused(held, teller.place):
+        ending = [f"take {left} nothing", f"hold {left}", f"end {kind} at {teller.place}" if kind else "end clean"]
+    else:
+        ending = [f"refuse {kind} at {teller.place}", f"end {kind} at {teller.place}"]
+    return "".join(it + "\n" for it in [*teller.told, *ending])
+
+
+def is_refused(held, place):
+    """Whether an end marker stands there, which is refused before the schema."""
+    return held[place:place + 8] == b"\xff" * 4 + bytes(4)
