@@ -5,7 +5,6 @@ A kind is a type, with what stands below it, and perhaps the dictionary by which
 is null, else a truth, a number, bytes, a text, a list, or a tuple of the fields of a struct; by a dictionary it is an index.
 """
 import pathlib
-import struct
 import sys
 
 sys.dont_write_bytecode = True
