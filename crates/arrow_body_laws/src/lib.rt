@@ -13,6 +13,11 @@
 //! | indices with their entries | `specs/Entries.antt`: `HaveEntries` |
 //! | types with their fields | `specs/Formed.antt`: `AreFormed` |
 //! | the laws | `specs/Laws.antt`: `StoredIsRead`, `StoredIsTidy`, `OneBody` .. |
+//!
+//! Of the proofs, `Walk` and `Readback` read back what is stored, `Layouts`, `Soundness`,
+//! `Standing` and `Indexed` show that it is sound, `Whole` joins them, and `Tidied` is of tidiness.
+//! From a tidy body back to its values go `Packings`, `Joined`, `Reslotted` and `Reranged` for
+//! buffers, `Kept` for one node, `Reordered` and `Single` for all.
 #![tactic(auto)]
 
 pub mod laws;

@@ -25,6 +25,11 @@
 //! | slots passed, and counted | `specs/Pass.antt`: `Takes`; `specs/Tally.antt`: `IsTally` |
 //! | children that are sent whole | `specs/Whole.antt`: `AreSentWhole` |
 //! | a buffer on its way | `specs/Part.antt`: `IsWritten`; `specs/Packing.antt`; `specs/Runs.antt` |
+//!
+//! Of the proofs, `Sending` says what nodes are sent, `Passing`, `RunPasses` and `Sources` what a
+//! pass takes of that, `Levels` goes from what is said level by level to the numbers of nodes,
+//! `Chunks` shows that a body to which all columns were added is the stored one, and `Wholes` when
+//! children are sent whole.
 #![tactic(auto)]
 
 pub(crate) mod align;

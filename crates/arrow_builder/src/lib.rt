@@ -33,6 +33,10 @@
 //! | the array of a column | `specs/Finished.antt`: `IsArrayOf`, `AreTyped`, `AreIndexed` |
 //! | which fault applies | `specs/Faults.antt`: `TakesValue`, `ExplainsPush`, `ExplainsArray` |
 //! | what nodes and buffers keep | `specs/Nodes.antt`, `specs/Kept.antt`, `specs/Puts.antt`, `specs/Buffers.antt` |
+//!
+//! Of the proofs, `Held` and `Below` are of the columns of all nodes, `Counting` and `Within` of
+//! the limits, `Nested` and `NodeSlots` of one value more, and `Arrays` shows that the array of a
+//! node is that of its values.
 #![tactic(auto)]
 
 pub(crate) mod begin;

@@ -29,6 +29,11 @@
 //! | a batch, and why there is none | `specs/Batch.antt`: `IsTable`, `Judges` |
 //! | that a column has one child for each field | `specs/Laws.antt`: `OneField`, `OneChild` |
 //! | how they are kept | `specs/Node.antt`: `column_of`; `specs/Segments.antt`; `specs/Value.antt` |
+//! | plain values told apart; that arrays are above their children | `specs/Stored.antt`; `specs/Falls.antt` |
+//!
+//! Of the proofs, `Resolving`, `Fitting`, `ResolvedFitting` and `Listings` show what is known of
+//! every array (`IsColumn`), `Segments` and `Blocks` the search for a value of a dictionary.
+//! `Lists` and `Listing` serve the crates above too.
 #![tactic(auto)]
 
 mod array;

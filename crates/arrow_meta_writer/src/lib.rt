@@ -23,6 +23,10 @@
 //! stands as the other is a theorem, so neither is trusted to fit. The laws of [`laws`] say it of
 //! the bytes alone, with any bytes behind them: so more zero bytes may be appended for a larger
 //! alignment.
+//!
+//! Of the proofs, `Standing` and `StandingMessages` show that what is laid out stands as the
+//! message's tree, `Again` that the tree says the message, `Faultless` and `Bounds` that no fault
+//! holds of it; `WrittenMeans` joins them.
 #![tactic(auto)]
 
 mod batches;

@@ -29,6 +29,11 @@
 //! | the rows of a batch | `specs/Rows.antt`: `rows_of`, `has_one_list` |
 //! | what a writer shows, what its calls answer | `specs/Writer.antt`: `Shows`, `Starts`, `Writes`, `Finishes` |
 //! | the laws | `specs/Laws.antt`: `TextIsAStream`, `DeliveredBeginning` ..; `specs/Standing.antt` |
+//!
+//! Of the proofs, `Chains` and `Starts` are of frames one after another, `Columns` and `Lists` of
+//! the dictionaries that a reader has at a batch, `Parts` and `Texts` of parts as whole messages,
+//! `Lyings` and `Deliveries` of first bytes, `Writers` of where a writer stands; `Examples` has the
+//! definitions at values.
 #![tactic(auto)]
 
 pub mod laws;

@@ -27,6 +27,10 @@
 //! | the kinds of faults | `specs/Kind.antt`: `kind_of`, `number_of` |
 //! | a reader's work, and the bytes that it holds | `specs/Work.antt`, `specs/Held.antt`, `specs/Views.antt`, `specs/Inside.antt` |
 //! | the laws | `specs/Laws.antt`: `OneFront`, `MoreBytes`, `SameStanding`, `LessWaits` |
+//!
+//! Of the proofs, `Firsts` is of one message and `Fronts` of all, `Meanings` and `Holdings` go to
+//! them from the layers below, `States` and `Works` are the steps, and `Streams` carries these over
+//! to the bytes at which a reader stands. `Whole` serves the crates above.
 #![tactic(auto)]
 
 mod body;

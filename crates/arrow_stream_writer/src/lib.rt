@@ -27,6 +27,11 @@
 //! | those that are to be sent | `specs/Updating.antt`: `AddsPlan` |
 //! | whether it takes more | `specs/Taking.antt`: `taking`; `specs/Marker.antt` |
 //! | what a reader has of it | `specs/Delivery.antt`: `DeliveredWhole` |
+//!
+//! Of the proofs, `Finding`, `Gathering` and `Found` go from one column's dictionaries to those of
+//! a batch, `Storable`, `Framed` and `Rests` from columns to frames, `Adding` and `Closing` make a
+//! part, `Showing` says what a writer shows after its calls, and `Delivering` what a reader has of
+//! it.
 #![tactic(auto)]
 
 mod frame;

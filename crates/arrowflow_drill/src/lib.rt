@@ -11,6 +11,9 @@
 //! | an input read as a connection | `specs/Reading.antt`: `IsConnectionOf`, `AreRead` |
 //! | what is answered of all inputs | `specs/Drill.antt`: `Drills`; `specs/Terms.antt` |
 //! | what is counted of a report | `specs/Counts.antt`: `bytes_in`, `rows_in` |
+//!
+//! Of the proofs, `Kept` is of the batches of a piece, `Streams` of how a stream ends, `Inputs` of
+//! one input after another.
 #![tactic(auto)]
 
 mod drilling;

@@ -25,6 +25,10 @@
 //! | the lines of messages | `specs/Lines.antt`: `message_line`, `AreLines` |
 //! | how far an input is read | `specs/Reads.antt`: `IsReadWhile` |
 //! | what is said of a fault | `specs/Faults.antt`: `fault_line`, `status_of` |
+//!
+//! Of the proofs, `Feeding` says what comes of pieces, `Growing` shows the law, `Told` and `Lined`
+//! how a text grows, `Sent` what of it was sent, `Reporting` how that ends, and `Reading` that the
+//! loops over an input end.
 #![tactic(auto)]
 
 mod escapes;

@@ -13,6 +13,10 @@
 //! | what comes of it by the definitions | `specs/Asked.antt`: `Outcome`, `outcome_of` |
 //! | what is reported | `specs/Report.antt`: `IsReport`, `Reports` |
 //! | how the writing goes on | `specs/Running.antt`: `SoFar`, `IsSent` |
+//!
+//! Of the proofs, `Progressing` goes on by one batch, `Joining` joins what was sent with what was
+//! received by the laws `text_is_a_stream`, `delivered_beginning` and `one_front`, and `Reporting`
+//! adds a report.
 #![tactic(auto)]
 
 mod kept;
