@@ -9,7 +9,7 @@ import crates
 TOP = crates.TOP
 PUB = r"(?:pub(?:\([^)]*\))? )?"
 FUNCTION = re.compile(rf"^[ \t]*({PUB})(?:const )?(?:unsafe )?fn (\w+)", re.M)
-CLAUSE = re.compile(r"^\s*(?:ensures|requires)(?: (\w+))? \{", re.M)
+CLAUSE = re.compile(r"^\s*(ensures|requires)(?: (\w+))? \{", re.M)
 BLOCK = re.compile(r"^(pub )?(?:unsafe )?(impl|trait)\b([^{}]*)\{", re.M)
 # What an `impl` says of its type to the logic.
 SAID = re.compile(r"^    ghost (\w+)(?::| =)", re.M)
@@ -25,11 +25,16 @@ LEMMA = re.compile(r"^(?:abbrev |unfoldable )?(?:pub )?([^\s:(){}]+) :", re.M)
 
 
 class Function:
-    """A function: the modules and the type that it stands in, by what it is public, itself or its trait, if it is, and the names
-    of its clauses and of what is said of its type."""
+    """A function: the modules and the type that it stands in; by what it is public, itself or its trait, if it is; what is said
+    of its type, and its contract."""
 
-    def __init__(self, inside, name, public, clauses):
-        self.inside, self.name, self.public, self.clauses = inside, name, public, clauses
+    def __init__(self, inside, name, public, said, text):
+        self.inside, self.name, self.public, self.said = inside, name, public, said
+        clauses = [(m[1], m[2] or "", block(text, m.end())) for m in CLAUSE.finditer(text)]
+        # what it promises by itself, by name; "" is the name of a clause without one
+        self.promises = {name for kind, name, _ in clauses if kind == "ensures"}
+        self.clauses = {name for _, name, _ in clauses} | {*said}
+        self.cited = {word for kind, _, text in clauses if kind == "ensures" for word in re.findall(r"\w+", text)}
 
     def is_called(self, path):
         """Whether these words, the last of them its name, are a way to name it."""
@@ -38,6 +43,16 @@ class Function:
 
     def full(self):
         return "::".join([*self.inside[-1:], self.name])
+
+
+def block(text, start):
+    """The text from here up to the brace that closes the one before it."""
+    depth = 1
+    for m in re.finditer(r"[{}]", text[start:]):
+        depth += 1 if m[0] == "{" else -1
+        if not depth:
+            return text[start : start + m.start()]
+    return text[start:]
 
 
 def owner_of(kind, head):
@@ -81,7 +96,7 @@ class Crate:
 
     def __init__(self, name):
         self.name, self.files, self.functions, self.types, self.definitions = name, {}, [], {}, {}
-        self.handed_out = set()
+        self.handed_out, self.is_front = set(), False
         for file in crates.sources(name):
             with open(file, encoding="utf-8") as it:
                 self.files[os.path.relpath(file, f"{TOP}/crates/{name}")] = it.read()
@@ -114,7 +129,7 @@ class Crate:
         for m, end in zip(starts, [*[it.start() for it in starts[1:]], len(text)]):
             owner, public, said = next((it[2:] for it in its if it[0] < m.start() < it[1]), ("", "", []))
             inside, public = [*module, owner] if owner else module, "itself" if m[1] == "pub " else public
-            self.functions.append(Function(inside, m[2], public, CLAUSE.findall(text[m.start() : end]) + said))
+            self.functions.append(Function(inside, m[2], public, said, text[m.start() : end]))
         for m in CONSTANT.finditer(text):
             owner = next((it[2] for it in its if it[0] < m.start() < it[1]), "")
             self.types.setdefault(owner, set()).add(m[1])
@@ -122,9 +137,17 @@ class Crate:
     def hand_out(self, behind):
         """A crate without a function of its own is a front door: it has what the crates that it uses have."""
         if self.handed_out and not self.functions:
+            self.is_front = True
             self.functions = [it for crate in behind for it in crate.functions]
             self.clauses = set().union(*(crate.clauses for crate in behind))
             self.types = {name: its for crate in behind for name, its in crate.types.items()}
+
+    def shown(self):
+        """The public functions of its own that callers can reach: what stands in a public module, or is handed out by itself or
+        with its type."""
+        modules = {*re.findall(r"^pub mod (\w+)", self.files.get("src/lib.rt", ""), re.M)}
+        its = [] if self.is_front else [it for it in self.functions if it.public == "itself"]
+        return [it for it in its if modules & {*it.inside[:1]} or self.handed_out & {*it.inside[-1:], it.name}]
 
     def called(self, path):
         """The functions that these words name."""
