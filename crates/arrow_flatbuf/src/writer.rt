@@ -3,10 +3,10 @@
 //! What a caller appends stands from the first free place on, behind zero bytes up to where it is
 //! aligned. An offset is written before what it names, so a caller counts the places first (the
 //! calls of `layout`), and nothing that was written is changed. The only error is `AllocError`: a
-//! growth was refused, and of the bytes only those of before are known to be there. A writer with
-//! room for all that is appended grows no more.
+//! growth was refused, and the bytes are those of before. A writer with room for all that is
+//! appended grows no more.
 ghost use Rattle.std.specs.Prelude.{◌≡◌, ◌≤◌, ◌<◌, ◌+◌, ◌*◌, ◌-◌, ◌^◌, ◌++◌, ℕ, List, [], ◌∷◌};
-ghost use Rattle.std.specs.Prelude.{length, IfOk, OnOk};
+ghost use Rattle.std.specs.Prelude.{length, take, IfOk, IsErr, OnOk, OnErr};
 ghost use Rattle.byteorder.specs.Endian.{little_bytes};
 ghost use Rattle.arrow_flatbuf.specs.Layout.{width, gap, zeros, vtable_size, slot_end, slots_end};
 ghost use Rattle.arrow_flatbuf.specs.Layout.{entries, slot_bytes, slots_bytes, table_end};
@@ -67,7 +67,8 @@ impl TableWriter {
     /// number, in four bytes, of bytes from here to there.
     pub fn offset(&mut self, target: usize) -> Result<(), AllocError>
         requires { length self.old ≤ target }
-        ensures { OnOk result (self.new ≡ self.old ++ little_bytes 4 (target - length self.old)) }
+        ensures ok { OnOk result (self.new ≡ self.old ++ little_bytes 4 (target - length self.old)) }
+        ensures err { OnErr result (self.new ≡ self.old) }
     {
         let here = self.place();
         self.number(Width::Four, (target - here) as u64)
@@ -79,11 +80,109 @@ impl TableWriter {
     ///
     /// Condition: each number fits its width, and each offset leads behind the table, to a place
     /// that four bytes can name.
-    #[tactic(auto, using(crate::proofs::Writing::table_done, crate::proofs::Heads::slots_short))]
     pub fn table(&mut self, slots: &[Slot]) -> Result<(), AllocError>
         requires few { length slots.now ≤ 1000 }
         requires fits { SlotsFit (table_end (length self.old) slots.now) slots.now }
-        ensures { OnOk result (self.new ≡ self.old ++ table_bytes (length self.old) slots.now) }
+        ensures ok { OnOk result (self.new ≡ self.old ++ table_bytes (length self.old) slots.now) }
+        ensures err { OnErr result (self.new ≡ self.old) }
+    {
+        let before = self.place();
+        match self.table_parts(slots) {
+            Ok(()) => Ok(()),
+            Err(fault) => self.cut_back(before, fault),
+        }
+    }
+
+    /// Appends a text (FlatBuffers internals, "Strings"): the count of its bytes at a multiple of
+    /// 4, its bytes, and a 0 byte.
+    pub fn text(&mut self, text: &str) -> Result<(), AllocError>
+        ensures ok { OnOk result (self.new ≡ self.old ++ text_bytes (length self.old) text.now) }
+        ensures err { OnErr result (self.new ≡ self.old) }
+    {
+        self.bytes(text.as_bytes())
+    }
+
+    /// Appends a string of any bytes, as [`TableWriter::text`] does those of a text.
+    pub fn bytes(&mut self, bytes: &[u8]) -> Result<(), AllocError>
+        ensures ok { OnOk result (self.new ≡ self.old ++ text_bytes (length self.old) bytes.now) }
+        ensures err { OnErr result (self.new ≡ self.old) }
+    {
+        let before = self.place();
+        match self.string(bytes) {
+            Ok(()) => Ok(()),
+            Err(fault) => self.cut_back(before, fault),
+        }
+    }
+
+    /// Appends the count of a vector of offsets, at a multiple of 4. The offsets stand behind it.
+    pub fn count(&mut self, count: usize) -> Result<(), AllocError>
+        ensures ok { OnOk result (self.new ≡ self.old ++ count_bytes (length self.old) count) }
+        ensures err { OnErr result (self.new ≡ self.old) }
+    {
+        let before = self.place();
+        self.pad(4)?;
+        match self.number(Width::Four, count as u64) {
+            Ok(()) => Ok(()),
+            Err(fault) => self.cut_back(before, fault),
+        }
+    }
+
+    /// Appends the count of a vector of pairs of numbers of eight bytes, which stand behind it at a
+    /// multiple of 8.
+    #[tactic(auto, using(crate::proofs::Writing::pairs_begun))]
+    pub fn count_pairs(&mut self, pairs: usize) -> Result<(), AllocError>
+        requires { length self.old < 2 ^ 32 }
+        ensures ok { OnOk result (self.new ≡ self.old ++ pairs_head (length self.old) pairs) }
+        ensures err { OnErr result (self.new ≡ self.old) }
+    {
+        let before = self.place();
+        self.zeros(gap(8, before + 4))?;
+        match self.number(Width::Four, pairs as u64) {
+            Ok(()) => Ok(()),
+            Err(fault) => self.cut_back(before, fault),
+        }
+    }
+
+    /// Appends a pair of numbers of eight bytes.
+    pub fn pair(&mut self, first: u64, second: u64) -> Result<(), AllocError>
+        ensures ok { OnOk result (self.new ≡ self.old ++ pair_bytes ((first, second) ∷ [])) }
+        ensures err { OnErr result (self.new ≡ self.old) }
+    {
+        let before = self.place();
+        self.number(Width::Eight, first)?;
+        match self.number(Width::Eight, second) {
+            Ok(()) => Ok(()),
+            Err(fault) => self.cut_back(before, fault),
+        }
+    }
+
+    /// Appends zero bytes up to the next multiple of a size.
+    pub fn pad(&mut self, size: usize) -> Result<(), AllocError>
+        requires low { 1 ≤ size }
+        requires high { size ≤ 8 }
+        ensures ok { OnOk result (self.new ≡ self.old ++ zeros (gap size (length self.old))) }
+        ensures err { OnErr result (self.new ≡ self.old) }
+    {
+        let missing = gap(size, self.place());
+        self.zeros(missing)
+    }
+
+    /// Cuts the bytes back to the first so many, and hands the fault on.
+    fn cut_back(&mut self, before: usize, fault: AllocError) -> Result<(), AllocError>
+        ensures bytes { self.new ≡ take before self.old }
+        ensures fault { IsErr result }
+    {
+        self.bytes.truncate(before);
+        Err(fault)
+    }
+
+    /// Appends a table and its vtable, part by part.
+    #[tactic(auto, using(crate::proofs::Writing::table_done, crate::proofs::Heads::slots_short))]
+    fn table_parts(&mut self, slots: &[Slot]) -> Result<(), AllocError>
+        requires few { length slots.now ≤ 1000 }
+        requires fits { SlotsFit (table_end (length self.old) slots.now) slots.now }
+        ensures ok { OnOk result (self.new ≡ self.old ++ table_bytes (length self.old) slots.now) }
+        ensures err { OnErr result (take (length self.old) self.new ≡ self.old) }
     {
         self.pad(2)?;
         let vtable = self.place();
@@ -96,18 +195,11 @@ impl TableWriter {
         self.fields(table, slots)
     }
 
-    /// Appends a text (FlatBuffers internals, "Strings"): the count of its bytes at a multiple of
-    /// 4, its bytes, and a 0 byte.
-    pub fn text(&mut self, text: &str) -> Result<(), AllocError>
-        ensures { OnOk result (self.new ≡ self.old ++ text_bytes (length self.old) text.now) }
-    {
-        self.bytes(text.as_bytes())
-    }
-
-    /// Appends a string of any bytes, as [`TableWriter::text`] does those of a text.
+    /// Appends a string, part by part.
     #[tactic(auto, using(crate::proofs::Writing::text_done))]
-    pub fn bytes(&mut self, bytes: &[u8]) -> Result<(), AllocError>
-        ensures { OnOk result (self.new ≡ self.old ++ text_bytes (length self.old) bytes.now) }
+    fn string(&mut self, bytes: &[u8]) -> Result<(), AllocError>
+        ensures ok { OnOk result (self.new ≡ self.old ++ text_bytes (length self.old) bytes.now) }
+        ensures err { OnErr result (take (length self.old) self.new ≡ self.old) }
     {
         self.pad(4)?;
         self.number(Width::Four, bytes.len() as u64)?;
@@ -115,50 +207,12 @@ impl TableWriter {
         self.append(&[0])
     }
 
-    /// Appends the count of a vector of offsets, at a multiple of 4. The offsets stand behind it.
-    pub fn count(&mut self, count: usize) -> Result<(), AllocError>
-        ensures { OnOk result (self.new ≡ self.old ++ count_bytes (length self.old) count) }
-    {
-        self.pad(4)?;
-        self.number(Width::Four, count as u64)
-    }
-
-    /// Appends the count of a vector of pairs of numbers of eight bytes, which stand behind it at a
-    /// multiple of 8.
-    #[tactic(auto, using(crate::proofs::Writing::pairs_begun))]
-    pub fn count_pairs(&mut self, pairs: usize) -> Result<(), AllocError>
-        requires { length self.old < 2 ^ 32 }
-        ensures { OnOk result (self.new ≡ self.old ++ pairs_head (length self.old) pairs) }
-    {
-        let missing = gap(8, self.place() + 4);
-        self.zeros(missing)?;
-        self.number(Width::Four, pairs as u64)
-    }
-
-    /// Appends a pair of numbers of eight bytes.
-    pub fn pair(&mut self, first: u64, second: u64) -> Result<(), AllocError>
-        ensures { OnOk result (self.new ≡ self.old ++ pair_bytes ((first, second) ∷ [])) }
-    {
-        self.number(Width::Eight, first)?;
-        self.number(Width::Eight, second)?;
-        Ok(())
-    }
-
-    /// Appends zero bytes up to the next multiple of a size.
-    pub fn pad(&mut self, size: usize) -> Result<(), AllocError>
-        requires low { 1 ≤ size }
-        requires high { size ≤ 8 }
-        ensures { OnOk result (self.new ≡ self.old ++ zeros (gap size (length self.old))) }
-    {
-        let missing = gap(size, self.place());
-        self.zeros(missing)
-    }
-
     /// Appends what the vtable holds of the fields.
     #[tactic(auto, using(crate::proofs::Heads::slots_grow))]
     fn entries(&mut self, slots: &[Slot]) -> Result<(), AllocError>
         requires { slots_end 4 slots.now < 2 ^ 16 }
-        ensures { OnOk result (self.new ≡ self.old ++ entries 4 slots.now) }
+        ensures ok { OnOk result (self.new ≡ self.old ++ entries 4 slots.now) }
+        ensures err { OnErr result (take (length self.old) self.new ≡ self.old) }
     {
         let mut end = 4;
         for slot in slots {
@@ -174,7 +228,8 @@ impl TableWriter {
         requires place { length self.old ≡ table + 4 }
         requires low { slots_end 4 slots.now < 2 ^ 16 }
         requires fits { SlotsFit (table + slots_end 4 slots.now) slots.now }
-        ensures { OnOk result (self.new ≡ self.old ++ slots_bytes table 4 slots.now) }
+        ensures ok { OnOk result (self.new ≡ self.old ++ slots_bytes table 4 slots.now) }
+        ensures err { OnErr result (take (length self.old) self.new ≡ self.old) }
     {
         let mut end = 4;
         for slot in slots {
@@ -189,7 +244,8 @@ impl TableWriter {
         requires place { length self.old ≡ table + end }
         requires low { end < 2 ^ 16 }
         requires fits { SlotFits (table + slot_end end slot) slot }
-        ensures { OnOk result (self.new ≡ self.old ++ slot_bytes table end slot) }
+        ensures ok { OnOk result (self.new ≡ self.old ++ slot_bytes table end slot) }
+        ensures err { OnErr result (take (length self.old) self.new ≡ self.old) }
     {
         match slot {
             Slot::Absent => Ok(()),
@@ -208,7 +264,8 @@ impl TableWriter {
     /// Appends a number, lowest byte first.
     #[tactic(auto, using(crate::proofs::Writing::number_part))]
     fn number(&mut self, size: Width, number: u64) -> Result<(), AllocError>
-        ensures { OnOk result (self.new ≡ self.old ++ little_bytes (width size) number) }
+        ensures ok { OnOk result (self.new ≡ self.old ++ little_bytes (width size) number) }
+        ensures err { OnErr result (self.new ≡ self.old) }
     {
         self.append(&number.to_le_bytes()[..byte_count(size)])
     }
@@ -217,14 +274,16 @@ impl TableWriter {
     #[tactic(auto, using(crate::proofs::Writing::zeros_part))]
     fn zeros(&mut self, count: usize) -> Result<(), AllocError>
         requires { count ≤ 8 }
-        ensures { OnOk result (self.new ≡ self.old ++ zeros count) }
+        ensures ok { OnOk result (self.new ≡ self.old ++ zeros count) }
+        ensures err { OnErr result (self.new ≡ self.old) }
     {
         self.append(&[0; 8][..count])
     }
 
     /// Appends bytes.
     fn append(&mut self, bytes: &[u8]) -> Result<(), AllocError>
-        ensures { OnOk result (self.new ≡ self.old ++ bytes.now) }
+        ensures ok { OnOk result (self.new ≡ self.old ++ bytes.now) }
+        ensures err { OnErr result (self.new ≡ self.old) }
     {
         self.bytes.extend_from_slice(bytes)
     }

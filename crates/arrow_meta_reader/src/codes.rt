@@ -6,7 +6,7 @@ ghost use Rattle.arrow_meta_reader.specs.Codes.{date_unit, time_unit};
 use arrow_types::{BitWidth, DateUnit, Schema, TimeUnit};
 
 /// A header of this project's profile (`Message.fbs`, union `MessageHeader`).
-#[derive(Clone, Copy, Debug)]
+#[derive(Clone, Copy)]
 pub(crate) enum HeaderKind {
     Schema,
     DictionaryBatch,
@@ -28,7 +28,7 @@ pub(crate) fn header_kind(code: u64) -> Option<HeaderKind>
 }
 
 /// A type of this project's profile (`Schema.fbs`, union `Type`).
-#[derive(Clone, Copy, Debug, PartialEq, Eq)]
+#[derive(Clone, Copy)]
 pub(crate) enum TypeCode {
     Null,
     Int,

@@ -14,7 +14,7 @@ use crate::parts::{has_table, number_at, part};
 use arrow_types::TimeUnit;
 
 /// What makes a table one that no message has.
-#[derive(Clone, Copy, Debug)]
+#[derive(Clone, Copy)]
 pub(crate) enum Test {
     /// A table that its code opens, or a dictionary's data, is absent.
     LacksTable,

@@ -30,7 +30,7 @@ use arrow_types::{BitWidth, DataType, DateUnit, Encoding, Field, IndexType, Time
 use std::alloc::{AllocError, Global};
 
 /// Why there are no fields.
-#[derive(Clone, Copy, Debug)]
+#[derive(Clone, Copy)]
 pub(crate) enum FieldFault {
     /// A type has another number of children.
     Misfit,

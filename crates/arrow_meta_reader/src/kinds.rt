@@ -5,7 +5,7 @@ ghost use Rattle.arrow_meta_reader.specs.Kinds.{forms_of, header_table, type_tab
 use crate::codes::{HeaderKind, TypeCode, header_kind, type_code};
 
 /// A table of the standard's `Message.fbs` or `Schema.fbs`, under its name there.
-#[derive(Clone, Copy, Debug, PartialEq, Eq)]
+#[derive(Clone, Copy, Debug)]
 pub(crate) enum TableKind {
     Message,
     Schema,
@@ -24,7 +24,7 @@ pub(crate) enum TableKind {
 
 /// What a field of a table holds. It is public so that the definitions of the crates above can name
 /// its variants; no path outside the crate leads to it.
-#[derive(Clone, Copy, Debug)]
+#[derive(Clone, Copy)]
 pub enum FieldForm {
     /// A number of one byte.
     Byte,

@@ -6,7 +6,7 @@ use std::fmt;
 /// Why the bytes of a stream are refused: the kinds 1 to 17, in the order of their numbers. What
 /// stands here is said of bytes alone, so that no reader can have failed by want of memory or by an
 /// end that is still to come.
-#[derive(Clone, Copy, Debug, PartialEq, Eq)]
+#[derive(Clone, Copy)]
 pub(crate) enum Refusal {
     Continuation,
     MetadataSize,

@@ -34,7 +34,7 @@ pub(crate) struct Message {
 }
 
 /// Why a message is not read on.
-#[derive(Clone, Copy, Debug, PartialEq, Eq)]
+#[derive(Clone, Copy)]
 pub(crate) enum Stop {
     /// Its bytes are refused.
     Refused(Refusal),

@@ -8,7 +8,7 @@ use crate::kind::Refusal;
 use arrow_types::Limits;
 
 /// What the first eight bytes say.
-#[derive(Clone, Copy, Debug, PartialEq, Eq)]
+#[derive(Clone, Copy)]
 pub(crate) enum Prefix {
     /// The stream ends here.
     EndMarker,

@@ -11,7 +11,7 @@ use std::alloc::{AllocFailed, Global};
 use std::collections::BTreeMap;
 
 /// Why the columns of a batch give no dictionaries.
-#[derive(Clone, Copy, Debug, PartialEq, Eq)]
+#[derive(Clone, Copy)]
 pub(crate) enum ListsFault {
     /// Two columns have different dictionaries of one id.
     DictionariesDiffer,

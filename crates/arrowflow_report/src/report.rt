@@ -1,7 +1,7 @@
 //! What is told of a stream.
 
 /// What is told of a stream, as it comes.
-#[derive(Clone, Copy, Debug, PartialEq, Eq)]
+#[derive(Clone, Copy)]
 pub(crate) enum Report {
     /// A line for each message.
     Messages,

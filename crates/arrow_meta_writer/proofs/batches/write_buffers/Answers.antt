@@ -7,7 +7,7 @@ use Rattle.arrow_meta_writer.proofs.batches.write_buffers.Goals as goal
 
 pub loop-buffer-init : goal.loop-buffer-init
 loop-buffer-init c = record {
-  left = pairs_first buffer_pair c.args.writer.now c.count_pairs.new.self c.args.buffers.now c.in_ok-count_pairs.ensures;
+  left = pairs_first buffer_pair c.args.writer.now c.count_pairs.new.self c.args.buffers.now c.in_ok-count_pairs.ensures.ok;
   typed = λ h. h;
 }
 

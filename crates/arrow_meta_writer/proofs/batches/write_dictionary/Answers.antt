@@ -36,7 +36,7 @@ write_batch-requires c =
     let delta = c.bit.ensures.value in
     let ss : List Slot = Scalar Eight c.cast_unsigned.result ∷ Target c.table_place.result ∷ Scalar One c.bit.result ∷ [] in
     let same : ss ≡ slots (cells_place p cs) cs = λ i. Scalar Eight (id i) ∷ Target (place i) ∷ Scalar One (delta i) ∷ [] in
-    let begins = begun c.args.writer.now c.table.new.self ss cs c.in_ok-table.ensures same in
+    let begins = begun c.args.writer.now c.table.new.self ss cs c.in_ok-table.ensures.ok same in
     record { room = omega (arith, left_ends c.args.writer.now c.table.new.self (offset (table (batch_cells b)) (scalar One (flag c.args.delta) last)) (table cs) begins, c.requires.room) }
 
 pub returns-clause-bytes : goal.returns-clause-bytes
@@ -51,7 +51,7 @@ returns-clause-bytes c =
     let ss : List Slot = Scalar Eight c.cast_unsigned.result ∷ Target c.table_place.result ∷ Scalar One c.bit.result ∷ [] in
     let same : ss ≡ slots (cells_place p cs) cs = λ i. Scalar Eight (id i) ∷ Target (place i) ∷ Scalar One (delta i) ∷ [] in
     let old = c.args.writer.now in
-    let begins = begun old c.table.new.self ss cs c.in_ok-table.ensures same in
+    let begins = begun old c.table.new.self ss cs c.in_ok-table.ensures.ok same in
     ended old c.write_batch.new.writer (table cs) (stepped old c.table.new.self c.write_batch.new.writer (table (batch_cells b)) (scalar One (flag c.args.delta) last) (table cs) begins c.in_ok-write_batch.ensures.bytes)
 
 pub returns-clause-typed : goal.returns-clause-typed

@@ -7,7 +7,7 @@ use Rattle.arrow_meta_writer.proofs.batches.write_nodes.Goals as goal
 
 pub loop-node-init : goal.loop-node-init
 loop-node-init c = record {
-  left = pairs_first node_pair c.args.writer.now c.count_pairs.new.self c.args.nodes.now c.in_ok-count_pairs.ensures;
+  left = pairs_first node_pair c.args.writer.now c.count_pairs.new.self c.args.nodes.now c.in_ok-count_pairs.ensures.ok;
   typed = λ h. h;
 }
 

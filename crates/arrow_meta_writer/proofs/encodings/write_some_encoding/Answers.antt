@@ -37,5 +37,5 @@ returns-clause-bytes c =
     let ss : List Slot = Scalar Eight c.cast_unsigned.result ∷ Target c.table_place.result ∷ Scalar One c.bit.result ∷ Scalar Two 0 ∷ [] in
     let same : ss ≡ slots (cells_place p cs) cs = λ i. Scalar Eight (bits i) ∷ Target (index i) ∷ Scalar One (ordered i) ∷ Scalar Two 0 ∷ [] in
     let old = c.args.writer.now in
-    let begins = begun old c.table.new.self ss cs c.in_ok-table.ensures same in
+    let begins = begun old c.table.new.self ss cs c.in_ok-table.ensures.ok same in
     ended old c.write_int.new.writer (table cs) (stepped old c.table.new.self c.write_int.new.writer (table (int_cells e.index.bits e.index.signed)) (scalar One (flag e.ordered) (scalar Two 0 last)) (table cs) begins c.in_ok-write_int.ensures)

@@ -25,7 +25,7 @@ loop-field-init c =
     let end = c.offsets_end-end.ensures.end ∙ ap (λ (n : ℕ). capped (up 4 n + 4 + 4 * length fs)) c.place.ensures in
     let first = exact c.offsets_end-end.result (up 4 p + 4 + 4 * length fs) end
     (omega (arith, count_all fs, ahead_all (up 4 p + 4 + 4 * length fs) whole, ap (λ (n : ℕ). after_all (up 4 p + 4 + 4 * n) whole) (count_all fs), c.requires.room)) in
-    heads_first c.args.writer.now c.count.new.self (length fs) c.offsets_end-end.result whole (sym (count_all fs)) c.in_ok-count.ensures first
+    heads_first c.args.writer.now c.count.new.self (length fs) c.offsets_end-end.result whole (sym (count_all fs)) c.in_ok-count.ensures.ok first
 
 pub table_place-requires-clause-place : goal.table_place-requires-clause-place
 table_place-requires-clause-place c =
@@ -61,7 +61,7 @@ loop-field-preserved c =
     let ends : c.metadata_end-end.result ≡ capped (after end node) = ended ∙ c.field_head_end-head.ensures.end children in
     let new = exact c.metadata_end-end.result (after end node) ends (omega (arith, left.ends, ahead_all (after end node) rest, c.requires.room)) in
     let target : c.table_place.result ≡ start end node = c.table_place.ensures.value ∙ ap (table_place end) c.field_fields.ensures.count in
-    head_step c.args.writer.now now c.offset.new.self end c.metadata_end-end.result c.table_place.result node rest whole left target c.in_ok-offset.ensures new
+    head_step c.args.writer.now now c.offset.new.self end c.metadata_end-end.result c.table_place.result node rest whole left target c.in_ok-offset.ensures.ok new
 
 pub returns : goal.returns
 returns c = record {

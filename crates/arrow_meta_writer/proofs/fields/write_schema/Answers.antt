@@ -39,7 +39,7 @@ write_fields-requires c =
     let all : n ≡ count cs = omega (arith, counted) in
     let cut : ss ≡ slots (cells_place c.place.result cs) cs = ap (λ (k : ℕ). take k c.schema_slots-slots.result) all ∙ c.schema_slots-slots.ensures.slots in
     let t = c.table.new.self in
-    let begins = begun old t ss cs c.in_ok-table.ensures (slots_there c.place.result (length old) ss cs c.place.ensures cut) in
+    let begins = begun old t ss cs c.in_ok-table.ensures.ok (slots_there c.place.result (length old) ss cs c.place.ensures cut) in
     let fields = tables (field_nodes s.fields s.notes) in
     let same : after (length t) (tables (field_nodes (fields_view c.fields.result.now) (notes_view c.fields.result.now))) ≡ after (length t) fields = λ i. after (length t) (tables (field_nodes (c.fields.ensures.same i) (c.fields.ensures.notes i))) in
     record { room = omega (arith, same, left_ends old t (offset fields (metadata_cells s.pairs)) (table cs) begins, ahead_cells (after (length t) fields) (metadata_cells s.pairs), c.requires.room) }
@@ -56,7 +56,7 @@ write_metadata-requires c =
     let cut : ss ≡ slots (cells_place c.place.result cs) cs = ap (λ (k : ℕ). take k c.schema_slots-slots.result) all ∙ c.schema_slots-slots.ensures.slots in
     let t = c.table.new.self in
     let w = c.write_fields.new.writer in
-    let begins = begun old t ss cs c.in_ok-table.ensures (slots_there c.place.result (length old) ss cs c.place.ensures cut) in
+    let begins = begun old t ss cs c.in_ok-table.ensures.ok (slots_there c.place.result (length old) ss cs c.place.ensures cut) in
     let fields = tables (field_nodes s.fields s.notes) in
     let wrote : w ≡ t ++ laid (length t) fields =
     c.in_ok-write_fields.ensures.bytes ∙ (λ i. t ++ laid (length t) (tables (field_nodes (c.fields.ensures.same i) (c.fields.ensures.notes i)))) in
@@ -75,7 +75,7 @@ returns-clause-bytes c =
     let cut : ss ≡ slots (cells_place c.place.result cs) cs = ap (λ (k : ℕ). take k c.schema_slots-slots.result) all ∙ c.schema_slots-slots.ensures.slots in
     let t = c.table.new.self in
     let w = c.write_fields.new.writer in
-    let begins = begun old t ss cs c.in_ok-table.ensures (slots_there c.place.result (length old) ss cs c.place.ensures cut) in
+    let begins = begun old t ss cs c.in_ok-table.ensures.ok (slots_there c.place.result (length old) ss cs c.place.ensures cut) in
     let fields = tables (field_nodes s.fields s.notes) in
     let wrote : w ≡ t ++ laid (length t) fields =
     c.in_ok-write_fields.ensures.bytes ∙ (λ i. t ++ laid (length t) (tables (field_nodes (c.fields.ensures.same i) (c.fields.ensures.notes i)))) in

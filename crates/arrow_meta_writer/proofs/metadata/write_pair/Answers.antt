@@ -29,8 +29,8 @@ returns c =
     let t = c.table.new.self in
     let k = c.bytes.new.self in
     let v = c.bytes-2.new.self in
-    let wrote_key = c.in_ok-bytes.ensures ∙ ap (λ (s : List ℕ). t ++ laid (length t) (byte_string s)) c.deref.ensures.value in
-    let wrote_value = c.in_ok-bytes-2.ensures ∙ ap (λ (s : List ℕ). k ++ laid (length k) (byte_string s)) c.deref-2.ensures.value in
-    let begins = begun old t ss cs c.in_ok-table.ensures same in
+    let wrote_key = c.in_ok-bytes.ensures.ok ∙ ap (λ (s : List ℕ). t ++ laid (length t) (byte_string s)) c.deref.ensures.value in
+    let wrote_value = c.in_ok-bytes-2.ensures.ok ∙ ap (λ (s : List ℕ). k ++ laid (length k) (byte_string s)) c.deref-2.ensures.value in
+    let begins = begun old t ss cs c.in_ok-table.ensures.ok same in
     let keyed = stepped old t k (byte_string p.key) (offset (byte_string p.value) last) node begins wrote_key in
     ended old v node (stepped old k v (byte_string p.value) last node keyed wrote_value)

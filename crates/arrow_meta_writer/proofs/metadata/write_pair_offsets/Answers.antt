@@ -19,7 +19,7 @@ loop-pair-init c =
     let end = c.offsets_end-end.ensures.end ∙ ap (λ (n : ℕ). capped (up 4 n + 4 + 4 * length ps)) c.place.ensures in
     let first = exact c.offsets_end-end.result (up 4 p + 4 + 4 * length ps) end
     (omega (arith, count_pairs ps, ahead_all (up 4 p + 4 + 4 * length ps) whole, ap (λ (n : ℕ). after_all (up 4 p + 4 + 4 * n) whole) (count_pairs ps), c.requires.room)) in
-    heads_first c.args.writer.now c.count.new.self (length ps) c.offsets_end-end.result whole (sym (count_pairs ps)) c.in_ok-count.ensures first
+    heads_first c.args.writer.now c.count.new.self (length ps) c.offsets_end-end.result whole (sym (count_pairs ps)) c.in_ok-count.ensures.ok first
 
 pub table_place-requires-clause-place : goal.table_place-requires-clause-place
 table_place-requires-clause-place c =
@@ -42,7 +42,7 @@ loop-pair-preserved c =
     let left : HeadsLeft c.args.writer.now now end (more node rest) whole =
     subst (λ ns. HeadsLeft c.args.writer.now now end ns whole) (pairs_more ps i p c.loop-pair-test.true c.pair-item.is) c.loop-pair.invariant in
     let new = exact c.pair_end-end.result (after end node) c.pair_end-end.ensures.end (omega (arith, left.ends, ahead_all (after end node) rest, c.requires.room)) in
-    head_step c.args.writer.now now c.offset.new.self end c.pair_end-end.result c.table_place.result node rest whole left c.table_place.ensures.value c.in_ok-offset.ensures new
+    head_step c.args.writer.now now c.offset.new.self end c.pair_end-end.result c.table_place.result node rest whole left c.table_place.ensures.value c.in_ok-offset.ensures.ok new
 
 pub returns : goal.returns
 returns c =

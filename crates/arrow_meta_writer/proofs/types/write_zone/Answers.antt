@@ -32,4 +32,4 @@ returns c =
     let unit = c.time_number.ensures.number in
     let ss : List Slot = Scalar Two c.time_number.result ∷ Target c.aligned.result ∷ [] in
     let same : ss ≡ slots (cells_place p cs) cs = λ i. Scalar Two (unit i) ∷ Target (place i) ∷ [] in
-    ended old c.text.new.self (table cs) (stepped old c.table.new.self c.text.new.self (text c.args.zone.now) last (table cs) (begun old c.table.new.self ss cs c.in_ok-table.ensures same) c.in_ok-text.ensures)
+    ended old c.text.new.self (table cs) (stepped old c.table.new.self c.text.new.self (text c.args.zone.now) last (table cs) (begun old c.table.new.self ss cs c.in_ok-table.ensures.ok same) c.in_ok-text.ensures.ok)

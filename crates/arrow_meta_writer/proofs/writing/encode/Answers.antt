@@ -19,7 +19,7 @@ write_message-requires c =
     let m = message_view c.args.message.now in
     let some = some_from (size_of m) c.requires in
     let is = sized m some.0 some.1 in
-    let four = buffer_begun (message_node m) c.in_ok-writer.writer c.offset.new.self c.table_place.result c.in_ok-writer.ensures c.in_ok-offset.ensures in
+    let four = buffer_begun (message_node m) c.in_ok-writer.writer c.offset.new.self c.table_place.result c.in_ok-writer.ensures c.in_ok-offset.ensures.ok in
     record { room = omega (arith, ap (λ (n : ℕ). after n (message_node m)) four, is.small); body = is.body }
 
 pub returns : goal.returns
@@ -28,7 +28,7 @@ returns c =
     let some = some_from (size_of m) c.requires in
     let bytes : c.into_bytes.result.items ≡ metadata m =
     c.into_bytes.ensures ∙ buffer_written (message_node m) c.in_ok-writer.writer c.offset.new.self c.write_message.new.writer c.pad.new.self c.table_place.result
-    c.in_ok-writer.ensures c.table_place.ensures.value c.in_ok-offset.ensures c.in_ok-write_message.ensures.bytes c.in_ok-pad.ensures in
+    c.in_ok-writer.ensures c.table_place.ensures.value c.in_ok-offset.ensures.ok c.in_ok-write_message.ensures.bytes c.in_ok-pad.ensures.ok in
     let header = c.in_ok-write_message.ensures.typed in
     record {
       bytes = bytes;

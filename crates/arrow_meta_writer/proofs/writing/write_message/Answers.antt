@@ -29,7 +29,7 @@ write_header-requires c =
     let cs = message_cells (message_view c.args.message.now) in
     let ss = c.message_slots-slots.result in
     let same = slots_there c.place.result (length old) ss cs c.place.ensures c.message_slots-slots.ensures.slots in
-    let begins = begun old c.table.new.self ss cs c.in_ok-table.ensures same in
+    let begins = begun old c.table.new.self ss cs c.in_ok-table.ensures.ok same in
     record { room = omega (arith, left_ends old c.table.new.self (offset header rest) (table cs) begins, c.requires.room) }
 
 pub returns-clause-bytes : goal.returns-clause-bytes
@@ -40,6 +40,6 @@ returns-clause-bytes c =
     let cs = message_cells (message_view c.args.message.now) in
     let ss = c.message_slots-slots.result in
     let same = slots_there c.place.result (length old) ss cs c.place.ensures c.message_slots-slots.ensures.slots in
-    let begins = begun old c.table.new.self ss cs c.in_ok-table.ensures same in
+    let begins = begun old c.table.new.self ss cs c.in_ok-table.ensures.ok same in
     let next = c.write_header.new.writer in
     ended old next (table cs) (stepped old c.table.new.self next header rest (table cs) begins c.in_ok-write_header.ensures.bytes)
