@@ -20,7 +20,7 @@ use Rattle.arrow_stream_laws.specs.Text.{schema_frame, marker_frame, IsPart, Tex
 use Rattle.arrow_stream_laws.specs.Rows.{rows_of}
 use Rattle.arrow_stream_laws.specs.Standing.{SendsBeginning}
 use Rattle.arrow_stream_laws.proofs.Deliveries.{delivered, text_stream, written_is}
-use Rattle.arrow_stream_laws.specs.Writer.{Shows, Stands, Accepts, Fails, Starts, Ends, FailsAtEnd, first_place}
+use Rattle.arrow_stream_laws.specs.Writer.{Shows, Stands, Accepts, Fails, FailsAtStart, Starts, Ends, FailsAtEnd, first_place}
 use Rattle.arrow_stream_laws.proofs.Chains.{left_by-append}
 use Rattle.arrow_stream_laws.proofs.Parts.{frame_length}
 use Rattle.arrow_stream_laws.proofs.Texts.{text_is, text_part, joined_more}
@@ -169,5 +169,31 @@ broken_delivered old new t parts batches before now s f told =
       count = in_all.0;
       inside = in_all.1;
       accepted = subst (λ c. Appends (Some before) c (take in_all.0 (joined (parts ++ frames_bytes f.frames ∷ [])))) told in_all.2;
+      delivered = delivered in_all.0 written;
+    }
+
+pub start_delivered : (limits : LimitNumbers) (o : Options) (shape : SchemaShape) (failures now_failed : ℕ) (before now : List ℕ) → (f : FailsAtStart limits o shape (Some before) failures (Some now) now_failed)
+    → SendsBeginning limits before now (f.part ∷ []) []
+start_delivered limits o shape failures now_failed before now f =
+    let all : joined (f.part ∷ []) ≡ f.part = append-nil f.part in
+    let n = f.accepted.0 in
+    record {
+      frames = schema_frame shape f.part ∷ [];
+      count = n;
+      inside = omega (arith, f.accepted.1, ap length all);
+      accepted = subst (λ (xs : List ℕ). now ≡ before ++ take n xs) (sym all) f.accepted.2;
+      delivered = delivered n (unfinished _ _ _ (begins f.part f.known f.admitted f.is_frame));
+    }
+
+pub end_delivered : (old new : Shows) (parts : List (List ℕ)) (batches : List Table) (before now : List ℕ) → Stands old (Some before) false parts batches → (f : FailsAtEnd old new) → new.contents ≡ Some now
+    → SendsBeginning old.limits before now (parts ++ f.marker ∷ []) batches
+end_delivered old new parts batches before now s f told =
+    let in_all = f.in_all (Some before) parts batches s in
+    let written = finished parts batches s.frames f.marker (unfinished_text s.written) (subst (λ n. marker_fits n ≡ true) s.place_is f.fits_in) f.is_marker in
+    record {
+      frames = s.frames ++ marker_frame (left_by nothing_yet s.frames) f.marker ∷ [];
+      count = in_all.0;
+      inside = in_all.1;
+      accepted = subst (λ c. Appends (Some before) c (take in_all.0 (joined (parts ++ f.marker ∷ [])))) told in_all.2;
       delivered = delivered in_all.0 written;
     }

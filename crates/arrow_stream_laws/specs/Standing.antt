@@ -15,7 +15,7 @@ use Rattle.arrow_stream_laws.specs.Admission.{schema_admission, marker_fits, par
 use Rattle.arrow_stream_laws.specs.Frames.{Frame, frames_bytes, IsFrameOf, IsMarker, IsStream}
 use Rattle.arrow_stream_laws.specs.Text.{IsPart, joined}
 use Rattle.arrow_stream_laws.specs.Laws.{Delivered}
-use Rattle.arrow_stream_laws.specs.Writer.{Shows, Stands, Starts, Accepts, Fails, Ends, FailsAtEnd, first_place}
+use Rattle.arrow_stream_laws.specs.Writer.{Shows, Stands, Starts, FailsAtStart, Accepts, Fails, Ends, FailsAtEnd, first_place}
 
 -- a writer whose sink accepted the frame of an admitted schema stands at it
 abbrev pub SchemaSent : Type 0
@@ -72,8 +72,8 @@ SentIsAStream =
     Stands w (Some before) closed parts batches → w.contents ≡ Some now →
     (now ≡ before ++ joined parts) × IsStream w.limits (joined parts) w.shape (map rows_of batches) w.sent
 
--- What a sink that failed in the part of a batch accepted: the first n bytes of the parts, that of the batch the last, of which
--- a reader has what is delivered with n bytes.
+-- What a sink that failed in the last of these parts accepted: their first n bytes, of which a reader has what is delivered with n
+-- bytes.
 pub record SendsBeginning (limits : LimitNumbers) (before now : List ℕ) (parts : List (List ℕ)) (batches : List Table) : Type 0 where
   pub frames : List Frame
   pub count : ℕ
@@ -81,7 +81,21 @@ pub record SendsBeginning (limits : LimitNumbers) (before now : List ℕ) (parts
   pub accepted : now ≡ before ++ take count (joined parts)
   pub delivered : Delivered limits parts batches frames count
 
--- a sink that failed in the part of a batch accepted such a beginning
+-- a sink that failed in the schema's frame accepted such a beginning, of no batch
+abbrev pub StartIsDelivered : Type 0
+StartIsDelivered =
+    (limits : LimitNumbers) (o : Options) (shape : SchemaShape) (failures now_failed : ℕ) (before now : List ℕ) →
+    (f : FailsAtStart limits o shape (Some before) failures (Some now) now_failed) →
+    SendsBeginning limits before now (f.part ∷ []) []
+
+-- one that failed in the end marker, or as it was flushed, accepted such a beginning of all parts
+abbrev pub EndIsDelivered : Type 0
+EndIsDelivered =
+    (old new : Shows) (parts : List (List ℕ)) (batches : List Table) (before now : List ℕ) →
+    Stands old (Some before) false parts batches → (f : FailsAtEnd old new) → new.contents ≡ Some now →
+    SendsBeginning old.limits before now (parts ++ f.marker ∷ []) batches
+
+-- one that failed in the part of a batch accepted such a beginning, that part the last
 abbrev pub BrokenIsDelivered : Type 0
 BrokenIsDelivered =
     (old new : Shows) (t : Table) (parts : List (List ℕ)) (batches : List Table) (before now : List ℕ) →

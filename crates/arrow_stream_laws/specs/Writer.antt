@@ -3,6 +3,7 @@ use Rattle.std.specs.Prelude.{◌≡◌, ℕ, ℤ, ◌+◌, true, false, Bool, L
 use Rattle.std.specs.Io.KnownBytes.{Appends}
 use Rattle.arrow_types.specs.Limits.{LimitNumbers}
 use Rattle.arrow_types.specs.Notes.{SchemaShape}
+use Rattle.arrow_types.specs.Schema.{IsNoted}
 use Rattle.arrow_data.specs.Batch.{Table}
 use Rattle.arrow_data.specs.Column.{ValueList}
 use Rattle.arrow_meta_reader.specs.Means.{schema}
@@ -109,8 +110,9 @@ pub record Starts (limits : LimitNumbers) (o : Options) (shape : SchemaShape) (b
   }
   pub stands : Stands new base false (part ∷ []) []
 
--- the sink failed in the schema's frame
+-- the sink failed in the schema's frame; the schema is one
 pub record FailsAtStart (limits : LimitNumbers) (o : Options) (shape : SchemaShape) (base : Option (List ℕ)) (failures : ℕ) (contents : Option (List ℕ)) (now : ℕ) : Type 0 where
+  pub known : IsNoted shape
   pub admitted : schema_admission limits o shape ≡ None
   pub part : List ℕ
   pub is_frame : IsFrameOf limits (schema_size o.align shape) (schema shape) [] part

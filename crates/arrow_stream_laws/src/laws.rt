@@ -5,8 +5,9 @@
 ghost use Rattle.arrow_stream_reader.specs.Laws.{OneFront};
 ghost use Rattle.arrow_stream_laws.specs.Laws.{DeliveredBeginning, FramesAreAligned};
 ghost use Rattle.arrow_stream_laws.specs.Laws.{FramesOfABeginning, TextIsAStream};
-ghost use Rattle.arrow_stream_laws.specs.Standing.{BrokenIsDelivered, MarkerBroken, MarkerSent};
-ghost use Rattle.arrow_stream_laws.specs.Standing.{PartBroken, PartSent, SchemaSent, SentIsAStream};
+ghost use Rattle.arrow_stream_laws.specs.Standing.{BrokenIsDelivered, EndIsDelivered, MarkerBroken};
+ghost use Rattle.arrow_stream_laws.specs.Standing.{MarkerSent, PartBroken, PartSent, SchemaSent};
+ghost use Rattle.arrow_stream_laws.specs.Standing.{SentIsAStream, StartIsDelivered};
 
 /// The frames of a beginning of a stream are the first frames of the stream and no others.
 pub fn frames_of_a_beginning()
@@ -45,9 +46,12 @@ pub fn calls_stand()
 {}
 
 /// What a sink that tells accepted of a writer is a stream of the rows of the batches that were
-/// accepted; where it failed in the part of a batch, it is a beginning of such a text, of which a
-/// reader has the rows of just the batches that came wholly.
+/// accepted; where it failed, in the schema's frame, in the part of a batch or in the end marker, it
+/// is a beginning of such a text, of which a reader has the rows of just the batches that came
+/// wholly.
 pub fn sent_is_a_stream()
     ensures stream { SentIsAStream }
+    ensures broken_at_start { StartIsDelivered }
     ensures broken { BrokenIsDelivered }
+    ensures broken_at_end { EndIsDelivered }
 {}

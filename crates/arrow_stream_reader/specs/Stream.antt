@@ -76,6 +76,16 @@ ReadsOn old piece result new = (t : List ℕ) (es : List Entry) → Stands old t
 abbrev pub MemoryAlone : Shows → Shows → Fault → Type 0
 MemoryAlone old new fault = fault.kind ≡ Memory → WantsMemory old fault new
 
+-- The reader has failed with this fault: it stands where it stood, holds nothing, and its verdict is the refusal that the fault tells.
+pub record HasFailed (old new : Shows) (fault : Fault) : Type 0 where
+  pub refusal : Refusal
+  pub fault_is : fault ≡ record { kind = kind_of refusal; place = old.at.place }
+  pub new_is : new ≡ record old { at = record old.at { rest = []; verdict = Bad refusal } }
+
+-- each fault but want of memory is told by a reader that has failed with it
+abbrev pub FailsFor : Shows → Shows → Fault → Type 0
+FailsFor old new fault = (fault.kind ≡ Memory → ⊥) → HasFailed old new fault
+
 -- what a read takes: no more than the piece, and at least a byte with an item
 abbrev pub Takes : List ℕ → ℕ × Option Item → Type 0
 Takes piece (n, None) = n ≤ length piece

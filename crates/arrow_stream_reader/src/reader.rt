@@ -5,8 +5,8 @@ ghost use Rattle.std.specs.Prelude.{IfErr};
 ghost use Rattle.arrow_stream_reader.specs.declared.reader.Verdict.TheVariants.{Open, Done, Bad};
 ghost use Rattle.arrow_stream_reader.specs.declared.kind.Refusal.{Refusal as Refused};
 ghost use Rattle.arrow_stream_reader.specs.Kind.{kind_of};
-ghost use Rattle.arrow_stream_reader.specs.Stream.{GoesOn, ReadsOn, Stands, Takes, MemoryAlone, ended_so};
-ghost use Rattle.arrow_stream_reader.specs.Stream.{fresh};
+ghost use Rattle.arrow_stream_reader.specs.Stream.{FailsFor, GoesOn, ReadsOn, Stands, Takes};
+ghost use Rattle.arrow_stream_reader.specs.Stream.{MemoryAlone, ended_so, fresh};
 
 use crate::fault::Fault;
 use crate::held::Held;
@@ -103,6 +103,7 @@ impl StreamReader {
         ensures takes { IfOk result (λ taken. Takes piece.now taken) }
         ensures reads { ReadsOn self.old piece.now result self.new }
         ensures memory { IfErr result (MemoryAlone self.old self.new) }
+        ensures fails { IfErr result (FailsFor self.old self.new) }
         ensures goes_on { IfOk result
             (λ taken. GoesOn taken.1 self.old.at.verdict self.new.at.verdict) }
         ensures limits { self.new.limits ≡ self.old.limits }
@@ -131,6 +132,7 @@ impl StreamReader {
         ensures takes { IfOk result (λ taken. Takes piece.now taken) }
         ensures reads { ReadsOn self.old piece.now result self.new }
         ensures memory { IfErr result (MemoryAlone self.old self.new) }
+        ensures fails { IfErr result (FailsFor self.old self.new) }
         ensures goes_on { IfOk result
             (λ taken. GoesOn taken.1 self.old.at.verdict self.new.at.verdict) }
         ensures limits { self.new.limits ≡ self.old.limits }

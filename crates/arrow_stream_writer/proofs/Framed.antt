@@ -27,7 +27,7 @@ use Rattle.arrow_stream_laws.specs.Frames.{IsFrameOf}
 use Rattle.arrow_stream_laws.specs.Sizes.{batch_size, header_size, slots_in}
 use Rattle.arrow_sink.specs.declared.write_fault.WriteFault.{WriteFault}
 use Rattle.arrow_sink.specs.declared.write_fault.WriteFault.TheVariants.{SchemaDiffers, TooLarge, DictionariesDiffer, Sink, Broken, Finished, Memory}
-use Rattle.arrow_stream_writer.specs.Frame.{AppendsFrame}
+use Rattle.arrow_stream_writer.specs.Frame.{AppendsFrame, framed}
 use Rattle.arrow_stream_writer.proofs.Sizing.{batch_sized, dictionary_sized}
 use Rattle.arrow_stream_writer.specs.declared.frames.BatchKind.{BatchKind}
 use Rattle.arrow_stream_writer.specs.declared.frames.BatchKind.TheVariants.{Record, Dictionary}
@@ -174,7 +174,8 @@ pub appended_frame : (terms : Terms) (align : ℕ) (m : PlainMessage) (body old 
     → AppendsFrame align m body mid new → PutsFrameOf terms m.header body old new
 appended_frame terms align m body old mid new is fits short same x =
     let y = subst (λ n. AppendsFrame n m body mid new) is x in
-    record { frame = y.frame; fits_in = fits; is_frame = y.is_frame terms.limits fits short; appended = y.appended ∙ ap (λ (r : List ℕ). r ++ y.frame) same }
+    let frame = framed m (header_size terms.align m.header) body in
+    record { frame = frame; fits_in = fits; is_frame = y.is_frame terms.limits fits short; appended = y.appended ∙ ap (λ (r : List ℕ). r ++ frame) same }
 
 -- WHAT IS STORED OF A BATCH
 

@@ -21,19 +21,11 @@ use Rattle.arrow_body_laws.proofs.Placed.{rounded-le}
 use Rattle.arrow_stream_reader.specs.Frame.{has_continuation, number_at}
 use Rattle.arrow_stream_laws.specs.Frames.{IsFrameOf}
 use Rattle.arrow_stream_laws.specs.Sizes.{header_size}
-use Rattle.arrow_stream_writer.specs.Frame.{AppendsFrame, prefix_bytes}
+use Rattle.arrow_stream_writer.specs.Frame.{AppendsFrame, framed, padded, prefix_bytes}
 
 -- the size that a prefix tells
 pub prefix_number : (n : ℕ) → n < 2 ^ 32 → number_at (prefix_bytes n) 4 ≡ n
 prefix_number n low = omega (arith, low)
-
--- the metadata with their padding
-abbrev pub padded : PlainMessage → ℕ → List ℕ
-padded m size = metadata m ++ replicate (size - length (metadata m)) 0
-
--- the frame
-abbrev pub framed : PlainMessage → ℕ → List ℕ → List ℕ
-framed m size body = prefix_bytes size ++ padded m size ++ body
 
 -- metadata are never empty
 some_bytes : (m : PlainMessage) → 0 < length (metadata m)
@@ -75,7 +67,10 @@ module _ (align : ℕ) (m : PlainMessage) (body : List ℕ) (size n : ℕ) (some
 
   -- what was appended
   pub appends_frame : (old new : List ℕ) → new ≡ old ++ framed m size body → AppendsFrame align m body old new
-  appends_frame old new more = record { frame = framed m size body; appended = more; is_frame = is_frame }
+  appends_frame old new more = record {
+    appended = more ∙ ap (λ (n : ℕ). old ++ framed m n body) (sym same_size);
+    is_frame = λ limits metadata_fit body_fits. subst (λ (n : ℕ). IsFrameOf limits (header_size align m.header) m.header body (framed m n body)) (sym same_size) (is_frame limits metadata_fit body_fits);
+  }
 
 -- four parts that were appended one after another
 pub four_parts : (old a b c d : List ℕ) → (((old ++ a) ++ b) ++ c) ++ d ≡ old ++ ((a ++ (b ++ c)) ++ d)

@@ -194,6 +194,7 @@ module _ (terms : Terms) where
   pub start_failed : (base contents : Option (List ℕ)) (failures now : ℕ) (part : List ℕ) → terms.limits.max_metadata ≤ 2 ^ 30 → PutsMessage terms (schema terms.shape) [] [] (Ok tt) part
       → AcceptsBeginning base contents part → now ≡ failures + 1 → StartFails terms.limits (options_of terms) terms.shape base failures Sink contents now
   start_failed base contents failures now part ceiling put some failed = record {
+    known = known;
     admitted = admits put.fits_in ceiling;
     part = part;
     is_frame = subst (IsFrameOf terms.limits (schema_size terms.align terms.shape) (schema terms.shape) []) (sym put.appended) put.is_frame;

@@ -1,6 +1,7 @@
 //! Frames and the end marker, appended to bytes.
 
-ghost use Rattle.std.specs.Prelude.{◌≡◌, ◌≤◌, ◌<◌, ◌+◌, ◌++◌, IsSome, OnOk, Ok, IfOk, length, replicate};
+ghost use Rattle.std.specs.Prelude.{◌≡◌, ◌≤◌, ◌<◌, ◌+◌, ◌-◌, ◌++◌, IsSome, OnOk, OnErr, Ok, IfOk};
+ghost use Rattle.std.specs.Prelude.{length, replicate, take};
 ghost use Rattle.arrow_body_laws.specs.Stored.{rounded};
 ghost use Rattle.arrow_stream_writer.specs.Frame.{AppendsFrame, AppendsMarker, prefix_bytes};
 ghost use Rattle.arrow_meta_reader.specs.Means.{message_view};
@@ -21,31 +22,30 @@ fn rounded(align: usize, len: usize) -> usize
     len.div_ceil(align) * align
 }
 
-// Appends zero bytes.
-fn put_zeros(out: &mut Vec<u8>, count: usize) -> Result<(), AllocError>
-    ensures { OnOk result (out.new.items ≡ out.old.items ++ replicate count 0) }
-{
-    for _k in 0..count {
-        out.push(0)?;
-    }
-    Ok(())
-}
-
 // Appends the eight bytes before metadata of so many bytes (Columnar Format, "Encapsulated message
 // format").
 fn put_prefix(out: &mut Vec<u8>, size: usize) -> Result<(), AllocError>
     requires { size ≤ 2147483648 }
-    ensures { OnOk result (out.new.items ≡ out.old.items ++ prefix_bytes size) }
+    ensures ok { OnOk result (out.new.items ≡ out.old.items ++ prefix_bytes size) }
+    ensures err { OnErr result (out.new.items ≡ out.old.items) }
 {
+    let before = out.len();
     out.extend_from_slice(&[255; 4])?;
-    put_int(out, 4, size as i128)
+    match put_int(out, 4, size as i128) {
+        Ok(()) => Ok(()),
+        Err(fault) => {
+            out.truncate(before);
+            Err(fault)
+        }
+    }
 }
 
 /// Appends the end marker.
 ///
-/// The only error is `AllocError`.
+/// The only error is `AllocError`; the bytes are then those of before.
 pub fn put_end_marker(out: &mut Vec<u8>) -> Result<(), AllocError>
-    ensures { OnOk result (AppendsMarker out.old.items out.new.items) }
+    ensures ok { OnOk result (AppendsMarker out.old.items out.new.items) }
+    ensures err { OnErr result (out.new.items ≡ out.old.items) }
 {
     put_prefix(out, 0)
 }
@@ -54,8 +54,8 @@ pub fn put_end_marker(out: &mut Vec<u8>) -> Result<(), AllocError>
 /// end at a multiple of the alignment where the frame begins at one.
 ///
 /// Conditions: the alignment is from 1 to 64, `encoded_size` answers a number for the message, and
-/// the message tells the body's length. The only error is `AllocError`; a part of the frame may then
-/// stand behind the bytes.
+/// the message tells the body's length. The only error is `AllocError`; the bytes are then those of
+/// before.
 pub fn put_frame(
     out: &mut Vec<u8>,
     alloc: Global,
@@ -67,13 +67,34 @@ pub fn put_frame(
     requires few { align ≤ 64 }
     requires sendable { IsSome (size_of (message_view message.now)) }
     requires told { message.now.body_len ≡ length body.now }
-    ensures { OnOk result (AppendsFrame align (message_view message.now) body.now
+    ensures ok { OnOk result (AppendsFrame align (message_view message.now) body.now
         out.old.items out.new.items) }
+    ensures err { OnErr result (out.new.items ≡ out.old.items) }
 {
     let metadata = encode(alloc, message)?;
     let size = rounded(align, 8 + metadata.len()) - 8;
+    let before = out.len();
+    match put_parts(out, size, &metadata, body) {
+        Ok(()) => Ok(()),
+        Err(fault) => {
+            out.truncate(before);
+            Err(fault)
+        }
+    }
+}
+
+// Appends the prefix of metadata of this size, the metadata, zero bytes up to the size, and the
+// body. Where a growth was refused, the bytes of before stand first.
+fn put_parts(out: &mut Vec<u8>, size: usize, metadata: &[u8], body: &[u8]) -> Result<(), AllocError>
+    requires { size ≤ 2147483648 }
+    ensures ok { OnOk result (out.new.items
+        ≡ (((out.old.items ++ prefix_bytes size) ++ metadata.now)
+        ++ replicate (size - length metadata.now) 0) ++ body.now) }
+    ensures err { OnErr result (take (length out.old.items) out.new.items ≡ out.old.items) }
+{
     put_prefix(out, size)?;
-    out.extend_from_slice(&metadata)?;
-    put_zeros(out, size - metadata.len())?;
+    out.extend_from_slice(metadata)?;
+    let end = out.len() + size.saturating_sub(metadata.len());
+    out.resize(end, 0)?;
     out.extend_from_slice(body)
 }

@@ -114,14 +114,15 @@ impl<S: Sink> StreamWriter<S> {
     /// Faults, tested in this order: `Broken` and `Finished` where the writer takes nothing more;
     /// `SchemaDiffers`, `DictionariesDiffer`, `TooLarge` where the batch is refused; `Memory` where
     /// a growth was refused, which may be told before `TooLarge`. After these nothing was sent and
-    /// nothing has changed. `Sink` where the sink failed: it may have accepted a beginning of the
+    /// nothing has changed, neither of the writer nor of its sink. `Sink` where the sink failed: it may have accepted a beginning of the
     /// part, what was sent before stays in `sent`, and the writer is broken for good.
     ///
     /// Condition: the sink has failed less than 2^64 - 1 times.
     pub fn write(&mut self, batch: &Batch) -> Result<(), WriteFault>
         requires { S.failed self.old.sink < 2 ^ 64 - 1 }
-        ensures { Writes (shown S.contents S.failed self.old) batch.now result
+        ensures answer { Writes (shown S.contents S.failed self.old) batch.now result
             (shown S.contents S.failed self.new) }
+        ensures untouched { IfErr result (λ fault. fault ≢ Sink → self.new.sink ≡ self.old.sink) }
     {
         match taking(self.status) {
             Ok(()) => {}
@@ -159,6 +160,7 @@ impl<S: Sink> StreamWriter<S> {
         ensures answer { Finishes (shown S.contents S.failed self.old) result
             (shown S.contents S.failed self.new) }
         ensures passed { OnOk result (S.is_passed_on self.new.sink) }
+        ensures untouched { IfErr result (λ fault. fault ≢ Sink → self.new.sink ≡ self.old.sink) }
     {
         match taking(self.status) {
             Ok(()) => {}

@@ -7,7 +7,7 @@ use Rattle.arrowflow_session.proofs.sending.write_one.Goals as goal
 
 pub returns-in_ok-push-in-Ok : goal.returns-in_ok-push-in-Ok
 returns-in_ok-push-in-Ok c =
-    let a = c.in-Ok.ensures in
+    let a = c.in-Ok.ensures.answer in
     let part = c.in_ok-part-in-Ok.ensures ∙ behind c.bytes_of-before.result.now c.bytes_of.result.now (frames_bytes a.frames) _ _ c.bytes_of-before.ensures c.bytes_of.ensures a.accepted in
     inl (record {
       accepts = a;

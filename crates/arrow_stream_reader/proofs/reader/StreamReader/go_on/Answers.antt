@@ -1,9 +1,10 @@
 use Rattle.std.proofs.Common.{◌≡◌, ◌-◌, [], ◌++◌, ◌∷◌, ◌+◌, length, take, ap, sym, refl, ◌∙◌, subst, arith, add-zero, inl, inr}
 use Rattle.std.proofs.lemmas.List.{take_all}
-use Rattle.arrow_stream_reader.specs.declared.reader.Verdict.TheVariants.{Open, Done}
+use Rattle.arrow_stream_reader.specs.declared.reader.Verdict.TheVariants.{Open, Done, Bad}
 use Rattle.arrow_stream_reader.specs.declared.kind.Kind.TheVariants.{Memory}
 use Rattle.arrow_stream_reader.specs.declared.item.Item.TheVariants.{End}
 use Rattle.arrow_stream_reader.specs.Views.{plain, given}
+use Rattle.arrow_stream_reader.specs.Kind.{kind_of}
 use Rattle.arrow_stream_reader.specs.Stream.{Stands}
 use Rattle.arrow_stream_reader.proofs.Firsts.{First-within, marker-within}
 use Rattle.arrow_stream_reader.proofs.Streams.{shown_by, first_moved, waits_at_nothing, short_stands, whole_stands, marker_stands, refusal_stands, taken_within, whole_some, marker_some, same_shows, beginning}
@@ -142,3 +143,23 @@ invariant_of-self-in-Err-Memory c =
       waiting = λ _. first_moved w v w.held.items v.held.items (y.same.limits ∙ x.same.limits) (y.same.state ∙ x.same.state) (y.same.place ∙ x.same.place) held (c.self.invariant.waiting open_now);
       empty = λ n. absurd (n open_now);
     }
+
+pub returns-in-Err-Refused-clause-fails : goal.returns-in-Err-Refused-clause-fails
+returns-in-Err-Refused-clause-fails c = λ _.
+    let x = rw c.in-Err-Refused.field-0-is at c.in-Err-Refused.ensures.works in
+    let y = c.pass-in-Err-Refused.ensures in
+    let v = c.pass-in-Err-Refused.new.self in
+    let w = c.self.inside.work in
+    let old = c.args.self.now in
+    let k = c.in-Err-Refused.refusal in
+    let shown = c.self.view_is in
+    let at_place = ap (λ r. r.at.place) shown in
+    record {
+      refusal = k;
+      fault_is = ap (λ kind. record { kind = kind; place = w.place }) c.kind.ensures.same ∙ ap (λ p. record { kind = kind_of k; place = p }) at_place;
+      new_is = same_shows v (Bad k) old.limits old.at.state old.at.place [] (Bad k) (y.limits ∙ x.stopped.same.limits ∙ ap (λ r. r.limits) shown)
+          (y.state ∙ x.stopped.same.state ∙ ap (λ r. r.at.state) shown) (y.place ∙ add-zero _ ∙ x.stopped.same.place ∙ at_place) y.held refl;
+    }
+
+pub returns-in-Err-Memory-clause-fails : goal.returns-in-Err-Memory-clause-fails
+returns-in-Err-Memory-clause-fails c = λ n. absurd (n refl)

@@ -1,6 +1,7 @@
-use Rattle.std.proofs.Common.{◌≡◌, ap, sym, ◌∙◌, inr}
+use Rattle.std.proofs.Common.{◌≡◌, [], ap, sym, ◌∙◌, inr}
 use Rattle.arrow_stream_reader.specs.declared.reader.Verdict.TheVariants.{Bad}
-use Rattle.arrow_stream_reader.proofs.Streams.{ended_stands}
+use Rattle.arrow_stream_reader.specs.Kind.{kind_of}
+use Rattle.arrow_stream_reader.proofs.Streams.{ended_stands, same_shows}
 use Rattle.arrow_stream_reader.proofs.reader.StreamReader.read.Goals as goal
 
 pub returns-in-Bad-clause-reads : goal.returns-in-Bad-clause-reads
@@ -14,3 +15,17 @@ returns-in-Bad-clause-reads c = λ t es at.
       stands = ended_stands c.args.self.now t es c.args.piece.now (λ q. cc) at;
       held = ap (λ r. r.at.rest) (sym c.self.view_is) ∙ c.self.invariant.empty (λ q. let e = c.in-Bad.is in cc);
     })
+
+pub returns-in-Bad-clause-fails : goal.returns-in-Bad-clause-fails
+returns-in-Bad-clause-fails c = λ _.
+    let w = c.self.inside.work in
+    let old = c.args.self.now in
+    let k = c.in-Bad.refusal in
+    let shown = c.self.view_is in
+    let at_place = ap (λ r. r.at.place) shown in
+    let empty = c.self.invariant.empty (λ q. let e = c.in-Bad.is in cc) in
+    record {
+      refusal = k;
+      fault_is = ap (λ kind. record { kind = kind; place = w.place }) c.kind.ensures.same ∙ ap (λ p. record { kind = kind_of k; place = p }) at_place;
+      new_is = same_shows w c.self.inside.verdict old.limits old.at.state old.at.place [] (Bad k) (ap (λ r. r.limits) shown) (ap (λ r. r.at.state) shown) at_place empty c.in-Bad.is;
+    }

@@ -21,4 +21,4 @@ returns-in-Ok-put_frame c =
     let limit = c.max_metadata-max_metadata.ensures.value in
     let small = c.if-len-max_metadata.false in
     let fits : header_size terms.align m.header ≤ terms.limits.max_metadata = omega arith in
-    appended_frame terms c.bytes.result m c.args.body.now c.args.out.now.items c.reserve.new.self.items c.put_frame.new.out.items c.bytes.ensures fits c.requires.short c.in-Ok.ensures.items c.in-Ok-put_frame.ensures
+    appended_frame terms c.bytes.result m c.args.body.now c.args.out.now.items c.reserve.new.self.items c.put_frame.new.out.items c.bytes.ensures fits c.requires.short c.in-Ok.ensures.items c.in-Ok-put_frame.ensures.ok

@@ -10,8 +10,8 @@ use Rattle.arrow_stream_writer.proofs.Showing.{HasTerms, part_near, writes_accep
 use Rattle.arrow_stream_writer.proofs.stream_writer.StreamWriter.write.Goals as goal
 
 -- the part was accepted
-pub returns-in-Ok-send_part : goal.returns-in-Ok-send_part
-returns-in-Ok-send_part g c =
+pub returns-in-Ok-send_part-clause-answer : goal.returns-in-Ok-send_part-clause-answer
+returns-in-Ok-send_part-clause-answer g c =
     let old = shown g.S.Sink.contents g.S.Sink.failed c.args.self.now in
     let terms = terms_of c.args.self.now.builder.settings in
     let settings = c.build.new.self.settings in
@@ -35,8 +35,8 @@ returns-in-Ok-send_part g c =
     writes_accepted terms c.args.batch.now old new was has open_before built.frames built.is_part more (c.in-Ok-send_part.ensures.committed ∙ built.staged) (ap (λ n. old.place + n) long) open_before c.in-Ok-send_part.ensures.fine
 
 -- the sink failed in it
-pub returns-in-Err-send_part : goal.returns-in-Err-send_part
-returns-in-Err-send_part g c =
+pub returns-in-Err-send_part-clause-answer : goal.returns-in-Err-send_part-clause-answer
+returns-in-Err-send_part-clause-answer g c =
     let old = shown g.S.Sink.contents g.S.Sink.failed c.args.self.now in
     let terms = terms_of c.args.self.now.builder.settings in
     let settings = c.build.new.self.settings in
