@@ -1,6 +1,6 @@
 //! The records of a schema and of the rows of batches.
 
-ghost use Rattle.std.specs.Prelude.{◌≡◌, ◌≤◌, ◌<◌, ◌++◌, [], IfOk, OnOk, codes, length};
+ghost use Rattle.std.specs.Prelude.{◌≡◌, ◌≤◌, ◌<◌, ◌++◌, [], IfOk, OnErr, OnOk, codes, length};
 ghost use Rattle.arrow_data.specs.PlainValue.{value_at};
 ghost use Rattle.arrow_data.specs.Same.{HaveSlot};
 ghost use Rattle.arrow_data.specs.Shown.{HoldsValue};
@@ -94,7 +94,10 @@ impl<'a> BatchRows<'a> {
         })
     }
 
-    /// Appends the records of the rows from `start` up to `end`.
+    /// Appends the records of the rows from `start` up to `end`. Where a growth is refused the text
+    /// is as it was.
+    ///
+    /// Behind no text they are made where they are to stand; else beside it, and copied once.
     pub fn push(
         &self,
         alloc: Global,
@@ -104,10 +107,34 @@ impl<'a> BatchRows<'a> {
     ) -> Result<(), AllocError>
         requires order { start ≤ end }
         requires inside { end ≤ self.now.batch.rows }
-        ensures { OnOk result (out.new.items
+        ensures ok { OnOk result (out.new.items
             ≡ out.old.items ++ batch_rows self.now.number self.now.batch start end) }
+        ensures err { OnErr result (out.new.items ≡ out.old.items) }
     {
-        push_records(
+        if out.is_empty() {
+            return self.push_first(alloc, out, start, end);
+        }
+        let mut records = Vec::new(alloc);
+        self.push_first(alloc, &mut records, start, end)?;
+        out.extend_from_slice(&records)
+    }
+
+    // The same where no text stands before the records.
+    fn push_first(
+        &self,
+        alloc: Global,
+        out: &mut Vec<u8>,
+        start: usize,
+        end: usize,
+    ) -> Result<(), AllocError>
+        requires order { start ≤ end }
+        requires inside { end ≤ self.now.batch.rows }
+        requires empty { out.old.items ≡ [] }
+        ensures ok { OnOk result
+            (out.new.items ≡ batch_rows self.now.number self.now.batch start end) }
+        ensures err { OnErr result (out.new.items ≡ []) }
+    {
+        let Ok(()) = push_records(
             alloc,
             out,
             self.number,
@@ -115,7 +142,11 @@ impl<'a> BatchRows<'a> {
             &self.columns,
             start,
             end,
-        )
+        ) else {
+            out.clear();
+            return Err(AllocError);
+        };
+        Ok(())
     }
 }
 

@@ -31,7 +31,7 @@ returns-in-Err g c =
     let sent = batch_rows number batch 0 start in
     let text = c.deref.result.now in
     let whole : sent ++ text ++ later ≡ batch_rows number batch 0 batch.rows =
-    ap (λ t. sent ++ t ++ later) (c.deref.ensures.value ∙ c.in-Ok-push.ensures ∙ ap (λ r. c.clear.new.self.items ++ batch_rows r.number r.batch start end) c.in-Ok.ensures ∙ ap (λ t. t ++ batch_rows number batch start end) c.clear.ensures.items) ∙ ap (λ t. t ++ later) (rows_join number batch start end 0 (omega arith) (omega arith)) ∙ rows_join number batch end batch.rows 0 (omega arith) within in
+    ap (λ t. sent ++ t ++ later) (c.deref.ensures.value ∙ c.in-Ok-push.ensures.ok ∙ ap (λ r. c.clear.new.self.items ++ batch_rows r.number r.batch start end) c.in-Ok.ensures ∙ ap (λ t. t ++ batch_rows number batch start end) c.clear.ensures.items) ∙ ap (λ t. t ++ later) (rows_join number batch start end 0 (omega arith) (omega arith)) ∙ rows_join number batch end batch.rows 0 (omega arith) within in
     cut_between c.in-Err.fault (g.S.Sink.contents c.args.output.now) (g.S.Sink.contents c.loop-start.output) _ _ _ _ sent text later _ i.1 i.2 whole c.in-Err.ensures
 
 pub loop-start-preserved : goal.loop-start-preserved
@@ -46,5 +46,5 @@ loop-start-preserved g c =
     let after = g.S.Sink.contents c.send_text.new.output in
     let sent = batch_rows number batch 0 start in
     let text = c.deref.result.now in
-    let whole : sent ++ text ≡ batch_rows number batch 0 end = ap (λ t. sent ++ t) (c.deref.ensures.value ∙ c.in-Ok-push.ensures ∙ ap (λ r. c.clear.new.self.items ++ batch_rows r.number r.batch start end) c.in-Ok.ensures ∙ ap (λ t. t ++ batch_rows number batch start end) c.clear.ensures.items) ∙ rows_join number batch start end 0 (omega arith) (omega arith) in
+    let whole : sent ++ text ≡ batch_rows number batch 0 end = ap (λ t. sent ++ t) (c.deref.ensures.value ∙ c.in-Ok-push.ensures.ok ∙ ap (λ r. c.clear.new.self.items ++ batch_rows r.number r.batch start end) c.in-Ok.ensures ∙ ap (λ t. t ++ batch_rows number batch start end) c.clear.ensures.items) ∙ rows_join number batch start end 0 (omega arith) (omega arith) in
     (within, subst (Appends before after) whole (Appends-trans before (g.S.Sink.contents c.loop-start.output) after sent text i.1 c.in-Ok-send_text.ensures.0), c.in-Ok-send_text.ensures.1 ∙ i.2)
