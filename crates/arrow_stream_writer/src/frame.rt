@@ -29,12 +29,12 @@ fn put_prefix(out: &mut Vec<u8>, size: usize) -> Result<(), AllocError>
     ensures ok { OnOk result (out.new.items ≡ out.old.items ++ prefix_bytes size) }
     ensures err { OnErr result (out.new.items ≡ out.old.items) }
 {
-    let before = out.len();
+    let start = out.len();
     out.extend_from_slice(&[255; 4])?;
     match put_int(out, 4, size as i128) {
         Ok(()) => Ok(()),
         Err(fault) => {
-            out.truncate(before);
+            out.truncate(start);
             Err(fault)
         }
     }
