@@ -1,7 +1,7 @@
 -- The array of a node.
 use Rattle.std.proofs.Common.{rules, ◌≡◌, ◌||◌, ℕ, zero, suc, ℤ, ◌+◌, ◌<◌, ◌≤◌, Bool, true, false, List, [], ◌∷◌, ◌++◌, length, map, take, get_or, Option, None, Some, if◌then◌else◌, refl, ap, sym, ◌∙◌, subst, arith, length-take}
 use Rattle.std.specs.Prelude.{⊤, is_some, IsUtf8}
-use Rattle.std.specs.List.{AllByRecursion}
+use Rattle.std.specs.List.{AllByRecursion, range_with_len}
 use Rattle.std.proofs.lemmas.Bool.{false≢true, or_parts}
 use Rattle.std.proofs.lemmas.List.{length-map, map-append, take-take}
 use Rattle.arrow_types.specs.DataType.{Tag}
@@ -10,12 +10,12 @@ use Rattle.arrow_types.specs.Schema.{DictionaryField, dictionary_fields, diction
 use Rattle.arrow_types.specs.View.{field_view, type_view}
 use Rattle.arrow_types.specs.declared.field.Encoding.{Encoding}
 use Rattle.arrow_types.specs.declared.field.Field.{Field, the_lemmas}
-use Rattle.arrow_data.specs.Column.{Agree, Column, ValueList, AreOf, counts_of, listed_of}
+use Rattle.arrow_data.specs.Column.{Agree, Column, ValueList, AreOf, counts_of, listed_of, slots_of}
 use Rattle.arrow_data.specs.Fits.{Fits}
 use Rattle.arrow_data.specs.Form.{HasFieldsOf, form_of, node_form}
 use Rattle.arrow_data.specs.Layout.{HoldsTexts, buffer, child_count}
 use Rattle.arrow_data.specs.Layout.{IsIndexed as HasIndices}
-use Rattle.arrow_data.specs.Parts.{AreChildren, IsOfType, node_column, type_of, value_slot, values_in}
+use Rattle.arrow_data.specs.Parts.{AreChildren, IsOfType, node_column, node_offsets, type_of, value_slot, values_in}
 use Rattle.arrow_data.specs.PlainValue.{PlainValue, null_value, struct_value, utf8_value, values_of}
 use Rattle.arrow_data.specs.Slots.{is_valid_at, list_slot, or_null, place_of, range_of, slots}
 use Rattle.arrow_data.specs.declared.form.Form.{Form}
@@ -25,15 +25,15 @@ use Rattle.arrow_data.proofs.Shown.{length_slots}
 use Rattle.arrow_data.specs.Listed.{dictionary_for, values_by}
 use Rattle.arrow_builder.specs.Buffers.{buffers_in}
 use Rattle.arrow_builder.specs.Built.{Built, AreBelow, HaveSlots, built_size, counts_in, cut_to, fields_in, raws_in}
-use Rattle.arrow_builder.specs.Columns.{child_column}
+use Rattle.arrow_builder.specs.Columns.{AreHeld, all_items, child_column, child_columns, item_offsets}
 use Rattle.arrow_builder.specs.Fields.{FitsField, field_form}
-use Rattle.arrow_builder.specs.Finished.{AreArraysOf, AreTyped, IsArrayOf, IsIndexed, IsTyped, dictionary_by}
+use Rattle.arrow_builder.specs.Finished.{AreArraysOf, AreTyped, IsArrayOf, IsIndexed, IsTyped, dictionary_by, fields_below}
 use Rattle.arrow_builder.specs.Kept.{CountsItems, Keeps, KeepsParts}
 use Rattle.arrow_builder.specs.Nodes.{IsNode, built_of, slot_in}
 use Rattle.arrow_builder.specs.Puts.{StaySlots}
 use Rattle.arrow_builder.specs.declared.node.Node.TheInside.{Inside}
-use Rattle.arrow_builder.proofs.Below.{numbers_indexed, numbers_slots, slots_have}
-use Rattle.arrow_builder.proofs.Growing.{all_take, keeps_fewer, slots_stay, take_slots}
+use Rattle.arrow_builder.proofs.Below.{node_held, numbers_indexed, numbers_slots, slots_have}
+use Rattle.arrow_builder.proofs.Growing.{all_take, keeps_fewer, same_from, slots_stay, take_slots}
 use Rattle.arrow_builder.proofs.Listed.{lists_stay, only_child}
 use Rattle.arrow_builder.proofs.Nested.{cut_twice, row_by_cut}
 use Rattle.arrow_builder.proofs.Typing.{all_append}
@@ -230,6 +230,36 @@ below_plain a ok is = subst (λ e. AreBelow e (field_view a.field).children a.ch
 below_encoded : (a : Inside) (e : Encoding) → IsNode a → (field_view a.field).head.encoding ≡ Some e → has_encoding (field_view a.field).children ≡ false
 below_encoded a e ok is = (subst (λ e. AreBelow e (field_view a.field).children a.children.items) is ok.below).0
 
+-- its offsets are those that the lists give
+offsets_made : (form : Form) (len most : ℕ) (b : List (List ℕ)) (raw : List PlainValue) → CountsItems form most b raw → len ≤ most → length raw ≡ most
+    → node_offsets form len b ≡ item_offsets form (take len raw)
+offsets_made forms.Nulls len most b raw counts le long = refl
+offsets_made forms.Bits len most b raw counts le long = refl
+offsets_made (forms.Numbers bits signed) len most b raw counts le long = refl
+offsets_made (forms.Bytes width) len most b raw counts le long = refl
+offsets_made (forms.Texts width) len most b raw counts le long = refl
+offsets_made (forms.FixedBytes width) len most b raw counts le long = refl
+offsets_made (forms.Lists width) len most b raw counts le long =
+    let count : length (take len raw) ≡ len = grind (arith, length-take, le, long) in
+    let each : (j : ℕ) → j < 0 + (len + 1) → place_of width (buffer b 1) j ≡ length (all_items (take j (take len raw))) =
+    λ j h. counts j (omega (arith, le, h)) ∙ ap (λ vs. length (all_items vs)) (sym (take-take j len raw (omega (arith, h)))) in
+    same_from (place_of width (buffer b 1)) (λ j. length (all_items (take j (take len raw)))) 0 (len + 1) each
+    ∙ ap (λ m. map (λ j. length (all_items (take j (take len raw)))) (range_with_len 0 (m + 1))) (sym count)
+offsets_made forms.Structs len most b raw counts le long = refl
+
+-- the raw slots of columns are their raw values
+raws_shown : (cs : List Column) → map (λ (slots : List PlainValue × List PlainValue). slots.0) (map slots_of cs) ≡ map (λ (c : Column). c.raw) cs
+raws_shown [] = refl
+raws_shown (c ∷ cs) = ap (λ vs. c.raw ∷ vs) (raws_shown cs)
+
+-- children that are cut to what is shown are the columns that the values give
+columns_made : (form : Form) (k n : ℕ) (raw : List PlainValue) (bs : List Built) → ((j : ℕ) → n ≡ length (child_column form j raw)) → AreHeld form k raw bs
+    → raws_in (map (cut_to n) bs) ≡ child_columns form (fields_in bs) k raw
+columns_made form k n raw [] long held = refl
+columns_made form k n raw (b ∷ bs) long held =
+    let own : take n b.raw ≡ child_column form k raw = ap (λ m. take m b.raw) (long k) ∙ held.0 in
+    λ i. own i ∷ columns_made form (k + 1) n raw bs long held.1 i
+
 -- the array of the first slots of a node
 array_made : (ds : List (ℤ × ValueList)) (a : Inside) (len n : ℕ) (cs : List Column) (e : Option Encoding) → (field_view a.field).head.encoding ≡ e → len ≤ a.len → IsNode a
     → ((k : ℕ) → n ≡ length (child_column (field_form (field_view a.field)) k (take len (built_of a).raw))) → AreArraysOf ds (map (cut_to n) a.children.items) cs
@@ -247,12 +277,17 @@ array_made ds a len n cs None is le ok long are =
       encoded = sym is;
       same = (λ i. slots len (value_slot (sym plain i) b (raws i))) ∙ slots_stay len (slot_in a) (value_slot form b (raws_in (map (cut_to n) a.children.items))) stay ∙ sym (take_slots (slot_in a) a.len len le);
       listed = arrays_listed ds (map (cut_to n) a.children.items) cs are ∙ ap (λ fs. map (dictionary_by ds) (dictionary_fields fs)) (fields_cut n a.children.items ∙ below_plain a ok is) ∙ ap (map (dictionary_by ds)) (sym (plain_says f is));
+      offsets = ap (λ x. node_offsets x len b) (sym plain) ∙ offsets_made form len a.len b (built_of a).raw ok.counted le (length_slots a.len (slot_in a));
+      below = raws_shown cs ∙ raws ∙ columns_made form 0 n (take len (built_of a).raw) a.children.items long (node_held a len ok)
+          ∙ ap (λ fs. child_columns form fs 0 (take len (built_of a).raw)) (below_plain a ok is ∙ ap (λ x. fields_below x f.children) (sym is));
     }
 array_made ds a len n cs (Some e) is le ok long are = record {
   typed = refl;
   encoded = sym is;
   same = sym (numbers_slots a e len is le);
   listed = ap (map (dictionary_by ds)) (sym (encoded_says (field_view a.field) e is (below_encoded a e ok is)));
+  offsets = sym (ap (λ x. item_offsets (node_form (field_view a.field).head.tag x) (take len (built_of a).raw)) is);
+  below = sym (ap (λ x. child_columns (field_form (field_view a.field)) (fields_below x (field_view a.field).children) 0 (take len (built_of a).raw)) is);
 }
 
 -- the same by the field itself

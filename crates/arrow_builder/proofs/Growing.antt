@@ -23,7 +23,7 @@ pub take_slots : (f : ℕ → PlainValue) (n at : ℕ) → at ≤ n → take at 
 take_slots f n at h = take_from f 0 n at h
 
 -- the same values from a place on
-same_from : (f g : ℕ → PlainValue) (a n : ℕ) → ((j : ℕ) → j < a + n → f j ≡ g j) → map f (range_with_len a n) ≡ map g (range_with_len a n)
+pub same_from : {A : Type 0} (f g : ℕ → A) (a n : ℕ) → ((j : ℕ) → j < a + n → f j ≡ g j) → map f (range_with_len a n) ≡ map g (range_with_len a n)
 same_from f g a zero same = refl
 same_from f g a (suc n) same = (λ i. same a (omega arith) i ∷ same_from f g (a + 1) n (λ j h. same j (omega (arith, h))) i)
 

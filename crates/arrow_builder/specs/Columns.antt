@@ -1,6 +1,7 @@
 -- The columns of all nodes of a field, by the raw values of its own: what each child has in its slots (Columnar Format,
 -- "Variable-size List Layout" and "Struct Layout").
-use Rattle.std.specs.Prelude.{◌+◌, ℕ, List, [], ◌∷◌, ◌++◌, map, ⊤}
+use Rattle.std.specs.Prelude.{◌+◌, ℕ, List, [], ◌∷◌, ◌++◌, length, map, take, ⊤}
+use Rattle.std.specs.List.{range_with_len}
 use Rattle.arrow_types.specs.Field.{Fields, FieldShape, Head, none, more}
 use Rattle.arrow_data.specs.Form.{node_form}
 use Rattle.arrow_data.specs.PlainValue.{PlainValue, list_of_values, field_value}
@@ -26,6 +27,23 @@ child_column (forms.Texts width) k raw = []
 child_column (forms.FixedBytes width) k raw = []
 child_column (forms.Lists width) k raw = all_items raw
 child_column forms.Structs k raw = map (field_value k) raw
+
+-- The offsets of a node of the form: how many items all lists before each slot have, and all lists at the end. Other forms
+-- have none.
+abbrev pub item_offsets : Form → List PlainValue → List ℕ
+item_offsets forms.Nulls raw = []
+item_offsets forms.Bits raw = []
+item_offsets (forms.Numbers bits signed) raw = []
+item_offsets (forms.Bytes width) raw = []
+item_offsets (forms.Texts width) raw = []
+item_offsets (forms.FixedBytes width) raw = []
+item_offsets (forms.Lists width) raw = map (λ j. length (all_items (take j raw))) (range_with_len 0 (length raw + 1))
+item_offsets forms.Structs raw = []
+
+-- the columns of the children with these fields, the first of them child k
+abbrev pub child_columns : Form → Fields → ℕ → List PlainValue → List (List PlainValue)
+child_columns form none k raw = []
+child_columns form (more head children rest) k raw = child_column form k raw ∷ child_columns form rest (k + 1) raw
 
 -- the statement is true of the columns of these children, the first of them child k, and of all below them
 abbrev pub AllBelow : (Head → List PlainValue → Type 0) → Form → Fields → ℕ → List PlainValue → Type 0

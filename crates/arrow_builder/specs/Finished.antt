@@ -2,7 +2,7 @@
 -- "Dictionary-encoded Layout").
 use Rattle.std.specs.Prelude.{◌≡◌, ℕ, ℤ, List, [], ◌∷◌, length, map, ⊤, Option, None, Some}
 use Rattle.std.specs.List.{AllByRecursion}
-use Rattle.arrow_types.specs.Field.{FieldShape, Head}
+use Rattle.arrow_types.specs.Field.{Fields, FieldShape, Head, none}
 use Rattle.arrow_types.specs.Schema.{DictionaryField, field_dictionaries}
 use Rattle.arrow_types.specs.declared.field.Encoding.{Encoding}
 use Rattle.arrow_data.specs.Column.{Column, ValueList}
@@ -11,7 +11,8 @@ use Rattle.arrow_data.specs.Parts.{IsOfType, type_of}
 use Rattle.arrow_data.specs.PlainValue.{PlainValue, null_value, bool_value, int_value, binary_value, utf8_value, list_value, struct_value}
 use Rattle.arrow_data.specs.Slots.{IsIndex}
 use Rattle.arrow_builder.specs.Built.{Built}
-use Rattle.arrow_builder.specs.Columns.{AllNodes}
+use Rattle.arrow_builder.specs.Columns.{AllNodes, child_columns, item_offsets}
+use Rattle.arrow_builder.specs.Fields.{field_form}
 
 -- the dictionary that is listed first for a field's id, if there is one, has the type of the field's values
 abbrev pub IsTyped : List (ℤ × ValueList) → DictionaryField → Type 0
@@ -48,12 +49,25 @@ AreIndexed ds b = AllNodes (IsIndexed ds) b.field b.raw
 abbrev pub dictionary_by : List (ℤ × ValueList) → DictionaryField → ℤ × ValueList
 dictionary_by ds d = (d.id, record { data_type = d.value_type; values = values_by ds d.id })
 
+-- the fields of the nodes that stand below one: none below a dictionary-encoded one
+abbrev pub fields_below : Option Encoding → Fields → Fields
+fields_below None fields = fields
+fields_below (Some e) fields = none
+
+-- the raw values of all slots of each child, also of those that no slot of the column shows
+abbrev pub child_raws : Column → List (List PlainValue)
+child_raws c = map (λ (slots : List PlainValue × List PlainValue). slots.0) c.below
+
 -- The array has the type, the encoding and the raw values, and for each dictionary-encoded field, in pre-order, its dictionary.
+-- Its offsets begin at 0 and leave nothing between lists, and its children have the items, or the values of their fields, and
+-- no slot beside these.
 pub record IsArrayOf (ds : List (ℤ × ValueList)) (b : Built) (c : Column) : Type 0 where
   pub typed : c.data_type ≡ type_of b.field
   pub encoded : c.encoding ≡ b.field.head.encoding
   pub same : c.raw ≡ b.raw
   pub listed : c.dictionaries ≡ map (dictionary_by ds) (field_dictionaries b.field)
+  pub offsets : c.offsets ≡ item_offsets (field_form b.field) b.raw
+  pub below : child_raws c ≡ child_columns (field_form b.field) (fields_below b.field.head.encoding b.field.children) 0 b.raw
 
 -- the arrays of columns, one of each
 abbrev pub AreArraysOf : List (ℤ × ValueList) → List Built → List Column → Type 0
