@@ -2,6 +2,9 @@
 //! prints what that gives, and ends with the call's exit status.
 #![tactic(auto)]
 
+ghost use Rattle.std.specs.Prelude.{◌≡◌, ◌⊎◌, IfErr, OnOk};
+ghost use Rattle.arrowflow.specs.Report.Faults.{status_of as status_by};
+
 mod drilling;
 mod ends;
 mod pipe;
@@ -166,14 +169,17 @@ where
 }
 
 /// Tells how a call ended that read the input of the first name and wrote the output of the second,
-/// and gives its status.
+/// and gives its status; that of want of memory where the line cannot be made.
 fn status_of<R: Eprint, W: Write>(
     rt: &R,
     alloc: Global,
     answer: Result<(), ToolFault>,
     names: (&str, &str),
     output: &Pipe<W>,
-) -> u8 {
+) -> u8
+    ensures fine { OnOk answer (result ≡ FINE) }
+    ensures fault { IfErr answer (λ fault. (result ≡ status_by fault) ⊎ (result ≡ FAILED)) }
+{
     match answer {
         Ok(()) => FINE,
         // whoever closes a pipe knows that, and wants to hear nothing of it
@@ -183,14 +189,16 @@ fn status_of<R: Eprint, W: Write>(
 }
 
 /// Tells a fault of a call that read the input of the first name and wrote the output of the
-/// second, and gives its status.
+/// second, and gives its status; that of want of memory where the line cannot be made.
 pub(crate) fn tell<R: Eprint>(
     rt: &R,
     alloc: Global,
     fault: &ToolFault,
     read: &str,
     written: &str,
-) -> u8 {
+) -> u8
+    ensures { (result ≡ status_by fault.now) ⊎ (result ≡ FAILED) }
+{
     let Ok(line) = fault.line(alloc, input_name(read), output_name(written)) else {
         return out_of_memory(rt);
     };
@@ -198,7 +206,9 @@ pub(crate) fn tell<R: Eprint>(
     fault.status()
 }
 
-fn out_of_memory<R: Eprint>(rt: &R) -> u8 {
+fn out_of_memory<R: Eprint>(rt: &R) -> u8
+    ensures { result ≡ FAILED }
+{
     let _ = eprintln!(rt; "out of memory");
     FAILED
 }

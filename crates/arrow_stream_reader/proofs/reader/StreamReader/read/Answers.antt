@@ -27,5 +27,5 @@ returns-in-Bad-clause-fails c = λ _.
     record {
       refusal = k;
       fault_is = ap (λ kind. record { kind = kind; place = w.place }) c.kind.ensures.same ∙ ap (λ p. record { kind = kind_of k; place = p }) at_place;
-      new_is = same_shows w c.self.inside.verdict old.limits old.at.state old.at.place [] (Bad k) (ap (λ r. r.limits) shown) (ap (λ r. r.at.state) shown) at_place empty c.in-Bad.is;
+      new_is = sym c.self.view_is ∙ same_shows w c.self.inside.verdict old.limits old.at.state old.at.place [] (Bad k) (ap (λ r. r.limits) shown) (ap (λ r. r.at.state) shown) at_place empty c.in-Bad.is;
     }
