@@ -182,7 +182,7 @@ start_delivered limits o shape failures now_failed before now f =
       count = n;
       inside = omega (arith, f.accepted.1, ap length all);
       accepted = subst (λ (xs : List ℕ). now ≡ before ++ take n xs) (sym all) f.accepted.2;
-      delivered = delivered n (unfinished _ _ _ (begins f.part f.known f.admitted f.is_frame));
+      delivered = delivered {o = o} n (unfinished _ _ _ (begins f.part f.known f.admitted f.is_frame));
     }
 
 pub end_delivered : (old new : Shows) (parts : List (List ℕ)) (batches : List Table) (before now : List ℕ) → Stands old (Some before) false parts batches → (f : FailsAtEnd old new) → new.contents ≡ Some now
