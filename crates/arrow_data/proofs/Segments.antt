@@ -132,6 +132,12 @@ segment_value d parts low high i s from all values within between last is =
       omega (arith, run.0, to, ap length values),
       ap (λ vs. value_at vs (i + k)) values ∙ ap (value_at (joined cs)) (sym to) ∙ run.1 ∙ ap (λ (c : Column). value_at c.raw (i - s.start + k)) same,
     ) in
+    let all_of : (k : ℕ) → k < length s.array.value.raw → value_at d.values (i - (i - s.start) + k) ≡ value_at s.array.value.raw k =
+    λ k h.
+    let run = found_run 0 cs low k s.array.value inside (subst (λ (c : Column). k < length c.raw) (sym same) h) in
+    let to : get_or (starts_from 0 cs) low 0 - 0 + k ≡ i - (i - s.start) + k = omega (arith, here, below) in
+    ap (λ vs. value_at vs (i - (i - s.start) + k)) values ∙ ap (value_at (joined cs)) (sym to) ∙ run.1 ∙ ap (λ (c : Column). value_at c.raw k) same in
+    let first_back : i - s.start ≤ i = omega arith in
     let of_type = All-from_recursion (IsSegment d.data_type) cs all low s.array.value inside in
     record {
       inside = rw (place, ← same) found.0;
@@ -139,6 +145,8 @@ segment_value d parts low high i s from all values within between last is =
       plain = rw (← same) of_type.1;
       same = rw (values, place, ← same) (sym (found.1 ∙ ap (value_at (joined cs)) whole));
       follow = behind;
+      starts = first_back;
+      whole = all_of;
     }
 
 -- the search begins with all segments

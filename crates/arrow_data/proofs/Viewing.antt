@@ -1,13 +1,14 @@
 -- The buffers of an array hold its slots.
-use Rattle.std.proofs.Common.{◌≡◌, ℕ, Bool, List, length, Option, None, Some, IsTrue, is_some, refl, ap, ◌∙◌, subst, arith}
+use Rattle.std.proofs.Common.{◌≡◌, ◌<◌, ◌*◌, ℕ, ℤ, pos, negsuc, nat_abs, Bool, true, false, List, [], ◌∷◌, length, Option, None, Some, IsTrue, is_some, if◌then◌else◌, refl, ap, sym, ◌∙◌, subst, arith}
 use Rattle.std.specs.Global.{Box}
+use Rattle.arrow_bits.specs.Numbers.{int_of}
 use Rattle.arrow_types.specs.Field.{TypeShape}
 use Rattle.arrow_types.specs.declared.field.Encoding.{Encoding}
 use Rattle.arrow_types.specs.View.{type_view}
-use Rattle.arrow_data.specs.Column.{Column, ValueList}
-use Rattle.arrow_data.specs.Node.{AreEntriesBy, AreInts, AreRanges, IsArray, bytes_of, column_by, column_of, raw_slot, resolved_slot}
-use Rattle.arrow_data.specs.PlainValue.{null_value}
-use Rattle.arrow_data.specs.Slots.{AreIndices}
+use Rattle.arrow_data.specs.Column.{Column, HasDictionary, HasEntry, HasValue, ValueList}
+use Rattle.arrow_data.specs.Node.{AreEntriesBy, AreInts, AreRanges, IsArray, bytes_of, column_by, column_of, int_at, raw_slot, resolved_slot}
+use Rattle.arrow_data.specs.PlainValue.{PlainValue, int_in, int_value, is_null_value, null_value, value_at}
+use Rattle.arrow_data.specs.Slots.{AreIndices, IsIndex, entry_at, is_valid_at}
 use Rattle.arrow_data.specs.View.{AreRaw, AreValues, HoldBinaries, HoldBools, HoldFixed, HoldIndices, HoldInts, HoldTexts}
 use Rattle.arrow_data.specs.declared.array.Array.TheInside.{Inside}
 use Rattle.arrow_data.specs.declared.array.Ranges.{Ranges}
@@ -105,3 +106,57 @@ indices_held a c n d w s v vs view ok is g h e f =
     let held : HoldIndices (column_of a) n.width n.signed (bytes_of a.body n.validity) (bytes_of a.body n.values) d.value =
     (p.0.whole, rw (long a) p.0.laid, rw (long a) p.1, encoded a.encoding a.len t a.body n d.value k, shown, raw_values a (ranges.Indices n d) is, values a (ranges.Indices n d) is) in
     subst (λ (x : Column). HoldIndices x w s v vs d.value) view (rw (g, h, e, f) held)
+
+-- the columns of one dictionary have the same one
+abbrev the_first : ValueList → List (ℤ × ValueList) → ValueList
+the_first d [] = d
+the_first d (x ∷ xs) = x.1
+
+same_dictionary : (c : Column) (d x : ValueList) → HasDictionary c d → HasDictionary c x → d ≡ x
+same_dictionary c d x h g = ap (the_first d) (sym h.listed.2 ∙ g.listed.2)
+
+-- an index that is there refers to its entry
+abbrev number_or : Option ℤ → ℤ
+number_or None = pos 0
+number_or (Some z) = z
+
+entry_where : (valid : Bool) (x z : ℤ) (vs : List PlainValue) → (if valid then int_value x else null_value) ≡ int_value z → (if valid then entry_at vs x else null_value) ≡ entry_at vs z
+entry_where true x z vs h = ap (λ v. entry_at vs (number_or (int_in v))) h
+entry_where false x z vs h = absurd (cc)
+
+-- and is one of an entry
+index_where : (valid : Bool) (x z : ℤ) (count : ℕ) → (if valid then int_value x else null_value) ≡ int_value z → (valid ≡ true → IsIndex count x) → IsIndex count z
+index_where true x z count h there = subst (IsIndex count) (ap (λ v. number_or (int_in v)) h) (there refl)
+index_where false x z count h there = absurd (cc)
+
+counts_up : (z : ℤ) (count : ℕ) → IsIndex count z → z ≡ pos (nat_abs z)
+counts_up (pos n) count h = refl
+counts_up (negsuc n) count h = absurd h
+
+-- the place of the value that a slot refers to
+pub entry_shown : (a : Inside) (c : Column) (n : Ints) (d : Box Dictionary) (i : ℕ) (z : ℤ) (vs : Column) (place : ℕ) → column_of a ≡ c → IsArray a → a.ranges ≡ ranges.Indices n d
+    → i < length c.raw → int_at a.body n i ≡ int_value z → HasValue d.value (nat_abs z) vs place → HasEntry c i vs place
+entry_shown a c n d i z vs place view ok is inside number has =
+    let t = type_view a.data_type.value in
+    let k = known a (ranges.Indices n d) is ok in
+    let shown = dictionary_shown (column_of a) t a.encoding a.len a.body n d (ap (λ r. column_by t a.encoding a.len a.body r) is) k in
+    let within : i < length (column_of a).raw = subst (λ (x : Column). i < length x.raw) (sym view) inside in
+    let valid = is_valid_at (bytes_of a.body n.validity) i in
+    let own = int_of (bytes_of a.body n.values) (n.width * i) n.width n.signed in
+    let there = (entries a.encoding a.len t a.body n d.value k).1 i (omega (arith, within, long a)) in
+    let means : z ≡ pos (nat_abs z) = counts_up z (length d.value.values) (index_where valid own z (length d.value.values) number there) in
+    let raw : value_at (column_of a).raw i ≡ int_value z = raw_values a (ranges.Indices n d) is i within ∙ number in
+    let resolved : value_at (column_of a).resolved i ≡ value_at d.value.values (nat_abs z) =
+    values a (ranges.Indices n d) is i within ∙ entry_where valid own z d.value.values number ∙ ap (entry_at d.value.values) means in
+    let entry : HasEntry (column_of a) i vs place = record {
+      encoded = encoded a.encoding a.len t a.body n d.value k;
+      full = ap is_null_value raw;
+      inside = has.inside;
+      typed = has.typed ∙ shown.typed;
+      plain = has.plain;
+      same = resolved ∙ has.same;
+      index = nat_abs z;
+      means = raw ∙ ap int_value means;
+      found = λ x h. subst (λ y. HasValue y (nat_abs z) vs place) (same_dictionary (column_of a) d.value x shown h) has;
+    } in
+    subst (λ (x : Column). HasEntry x i vs place) view entry

@@ -1,5 +1,5 @@
 -- What an array and a dictionary are, without how they are kept (Columnar Format, "Terminology").
-use Rattle.std.specs.Prelude.{◌≡◌, ◌≤◌, ◌<◌, ◌+◌, ◌*◌, ◌-◌, ◌^◌, ℕ, zero, suc, ℤ, false, List, [], ◌∷◌, ◌++◌, length, map, take, drop, get_or, ⊤, Option, None, Some, IsTrue, is_some, slice_get, refl}
+use Rattle.std.specs.Prelude.{◌≡◌, ◌≤◌, ◌<◌, ◌+◌, ◌*◌, ◌-◌, ◌^◌, ℕ, zero, suc, ℤ, pos, false, List, [], ◌∷◌, ◌++◌, length, map, take, drop, get_or, ⊤, Option, None, Some, IsTrue, is_some, slice_get, refl}
 use Rattle.std.specs.Coded.{Coded, code_by, coded×, coded_ℕ, coded_ℤ, coded_list, coded_option}
 use Rattle.std.specs.List.{AllByRecursion}
 use Rattle.arrow_types.specs.Field.{Fields, none, more, TypeShape, levels}
@@ -9,7 +9,7 @@ use Rattle.arrow_types.specs.contracts.field.Encoding.{the_row as encoding_row}
 use Rattle.arrow_types.specs.declared.field.Encoding.{Encoding}
 use Rattle.arrow_data.specs.Fits.{AllFit, plain_type}
 use Rattle.arrow_data.specs.Form.{IsLists, node_form}
-use Rattle.arrow_data.specs.PlainValue.{PlainValue, value_at, null_value, list_value, struct_value, values_of, is_null_value, field_value}
+use Rattle.arrow_data.specs.PlainValue.{PlainValue, value_at, null_value, int_value, list_value, struct_value, values_of, is_null_value, field_value}
 use Rattle.arrow_data.specs.Resolve.{resolve}
 use Rattle.arrow_data.specs.Stored.{value_code}
 use Rattle.arrow_data.specs.declared.form.Form.{Form}
@@ -218,7 +218,25 @@ pub record HasChild (c : Column) (child : Column) : Type 0 where
 abbrev pub HasNoIndex : Column → ℕ → Type 0
 HasNoIndex c i = IsTrue (is_some c.encoding) → value_at c.raw i ≡ null_value
 
--- the resolved value of slot i stands at a place of another column, of the same type and without an encoding
+-- the column's indices refer to the values of the dictionary
+pub record HasDictionary (c : Column) (d : ValueList) : Type 0 where
+  pub typed : d.data_type ≡ c.data_type
+  pub known : IsValueList d
+  pub listed : (e : Encoding) × (c.encoding ≡ Some e) × (c.dictionaries ≡ (e.id, d) ∷ [])
+
+-- Value i of a dictionary stands at a place of a column of its type and without an encoding. The column's values, all of
+-- them, are the dictionary's from value `i - place` on.
+pub record HasValue (d : ValueList) (i : ℕ) (values : Column) (place : ℕ) : Type 0 where
+  pub inside : place < length values.raw
+  pub typed : values.data_type ≡ d.data_type
+  pub plain : values.encoding ≡ None
+  pub same : value_at d.values i ≡ value_at values.raw place
+  pub follow : (k : ℕ) → place + k < length values.raw → (i + k < length d.values) × (value_at d.values (i + k) ≡ value_at values.raw (place + k))
+  pub starts : place ≤ i
+  pub whole : (k : ℕ) → k < length values.raw → value_at d.values (i - place + k) ≡ value_at values.raw k
+
+-- Slot i holds an index, and the place of another column, of the same type and without an encoding, is that of the value of
+-- this number in the column's dictionary: the resolved value of the slot.
 pub record HasEntry (c : Column) (i : ℕ) (values : Column) (place : ℕ) : Type 0 where
   pub encoded : IsTrue (is_some c.encoding)
   pub full : is_null_value (value_at c.raw i) ≡ false
@@ -226,17 +244,6 @@ pub record HasEntry (c : Column) (i : ℕ) (values : Column) (place : ℕ) : Typ
   pub typed : values.data_type ≡ c.data_type
   pub plain : values.encoding ≡ None
   pub same : value_at c.resolved i ≡ value_at values.raw place
-
--- the column's indices refer to the values of the dictionary
-pub record HasDictionary (c : Column) (d : ValueList) : Type 0 where
-  pub typed : d.data_type ≡ c.data_type
-  pub known : IsValueList d
-  pub listed : (e : Encoding) × (c.encoding ≡ Some e) × (c.dictionaries ≡ (e.id, d) ∷ [])
-
--- the value of a dictionary stands at a place of a column of its type and without an encoding
-pub record HasValue (d : ValueList) (i : ℕ) (values : Column) (place : ℕ) : Type 0 where
-  pub inside : place < length values.raw
-  pub typed : values.data_type ≡ d.data_type
-  pub plain : values.encoding ≡ None
-  pub same : value_at d.values i ≡ value_at values.raw place
-  pub follow : (k : ℕ) → place + k < length values.raw → (i + k < length d.values) × (value_at d.values (i + k) ≡ value_at values.raw (place + k))
+  pub index : ℕ
+  pub means : value_at c.raw i ≡ int_value (pos index)
+  pub found : (d : ValueList) → HasDictionary c d → HasValue d index values place
