@@ -1,5 +1,5 @@
 -- How long a body is that a writer sends.
-use Rattle.std.specs.Prelude.{◌≤◌, ℕ, ◌+◌, ◌*◌, ◌^◌, nat_eq, if◌then◌else◌, List, [], ◌∷◌, ◌++◌, length}
+use Rattle.std.specs.Prelude.{ℕ, ◌+◌, ◌*◌, nat_eq, if◌then◌else◌, List, [], ◌∷◌, ◌++◌, length}
 use Rattle.std.specs.List.{sum_by}
 use Rattle.std.specs.Int.{div_ceil}
 use Rattle.arrow_types.specs.Field.{Fields, none, more}
@@ -7,7 +7,7 @@ use Rattle.arrow_data.specs.Form.{node_form, number_width, offset_bytes}
 use Rattle.arrow_data.specs.PlainValue.{PlainValue}
 use Rattle.arrow_data.specs.declared.form.Form.{Form}
 use Rattle.arrow_data.specs.declared.form.Form.TheVariants as forms
-use Rattle.arrow_body_laws.specs.Raws.{AreSmall, last_offset, raws_below}
+use Rattle.arrow_body_laws.specs.Raws.{last_offset, raws_below}
 use Rattle.arrow_body_laws.specs.Stored.{nulls_in, rounded}
 
 -- the bytes of a bitmap: none where no slot is null
@@ -36,8 +36,3 @@ sizes_of (more head children rest) (vs ∷ raws) =
 -- the bytes of the body: each buffer rounded up to the alignment
 abbrev pub size_of : ℕ → Fields → List (List PlainValue) → ℕ
 size_of align fields raws = sum_by (rounded align) (sizes_of fields raws)
-
--- a body of these raw values can be stored: nodes and offsets keep to their widths, and it is not longer than 2^62
-pub record IsStorable (align : ℕ) (fields : Fields) (raws : List (List PlainValue)) : Type 0 where
-  pub small : AreSmall fields raws
-  pub size : size_of align fields raws ≤ 2 ^ 62

@@ -8,7 +8,7 @@
 //! | bits, numbers, offsets as bytes | `specs/Packed.antt`: `packed`, `ints_bytes`, `offsets_bytes` |
 //! | raw values of a node, and below it | `specs/Raws.antt`: `AreRaws`, `raws_below`, `AreSmall` |
 //! | the body that is sent | `specs/Stored.antt`: `stored` |
-//! | its size, and whether there is one | `specs/Size.antt`: `size_of`, `IsStorable` |
+//! | its size | `specs/Size.antt`: `size_of` |
 //! | nothing that no value asks for | `specs/Tidy.antt`: `IsTidy` |
 //! | indices with their entries | `specs/Entries.antt`: `HaveEntries` |
 //! | types with their fields | `specs/Formed.antt`: `AreFormed` |
