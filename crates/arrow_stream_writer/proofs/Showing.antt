@@ -191,9 +191,9 @@ module _ (terms : Terms) where
       (starts_of terms.limits (options_of terms) terms.shape base new.contents failures part known (admits put.fits_in ceiling) frame more)
 
   -- it failed in the schema's frame
-  pub start_failed : (base contents : Option (List ℕ)) (failures now : ℕ) (part : List ℕ) → terms.limits.max_metadata ≤ 2 ^ 30 → PutsMessage terms (schema terms.shape) [] [] (Ok tt) part
+  pub start_failed : (base contents : Option (List ℕ)) (failures now : ℕ) (part : List ℕ) → terms.limits.max_metadata ≤ 2 ^ 30 → IsNoted terms.shape → PutsMessage terms (schema terms.shape) [] [] (Ok tt) part
       → AcceptsBeginning base contents part → now ≡ failures + 1 → StartFails terms.limits (options_of terms) terms.shape base failures Sink contents now
-  start_failed base contents failures now part ceiling put some failed = record {
+  start_failed base contents failures now part ceiling known put some failed = record {
     known = known;
     admitted = admits put.fits_in ceiling;
     part = part;

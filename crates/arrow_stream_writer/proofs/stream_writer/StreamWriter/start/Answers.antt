@@ -49,5 +49,6 @@ returns-in-Err-send-clause-fails g c =
     let before = c.in-Ok.ensures.settings in
     let put = subst (λ (u : Terms). PutsMessage u (schema u.shape) [] [] (Ok tt) part) before c.in-Ok-put_schema.ensures.put in
     let ceiling = subst (λ (u : Terms). u.limits.max_metadata ≤ 2 ^ 30) before c.in-Ok-put_schema.ensures.ceiling in
+    let known = subst (λ (u : Terms). IsNoted u.shape) before c.in-Ok-put_schema.ensures.known in
     let some = subst (λ (xs : List _). AcceptsBeginning (g.S.Sink.contents c.args.sink) (g.S.Sink.contents c.send.new.sink) xs) c.deref.ensures.value c.in-Err-send.ensures.beginning in
-    start_failed terms (g.S.Sink.contents c.args.sink) (g.S.Sink.contents c.send.new.sink) (g.S.Sink.failed c.args.sink) (g.S.Sink.failed c.send.new.sink) part ceiling put some c.in-Err-send.ensures.failed
+    start_failed terms (g.S.Sink.contents c.args.sink) (g.S.Sink.contents c.send.new.sink) (g.S.Sink.failed c.args.sink) (g.S.Sink.failed c.send.new.sink) part ceiling known put some c.in-Err-send.ensures.failed
