@@ -1,6 +1,6 @@
 -- What closes a part, and which batches are admitted.
 use Rattle.std.proofs.Common.{◌≡◌, ◌&&◌, ◌≤◌, ◌<◌, ◌+◌, ◌^◌, ℕ, ℤ, Bool, true, false, cond, leb, List, [], ◌∷◌, ◌++◌, length, Option, Some, None, Result, Ok, Err, refl, sym, ap, ◌∙◌, subst, arith, length-append}
-use Rattle.std.specs.Prelude.{not, nat_le}
+use Rattle.std.specs.Prelude.{not}
 use Rattle.std.specs.List.{list_all}
 use Rattle.std.proofs.lemmas.List.{append-nil}
 use Rattle.std.proofs.lemmas.Bool.{and_left, and_right, le-leb, lt-leb}
@@ -11,15 +11,14 @@ use Rattle.arrow_types.specs.Stored.{schema_code}
 use Rattle.arrow_data.specs.Batch.{Table}
 use Rattle.arrow_data.specs.Column.{ValueList}
 use Rattle.arrow_body_laws.specs.Laws.{raws_of}
-use Rattle.arrow_dict.specs.Tracking.{Tracked}
-use Rattle.arrow_meta_reader.specs.Means.{PlainBatch, batch}
+use Rattle.arrow_meta_reader.specs.Means.{batch}
 use Rattle.arrow_stream_laws.specs.Admission.{admission, frame_fits, part_fits, part_size, sending_fits, sendings_size}
 use Rattle.arrow_stream_laws.specs.Built.{IsBuilt}
 use Rattle.arrow_stream_laws.specs.Frames.{Frame, IsFrameOf, frames_bytes}
 use Rattle.arrow_stream_laws.specs.Plan.{Sending, lists_after, plan, with_list}
 use Rattle.arrow_stream_laws.specs.Rows.{IsKnown, has_one_list}
-use Rattle.arrow_stream_laws.specs.Sizes.{Options, batch_size}
-use Rattle.arrow_stream_laws.specs.Text.{AreUpdates, IsPart, record_frame}
+use Rattle.arrow_stream_laws.specs.Sizes.{batch_size}
+use Rattle.arrow_stream_laws.specs.Text.{AreUpdates, record_frame}
 use Rattle.arrow_sink.specs.declared.write_fault.WriteFault.{WriteFault}
 use Rattle.arrow_sink.specs.declared.write_fault.WriteFault.TheVariants.{SchemaDiffers, TooLarge, DictionariesDiffer, Sink, Broken, Finished, Memory}
 use Rattle.arrow_stream_laws.proofs.Chains.{frames_bytes-append}

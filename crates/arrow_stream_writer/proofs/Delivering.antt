@@ -1,13 +1,8 @@
 -- What a reader has of all that a writer sent.
-use Rattle.std.proofs.Common.{◌≡◌, ℕ, Bool, List, Some, refl, sym, ap, ◌∙◌, subst}
-use Rattle.arrow_data.specs.Batch.{Table}
-use Rattle.arrow_stream_reader.specs.Front.{Entry, FrontOf, Standing}
+use Rattle.std.proofs.Common.{List, subst}
+use Rattle.arrow_stream_reader.specs.Front.{Entry, Standing}
 use Rattle.arrow_stream_reader.proofs.Fronts.{one_front}
-use Rattle.arrow_stream_laws.specs.Frames.{IsStream}
 use Rattle.arrow_stream_laws.specs.Text.{joined}
-use Rattle.arrow_stream_laws.specs.Writer.{Shows, Stands}
-use Rattle.arrow_stream_laws.specs.Standing.{SentIsAStream}
-use Rattle.arrow_stream_laws.specs.Rows.{rows_of}
 use Rattle.arrow_stream_laws.proofs.Writers.{stream_sent}
 use Rattle.arrow_stream_writer.specs.Delivery.{DeliveredWhole, GivesAll}
 

@@ -1,6 +1,5 @@
 -- Why what is appended is a frame.
-use Rattle.std.proofs.Common.{◌≡◌, ℕ, ◌+◌, ◌-◌, ◌*◌, ◌/◌, ◌%◌, ◌≤◌, ◌<◌, ◌^◌, pos, true, List, [], ◌∷◌, ◌++◌, length, replicate, Some, refl, sym, ap, ◌∙◌, subst, arith, append_assoc, length-append}
-use Rattle.arrow_bits.specs.Numbers.{number_bytes}
+use Rattle.std.proofs.Common.{◌≡◌, ℕ, ◌+◌, ◌-◌, ◌≤◌, ◌<◌, ◌^◌, pos, List, ◌++◌, length, replicate, Some, refl, sym, ap, ◌∙◌, subst, arith, append_assoc, length-append}
 use Rattle.arrow_types.specs.Limits.{LimitNumbers}
 use Rattle.arrow_meta_reader.specs.Judges.{MetadataMeans}
 use Rattle.arrow_meta_reader.specs.Means.{PlainMessage}
@@ -18,7 +17,7 @@ use Rattle.arrow_meta_writer.proofs.Bounds.{text_short}
 use Rattle.arrow_meta_reader.specs.Within.{text_bytes}
 use Rattle.arrow_body_laws.specs.Stored.{rounded}
 use Rattle.arrow_body_laws.proofs.Placed.{rounded-le}
-use Rattle.arrow_stream_reader.specs.Frame.{has_continuation, number_at}
+use Rattle.arrow_stream_reader.specs.Frame.{number_at}
 use Rattle.arrow_stream_laws.specs.Frames.{IsFrameOf}
 use Rattle.arrow_stream_laws.specs.Sizes.{header_size}
 use Rattle.arrow_stream_writer.specs.Frame.{AppendsFrame, framed, padded, prefix_bytes}

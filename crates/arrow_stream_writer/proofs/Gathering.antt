@@ -6,7 +6,6 @@ use Rattle.arrow_types.specs.Field.{Fields, none, more, TypeShape}
 use Rattle.arrow_types.specs.Schema.{DictionaryField, dictionary_fields, dictionary_of}
 use Rattle.arrow_types.specs.declared.field.Encoding.{Encoding}
 use Rattle.arrow_data.specs.Column.{AreOf, Column, HasDictionary, IsColumn, ValueList, column_dictionaries, field_of_listed, listed_of}
-use Rattle.arrow_data.specs.PlainValue.{PlainValue}
 use Rattle.arrow_dict.specs.ValueTypes.{value_type_of}
 use Rattle.arrow_stream_writer.specs.Lists.{Adds, AllNamed, AreFirst, AreFound, AreNamed, Gathers, HaveBelow, IsNamedBy}
 use Rattle.arrow_stream_writer.specs.declared.lists.ListsFault.{ListsFault}

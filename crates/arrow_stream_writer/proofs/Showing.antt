@@ -1,9 +1,8 @@
 -- What a writer shows after its calls.
 use Rattle.std.specs.Prelude.{if◌then◌else◌}
-use Rattle.std.proofs.Common.{◌&&◌, ◌≡◌, ◌≤◌, ◌<◌, ◌+◌, ◌-◌, ◌^◌, ℕ, ℤ, Bool, true, false, List, [], ◌∷◌, ◌++◌, length, leb, Option, Some, None, Result, Ok, Err, refl, sym, ap, ◌∙◌, subst, arith}
+use Rattle.std.proofs.Common.{◌&&◌, ◌≡◌, ◌≤◌, ◌<◌, ◌+◌, ◌^◌, ℕ, ℤ, Bool, true, false, List, [], length, leb, Option, Some, None, Ok, Err, refl, sym, ap, ◌∙◌, subst, arith}
 use Rattle.std.specs.Io.KnownBytes.{Appends}
-use Rattle.std.proofs.lemmas.Bool.{le-leb, lt-leb, and_from, and_left}
-use Rattle.arrow_types.specs.Limits.{LimitNumbers}
+use Rattle.std.proofs.lemmas.Bool.{le-leb, lt-leb}
 use Rattle.arrow_types.specs.Schema.{IsNoted}
 use Rattle.arrow_data.specs.Batch.{Table}
 use Rattle.arrow_data.specs.Column.{ValueList}
@@ -14,7 +13,7 @@ use Rattle.arrow_stream_laws.specs.Frames.{Frame, IsFrameOf, IsMarker, frames_by
 use Rattle.arrow_stream_laws.specs.Plan.{lists_after}
 use Rattle.arrow_stream_laws.specs.Sizes.{Options, schema_size}
 use Rattle.arrow_stream_laws.specs.Text.{IsPart}
-use Rattle.arrow_stream_laws.specs.Writer.{Accepts, Ends, Fails, FailsAtEnd, FailsAtStart, Finishes, PassesPlace, Refuses, Shows, StartFails, Starts, Stays, Writes, first_place}
+use Rattle.arrow_stream_laws.specs.Writer.{Accepts, Ends, Fails, FailsAtEnd, Finishes, Shows, StartFails, Starts, Writes, first_place}
 use Rattle.arrow_sink.specs.declared.status.Status.{Status}
 use Rattle.arrow_sink.specs.declared.status.Status.TheVariants as statuses
 use Rattle.arrow_sink.specs.declared.write_fault.WriteFault.{WriteFault}
@@ -23,7 +22,7 @@ use Rattle.arrow_stream_laws.proofs.Parts.{frame_length, part_fits_so}
 use Rattle.arrow_stream_laws.proofs.Writers.{accepts_of, ends_of, fails_at_end, fails_of, starts_of}
 use Rattle.arrow_stream_writer.specs.Framing.{PutsMessage}
 use Rattle.arrow_stream_writer.specs.Marker.{marker}
-use Rattle.arrow_stream_writer.specs.Parts.{IsPartBuilt, IsRefusedWith, options_of}
+use Rattle.arrow_stream_writer.specs.Parts.{IsRefusedWith, options_of}
 use Rattle.arrow_stream_writer.specs.Taking.{taking}
 use Rattle.arrow_stream_writer.specs.Terms.{Terms}
 

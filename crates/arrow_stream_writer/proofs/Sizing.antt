@@ -1,5 +1,5 @@
 -- Why the size of a batch's metadata hangs on its fields alone.
-use Rattle.std.proofs.Common.{◌≡◌, ℕ, ℤ, ◌+◌, ◌-◌, ◌*◌, pos, Bool, false, List, length, map, replicate, refl, sym, ap, ◌∙◌, subst}
+use Rattle.std.proofs.Common.{◌≡◌, ℕ, ℤ, ◌+◌, ◌-◌, ◌*◌, pos, Bool, List, length, map, sym, ap, ◌∙◌}
 use Rattle.std.proofs.lemmas.List.{length-map, length-replicate}
 use Rattle.arrow_types.specs.Field.{Fields}
 use Rattle.arrow_types.specs.declared.node.FieldNode.{FieldNode}
@@ -7,10 +7,9 @@ use Rattle.arrow_types.specs.declared.node.Buffer.{Buffer}
 use Rattle.arrow_body_reader.specs.Taken.{taken_nodes, taken_buffers}
 use Rattle.arrow_body_laws.specs.Stored.{rounded}
 use Rattle.arrow_flatbuf.specs.Layout.{gap, up}
-use Rattle.arrow_flatbuf.specs.Nodes.{Node, Cells, after, last, offset, pairs, scalar, table}
-use Rattle.arrow_meta_reader.specs.Means.{PlainBatch, PlainHeader, batch, dictionary}
-use Rattle.arrow_meta_writer.specs.Layouts.{node_pair, buffer_pair, batch_cells, header_cells}
-use Rattle.arrow_meta_writer.specs.Metadata.{metadata_size}
+use Rattle.arrow_flatbuf.specs.Nodes.{after, pairs, table}
+use Rattle.arrow_meta_reader.specs.Means.{PlainBatch, batch, dictionary}
+use Rattle.arrow_meta_writer.specs.Layouts.{node_pair, buffer_pair, batch_cells}
 use Rattle.arrow_stream_laws.specs.Sizes.{batch_size, blank_batch, dictionary_size, header_size}
 
 -- where a vector of pairs ends

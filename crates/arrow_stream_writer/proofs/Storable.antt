@@ -13,14 +13,13 @@ use Rattle.arrow_types.specs.declared.node.FieldNode.{FieldNode}
 use Rattle.arrow_data.specs.Column.{AreOf, Column}
 use Rattle.arrow_data.specs.Form.{node_form}
 use Rattle.arrow_data.specs.PlainValue.{PlainValue}
-use Rattle.arrow_data.specs.declared.form.Form.{Form}
 use Rattle.arrow_body_reader.specs.Taken.{IfFlattened, flattened, taken_nodes}
 use Rattle.arrow_body_laws.specs.Laws.{raws_of}
 use Rattle.arrow_body_laws.specs.Raws.{AreRaws, AreSmall, IsOwn, IsSmall, last_offset, offset_limit, raws_below}
 use Rattle.arrow_body_laws.specs.Size.{own_sizes, size_of, sizes_of}
-use Rattle.arrow_body_laws.specs.Stored.{fields_of_columns, own_node, rounded, stored_nodes}
+use Rattle.arrow_body_laws.specs.Stored.{fields_of_columns, rounded, stored_nodes}
 use Rattle.arrow_body_writer.specs.Sent.{nodes_of_type}
-use Rattle.arrow_body_writer.specs.Storable.{AreTold, CanBeStored}
+use Rattle.arrow_body_writer.specs.Storable.{CanBeStored}
 use Rattle.arrow_stream_laws.specs.Admission.{frame_fits}
 use Rattle.arrow_stream_laws.specs.Sizes.{offsets_fit, slots_in}
 

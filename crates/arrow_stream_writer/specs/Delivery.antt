@@ -3,7 +3,6 @@ use Rattle.std.specs.Prelude.{◌≡◌, ℕ, Bool, List, [], ◌++◌, map, Som
 use Rattle.arrow_data.specs.Batch.{Table}
 use Rattle.arrow_stream_reader.specs.Front.{Entry, FrontOf, Standing}
 use Rattle.arrow_stream_reader.specs.Tables.{tables_of}
-use Rattle.arrow_types.specs.Limits.{LimitNumbers}
 use Rattle.arrow_stream_laws.specs.Rows.{rows_of}
 use Rattle.arrow_stream_laws.specs.Writer.{Shows, Stands}
 

@@ -1,4 +1,4 @@
-use Rattle.std.proofs.Common.{rules, ◌≡◌, ◌+◌, ◌-◌, ◌++◌, List, length, replicate, sym, ap, ◌∙◌, subst}
+use Rattle.std.proofs.Common.{rules, ◌≡◌, ◌+◌, ◌-◌, ◌++◌, List, length, replicate, sym, ap, ◌∙◌}
 use Rattle.arrow_body_laws.specs.Stored.{rounded}
 use Rattle.arrow_meta_reader.specs.Means.{message_view}
 use Rattle.arrow_stream_writer.specs.Frame.{prefix_bytes}

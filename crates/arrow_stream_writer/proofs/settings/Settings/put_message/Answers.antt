@@ -1,4 +1,4 @@
-use Rattle.std.proofs.Common.{◌≡◌, ◌≤◌, ◌<◌, ◌^◌, arith}
+use Rattle.std.proofs.Common.{◌≤◌, arith}
 use Rattle.arrow_meta_reader.specs.Means.{message_view}
 use Rattle.arrow_stream_laws.specs.Sizes.{header_size}
 use Rattle.arrow_stream_writer.specs.Terms.{terms_of}

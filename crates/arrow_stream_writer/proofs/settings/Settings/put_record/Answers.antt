@@ -1,4 +1,4 @@
-use Rattle.std.proofs.Common.{◌≡◌, ◌≤◌, ◌<◌, ap, sym, ◌∙◌, arith, refl}
+use Rattle.std.proofs.Common.{sym, arith, refl}
 use Rattle.arrow_body_writer.specs.Align.{alignment_of}
 use Rattle.arrow_body_writer.specs.Storing.{body_view}
 use Rattle.arrow_stream_writer.specs.Framing.{record_load}

@@ -1,4 +1,4 @@
-use Rattle.std.proofs.Common.{◌≡◌, ◌≤◌, ◌<◌, List, ap, sym, ◌∙◌, subst, arith, true, false, w64, pos}
+use Rattle.std.proofs.Common.{List, ap, sym, ◌∙◌, subst, arith, w64, pos}
 use Rattle.std.specs.Prelude.{not}
 use Rattle.std.proofs.lemmas.Int.{to_z_pos}
 use Rattle.arrow_body_writer.proofs.Chunks.{some_alignment}

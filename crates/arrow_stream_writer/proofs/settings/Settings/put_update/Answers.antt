@@ -1,4 +1,4 @@
-use Rattle.std.proofs.Common.{◌≡◌, ◌≤◌, ◌<◌, ◌-◌, ◌^◌, List, length, drop, ap, sym, ◌∙◌, subst, arith, rules, refl, length-drop, w64, to_z, of_z}
+use Rattle.std.proofs.Common.{◌-◌, ap, sym, ◌∙◌, subst, arith, rules, length-drop}
 use Rattle.arrow_body_writer.specs.Storing.{body_view}
 use Rattle.arrow_types.specs.Notes.{SchemaShape}
 use Rattle.arrow_types.specs.Schema.{IsSchema}

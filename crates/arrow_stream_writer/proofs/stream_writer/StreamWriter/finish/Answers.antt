@@ -1,5 +1,4 @@
-use Rattle.std.proofs.Common.{◌≡◌, ◌≤◌, ◌+◌, ◌^◌, Err, refl, sym, subst, arith}
-use Rattle.arrow_body_writer.specs.Align.{alignment_of}
+use Rattle.std.proofs.Common.{◌≤◌, ◌+◌, ◌^◌, Err, refl, sym, subst, arith}
 use Rattle.arrow_stream_laws.specs.Writer.{Finishes, Shows}
 use Rattle.arrow_sink.specs.declared.status.Status.TheVariants as statuses
 use Rattle.arrow_stream_writer.specs.Shown.{shown}

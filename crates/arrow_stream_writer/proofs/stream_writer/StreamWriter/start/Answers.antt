@@ -1,4 +1,4 @@
-use Rattle.std.proofs.Common.{◌≡◌, ◌≤◌, ◌^◌, List, [], Ok, refl, sym, ap, ◌∙◌, subst, arith, length}
+use Rattle.std.proofs.Common.{◌≡◌, ◌≤◌, ◌^◌, List, [], Ok, refl, sym, ap, ◌∙◌, subst, length}
 use Rattle.std.specs.Io.KnownBytes.{Appends}
 use Rattle.arrow_body_writer.specs.Align.{alignment_of}
 use Rattle.arrow_dict.specs.Tracking.{Tracked}
@@ -10,7 +10,6 @@ use Rattle.arrow_sink.specs.declared.status.Status.TheVariants as statuses
 use Rattle.arrow_stream_writer.specs.Framing.{PutsMessage}
 use Rattle.arrow_stream_writer.specs.Parts.{options_of}
 use Rattle.arrow_stream_writer.specs.Terms.{Terms, terms_of}
-use Rattle.arrow_stream_writer.specs.declared.settings.Settings.{Settings}
 use Rattle.arrow_stream_writer.proofs.Showing.{HasTerms, start_failed, starts}
 use Rattle.arrow_stream_writer.proofs.stream_writer.StreamWriter.start.Goals as goal
 

@@ -1,4 +1,4 @@
-use Rattle.std.proofs.Common.{◌≡◌, ◌+◌, List, Err, refl, sym, ap, ◌∙◌, subst, length, arith}
+use Rattle.std.proofs.Common.{◌+◌, List, Err, refl, sym, ap, ◌∙◌, subst, length, arith}
 use Rattle.std.specs.Io.KnownBytes.{Appends}
 use Rattle.arrow_sink.specs.Sinks.{AcceptsBeginning}
 use Rattle.arrow_stream_laws.specs.Writer.{Shows, Writes}
