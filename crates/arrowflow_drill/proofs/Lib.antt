@@ -1,3 +1,4 @@
 mod Kept
 mod Streams
 mod Inputs
+mod Lined

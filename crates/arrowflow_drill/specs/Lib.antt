@@ -1,4 +1,5 @@
 pub mod Reading
 pub mod Terms
 pub mod Counts
+pub mod Lines
 pub mod Drill

@@ -1,9 +1,10 @@
 //! Connections rehearsed, and what is told of them.
 
-ghost use Rattle.std.specs.Prelude.{◌≡◌, ◌^◌, ◌≤◌, IfOk, length};
+ghost use Rattle.std.specs.Prelude.{◌≡◌, ◌^◌, ◌≤◌, IfOk, length, string_bytes};
 ghost use Rattle.arrowflow_session.specs.Report.{Reports};
 ghost use Rattle.arrow_stream_writer.specs.Shown.{options_view};
 ghost use Rattle.arrowflow_drill.specs.Drill.{AskTheSame, Drills};
+ghost use Rattle.arrowflow_drill.specs.Lines.{lines_from};
 
 use crate::lines::{push_connection, size_of};
 use crate::reading::{Terms, read_all};
@@ -22,7 +23,7 @@ use std::io::Read;
 /// `Input` with its number from 0 where a read failed, an interrupted one included; `Stream` where
 /// the stream is refused, or where it ends without being at the end of a message after its schema.
 /// `Memory` where an allocation failed. What a writer refuses, and how the connections end, is no
-/// fault: the text tells of it. What stands in the text is shown by tests.
+/// fault: the text tells of it, line by line (`specs/Lines.antt`).
 ///
 /// All batches of all inputs are held, and what is sent of them.
 pub fn drill<R: Read>(
@@ -37,7 +38,7 @@ pub fn drill<R: Read>(
       limits = limits.now;
       options = options_view options;
       deliver = bytes;
-    }) inputs.old inputs.new result }
+    }) piece inputs.old inputs.new result }
 {
     let terms = Terms {
         alloc,
@@ -102,10 +103,14 @@ fn text_of(
     connections: &[Connection],
     reports: &[Report],
     piece: u64,
-) -> Result<String, AllocError> {
+) -> Result<String, AllocError>
+    requires { length reports.now ≡ length connections.now }
+    ensures { IfOk result (λ text. string_bytes text
+        ≡ lines_from piece 0 connections.now reports.now) }
+{
     let mut text = String::new(alloc);
-    for (number, (connection, report)) in connections.iter().zip(reports).enumerate() {
-        push_connection(&mut text, number, connection, report, piece)?;
+    for (number, connection) in connections.iter().enumerate() {
+        push_connection(&mut text, number, connection, &reports[number], piece)?;
     }
     Ok(text)
 }

@@ -4,16 +4,18 @@
 //! `arrowflow_session::session::run`, and gives a text that tells what was sent and received of
 //! each. What an input is read as, and how that ends, is said by `specs/Reading.antt`, and what is
 //! answered of all inputs by `Drills` (`specs/Drill.antt`), in the words of `arrow_stream_reader`
-//! and `arrowflow_session`. What stands in the lines is shown by tests.
+//! and `arrowflow_session`. The text is a definition over what was asked of the connections and
+//! what their reports tell, `lines_from` (`specs/Lines.antt`).
 //!
 //! | Notion | Definition |
 //! |---|---|
 //! | an input read as a connection | `specs/Reading.antt`: `IsConnectionOf`, `AreRead` |
 //! | what is answered of all inputs | `specs/Drill.antt`: `Drills`; `specs/Terms.antt` |
+//! | the lines that tell of connections | `specs/Lines.antt`: `connection_lines`, `lines_from` |
 //! | what is counted of a report | `specs/Counts.antt`: `bytes_in`, `rows_in` |
 //!
 //! Of the proofs, `Kept` is of the batches of a piece, `Streams` of how a stream ends, `Inputs` of
-//! one input after another.
+//! one input after another, `Lined` of the lines.
 #![tactic(auto)]
 
 mod drilling;

@@ -1,9 +1,17 @@
-//! The lines that tell of connections. What stands in them is shown by tests.
+//! The lines that tell of connections.
 
-ghost use Rattle.std.specs.Prelude.{◌≡◌, IfOk};
+ghost use Rattle.std.specs.Prelude.{◌≡◌, ◌++◌, IfOk, OnOk, length, string_bytes};
+ghost use Rattle.std.specs.List.{flat_map};
+ghost use Rattle.arrowflow_report.specs.Faults.{refusal_name};
+ghost use Rattle.arrowflow_session.specs.Asked.{asked_of};
+ghost use Rattle.arrowflow_session.specs.Report.{told_by};
 ghost use Rattle.arrowflow_drill.specs.Counts.{bytes_in, rows_in};
+ghost use Rattle.arrowflow_drill.specs.Lines.{call_name, connection_lines, dictionaries_line};
+ghost use Rattle.arrowflow_drill.specs.Lines.{ending_line, ending_text, entries_text, entry_text};
+ghost use Rattle.arrowflow_drill.specs.Lines.{handed_line, refusal_line, written_line};
 
 use arrow_data::{Batch, Dictionary};
+use arrow_sink::WriteFault;
 use arrowflow_report::session::Ending;
 use arrowflow_session::session::{Connection, Refusal, Report, What};
 use std::alloc::AllocError;
@@ -17,12 +25,13 @@ pub(crate) fn push_connection(
     connection: &Connection,
     report: &Report,
     piece: u64,
-) -> Result<(), AllocError> {
+) -> Result<(), AllocError>
+    ensures { OnOk result (string_bytes text.new ≡ string_bytes text.old
+        ++ connection_lines piece number (asked_of connection.now) (told_by report.now)) }
+{
     push_written(text, number, report, (connection.deliver, piece))?;
-    for refusal in &report.refused {
-        push_refusal(text, number, *refusal)?;
-    }
-    push_handed(text, number, report, connection.batches.len())?;
+    push_refusals(text, number, report)?;
+    push_handed(text, number, report, &connection.batches)?;
     push_dictionaries(text, number, report)?;
     push_ending(text, number, report.received.ending)
 }
@@ -33,10 +42,13 @@ fn push_written(
     number: usize,
     report: &Report,
     delivery: (u64, u64),
-) -> Result<(), AllocError> {
+) -> Result<(), AllocError>
+    ensures { OnOk result (string_bytes text.new ≡ string_bytes text.old
+        ++ written_line number (told_by report.now).parts delivery.0 delivery.1) }
+{
     let size = size_of(&report.parts)?;
     let parts = report.parts.len();
-    let delivered = size.min(delivery.0);
+    let delivered = delivery.0.min(size);
     let piece = delivery.1;
     write!(
         text,
@@ -59,29 +71,69 @@ pub(crate) fn size_of(parts: &[Vec<u8>]) -> Result<u64, AllocError>
     Ok(size)
 }
 
-/// Appends what the writer refused.
-fn push_refusal(text: &mut String, number: usize, refusal: Refusal) -> Result<(), AllocError> {
-    write!(text, "connection {number}: ")?;
-    match refusal.what {
-        What::Start => text.push_str("start")?,
-        What::Batch(batch) => write!(text, "batch {batch}")?,
-        What::Finish => text.push_str("end")?,
+/// Appends a line for each refusal.
+fn push_refusals(text: &mut String, number: usize, report: &Report) -> Result<(), AllocError>
+    ensures { OnOk result (string_bytes text.new ≡ string_bytes text.old
+        ++ flat_map (refusal_line number) (told_by report.now).refused) }
+{
+    for refusal in &report.refused {
+        push_refusal(text, number, *refusal)?;
     }
-    write!(text, " refused: {:?}\n", refusal.kind)
+    Ok(())
 }
 
-/// Appends how much the reader handed out of so many batches.
+/// Appends what the writer refused.
+fn push_refusal(text: &mut String, number: usize, refusal: Refusal) -> Result<(), AllocError>
+    ensures { OnOk result (string_bytes text.new ≡ string_bytes text.old
+        ++ refusal_line number refusal) }
+{
+    write!(text, "connection {number}: ")?;
+    push_call(text, refusal.what)?;
+    write!(text, " refused: {}\n", refusal_name(refusal.kind))
+}
+
+/// Appends which of the writer's calls was refused.
+fn push_call(text: &mut String, what: What) -> Result<(), AllocError>
+    ensures { OnOk result (string_bytes text.new ≡ string_bytes text.old ++ call_name what) }
+{
+    match what {
+        What::Start => text.push_str("start"),
+        What::Batch(batch) => write!(text, "batch {batch}"),
+        What::Finish => text.push_str("end"),
+    }
+}
+
+/// The name of a writer's refusal.
+fn refusal_name(kind: WriteFault) -> &'static str
+    ensures { result.now ≡ refusal_name kind }
+{
+    match kind {
+        WriteFault::SchemaDiffers => "SchemaDiffers",
+        WriteFault::TooLarge => "TooLarge",
+        WriteFault::DictionariesDiffer => "DictionariesDiffer",
+        WriteFault::Sink => "Sink",
+        WriteFault::Broken => "Broken",
+        WriteFault::Finished => "Finished",
+        WriteFault::Memory => "Memory",
+    }
+}
+
+/// Appends how much the reader handed out of these batches.
 fn push_handed(
     text: &mut String,
     number: usize,
     report: &Report,
-    batches: usize,
-) -> Result<(), AllocError> {
+    batches: &[Batch],
+) -> Result<(), AllocError>
+    ensures { OnOk result (string_bytes text.new ≡ string_bytes text.old
+        ++ handed_line number (told_by report.now).handed (length batches.now)) }
+{
     let rows = rows_of(&report.received.handed)?;
     let handed = report.received.handed.len();
+    let count = batches.len();
     write!(
         text,
-        "connection {number}: handed out {handed} of {batches} batches, "
+        "connection {number}: handed out {handed} of {count} batches, "
     )?;
     write!(text, "{rows} rows\n")
 }
@@ -101,33 +153,58 @@ fn rows_of(batches: &[Batch]) -> Result<u64, AllocError>
 }
 
 /// Appends the dictionaries of both ends.
-fn push_dictionaries(text: &mut String, number: usize, report: &Report) -> Result<(), AllocError> {
+fn push_dictionaries(text: &mut String, number: usize, report: &Report) -> Result<(), AllocError>
+    ensures { OnOk result (string_bytes text.new ≡ string_bytes text.old
+        ++ dictionaries_line number (told_by report.now).reader_dictionaries
+        (told_by report.now).writer_dictionaries) }
+{
     write!(text, "connection {number}: dictionaries reader ")?;
-    push_list(text, &report.received.reader_dictionaries)?;
+    push_entries(text, &report.received.reader_dictionaries)?;
     text.push_str(", writer ")?;
-    push_list(text, &report.writer_dictionaries)?;
-    text.push_str("\n")
+    push_entries(text, &report.writer_dictionaries)?;
+    write!(text, "\n")
 }
 
 /// Appends the ids of dictionaries with their lengths.
-fn push_list(text: &mut String, dictionaries: &[(i64, Dictionary)]) -> Result<(), AllocError> {
-    if dictionaries.is_empty() {
+fn push_entries(text: &mut String, entries: &[(i64, Dictionary)]) -> Result<(), AllocError>
+    ensures { OnOk result (string_bytes text.new ≡ string_bytes text.old
+        ++ entries_text entries.now) }
+{
+    let Some((first, rest)) = entries.split_first() else {
         return text.push_str("none");
-    }
-    for (number, (id, values)) in dictionaries.iter().enumerate() {
-        if number > 0 {
-            text.push_str(";")?;
-        }
-        write!(text, "{id}={}", values.len())?;
+    };
+    push_entry(text, first)?;
+    for entry in rest {
+        text.push_str(";")?;
+        push_entry(text, entry)?;
     }
     Ok(())
 }
 
-/// Appends how the delivered bytes ended.
-fn push_ending(text: &mut String, number: usize, ending: Ending) -> Result<(), AllocError> {
+/// Appends the id of a dictionary with its length.
+fn push_entry(text: &mut String, entry: &(i64, Dictionary)) -> Result<(), AllocError>
+    ensures { OnOk result (string_bytes text.new ≡ string_bytes text.old ++ entry_text entry.now) }
+{
+    let (id, values) = entry;
+    write!(text, "{id}={}", values.len())
+}
+
+/// Appends the line of how the delivered bytes ended.
+fn push_ending(text: &mut String, number: usize, ending: Ending) -> Result<(), AllocError>
+    ensures { OnOk result (string_bytes text.new ≡ string_bytes text.old
+        ++ ending_line number ending) }
+{
     write!(text, "connection {number}: ending ")?;
+    push_how_it_ended(text, ending)?;
+    write!(text, "\n")
+}
+
+/// Appends how they ended.
+fn push_how_it_ended(text: &mut String, ending: Ending) -> Result<(), AllocError>
+    ensures { OnOk result (string_bytes text.new ≡ string_bytes text.old ++ ending_text ending) }
+{
     match ending {
-        Ending::Clean => text.push_str("clean\n"),
-        Ending::Fault(fault) => write!(text, "{:?} at {}\n", fault.kind, fault.place),
+        Ending::Clean => text.push_str("clean"),
+        Ending::Fault(fault) => write!(text, "{} at {}", fault.kind, fault.place),
     }
 }
