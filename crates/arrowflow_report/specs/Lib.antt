@@ -9,3 +9,4 @@ pub mod Lines
 pub mod Reports
 pub mod TypeNames
 pub mod Shown
+pub mod Calls
