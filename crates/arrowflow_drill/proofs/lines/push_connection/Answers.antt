@@ -1,4 +1,4 @@
-use Rattle.std.proofs.Common.{◌≡◌, ◌++◌, ◌∙◌, ap, length, string_bytes}
+use Rattle.std.proofs.Common.{◌++◌, ◌∙◌, ap, length, string_bytes}
 use Rattle.arrowflow_session.specs.Report.{told_by}
 use Rattle.arrowflow_drill.specs.Lines.{handed_line}
 use Rattle.arrowflow_drill.proofs.Lined.{five_behind}
