@@ -8,7 +8,9 @@ import crates
 
 TOP = crates.TOP
 PUB = r"(?:pub(?:\([^)]*\))? )?"
-FUNCTION = re.compile(rf"^[ \t]*({PUB})(?:const )?(?:unsafe )?fn (\w+)", re.M)
+FUNCTION = re.compile(rf'^[ \t]*({PUB})(?:const )?(?:unsafe )?(?:extern "C" )?fn (\w+)', re.M)
+# What stands above a function that C calls.
+EXPORTED = "#[unsafe(no_mangle)]"
 CLAUSE = re.compile(r"^\s*(ensures|requires)(?: (\w+))? \{", re.M)
 BLOCK = re.compile(r"^(pub )?(?:unsafe )?(impl|trait)\b([^{}]*)\{", re.M)
 # What an `impl` says of its type to the logic.
@@ -25,8 +27,8 @@ LEMMA = re.compile(r"^(?:abbrev |unfoldable )?(?:pub )?([^\s:(){}]+) :", re.M)
 
 
 class Function:
-    """A function: the modules and the type that it stands in; by what it is public, itself or its trait, if it is; what is said
-    of its type, and its contract."""
+    """A function: the modules and the type that it stands in; by what it is public, itself, its trait or an export to C, if it is;
+    what is said of its type, and its contract."""
 
     def __init__(self, inside, name, public, said, text):
         self.inside, self.name, self.public, self.said = inside, name, public, said
@@ -129,6 +131,7 @@ class Crate:
         for m, end in zip(starts, [*[it.start() for it in starts[1:]], len(text)]):
             owner, public, said = next((it[2:] for it in its if it[0] < m.start() < it[1]), ("", "", []))
             inside, public = [*module, owner] if owner else module, "itself" if m[1] == "pub " else public
+            public = "export" if text[: m.start()].rstrip().endswith(EXPORTED) else public
             self.functions.append(Function(inside, m[2], public, said, text[m.start() : end]))
         for m in CONSTANT.finditer(text):
             owner = next((it[2] for it in its if it[0] < m.start() < it[1]), "")
@@ -143,11 +146,11 @@ class Crate:
             self.types = {name: its for crate in behind for name, its in crate.types.items()}
 
     def shown(self):
-        """The public functions of its own that callers can reach: what stands in a public module, or is handed out by itself or
-        with its type."""
+        """The public functions of its own that callers can reach: what stands in a public module, is handed out by itself or with its
+        type, or is exported."""
         modules = {*re.findall(r"^pub mod (\w+)", self.files.get("src/lib.rt", ""), re.M)}
-        its = [] if self.is_front else [it for it in self.functions if it.public == "itself"]
-        return [it for it in its if modules & {*it.inside[:1]} or self.handed_out & {*it.inside[-1:], it.name}]
+        its = [] if self.is_front else [it for it in self.functions if it.public in ("itself", "export")]
+        return [it for it in its if it.public == "export" or modules & {*it.inside[:1]} or self.handed_out & {*it.inside[-1:], it.name}]
 
     def called(self, path):
         """The functions that these words name."""

@@ -1,0 +1,195 @@
+//! usage: reader FILE PIECE, reader --bad
+//!
+//! Reads a stream in pieces of so many bytes, and prints the number of the batch and the values of
+//! each row, as `arrowflow show` does below its first line; `...` stands for a list or a struct. With
+//! --bad the calls of a reader are given what no stream is.
+
+use std::io::{self, BufWriter, Write};
+use std::process::ExitCode;
+use std::{env, fs, ptr};
+
+/// The calls of `arrowflow.h`.
+mod c {
+    #[repr(C)]
+    #[derive(Clone, Copy)]
+    pub struct Limits {
+        pub max_metadata: u64,
+        pub max_body: u64,
+        pub max_rows: u64,
+    }
+
+    #[repr(C)]
+    pub struct Handle {
+        pub at: *mut u8,
+        pub live: bool,
+    }
+
+    #[repr(C)]
+    #[derive(Clone, Copy, Debug, PartialEq, Eq)]
+    pub struct Step {
+        pub kind: u32,
+        pub what: u32,
+        pub taken: u64,
+        pub place: u64,
+        pub id: i64,
+        pub columns: u64,
+        pub rows: u64,
+    }
+
+    #[repr(C)]
+    #[derive(Clone, Copy, Debug, PartialEq, Eq)]
+    pub struct Fault {
+        pub kind: u32,
+        pub place: u64,
+    }
+
+    #[repr(C)]
+    #[derive(Clone, Copy)]
+    pub struct Cell {
+        pub what: u32,
+        pub truth: bool,
+        pub number: i64,
+        pub large: u64,
+        pub size: u64,
+    }
+
+    unsafe extern "C" {
+        pub fn arrowflow_reader_open(limits: Limits, reader: &mut Handle) -> u32;
+        pub fn arrowflow_reader_read(reader: &mut Handle, piece: *const u8, len: usize) -> Step;
+        pub fn arrowflow_reader_end(reader: &mut Handle) -> Fault;
+        pub fn arrowflow_reader_cell(reader: &mut Handle, column: usize, row: usize, out: *mut u8, room: usize) -> Cell;
+        pub fn arrowflow_reader_close(reader: &mut Handle);
+    }
+}
+
+const STANDARD: c::Limits = c::Limits { max_metadata: 1 << 26, max_body: 1 << 36, max_rows: i32::MAX as u64 };
+
+/// A reader of a stream that comes in pieces. It is neither `Send` nor `Sync`, since its handle holds a pointer.
+struct Reader(c::Handle);
+
+impl Reader {
+    /// A reader of a new stream, or the kind that says why there is none.
+    fn new(limits: c::Limits) -> Result<Reader, u32> {
+        let mut reader = Reader(c::Handle { at: ptr::null_mut(), live: false });
+        // SAFETY: the handle is of no reader, as a caller makes one.
+        match unsafe { c::arrowflow_reader_open(limits, &mut reader.0) } {
+            0 => Ok(reader),
+            kind => Err(kind),
+        }
+    }
+
+    /// Reads on in a piece, up to the end of one message.
+    fn read(&mut self, piece: &[u8]) -> c::Step {
+        // SAFETY: this is the only copy of the handle, and nobody writes to the piece.
+        unsafe { c::arrowflow_reader_read(&mut self.0, piece.as_ptr(), piece.len()) }
+    }
+
+    /// What a stream answers that ends here.
+    fn end(&mut self) -> c::Fault {
+        // SAFETY: as in `read`.
+        unsafe { c::arrowflow_reader_end(&mut self.0) }
+    }
+
+    /// A value of the batch that came last, as `show` prints it.
+    fn text(&mut self, column: usize, row: usize) -> String {
+        let mut room = vec![0; 64];
+        loop {
+            // SAFETY: as in `read`; the room is a vector's own.
+            let cell = unsafe { c::arrowflow_reader_cell(&mut self.0, column, row, room.as_mut_ptr(), room.len()) };
+            let is_small = room.len() < cell.size as usize;
+            room.resize(cell.size as usize, 0);
+            if !is_small {
+                return shown(cell, &room);
+            }
+        }
+    }
+}
+
+impl Drop for Reader {
+    fn drop(&mut self) {
+        // SAFETY: as in `read`, and nothing uses the handle afterwards.
+        unsafe { c::arrowflow_reader_close(&mut self.0) }
+    }
+}
+
+fn shown(cell: c::Cell, bytes: &[u8]) -> String {
+    match cell.what {
+        0 => String::new(),
+        1 => cell.truth.to_string(),
+        2 => cell.number.to_string(),
+        3 => bytes.iter().map(|byte| format!("{byte:02x}")).collect(),
+        4 => quoted(str::from_utf8(bytes).expect("UTF-8, as was checked")),
+        7 => cell.large.to_string(),
+        8 => "no cell".to_string(),
+        _ => "...".to_string(),
+    }
+}
+
+fn quoted(text: &str) -> String {
+    if text.contains([',', '"', '\r', '\n']) {
+        format!("\"{}\"", text.replace('"', "\"\""))
+    } else {
+        text.to_string()
+    }
+}
+
+/// Prints the rows of a stream in pieces, and answers how it ends.
+fn print(stream: &[u8], size: usize, out: &mut impl Write) -> io::Result<c::Fault> {
+    let mut reader = Reader::new(STANDARD).expect("a reader");
+    let mut number = 0;
+    for mut piece in stream.chunks(size) {
+        loop {
+            let step = reader.read(piece);
+            piece = &piece[step.taken as usize..];
+            if step.what == 3 {
+                for row in 0..step.rows as usize {
+                    write!(out, "{number}")?;
+                    for column in 0..step.columns as usize {
+                        write!(out, ",{}", reader.text(column, row))?;
+                    }
+                    writeln!(out)?;
+                }
+                number += 1;
+            }
+            if step.what == 0 || step.what == 4 || step.kind != 0 {
+                break;
+            }
+        }
+    }
+    Ok(reader.end())
+}
+
+/// Whether the calls of a reader answer as they should where they are given what no stream is.
+fn bad() -> bool {
+    let high = c::Limits { max_body: u64::MAX, ..STANDARD };
+    let mut reader = Reader::new(STANDARD).expect("a reader");
+    let nothing = reader.read(&[]);
+    let fault = reader.read(&[0; 8]);
+    let again = reader.read(b"more of it");
+    let end = reader.end();
+    Reader::new(high).is_err_and(|kind| kind == 20)
+        && (nothing.kind, nothing.what, nothing.taken) == (0, 0, 0)
+        && (fault.kind, fault.place, fault.taken) == (1, 0, 0)
+        && again == fault
+        && end == c::Fault { kind: 1, place: 0 }
+        && reader.text(usize::MAX, 0) == "no cell"
+}
+
+fn main() -> ExitCode {
+    let words: Vec<String> = env::args().skip(1).collect();
+    let words: Vec<&str> = words.iter().map(String::as_str).collect();
+    let (name, size) = match words[..] {
+        ["--bad"] => return if bad() { ExitCode::SUCCESS } else { ExitCode::FAILURE },
+        [name, size] => (name, size.parse().expect("a number of bytes")),
+        _ => panic!("usage: reader FILE PIECE, reader --bad"),
+    };
+    let stream = fs::read(name).expect("a file");
+    let mut out = BufWriter::new(io::stdout().lock());
+    let fault = print(&stream, size, &mut out).expect("an output");
+    out.flush().expect("an output");
+    if fault.kind == 0 {
+        return ExitCode::SUCCESS;
+    }
+    eprintln!("kind {} at byte {}", fault.kind, fault.place);
+    ExitCode::FAILURE
+}

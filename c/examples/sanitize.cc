@@ -1,0 +1,102 @@
+// usage: sanitize IN OUT, sanitize --bad IN
+//
+// Writes a stream again as `arrowflow copy` does, before another Arrow library reads it, and ends as
+// that does. With --bad the call is given less than the stream, no room, or bad limits.
+#include "arrowflow.h"
+
+#include <cstring>
+#include <fstream>
+#include <iostream>
+#include <iterator>
+#include <vector>
+
+namespace {
+
+using Bytes = std::vector<std::uint8_t>;
+
+/// A clean stream, or why there is none.
+struct Clean {
+    Bytes bytes;
+    arrowflow_text told;
+};
+
+/// Writes a stream again. The copy of a stream is mostly about as long: one call is enough where it
+/// fits into what was guessed, and else a second one gets the room that the first one told.
+Clean sanitize(const Bytes &stream, arrowflow_options options = {false, false}) {
+    Clean clean{Bytes(stream.size() + stream.size() / 4), {}};
+    while (true) {
+        std::size_t room = clean.bytes.size();
+        clean.told = arrowflow_copy(stream.data(), stream.size(), arrowflow_standard_limits(), options,
+                                    clean.bytes.data(), room);
+        clean.bytes.resize(clean.told.size);
+        if (clean.told.size <= room) return clean;
+    }
+}
+
+/// All of a file. False where it cannot be read.
+bool read_file(const char *name, Bytes &bytes) {
+    std::ifstream input(name, std::ios::binary);
+    bytes.assign(std::istreambuf_iterator<char>(input), std::istreambuf_iterator<char>());
+    return static_cast<bool>(input);
+}
+
+int copy(const Bytes &stream, const char *out) {
+    Clean clean = sanitize(stream);
+    std::ofstream output(out, std::ios::binary);
+    output.write(reinterpret_cast<const char *>(clean.bytes.data()), static_cast<std::streamsize>(clean.bytes.size()));
+    output.close();
+    if (!output) {
+        std::cerr << "cannot write " << out << "\n";
+        return 2;
+    }
+    if (clean.told.kind == ARROWFLOW_FINE) return 0;
+    std::cerr << "fault at byte " << clean.told.place << ": " << arrowflow_kind_name(clean.told.kind) << "\n";
+    return 1;
+}
+
+int failed = 0;
+
+void want(bool fact, const char *what) {
+    if (fact) return;
+    std::cerr << "not so: " << what << "\n";
+    failed = 1;
+}
+
+/// The stream is `examples/one_column.arrows`, a schema of 152 bytes.
+void bad(const Bytes &stream) {
+    const arrowflow_options plain = {false, false}, narrow = {false, true};
+    arrowflow_limits limits = arrowflow_standard_limits(), high = limits;
+    high.max_body = UINT64_MAX;
+    want(sanitize(Bytes()).told.kind == ARROWFLOW_NO_SCHEMA, "an empty vector is no stream");
+    want(sanitize(Bytes(stream.begin(), stream.end() - 1)).told.kind == ARROWFLOW_NO_SCHEMA, "a front is none");
+    Clean clean = sanitize(stream);
+    want(clean.told.kind == ARROWFLOW_FINE && clean.bytes != stream, "it is written with an end marker");
+    want(sanitize(clean.bytes).bytes == clean.bytes, "a clean stream stays as it is");
+    Bytes small(5, 7);
+    arrowflow_text told = arrowflow_copy(stream.data(), stream.size(), limits, narrow, small.data(), 4);
+    want(told.kind == ARROWFLOW_FINE && told.size == 160, "a small room tells how much there is");
+    want(small == Bytes({0xff, 0xff, 0xff, 0xff, 7}), "and holds its front alone");
+    told = arrowflow_copy(stream.data(), stream.size(), high, plain, small.data(), 4);
+    want(told.kind == ARROWFLOW_BAD_LIMITS, "limits have ceilings");
+    limits.max_metadata = 144;
+    told = arrowflow_copy(stream.data(), stream.size(), limits, plain, small.data(), 4);
+    want(told.kind == ARROWFLOW_SCHEMA_TOO_LARGE, "a copy that is past a limit is refused");
+}
+
+} // namespace
+
+int main(int argc, char **argv) {
+    bool is_bad = argc == 3 && std::strcmp(argv[1], "--bad") == 0;
+    Bytes stream;
+    if (argc != 3) {
+        std::cerr << "usage: sanitize IN OUT, sanitize --bad IN\n";
+        return 2;
+    }
+    if (!read_file(argv[is_bad ? 2 : 1], stream)) {
+        std::cerr << "cannot read " << argv[is_bad ? 2 : 1] << "\n";
+        return 2;
+    }
+    if (!is_bad) return copy(stream, argv[2]);
+    bad(stream);
+    return failed;
+}

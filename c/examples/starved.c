@@ -1,0 +1,129 @@
+/* usage: starved FILE
+ *
+ * Makes each call on a stream again and again, and refuses one growth of memory in each, the first one,
+ * the second one, and so on: the call answers ARROWFLOW_MEMORY, or what it answers with all of its
+ * memory. A reader goes on where the same call is made again. It is linked with
+ * -Wl,--wrap=malloc,--wrap=realloc.
+ */
+#include "arrowflow.h"
+
+#include <stdio.h>
+#include <stdlib.h>
+#include <string.h>
+
+void *__real_malloc(size_t size);
+void *__real_realloc(void *at, size_t size);
+void *__wrap_malloc(size_t size);
+void *__wrap_realloc(void *at, size_t size);
+
+/* How many growths come before the one that is refused; below 0 none is. */
+static long before = -1;
+static long refused = 0;
+
+static bool is_refused(void) {
+    if (before < 0 || before-- > 0) return false;
+    refused++;
+    return true;
+}
+
+void *__wrap_malloc(size_t size) { return is_refused() ? NULL : __real_malloc(size); }
+void *__wrap_realloc(void *at, size_t size) { return is_refused() ? NULL : __real_realloc(at, size); }
+
+enum { MOST = 1 << 16 };
+
+static uint8_t bytes[MOST], wanted[MOST], found[MOST];
+static size_t len;
+
+static void want(bool fact, const char *what) {
+    if (fact) return;
+    fprintf(stderr, "not so: %s, with growth %ld refused\n", what, refused);
+    exit(1);
+}
+
+static bool is_same_report(arrowflow_report a, arrowflow_report b) {
+    return a.kind == b.kind && a.ended == b.ended && a.place == b.place && a.batches == b.batches && a.rows == b.rows;
+}
+
+static void starve_check(arrowflow_report whole) {
+    for (long number = 0;; number++) {
+        before = number;
+        arrowflow_report report = arrowflow_check(bytes, len, arrowflow_standard_limits());
+        if (before >= 0) return;
+        want(report.kind == ARROWFLOW_MEMORY ? report.place == 0 && report.batches == 0 : is_same_report(report, whole), "check");
+    }
+}
+
+/* One of the calls that give a text, by its number. */
+static arrowflow_text give(int call, uint8_t *out) {
+    const arrowflow_options options = {false, true};
+    arrowflow_limits limits = arrowflow_standard_limits();
+    switch (call) {
+    case 0: return arrowflow_copy(bytes, len, limits, options, out, MOST);
+    case 1: return arrowflow_show(bytes, len, limits, out, MOST);
+    case 2: return arrowflow_messages(bytes, len, limits, out, MOST);
+    default: return arrowflow_schema(bytes, len, limits, out, MOST);
+    }
+}
+
+static void starve_text(int call) {
+    before = -1;
+    arrowflow_text whole = give(call, wanted);
+    for (long number = 0;; number++) {
+        before = number;
+        arrowflow_text told = give(call, found);
+        if (before >= 0) return;
+        want(told.kind == ARROWFLOW_MEMORY ? told.size <= whole.size : told.kind == whole.kind && told.size == whole.size, "the text's length");
+        want(told.size <= MOST && memcmp(found, wanted, told.size) == 0, "the text, or its beginning");
+    }
+}
+
+/* Reads the stream with one growth refused; what was refused is asked for once more. */
+static arrowflow_report read_starved(long number) {
+    arrowflow_reader reader = ARROWFLOW_CLOSED;
+    arrowflow_report report = {0, false, 0, 0, 0};
+    before = number;
+    if (arrowflow_reader_open(arrowflow_standard_limits(), &reader) == ARROWFLOW_MEMORY)
+        want(arrowflow_reader_open(arrowflow_standard_limits(), &reader) == ARROWFLOW_FINE, "opened again");
+    for (size_t at = 0; at < len && report.kind == ARROWFLOW_FINE && !report.ended;) {
+        size_t piece = len - at < 100 ? len - at : 100;
+        arrowflow_step step = arrowflow_reader_read(&reader, bytes + at, piece);
+        want(step.kind != ARROWFLOW_MEMORY || step.taken == 0, "nothing taken");
+        at += step.taken;
+        report.kind = step.kind == ARROWFLOW_MEMORY ? (uint32_t)ARROWFLOW_FINE : step.kind;
+        report.ended = step.what == ARROWFLOW_END_READ;
+        report.batches += step.what == ARROWFLOW_BATCH_READ;
+        report.rows += step.rows;
+        report.place = at;
+    }
+    arrowflow_fault end = arrowflow_reader_end(&reader);
+    arrowflow_reader_close(&reader);
+    if (end.kind != ARROWFLOW_FINE) report.place = end.place;
+    report.kind = end.kind;
+    return report;
+}
+
+static void starve_reader(arrowflow_report whole) {
+    for (long number = 0;; number++) {
+        arrowflow_report report = read_starved(number);
+        want(is_same_report(report, whole), "a reader that was asked again");
+        if (before >= 0) return;
+    }
+}
+
+int main(int argc, char **argv) {
+    FILE *file = argc == 2 ? fopen(argv[1], "rb") : NULL;
+    if (file == NULL) {
+        fprintf(stderr, "usage: starved FILE\n");
+        return 2;
+    }
+    len = fread(bytes, 1, MOST, file);
+    fclose(file);
+    arrowflow_report whole = arrowflow_check(bytes, len, arrowflow_standard_limits());
+    starve_check(whole);
+    for (int call = 0; call < 4; call++) starve_text(call);
+    starve_reader(whole);
+    before = -1;
+    if (refused > 0) return 0;
+    fprintf(stderr, "no growth was refused\n");
+    return 1;
+}

@@ -1,0 +1,61 @@
+-- What is told of a single value of a batch (Columnar Format, "Terminology").
+use Rattle.std.specs.Prelude.{◌≡◌, ◌⊎◌, ◌<◌, ◌≤◌, ℕ, ℤ, pos, false, List, length, Option, Some, None, MatchOption, slice_get}
+use Rattle.arrow_data.specs.Batch.{Table}
+use Rattle.arrow_data.specs.Column.{Column}
+use Rattle.arrow_data.specs.PlainValue.{PlainValue, value_at, null_value, bool_value, int_value, binary_value, utf8_value, list_value, struct_value}
+use Rattle.arrow_data.specs.declared.array.SlotValue.{SlotValue}
+use Rattle.arrow_data.specs.declared.array.SlotValue.TheVariants as values
+use Rattle.arrowflow_c.specs.declared.cells.CellC.{CellC}
+use Rattle.arrowflow_c.specs.declared.reading.Reading.{Reading}
+use Rattle.arrowflow_c.specs.Texts.{filled}
+
+-- a cell of this kind alone
+abbrev pub bare_cell : ℕ → CellC
+bare_cell what = record { what = what; truth = false; number = pos 0; large = 0; size = 0 }
+
+-- no cell
+abbrev pub no_cell : CellC
+no_cell = bare_cell 8
+
+-- a number, signed or not, or none of 64 bits
+abbrev pub IsNumber : ℤ → CellC → Type 0
+IsNumber z c = (c ≡ record (bare_cell 2) { number = z }) ⊎ (((n : ℕ) × (z ≡ pos n) × (c ≡ record (bare_cell 7) { large = n })) ⊎ (c ≡ bare_cell 9))
+
+-- The value was told, and of a byte string or a text as much as fits was put into the room.
+abbrev pub Gives : PlainValue → List ℕ → CellC → List ℕ → Type 0
+Gives null_value old c new = (c ≡ bare_cell 0) × (new ≡ old)
+Gives (bool_value b) old c new = (c ≡ record (bare_cell 1) { truth = b }) × (new ≡ old)
+Gives (int_value z) old c new = IsNumber z c × (new ≡ old)
+Gives (binary_value bytes) old c new = (c ≡ record (bare_cell 3) { size = length bytes }) × (new ≡ filled old bytes)
+Gives (utf8_value bytes) old c new = (c ≡ record (bare_cell 4) { size = length bytes }) × (new ≡ filled old bytes)
+Gives (list_value items) old c new = (c ≡ bare_cell 5) × (new ≡ old)
+Gives (struct_value parts) old c new = (c ≡ bare_cell 6) × (new ≡ old)
+
+-- the same of a value as it lies in a batch
+abbrev pub GivesShown : SlotValue → List ℕ → CellC → List ℕ → Type 0
+GivesShown values.Null old c new = (c ≡ bare_cell 0) × (new ≡ old)
+GivesShown (values.Bool b) old c new = (c ≡ record (bare_cell 1) { truth = b }) × (new ≡ old)
+GivesShown (values.Int z) old c new = IsNumber z c × (new ≡ old)
+GivesShown (values.Bytes bytes) old c new = (c ≡ record (bare_cell 3) { size = length bytes.now }) × (new ≡ filled old bytes.now)
+GivesShown (values.Text text) old c new = (c ≡ record (bare_cell 4) { size = length text.now }) × (new ≡ filled old text.now)
+GivesShown (values.List start stop child) old c new = (c ≡ bare_cell 5) × (new ≡ old)
+GivesShown (values.Struct children place) old c new = (c ≡ bare_cell 6) × (new ≡ old)
+
+-- no cell was told
+abbrev pub GivesNone : List ℕ → CellC → List ℕ → Type 0
+GivesNone old c new = (c ≡ no_cell) × (new ≡ old)
+
+-- the value of a row of a column was told, indices looked up, if there is such a row
+pub record InColumn (column : Column) (row : ℕ) (old : List ℕ) (c : CellC) (new : List ℕ) : Type 0 where
+  pub inside : row < length column.raw → Gives (value_at column.resolved row) old c new
+  pub outside : length column.raw ≤ row → GivesNone old c new
+
+-- the value of a row of a column of a batch was told, if there is such a batch, column and row
+abbrev pub CellAt : Option Table → ℕ → ℕ → List ℕ → CellC → List ℕ → Type 0
+CellAt None column row old c new = GivesNone old c new
+CellAt (Some t) column row old c new = MatchOption (slice_get t.columns column) (GivesNone old c new) (λ values. InColumn values row old c new)
+
+-- the same of the last batch of a reader, where there is one, which stays as it was
+abbrev pub CellIf : Option Reading → ℕ → ℕ → List ℕ → CellC → List ℕ → Option Reading → Type 0
+CellIf None column row old c new after = GivesNone old c new × (after ≡ None)
+CellIf (Some r) column row old c new after = CellAt r.batch column row old c new × (after ≡ Some r)

@@ -1,0 +1,45 @@
+-- What a reader does that is kept between calls, and what is told of it.
+use Rattle.std.specs.Prelude.{◌≡◌, ◌⊎◌, ℕ, List, Option, None, Some, Result, Ok, Err}
+use Rattle.arrow_types.specs.Limits.{LimitNumbers, AreWithinCeilings}
+use Rattle.arrow_data.specs.Batch.{Table}
+use Rattle.arrow_stream_reader.specs.declared.fault.Fault.{Fault}
+use Rattle.arrow_stream_reader.specs.declared.item.Item.{Item}
+use Rattle.arrow_stream_reader.specs.declared.item.Item.TheVariants as items
+use Rattle.arrow_stream_reader.specs.Stream.{ReadsOn, ended_so, fresh}
+use Rattle.arrowflow_c.specs.declared.reading.Reading.{Reading}
+use Rattle.arrowflow_c.specs.declared.steps.FaultC.{FaultC}
+use Rattle.arrowflow_c.specs.declared.steps.StepC.{StepC}
+use Rattle.arrowflow_c.specs.Kinds.{bad_limits, no_reader, out_of_memory}
+use Rattle.arrowflow_c.specs.Steps.{end_told, fault_step, step_told}
+
+-- the batch of a reader's answer, if it gave one
+abbrev pub batch_given : Result (ℕ × Option Item) Fault → Option Table
+batch_given (Ok (taken, None)) = None
+batch_given (Ok (taken, Some items.Schema)) = None
+batch_given (Ok (taken, Some (items.Dictionary id))) = None
+batch_given (Ok (taken, Some (items.Batch b))) = Some b
+batch_given (Ok (taken, Some items.End)) = None
+batch_given (Err fault) = None
+
+-- A reader was given a piece: it answered as the stream's bytes say, that was told, and the batch is the answer's.
+pub record Reads (old : Reading) (piece : List ℕ) (step : StepC) (new : Reading) : Type 0 where
+  pub answer : Result (ℕ × Option Item) Fault
+  pub reads : ReadsOn old.reader piece answer new.reader
+  pub told : step ≡ step_told answer
+  pub batch : new.batch ≡ batch_given answer
+
+-- the same, where there is a reader
+abbrev pub ReadsIf : Option Reading → List ℕ → StepC → Option Reading → Type 0
+ReadsIf None piece step new = (step ≡ fault_step no_reader 0) × (new ≡ None)
+ReadsIf (Some old) piece step new = (r : Reading) × Reads old piece step r × (new ≡ Some r)
+
+-- What a stream answers that ends here was told, where there is a reader, which stays as it was.
+abbrev pub Ends : Option Reading → FaultC → Option Reading → Type 0
+Ends None fault new = (fault ≡ record { kind = no_reader; place = 0 }) × (new ≡ None)
+Ends (Some old) fault new = (fault ≡ end_told (ended_so old.reader.at)) × (new ≡ Some old)
+
+-- A reader to which nothing was given was made; or none, where memory was wanting or a limit is above its ceiling.
+abbrev pub Opens : LimitNumbers → ℕ → Option Reading → Type 0
+Opens limits kind new =
+    (AreWithinCeilings limits × (((kind ≡ 0) × (new ≡ Some (record { reader = fresh limits; batch = None }))) ⊎ ((kind ≡ out_of_memory) × (new ≡ None))))
+    ⊎ ((AreWithinCeilings limits → ⊥) × (kind ≡ bad_limits) × (new ≡ None))

@@ -1,0 +1,70 @@
+-- What is reported of bytes that were read to their end (Columnar Format, "IPC Streaming Format").
+use Rattle.std.specs.Prelude.{◌≡◌, ◌⊎◌, ℕ, ◌+◌, ◌-◌, ◌^◌, min, Bool, true, false, List, [], ◌∷◌, length}
+use Rattle.arrow_types.specs.Limits.{LimitNumbers, AreWithinCeilings}
+use Rattle.arrow_data.specs.Batch.{Table}
+use Rattle.arrow_stream_reader.specs.declared.reader.Verdict.{Verdict}
+use Rattle.arrow_stream_reader.specs.declared.reader.Verdict.TheVariants.{Open, Done, Bad}
+use Rattle.arrow_stream_reader.specs.Front.{Entry, Standing, FrontOf}
+use Rattle.arrow_stream_reader.specs.State.{Given, schema_given, dictionary_given, batch_given, ended}
+use Rattle.arrow_stream_reader.specs.Stream.{Shows, Stands, ended_so}
+use Rattle.arrow_stream_reader.specs.Tables.{tables_of}
+use Rattle.arrowflow_c.specs.declared.survey.ReportC.{ReportC}
+use Rattle.arrowflow_c.specs.declared.survey.Counts.{Counts}
+use Rattle.arrowflow_c.specs.Kinds.{bad_limits, kind_by, out_of_memory}
+
+-- a report of this kind alone
+abbrev pub bare_report : ℕ → ReportC
+bare_report kind = record { kind = kind; ended = false; place = 0; batches = 0; rows = 0 }
+
+-- a number as it is reported: at most the greatest of 64 bits
+abbrev pub reported : ℕ → ℕ
+reported n = min n (2 ^ 64 - 1)
+
+-- how many rows batches have together
+abbrev pub rows_in : List Table → ℕ
+rows_in [] = 0
+rows_in (t ∷ ts) = t.rows + rows_in ts
+
+-- these batches were counted
+pub record AreCounted (tables : List Table) (n : Counts) : Type 0 where
+  pub batches : n.batches ≡ reported (length tables)
+  pub rows : n.rows ≡ reported (rows_in tables)
+
+-- A message was counted that gives this.
+abbrev pub Adds : Counts → Given → Counts → Type 0
+Adds old schema_given new = new ≡ old
+Adds old (dictionary_given id) new = new ≡ old
+Adds old (batch_given t) new = new ≡ record { batches = reported (old.batches + 1); rows = reported (old.rows + t.rows); ended = old.ended }
+Adds old ended new = new ≡ record { batches = old.batches; rows = old.rows; ended = true }
+
+-- whether a stream with this verdict ended with its marker
+abbrev pub is_done : Verdict → Bool
+is_done Open = false
+is_done Done = true
+is_done (Bad k) = false
+
+-- the reader stands at these bytes, and what their messages gave was counted
+pub record HasCounted (bytes : List ℕ) (n : Counts) (r : Shows) : Type 0 where
+  pub entries : List Entry
+  pub stands : Stands r bytes entries
+  pub counted : AreCounted (tables_of entries) n
+  pub is_ended : n.ended ≡ is_done r.at.verdict
+
+-- What is reported of these bytes: how the stream ends behind them, where, and what its whole messages gave.
+pub record IsReport (limits : LimitNumbers) (bytes : List ℕ) (r : ReportC) : Type 0 where
+  pub entries : List Entry
+  pub standing : Standing
+  pub front : FrontOf limits bytes entries standing
+  pub kind : r.kind ≡ kind_by (ended_so standing)
+  pub is_ended : r.ended ≡ is_done standing.verdict
+  pub place : r.place ≡ standing.place
+  pub batches : r.batches ≡ reported (length (tables_of entries))
+  pub rows : r.rows ≡ reported (rows_in (tables_of entries))
+
+-- the same, or that memory was wanting, and then nothing else
+abbrev pub Reports : LimitNumbers → List ℕ → ReportC → Type 0
+Reports limits bytes r = IsReport limits bytes r ⊎ (r ≡ bare_report out_of_memory)
+
+-- Limits above their ceilings are told by a kind of their own.
+abbrev pub Checks : LimitNumbers → List ℕ → ReportC → Type 0
+Checks limits bytes r = (AreWithinCeilings limits × Reports limits bytes r) ⊎ ((AreWithinCeilings limits → ⊥) × (r ≡ bare_report bad_limits))

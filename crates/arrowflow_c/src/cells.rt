@@ -1,0 +1,113 @@
+//! Single values of a batch.
+
+ghost use Rattle.std.specs.Prelude.{◌≡◌};
+ghost use Rattle.arrowflow_c.specs.Cells.{CellAt, GivesShown, InColumn, IsNumber, bare_cell, no_cell};
+
+use crate::texts::fill;
+use arrow_data::{Array, Batch, SlotValue};
+
+/// A value of a batch.
+#[repr(C)]
+#[derive(Clone, Copy)]
+pub struct CellC {
+    /// 0 null, 1 a truth value, 2 a number, 3 a byte string, 4 a text, 5 a list, 6 a struct, 7 a
+    /// number above 2^63 - 1, 8 no cell of the batch, 9 another number.
+    pub what: u32,
+    /// The truth value.
+    pub truth: bool,
+    /// The number; of a date, a time, a timestamp or a duration that of its units.
+    pub number: i64,
+    /// The number, where it is above 2^63 - 1.
+    pub large: u64,
+    /// How many bytes the byte string or the text has, whether they fit into the room or not.
+    pub size: u64,
+}
+
+impl CellC {
+    /// No cell.
+    pub(crate) fn none() -> CellC
+        ensures { result ≡ no_cell }
+    {
+        CellC::bare(8)
+    }
+
+    /// A cell of this kind alone.
+    fn bare(what: u32) -> CellC
+        ensures { result ≡ bare_cell what }
+    {
+        CellC {
+            what,
+            truth: false,
+            number: 0,
+            large: 0,
+            size: 0,
+        }
+    }
+
+    /// A number.
+    fn of_number(number: i128) -> CellC
+        ensures { IsNumber number result }
+    {
+        match i64::try_from(number) {
+            Ok(small) => CellC {
+                number: small,
+                ..CellC::bare(2)
+            },
+            Err(_) => match u64::try_from(number) {
+                Ok(large) => CellC {
+                    large,
+                    ..CellC::bare(7)
+                },
+                Err(_) => CellC::bare(9),
+            },
+        }
+    }
+
+    /// A value; as much of a byte string or a text as fits is put into the room.
+    fn of(value: SlotValue<'_>, room: &mut [u8]) -> CellC
+        ensures { GivesShown value.entry room.old result room.new }
+    {
+        match value {
+            SlotValue::Null => CellC::bare(0),
+            SlotValue::Bool(truth) => CellC {
+                truth,
+                ..CellC::bare(1)
+            },
+            SlotValue::Int(number) => CellC::of_number(number),
+            SlotValue::Bytes(bytes) => CellC {
+                size: fill(room, bytes),
+                ..CellC::bare(3)
+            },
+            SlotValue::Text(text) => CellC {
+                size: fill(room, text.as_bytes()),
+                ..CellC::bare(4)
+            },
+            SlotValue::List(_, _, _) => CellC::bare(5),
+            SlotValue::Struct(_, _) => CellC::bare(6),
+        }
+    }
+}
+
+/// The value in a row of a column.
+fn cell_in(column: &Array, row: usize, room: &mut [u8]) -> CellC
+    ensures { InColumn column.now row room.old result room.new }
+{
+    if row < column.len() {
+        CellC::of(column.slot(row), room)
+    } else {
+        CellC::none()
+    }
+}
+
+/// The value in a row and a column of a batch, if there is one.
+pub(crate) fn cell_at(batch: &Option<Batch>, column: usize, row: usize, room: &mut [u8]) -> CellC
+    ensures { CellAt batch.now column row room.old result room.new }
+{
+    match batch {
+        Some(batch) => match batch.columns().get(column) {
+            Some(column) => cell_in(column, row, room),
+            None => CellC::none(),
+        },
+        None => CellC::none(),
+    }
+}

@@ -1,0 +1,40 @@
+//! The library for C and for what calls C: streams in memory checked, written again and shown, and
+//! a reader of streams that come in pieces.
+//!
+//! An export takes bytes by a pointer and a length, and numbers and plain structs by value. It
+//! answers a plain struct, and puts texts into the caller's room: nothing that it gives has to be
+//! freed. A reader alone is kept between calls, behind a handle. Each export makes one call of the
+//! crates below, and its contract says that call's promise again, of the bytes that it was given.
+//! What a caller owes stands in the header `c/arrowflow.h`.
+//!
+//! | Notion | Definition |
+//! |---|---|
+//! | how a call ended, by a number | `specs/Kinds.antt`: `kind_of`, `kind_by` |
+//! | what is reported of a stream | `specs/Survey.antt`: `Checks` |
+//! | what is put into the caller's room | `specs/Texts.antt`: `Gives`, `filled` |
+//! | what a reader does between two calls | `specs/Reading.antt`: `ReadsIf`, `Opens`, `Ends` |
+//! | the value of a cell | `specs/Cells.antt`: `CellIf` |
+//! | what a handle owns | `specs/Owned.antt` |
+#![tactic(auto)]
+
+mod cells;
+mod copying;
+mod handle;
+mod kinds;
+mod loose;
+mod reader;
+mod reading;
+mod showing;
+mod slot;
+mod steps;
+mod survey;
+mod terms;
+mod texts;
+
+pub use cells::CellC;
+pub use handle::ReaderC;
+pub use slot::Slot;
+pub use steps::{FaultC, StepC};
+pub use survey::ReportC;
+pub use terms::{LimitsC, OptionsC};
+pub use texts::TextC;

@@ -1,0 +1,100 @@
+//! Streams that come in pieces.
+
+ghost use Rattle.std.specs.Prelude.{◌≡◌, None};
+ghost use Rattle.arrowflow_c.specs.Cells.{CellIf};
+ghost use Rattle.arrowflow_c.specs.Terms.{numbers};
+ghost use Rattle.arrowflow_c.specs.Reading.{Ends, Opens, ReadsIf};
+
+use crate::cells::{CellC, cell_at};
+use crate::handle::ReaderC;
+use crate::kinds::{BAD_LIMITS, MEMORY, NO_READER};
+use crate::reading::Reading;
+use crate::steps::{FaultC, StepC};
+use crate::terms::LimitsC;
+use std::alloc::Global;
+use std::mem::replace;
+
+/// Makes a reader of a new stream, in place of the one that the handle has. It answers 0; or 19
+/// where a growth was refused and 20 where a limit is above its ceiling, and then there is none.
+#[unsafe(no_mangle)]
+pub extern "C" fn arrowflow_reader_open(alloc: Global, limits: LimitsC, reader: &mut ReaderC) -> u32
+    ensures { Opens (numbers limits) result reader.new.slot.value }
+{
+    arrowflow_reader_close(alloc, reader);
+    let Some(limits) = limits.limits() else {
+        return BAD_LIMITS;
+    };
+    match Box::new(alloc, Reading::new(alloc, limits)) {
+        Ok(reading) => {
+            *reader = ReaderC::of(reading);
+            0
+        }
+        Err(_) => MEMORY,
+    }
+}
+
+/// Gives the reader a piece, of which it takes the bytes up to the end of one message, or all of
+/// them where no message of it is whole, and tells what came. What it left is given again.
+#[unsafe(no_mangle)]
+pub extern "C" fn arrowflow_reader_read(alloc: Global, reader: &mut ReaderC, piece: &[u8]) -> StepC
+    ensures { ReadsIf reader.old.slot.value piece.now result reader.new.slot.value }
+{
+    match replace(reader, ReaderC::none()).into_box(alloc) {
+        Some(mut reading) => {
+            let step = reading.read(piece);
+            *reader = ReaderC::of(reading);
+            step
+        }
+        None => StepC::fault(NO_READER, 0),
+    }
+}
+
+/// Tells what a stream answers that ends here.
+#[unsafe(no_mangle)]
+pub extern "C" fn arrowflow_reader_end(alloc: Global, reader: &mut ReaderC) -> FaultC
+    ensures { Ends reader.old.slot.value result reader.new.slot.value }
+{
+    match replace(reader, ReaderC::none()).into_box(alloc) {
+        Some(reading) => {
+            let fault = reading.end();
+            *reader = ReaderC::of(reading);
+            fault
+        }
+        None => FaultC {
+            kind: NO_READER,
+            place: 0,
+        },
+    }
+}
+
+/// Tells the value in a row and a column of the batch that the last call of `arrowflow_reader_read`
+/// gave, both counted from 0, with indices looked up. As much of a byte string or a text as fits is
+/// put into the room, and its length is told.
+#[unsafe(no_mangle)]
+pub extern "C" fn arrowflow_reader_cell(
+    alloc: Global,
+    reader: &mut ReaderC,
+    column: usize,
+    row: usize,
+    room: &mut [u8],
+) -> CellC
+    ensures { CellIf reader.old.slot.value column row room.old result room.new
+        reader.new.slot.value }
+{
+    match replace(reader, ReaderC::none()).into_box(alloc) {
+        Some(reading) => {
+            let cell = cell_at(&reading.batch, column, row, room);
+            *reader = ReaderC::of(reading);
+            cell
+        }
+        None => CellC::none(),
+    }
+}
+
+/// Ends the reader, if there is one, and frees what it holds.
+#[unsafe(no_mangle)]
+pub extern "C" fn arrowflow_reader_close(alloc: Global, reader: &mut ReaderC)
+    ensures { reader.new.slot.value ≡ None }
+{
+    let _ = replace(reader, ReaderC::none()).into_box(alloc);
+}

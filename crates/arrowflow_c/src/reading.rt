@@ -1,0 +1,60 @@
+//! A reader with the batch that it gave last.
+
+ghost use Rattle.std.specs.Prelude.{◌≡◌, None};
+ghost use Rattle.arrow_stream_reader.specs.Stream.{ended_so, fresh};
+ghost use Rattle.arrowflow_c.specs.Reading.{Reads, batch_given};
+ghost use Rattle.arrowflow_c.specs.Steps.{end_told};
+
+use crate::steps::{FaultC, StepC};
+use arrow_data::Batch;
+use arrow_stream_reader::{Fault, Item, StreamReader};
+use arrow_types::Limits;
+use std::alloc::Global;
+
+/// A reader with the batch that it gave last.
+#[derive(Drop)]
+pub struct Reading {
+    pub(crate) reader: StreamReader,
+    pub(crate) batch: Option<Batch>,
+}
+
+impl Reading {
+    /// A reader to which nothing was given.
+    pub(crate) fn new(alloc: Global, limits: Limits) -> Reading
+        ensures reader { result.reader ≡ fresh limits }
+        ensures batch { result.batch ≡ None }
+    {
+        Reading {
+            reader: StreamReader::new(alloc, limits),
+            batch: None,
+        }
+    }
+
+    /// Reads on in a piece, up to the end of one message, and keeps its batch in place of the last
+    /// one.
+    pub(crate) fn read(&mut self, piece: &[u8]) -> StepC
+        ensures { Reads self.old piece.now result self.new }
+    {
+        let answer = self.reader.read(piece);
+        let step = StepC::told(&answer);
+        self.batch = batch_given(answer);
+        step
+    }
+
+    /// What a stream answers that ends here.
+    pub(crate) fn end(&self) -> FaultC
+        ensures { result ≡ end_told (ended_so self.now.reader.at) }
+    {
+        FaultC::told(self.reader.end())
+    }
+}
+
+/// The batch of a reader's answer, if it gave one.
+fn batch_given(answer: Result<(usize, Option<Item>), Fault>) -> Option<Batch>
+    ensures { result ≡ batch_given answer }
+{
+    match answer {
+        Ok((_, Some(Item::Batch(batch)))) => Some(batch),
+        Ok((_, None | Some(Item::Schema | Item::Dictionary(_) | Item::End))) | Err(_) => None,
+    }
+}

@@ -1,0 +1,61 @@
+//! On what terms a stream is read, and written again.
+
+ghost use Rattle.std.specs.Prelude.{◌≡◌, SomeIff};
+ghost use Rattle.arrow_types.specs.Limits.{AreWithinCeilings};
+ghost use Rattle.arrow_stream_writer.specs.Shown.{options_view};
+ghost use Rattle.arrowflow_c.specs.Terms.{numbers, options_by};
+
+use arrow_stream_writer::{Align, Options, Updates};
+use arrow_types::Limits;
+
+/// How much a stranger's stream may ask for.
+#[repr(C)]
+#[derive(Clone, Copy)]
+pub struct LimitsC {
+    /// The most bytes of one message's metadata, at most 2^30.
+    pub max_metadata: u64,
+    /// The most bytes of one message's body, at most 2^40.
+    pub max_body: u64,
+    /// The most rows of a batch, and values of a dictionary, at most 2^31 - 1.
+    pub max_rows: u64,
+}
+
+impl LimitsC {
+    /// The limits of a reader, or None where one is above its ceiling.
+    pub(crate) fn limits(self) -> Option<Limits>
+        ensures { SomeIff result (AreWithinCeilings (numbers self)) (numbers self) }
+    {
+        Limits::new(self.max_metadata, self.max_body, self.max_rows)
+    }
+}
+
+/// How a stream is written again. All false: dictionaries that grew are sent as deltas, and buffers
+/// are padded to 64 bytes.
+#[repr(C)]
+#[derive(Clone, Copy)]
+pub struct OptionsC {
+    /// Whether a dictionary that grew is sent whole.
+    pub resend: bool,
+    /// Whether buffers are padded to 8 bytes.
+    pub pad_to_8: bool,
+}
+
+impl OptionsC {
+    /// The options of a writer.
+    pub(crate) fn options(self) -> Options
+        ensures { options_view result ≡ options_by self }
+    {
+        Options {
+            updates: if self.resend {
+                Updates::Resend
+            } else {
+                Updates::Delta
+            },
+            align: if self.pad_to_8 {
+                Align::Eight
+            } else {
+                Align::SixtyFour
+            },
+        }
+    }
+}

@@ -1,0 +1,64 @@
+//! Texts that are put into the caller's room.
+
+ghost use Rattle.std.specs.Prelude.{◌≡◌, length};
+ghost use Rattle.arrowflow_c.specs.Texts.{bare_text, filled, text_told};
+
+use crate::kinds::{kind_of, place_of};
+use arrowflow_report::ToolFault;
+
+/// What is told of a text that a call gave, and how the call ended.
+#[repr(C)]
+#[derive(Clone, Copy)]
+pub struct TextC {
+    /// 0 where all was given, 1 to 18 for a fault of the stream, 19 where a growth was refused, 20
+    /// for limits above their ceilings, from 30 on where the writer refused the stream: 30 and more
+    /// the schema, 40 and more a batch, 50 and more the end marker.
+    pub kind: u32,
+    /// The place of the message at fault in bytes from the stream's beginning, or the number of the
+    /// batch that was refused.
+    pub place: u64,
+    /// How many bytes the text has, whether they fit into the room or not.
+    pub size: u64,
+}
+
+impl TextC {
+    /// An empty text, and this kind alone.
+    pub(crate) fn bare(kind: u32) -> TextC
+        ensures { result ≡ bare_text kind }
+    {
+        TextC {
+            kind,
+            place: 0,
+            size: 0,
+        }
+    }
+
+    /// Puts the text of a call that ended so into the room, as much of its front as fits.
+    pub(crate) fn given(answer: &Result<(), ToolFault>, text: &[u8], room: &mut [u8]) -> TextC
+        ensures told { result ≡ text_told answer.now (length text.now) }
+        ensures filled { room.new ≡ filled room.old text.now }
+    {
+        let size = fill(room, text);
+        match answer {
+            Ok(()) => TextC {
+                size,
+                ..TextC::bare(0)
+            },
+            Err(fault) => TextC {
+                kind: kind_of(fault),
+                place: place_of(fault),
+                size,
+            },
+        }
+    }
+}
+
+/// Puts the front of a text into the room, as much of it as fits, and answers the text's length.
+pub(crate) fn fill(room: &mut [u8], text: &[u8]) -> u64
+    ensures count { result ≡ length text.now }
+    ensures filled { room.new ≡ filled room.old text.now }
+{
+    let size = text.len().min(room.len());
+    room[..size].copy_from_slice(&text[..size]);
+    text.len() as u64
+}
