@@ -14,7 +14,7 @@ sys.dont_write_bytecode = True
 sys.path.insert(0, f"{TOP}/checks")
 from crates import listed, source
 
-FUNCTION = re.compile(r"^([ \t]*)(?:pub(?:\([^)]*\))?\s+)?(?:const\s+)?(?:unsafe\s+)?fn\s+(\w+)", re.M)
+FUNCTION = re.compile(r'^([ \t]*)(?:pub(?:\([^)]*\))?\s+)?(?:const\s+)?(?:unsafe\s+)?(?:extern "C"\s+)?fn\s+(\w+)', re.M)
 IMPL = re.compile(r"^([ \t]*)(?:unsafe\s+)?impl\b([^{}]*)\{[ \t]*$", re.M)
 CYCLE = re.compile(r"#\[cycle\((\w+)\)\]")
 # What the name of a function that stands again has behind its own.
