@@ -36,11 +36,6 @@
 //! zone, key or value in one before they are copied. [`decode_counted`] tells these counts, as
 //! [`Work`], whatever it answers. Recursion goes no deeper than the levels of fields, and room for the
 //! elements of a vector is made only after all of them were found to lie inside.
-//!
-//! Of the proofs, `OneTree` and `OneAnswer` are of uniqueness, `Shallow` and `Narrow` show that
-//! what is built keeps to the limits of a schema, `Least` goes from conditions to the least fault,
-//! `Decoding` from trees to bytes, and `Straight` shows that the tables of a batch which were read
-//! field by field are those of a tree.
 #![tactic(auto)]
 
 mod batches;
