@@ -4,11 +4,12 @@
 //! body that are its buffers; lists and structs hold the arrays of their children. Nothing of the
 //! body is copied. The accessors give the value of a slot by its index.
 //!
-//! Contracts name no range and no buffer: to them an array is a `Column`, its type and the plain
-//! value of each slot (`specs/Column.antt`, `specs/PlainValue.antt`). What bytes stand for which
-//! value is said by index in `specs/Slots.antt`. That the ranges lie inside the body, that offsets
-//! never fall and end inside, and that texts are UTF-8, is known of every array (`IsArray` in
-//! `specs/Node.antt`): it is asked for where one is made, and tested nowhere again.
+//! To contracts an array is a `Column`, its type and the plain value of each slot
+//! (`specs/Column.antt`, `specs/PlainValue.antt`). They name no range, and a buffer only where one
+//! comes in or is handed out. What bytes stand for which value is said by index in
+//! `specs/Slots.antt`. That the ranges lie inside the body, that offsets never fall and end inside,
+//! and that texts are UTF-8, is known of every array (`IsArray` in `specs/Node.antt`): it is asked
+//! for where one is made, and tested nowhere again.
 //!
 //! | Notion | Definition |
 //! |---|---|
@@ -24,7 +25,7 @@
 //! | what an index stands for | `specs/Resolve.antt`: `resolve`; `specs/Listed.antt`: `listed` |
 //! | the first null, slots without nulls | `specs/FullSlots.antt`: `IsFirstNull`, `AreFull` |
 //! | what a slot shows | `specs/Shown.antt`: `Shows`, `HoldsValue` |
-//! | the buffers of a column, found once | `specs/View.antt`: `AreCellsOf`, `RefersTo` |
+//! | the buffers of a column, handed out | `specs/View.antt`: `AreBuffersOf`; `RefersTo` |
 //! | equal slots, values that begin others | `specs/Same.antt`: `same_values`, `Begins` |
 //! | a batch, and why there is none | `specs/Batch.antt`: `IsTable`, `Judges` |
 //! | that a column has one child for each field | `specs/Laws.antt`: `OneField`, `OneChild` |
@@ -51,6 +52,7 @@ mod slot;
 mod slots;
 mod texts;
 mod value;
+mod view;
 
 pub use array::{Array, SlotValue};
 pub use batch::{Batch, BatchFault};
@@ -59,3 +61,4 @@ pub use dictionary::Dictionary;
 pub use shared_type::{SharedType, shared_types};
 pub use slots::Slots;
 pub use value::Value;
+pub use view::{Buffers, NumberBuffers, StringBuffers};

@@ -1,9 +1,9 @@
 use Rattle.std.proofs.Common.{◌∙◌, ap, subst, sym}
 use Rattle.arrow_data.specs.Node.{bytes_of}
-use Rattle.arrow_data.specs.View.{HoldIndices}
+use Rattle.arrow_data.specs.View.{HoldIndices, HoldLists, HoldStructs}
 use Rattle.arrow_data.specs.declared.byte_range.ByteRange.{ByteRange}
-use Rattle.arrow_data.proofs.Viewing.{binaries_held, bools_held, fixed_held, indices_held, ints_held, nulls_held, texts_held}
-use Rattle.arrow_data.proofs.array.Array.cells.Goals as goal
+use Rattle.arrow_data.proofs.Viewing.{binaries_held, bools_held, fixed_held, indices_held, ints_held, lists_held, nulls_held, structs_held, texts_held}
+use Rattle.arrow_data.proofs.array.Array.buffers.Goals as goal
 
 pub returns-in-Nulls : goal.returns-in-Nulls
 returns-in-Nulls c = nulls_held c.self.inside c.args.self.now c.self.view_is c.self.invariant c.in-Nulls.is
@@ -49,4 +49,19 @@ returns-in-Indices c =
     let x = c.of-in-Indices.result in
     let of = c.of-in-Indices.ensures in
     let held = indices_held c.self.inside c.args.self.now n c.in-Indices.dictionary x.width x.signed x.validity.now x.values.now c.self.view_is c.self.invariant c.in-Indices.is of.width of.signed (of.validity ∙ body n.validity) (of.values ∙ body n.values) in
-    subst (HoldIndices c.args.self.now x.width x.signed x.validity.now x.values.now) (sym c.deref.ensures) held
+    subst (HoldIndices c.args.self.now x.width x.signed x.validity.now x.values.now) (sym c.deref-in-Indices.ensures) held
+
+pub returns-in-Lists : goal.returns-in-Lists
+returns-in-Lists c =
+    let body = λ (r : ByteRange). ap (λ bs. bytes_of bs r) c.as_slice-body.ensures in
+    let v = c.in-Lists.validity in
+    let o = c.in-Lists.offsets in
+    let held = lists_held c.self.inside c.args.self.now c.in-Lists.width v o c.in-Lists.child c.bytes_in-in-Lists.result.now c.bytes_in-in-Lists-2.result.now c.self.view_is c.self.invariant c.in-Lists.is (c.bytes_in-in-Lists.ensures ∙ body v) (c.bytes_in-in-Lists-2.ensures ∙ body o) in
+    subst (HoldLists c.args.self.now c.in-Lists.width c.bytes_in-in-Lists.result.now c.bytes_in-in-Lists-2.result.now) (sym c.deref.ensures) held
+
+pub returns-in-Structs : goal.returns-in-Structs
+returns-in-Structs c =
+    let body = λ (r : ByteRange). ap (λ bs. bytes_of bs r) c.as_slice-body.ensures in
+    let v = c.in-Structs.validity in
+    let held = structs_held c.self.inside c.args.self.now v c.in-Structs.children c.bytes_in-in-Structs.result.now c.self.view_is c.self.invariant c.in-Structs.is (c.bytes_in-in-Structs.ensures ∙ body v) in
+    subst (HoldStructs c.args.self.now c.bytes_in-in-Structs.result.now) (sym c.deref-in-Structs.ensures.value) held
