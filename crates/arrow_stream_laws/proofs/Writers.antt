@@ -20,7 +20,7 @@ use Rattle.arrow_stream_laws.specs.Text.{schema_frame, marker_frame, IsPart, Tex
 use Rattle.arrow_stream_laws.specs.Rows.{rows_of}
 use Rattle.arrow_stream_laws.specs.Standing.{SendsBeginning}
 use Rattle.arrow_stream_laws.proofs.Deliveries.{delivered, text_stream, written_is}
-use Rattle.arrow_stream_laws.specs.Writer.{Shows, Stands, Accepts, Fails, FailsAtStart, Starts, Ends, FailsAtEnd, first_place}
+use Rattle.arrow_stream_laws.specs.Writer.{WriterView, WriterStands, Accepts, Fails, FailsAtStart, Starts, Ends, FailsAtEnd, first_place}
 use Rattle.arrow_stream_laws.proofs.Chains.{left_by-append}
 use Rattle.arrow_stream_laws.proofs.Parts.{frame_length}
 use Rattle.arrow_stream_laws.proofs.Texts.{text_is, text_part, joined_more}
@@ -29,15 +29,15 @@ unfinished_text : {l : LimitNumbers} {o : Options} {shape : SchemaShape} {parts 
 unfinished_text (unfinished parts batches frames t) = t
 
 -- an accepted part leaves the writer at one part and one batch more
-module _ (old : Shows) (t : Table) (fs : List Frame) (part : IsPart old.limits old.options old.shape old.sent old.place t fs) where
-  module _ (base : Option (List ℕ)) (parts : List (List ℕ)) (batches : List Table) (s : Stands old base false parts batches) where
+module _ (old : WriterView) (t : Table) (fs : List Frame) (part : IsPart old.limits old.options old.shape old.sent old.place t fs) where
+  module _ (base : Option (List ℕ)) (parts : List (List ℕ)) (batches : List Table) (s : WriterStands old base false parts batches) where
     pub own_part : IsPart old.limits old.options old.shape (left_by nothing_yet s.frames).dictionaries (length (joined parts)) t fs
     own_part =
         subst (λ n. IsPart old.limits old.options old.shape (left_by nothing_yet s.frames).dictionaries n t fs) s.place_is
         (subst (λ ds. IsPart old.limits old.options old.shape ds old.place t fs) s.sent_are part)
 
     pub stands_by : (contents : Option (List ℕ)) → Appends old.contents contents (frames_bytes fs)
-        → Stands (record old { sent = lists_after old.options.updates old.shape.fields old.sent t; place = old.place + part_size old.options old.shape.fields old.sent t; contents = contents; status = statuses.Writing }) base false (parts ++ frames_bytes fs ∷ []) (batches ++ t ∷ [])
+        → WriterStands (record old { sent = lists_after old.options.updates old.shape.fields old.sent t; place = old.place + part_size old.options old.shape.fields old.sent t; contents = contents; status = statuses.Writing }) base false (parts ++ frames_bytes fs ∷ []) (batches ++ t ∷ [])
     stands_by contents more =
         let text = unfinished_text s.written in
         let x = text_is text in
@@ -66,8 +66,8 @@ accepts_in_all base before now parts part a b =
     (length (joined parts) + n, omega (arith, b.1), subst (λ xs. Appends base now xs) bytes (Appends-trans base before now (joined parts) (take n part) a b.2))
 
 -- an accepted end marker closes the writer
-pub closed_by : (old : Shows) (base : Option (List ℕ)) (parts : List (List ℕ)) (batches : List Table) (b : List ℕ) (contents : Option (List ℕ)) → Stands old base false parts batches → IsMarker b → marker_fits old.place ≡ true
-    → Appends old.contents contents b → Stands (record old { place = old.place + 8; status = statuses.Finished; contents = contents }) base true (parts ++ b ∷ []) batches
+pub closed_by : (old : WriterView) (base : Option (List ℕ)) (parts : List (List ℕ)) (batches : List Table) (b : List ℕ) (contents : Option (List ℕ)) → WriterStands old base false parts batches → IsMarker b → marker_fits old.place ≡ true
+    → Appends old.contents contents b → WriterStands (record old { place = old.place + 8; status = statuses.Finished; contents = contents }) base true (parts ++ b ∷ []) batches
 closed_by old base parts batches b contents s m h more =
     let text = unfinished_text s.written in
     let last = marker_frame (left_by nothing_yet s.frames) b in
@@ -101,7 +101,7 @@ starts_of l o shape base contents failures b known admitted f more =
 
 -- WHAT A CALL DID, by what was sent
 
-pub accepts_of : (old : Shows) (t : Table) (fs : List Frame) (contents : Option (List ℕ)) → old.status ≡ statuses.Writing → IsPart old.limits old.options old.shape old.sent old.place t fs → Appends old.contents contents (frames_bytes fs)
+pub accepts_of : (old : WriterView) (t : Table) (fs : List Frame) (contents : Option (List ℕ)) → old.status ≡ statuses.Writing → IsPart old.limits old.options old.shape old.sent old.place t fs → Appends old.contents contents (frames_bytes fs)
     → Accepts old t (record old { sent = lists_after old.options.updates old.shape.fields old.sent t; place = old.place + part_size old.options old.shape.fields old.sent t; contents = contents })
 accepts_of old t fs contents open_before part more = record {
   open_before = open_before;
@@ -110,11 +110,11 @@ accepts_of old t fs contents open_before part more = record {
   accepted = more;
   new_is = refl;
   stands = λ base parts batches s.
-      subst (λ status. Stands (record old { sent = lists_after old.options.updates old.shape.fields old.sent t; place = old.place + part_size old.options old.shape.fields old.sent t; contents = contents; status = status }) base false (parts ++ frames_bytes fs ∷ []) (batches ++ t ∷ [])) (sym open_before)
+      subst (λ status. WriterStands (record old { sent = lists_after old.options.updates old.shape.fields old.sent t; place = old.place + part_size old.options old.shape.fields old.sent t; contents = contents; status = status }) base false (parts ++ frames_bytes fs ∷ []) (batches ++ t ∷ [])) (sym open_before)
       (stands_by old t fs part base parts batches s contents more);
 }
 
-pub fails_of : (old : Shows) (t : Table) (fs : List Frame) (contents : Option (List ℕ)) → old.status ≡ statuses.Writing → IsPart old.limits old.options old.shape old.sent old.place t fs → AcceptsBeginning old.contents contents (frames_bytes fs)
+pub fails_of : (old : WriterView) (t : Table) (fs : List Frame) (contents : Option (List ℕ)) → old.status ≡ statuses.Writing → IsPart old.limits old.options old.shape old.sent old.place t fs → AcceptsBeginning old.contents contents (frames_bytes fs)
     → Fails old t (record old { status = statuses.Broken; contents = contents; failures = old.failures + 1 })
 fails_of old t fs contents open_before part some = record {
   open_before = open_before;
@@ -125,7 +125,7 @@ fails_of old t fs contents open_before part some = record {
   in_all = λ base parts batches s. accepts_in_all base old.contents contents parts (frames_bytes fs) s.accepted some;
 }
 
-pub ends_of : (old : Shows) (b : List ℕ) (contents : Option (List ℕ)) → old.status ≡ statuses.Writing → IsMarker b → marker_fits old.place ≡ true → Appends old.contents contents b
+pub ends_of : (old : WriterView) (b : List ℕ) (contents : Option (List ℕ)) → old.status ≡ statuses.Writing → IsMarker b → marker_fits old.place ≡ true → Appends old.contents contents b
     → Ends old (record old { place = old.place + 8; status = statuses.Finished; contents = contents })
 ends_of old b contents open_before m h more = record {
   open_before = open_before;
@@ -137,7 +137,7 @@ ends_of old b contents open_before m h more = record {
   stands = λ base parts batches s. closed_by old base parts batches b contents s m h more;
 }
 
-pub fails_at_end : (old : Shows) (b : List ℕ) (contents : Option (List ℕ)) → old.status ≡ statuses.Writing → IsMarker b → marker_fits old.place ≡ true → AcceptsBeginning old.contents contents b
+pub fails_at_end : (old : WriterView) (b : List ℕ) (contents : Option (List ℕ)) → old.status ≡ statuses.Writing → IsMarker b → marker_fits old.place ≡ true → AcceptsBeginning old.contents contents b
     → FailsAtEnd old (record old { status = statuses.Broken; contents = contents; failures = old.failures + 1 })
 fails_at_end old b contents open_before m h some = record {
   open_before = open_before;
@@ -151,14 +151,14 @@ fails_at_end old b contents open_before m h some = record {
 
 -- WHAT WAS SENT IN ALL
 
-pub stream_sent : (w : Shows) (closed : Bool) (parts : List (List ℕ)) (batches : List Table) (before now : List ℕ) → Stands w (Some before) closed parts batches → w.contents ≡ Some now
+pub stream_sent : (w : WriterView) (closed : Bool) (parts : List (List ℕ)) (batches : List Table) (before now : List ℕ) → WriterStands w (Some before) closed parts batches → w.contents ≡ Some now
     → (now ≡ before ++ joined parts) × IsStream w.limits (joined parts) w.shape (map rows_of batches) w.sent
 stream_sent w closed parts batches before now s told =
     let accepted = subst (λ c. Appends (Some before) c (joined parts)) told s.accepted in
     let last = s.sent_are ∙ (written_is s.written).dictionaries in
     (accepted, subst (λ ds. IsStream w.limits (joined parts) w.shape (map rows_of batches) ds) (sym last) (text_stream s.written))
 
-pub broken_delivered : (old new : Shows) (t : Table) (parts : List (List ℕ)) (batches : List Table) (before now : List ℕ) → Stands old (Some before) false parts batches → (f : Fails old t new) → new.contents ≡ Some now
+pub broken_delivered : (old new : WriterView) (t : Table) (parts : List (List ℕ)) (batches : List Table) (before now : List ℕ) → WriterStands old (Some before) false parts batches → (f : Fails old t new) → new.contents ≡ Some now
     → SendsBeginning old.limits before now (parts ++ frames_bytes f.frames ∷ []) (batches ++ t ∷ [])
 broken_delivered old new t parts batches before now s f told =
     let in_all = f.in_all (Some before) parts batches s in
@@ -185,7 +185,7 @@ start_delivered limits o shape failures now_failed before now f =
       delivered = delivered {o = o} n (unfinished _ _ _ (begins f.part f.known f.admitted f.is_frame));
     }
 
-pub end_delivered : (old new : Shows) (parts : List (List ℕ)) (batches : List Table) (before now : List ℕ) → Stands old (Some before) false parts batches → (f : FailsAtEnd old new) → new.contents ≡ Some now
+pub end_delivered : (old new : WriterView) (parts : List (List ℕ)) (batches : List Table) (before now : List ℕ) → WriterStands old (Some before) false parts batches → (f : FailsAtEnd old new) → new.contents ≡ Some now
     → SendsBeginning old.limits before now (parts ++ f.marker ∷ []) batches
 end_delivered old new parts batches before now s f told =
     let in_all = f.in_all (Some before) parts batches s in

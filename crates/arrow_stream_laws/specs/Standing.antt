@@ -15,7 +15,7 @@ use Rattle.arrow_stream_laws.specs.Admission.{schema_admission, marker_fits, par
 use Rattle.arrow_stream_laws.specs.Frames.{Frame, frames_bytes, IsFrameOf, IsMarker, IsStream}
 use Rattle.arrow_stream_laws.specs.Text.{IsPart, joined}
 use Rattle.arrow_stream_laws.specs.Laws.{Delivered}
-use Rattle.arrow_stream_laws.specs.Writer.{Shows, Stands, Starts, FailsAtStart, Accepts, Fails, Ends, FailsAtEnd, first_place}
+use Rattle.arrow_stream_laws.specs.Writer.{WriterView, WriterStands, Starts, FailsAtStart, Accepts, Fails, Ends, FailsAtEnd, first_place}
 
 -- a writer whose sink accepted the frame of an admitted schema stands at it
 abbrev pub SchemaSent : Type 0
@@ -36,7 +36,7 @@ SchemaSent =
 -- one whose sink accepted the part of a batch stands at this part and this batch too
 abbrev pub PartSent : Type 0
 PartSent =
-    (old : Shows) (t : Table) (frames : List Frame) (contents : Option (List ℕ)) → old.status ≡ statuses.Writing →
+    (old : WriterView) (t : Table) (frames : List Frame) (contents : Option (List ℕ)) → old.status ≡ statuses.Writing →
     IsPart old.limits old.options old.shape old.sent old.place t frames → Appends old.contents contents (frames_bytes frames) →
     Accepts old t (record old {
       sent = lists_after old.options.updates old.shape.fields old.sent t;
@@ -47,20 +47,20 @@ PartSent =
 -- one whose sink failed in a part has sent a beginning of the parts
 abbrev pub PartBroken : Type 0
 PartBroken =
-    (old : Shows) (t : Table) (frames : List Frame) (contents : Option (List ℕ)) → old.status ≡ statuses.Writing →
+    (old : WriterView) (t : Table) (frames : List Frame) (contents : Option (List ℕ)) → old.status ≡ statuses.Writing →
     IsPart old.limits old.options old.shape old.sent old.place t frames → AcceptsBeginning old.contents contents (frames_bytes frames) →
     Fails old t (record old { status = statuses.Broken; contents = contents; failures = old.failures + 1 })
 
 -- one whose sink accepted the end marker is finished
 abbrev pub MarkerSent : Type 0
 MarkerSent =
-    (old : Shows) (b : List ℕ) (contents : Option (List ℕ)) → old.status ≡ statuses.Writing → IsMarker b → marker_fits old.place ≡ true → Appends old.contents contents b →
+    (old : WriterView) (b : List ℕ) (contents : Option (List ℕ)) → old.status ≡ statuses.Writing → IsMarker b → marker_fits old.place ≡ true → Appends old.contents contents b →
     Ends old (record old { place = old.place + 8; status = statuses.Finished; contents = contents })
 
 -- one whose sink failed in the end marker has sent a beginning of the parts
 abbrev pub MarkerBroken : Type 0
 MarkerBroken =
-    (old : Shows) (b : List ℕ) (contents : Option (List ℕ)) → old.status ≡ statuses.Writing → IsMarker b → marker_fits old.place ≡ true →
+    (old : WriterView) (b : List ℕ) (contents : Option (List ℕ)) → old.status ≡ statuses.Writing → IsMarker b → marker_fits old.place ≡ true →
     AcceptsBeginning old.contents contents b →
     FailsAtEnd old (record old { status = statuses.Broken; contents = contents; failures = old.failures + 1 })
 
@@ -68,8 +68,8 @@ MarkerBroken =
 -- accepted, and its last dictionaries are those that the writer has as sent.
 abbrev pub SentIsAStream : Type 0
 SentIsAStream =
-    (w : Shows) (closed : Bool) (parts : List (List ℕ)) (batches : List Table) (before now : List ℕ) →
-    Stands w (Some before) closed parts batches → w.contents ≡ Some now →
+    (w : WriterView) (closed : Bool) (parts : List (List ℕ)) (batches : List Table) (before now : List ℕ) →
+    WriterStands w (Some before) closed parts batches → w.contents ≡ Some now →
     (now ≡ before ++ joined parts) × IsStream w.limits (joined parts) w.shape (map rows_of batches) w.sent
 
 -- What a sink that failed in the last of these parts accepted: their first n bytes, of which a reader has what is delivered with n
@@ -91,13 +91,13 @@ StartIsDelivered =
 -- one that failed in the end marker, or as it was flushed, accepted such a beginning of all parts
 abbrev pub EndIsDelivered : Type 0
 EndIsDelivered =
-    (old new : Shows) (parts : List (List ℕ)) (batches : List Table) (before now : List ℕ) →
-    Stands old (Some before) false parts batches → (f : FailsAtEnd old new) → new.contents ≡ Some now →
+    (old new : WriterView) (parts : List (List ℕ)) (batches : List Table) (before now : List ℕ) →
+    WriterStands old (Some before) false parts batches → (f : FailsAtEnd old new) → new.contents ≡ Some now →
     SendsBeginning old.limits before now (parts ++ f.marker ∷ []) batches
 
 -- one that failed in the part of a batch accepted such a beginning, that part the last
 abbrev pub BrokenIsDelivered : Type 0
 BrokenIsDelivered =
-    (old new : Shows) (t : Table) (parts : List (List ℕ)) (batches : List Table) (before now : List ℕ) →
-    Stands old (Some before) false parts batches → (f : Fails old t new) → new.contents ≡ Some now →
+    (old new : WriterView) (t : Table) (parts : List (List ℕ)) (batches : List Table) (before now : List ℕ) →
+    WriterStands old (Some before) false parts batches → (f : Fails old t new) → new.contents ≡ Some now →
     SendsBeginning old.limits before now (parts ++ frames_bytes f.frames ∷ []) (batches ++ t ∷ [])

@@ -21,7 +21,7 @@ use Rattle.arrow_stream_laws.specs.Text.{IsPart, Written, joined}
 
 -- What a writer shows: what it was started with, the dictionaries that were sent, the place of the next frame, whether it takes
 -- more, and of its sink what it accepted, where it tells, and how many of its calls failed.
-pub record Shows : Type 0 where
+pub record WriterView : Type 0 where
   pub limits : LimitNumbers
   pub options : Options
   pub shape : SchemaShape
@@ -37,7 +37,7 @@ status_of false = statuses.Writing
 status_of true = statuses.Finished
 
 -- A writer, whose sink held base at its start, stands at these parts and these batches, closed or not.
-pub record Stands (w : Shows) (base : Option (List ℕ)) (closed : Bool) (parts : List (List ℕ)) (batches : List Table) : Type 0 where
+pub record WriterStands (w : WriterView) (base : Option (List ℕ)) (closed : Bool) (parts : List (List ℕ)) (batches : List Table) : Type 0 where
   pub frames : List Frame
   pub written : Written w.limits w.options w.shape closed parts batches frames
   pub sent_are : w.sent ≡ (left_by nothing_yet frames).dictionaries
@@ -46,7 +46,7 @@ pub record Stands (w : Shows) (base : Option (List ℕ)) (closed : Bool) (parts 
   pub status_is : w.status ≡ status_of closed
 
 -- the part of the batch was accepted whole
-pub record Accepts (old : Shows) (t : Table) (new : Shows) : Type 0 where
+pub record Accepts (old : WriterView) (t : Table) (new : WriterView) : Type 0 where
   pub open_before : old.status ≡ statuses.Writing
   pub frames : List Frame
   pub is_part : IsPart old.limits old.options old.shape old.sent old.place t frames
@@ -56,36 +56,36 @@ pub record Accepts (old : Shows) (t : Table) (new : Shows) : Type 0 where
     place = old.place + part_size old.options old.shape.fields old.sent t;
     contents = new.contents;
   }
-  pub stands : (base : Option (List ℕ)) (parts : List (List ℕ)) (batches : List Table) → Stands old base false parts batches →
-      Stands new base false (parts ++ frames_bytes frames ∷ []) (batches ++ t ∷ [])
+  pub stands : (base : Option (List ℕ)) (parts : List (List ℕ)) (batches : List Table) → WriterStands old base false parts batches →
+      WriterStands new base false (parts ++ frames_bytes frames ∷ []) (batches ++ t ∷ [])
 
 -- the sink failed in the part, of which it accepted a beginning; what it accepted in all is a beginning of a text's parts
-pub record Fails (old : Shows) (t : Table) (new : Shows) : Type 0 where
+pub record Fails (old : WriterView) (t : Table) (new : WriterView) : Type 0 where
   pub open_before : old.status ≡ statuses.Writing
   pub frames : List Frame
   pub is_part : IsPart old.limits old.options old.shape old.sent old.place t frames
   pub accepted : AcceptsBeginning old.contents new.contents (frames_bytes frames)
   pub new_is : new ≡ record old { status = statuses.Broken; contents = new.contents; failures = old.failures + 1 }
-  pub in_all : (base : Option (List ℕ)) (parts : List (List ℕ)) (batches : List Table) → Stands old base false parts batches →
+  pub in_all : (base : Option (List ℕ)) (parts : List (List ℕ)) (batches : List Table) → WriterStands old base false parts batches →
       AcceptsBeginning base new.contents (joined (parts ++ frames_bytes frames ∷ []))
 
 -- an open writer refused the batch, and nothing has changed
-pub record Refuses (old : Shows) (t : Table) (k : WriteFault) (new : Shows) : Type 0 where
+pub record RefusesWrite (old : WriterView) (t : Table) (k : WriteFault) (new : WriterView) : Type 0 where
   pub open_before : old.status ≡ statuses.Writing
   pub refusal : admission old.limits old.options old.shape old.sent old.place t ≡ Some k
   pub unchanged : new ≡ old
 
 -- nothing has changed of a writer with this status
-pub record Stays (old : Shows) (status : Status) (new : Shows) : Type 0 where
+pub record Stays (old : WriterView) (status : Status) (new : WriterView) : Type 0 where
   pub before : old.status ≡ status
   pub unchanged : new ≡ old
 
 -- what a write answers
-abbrev pub Writes : Shows → Table → Result (Unit {0}) WriteFault → Shows → Type 0
+abbrev pub Writes : WriterView → Table → Result (Unit {0}) WriteFault → WriterView → Type 0
 Writes old t (Ok done) new = Accepts old t new
-Writes old t (Err SchemaDiffers) new = Refuses old t SchemaDiffers new
-Writes old t (Err TooLarge) new = Refuses old t TooLarge new
-Writes old t (Err DictionariesDiffer) new = Refuses old t DictionariesDiffer new
+Writes old t (Err SchemaDiffers) new = RefusesWrite old t SchemaDiffers new
+Writes old t (Err TooLarge) new = RefusesWrite old t TooLarge new
+Writes old t (Err DictionariesDiffer) new = RefusesWrite old t DictionariesDiffer new
 Writes old t (Err Sink) new = Fails old t new
 Writes old t (Err Broken) new = Stays old statuses.Broken new
 Writes old t (Err Finished) new = Stays old statuses.Finished new
@@ -96,7 +96,7 @@ abbrev pub first_place : Options → SchemaShape → ℕ
 first_place o shape = 8 + schema_size o.align shape
 
 -- where a start leaves a writer: the schema's frame is accepted
-pub record Starts (limits : LimitNumbers) (o : Options) (shape : SchemaShape) (base : Option (List ℕ)) (failures : ℕ) (new : Shows) : Type 0 where
+pub record Starts (limits : LimitNumbers) (o : Options) (shape : SchemaShape) (base : Option (List ℕ)) (failures : ℕ) (new : WriterView) : Type 0 where
   pub part : List ℕ
   pub new_is : new ≡ record {
     limits = limits;
@@ -108,7 +108,7 @@ pub record Starts (limits : LimitNumbers) (o : Options) (shape : SchemaShape) (b
     contents = new.contents;
     failures = failures;
   }
-  pub stands : Stands new base false (part ∷ []) []
+  pub stands : WriterStands new base false (part ∷ []) []
 
 -- the sink failed in the schema's frame; the schema is one
 pub record FailsAtStart (limits : LimitNumbers) (o : Options) (shape : SchemaShape) (base : Option (List ℕ)) (failures : ℕ) (contents : Option (List ℕ)) (now : ℕ) : Type 0 where
@@ -127,35 +127,35 @@ StartFails limits o shape base failures Sink contents now = FailsAtStart limits 
 StartFails limits o shape base failures k contents now = ⊥
 
 -- the end marker was accepted
-pub record Ends (old new : Shows) : Type 0 where
+pub record Ends (old new : WriterView) : Type 0 where
   pub open_before : old.status ≡ statuses.Writing
   pub marker : List ℕ
   pub is_marker : IsMarker marker
   pub fits_in : marker_fits old.place ≡ true
   pub accepted : Appends old.contents new.contents marker
   pub new_is : new ≡ record old { place = old.place + 8; status = statuses.Finished; contents = new.contents }
-  pub stands : (base : Option (List ℕ)) (parts : List (List ℕ)) (batches : List Table) → Stands old base false parts batches →
-      Stands new base true (parts ++ marker ∷ []) batches
+  pub stands : (base : Option (List ℕ)) (parts : List (List ℕ)) (batches : List Table) → WriterStands old base false parts batches →
+      WriterStands new base true (parts ++ marker ∷ []) batches
 
 -- the sink failed in the end marker, or as it was flushed
-pub record FailsAtEnd (old new : Shows) : Type 0 where
+pub record FailsAtEnd (old new : WriterView) : Type 0 where
   pub open_before : old.status ≡ statuses.Writing
   pub marker : List ℕ
   pub is_marker : IsMarker marker
   pub fits_in : marker_fits old.place ≡ true
   pub accepted : AcceptsBeginning old.contents new.contents marker
   pub new_is : new ≡ record old { status = statuses.Broken; contents = new.contents; failures = old.failures + 1 }
-  pub in_all : (base : Option (List ℕ)) (parts : List (List ℕ)) (batches : List Table) → Stands old base false parts batches →
+  pub in_all : (base : Option (List ℕ)) (parts : List (List ℕ)) (batches : List Table) → WriterStands old base false parts batches →
       AcceptsBeginning base new.contents (joined (parts ++ marker ∷ []))
 
 -- an end marker would pass the last place, and nothing has changed
-pub record PassesPlace (old new : Shows) : Type 0 where
+pub record PassesPlace (old new : WriterView) : Type 0 where
   pub open_before : old.status ≡ statuses.Writing
   pub passes : marker_fits old.place ≡ false
   pub unchanged : new ≡ old
 
 -- what a finish answers
-abbrev pub Finishes : Shows → Result (Unit {0}) WriteFault → Shows → Type 0
+abbrev pub Finishes : WriterView → Result (Unit {0}) WriteFault → WriterView → Type 0
 Finishes old (Ok done) new = Ends old new
 Finishes old (Err TooLarge) new = PassesPlace old new
 Finishes old (Err Sink) new = FailsAtEnd old new

@@ -27,7 +27,7 @@
 //! | a body of raw values | `specs/Built.antt`: `IsBuilt` |
 //! | sizes | `specs/Sizes.antt`: `header_size` .. |
 //! | the rows of a batch | `specs/Rows.antt`: `rows_of`, `has_one_list` |
-//! | what a writer shows, what its calls answer | `specs/Writer.antt`: `Shows`, `Starts`, `Writes`, `Finishes` |
+//! | what a writer shows, what its calls answer | `specs/Writer.antt`: `WriterView`, `Starts`, `Writes`, `Finishes` |
 //! | the laws | `specs/Laws.antt`: `TextIsAStream`, `DeliveredBeginning` ..; `specs/Standing.antt` |
 //!
 //! Of the proofs, `Chains` and `Starts` are of frames one after another, `Columns` and `Lists` of

@@ -16,12 +16,12 @@ use Rattle.arrow_stream_reader.specs.Frame.{Outcome, First, whole, marker, refus
 use Rattle.arrow_stream_reader.specs.Front.{Entry, Standing, FrontOf, rests, fails, closes, goes_on}
 use Rattle.arrow_stream_reader.specs.Views.{plain, given}
 use Rattle.arrow_stream_reader.specs.Work.{Waited, Gave, Marked, FirstAt}
-use Rattle.arrow_stream_reader.specs.Stream.{Shows, Stands, fresh}
+use Rattle.arrow_stream_reader.specs.Stream.{ReaderView, ReaderStands, fresh}
 use Rattle.arrow_stream_reader.proofs.Firsts.{First-take, marker-take, First-within, marker-within, one_first}
 use Rattle.arrow_stream_reader.proofs.Fronts.{front_then, front_ended, front_place, at_bytes}
 
 -- what a reader shows, by its work and its verdict
-abbrev pub shown_by : Work → Verdict → Shows
+abbrev pub shown_by : Work → Verdict → ReaderView
 shown_by w o = record { limits = w.limits; at = record { state = plain w.state; place = w.place; rest = w.held.items; verdict = o } }
 
 abbrev pub standing : StreamState → ℕ → List ℕ → Verdict → Standing
@@ -98,7 +98,7 @@ module _ (w : Work) (waiting : FirstAt w w.held.items waits) (piece : List ℕ) 
   pub taken_within : (size : ℕ) → size ≤ length (w.held.items ++ piece) → size - length w.held.items ≤ length piece
   taken_within size k = omega (arith, length-append w.held.items piece)
 
-  module _ (o : Verdict) (open_now : o ≡ Open) (t : List ℕ) (es : List Entry) (at : Stands (shown_by w o) t es) where
+  module _ (o : Verdict) (open_now : o ≡ Open) (t : List ℕ) (es : List Entry) (at : ReaderStands (shown_by w o) t es) where
     -- the front where the reader stands, whose rest is held
     open_front : FrontOf w.limits t es (standing (plain w.state) w.place w.held.items Open)
     open_front =
@@ -109,7 +109,7 @@ module _ (w : Work) (waiting : FirstAt w w.held.items waits) (piece : List ℕ) 
     place_at = front_place open_front ∙ omega arith
 
     -- with less than a message the reader stands behind the piece
-    pub short_stands : (v : Work) → Waited w (w.held.items ++ piece) v → Stands (shown_by v o) (t ++ piece) es
+    pub short_stands : (v : Work) → Waited w (w.held.items ++ piece) v → ReaderStands (shown_by v o) (t ++ piece) es
     short_stands v x = record {
       rest = w.held.items ++ piece;
       front =
@@ -121,7 +121,7 @@ module _ (w : Work) (waiting : FirstAt w w.held.items waits) (piece : List ℕ) 
 
     -- with a whole message it stands behind its last byte, and the message is the newest entry
     pub whole_stands : (item : Item) (v : Work) (x : Gave w (w.held.items ++ piece) item v) →
-        Stands (shown_by v o) (t ++ take (x.size - length w.held.items) piece) (es ++ record { given = given item; end = length t + (x.size - length w.held.items) } ∷ [])
+        ReaderStands (shown_by v o) (t ++ take (x.size - length w.held.items) piece) (es ++ record { given = given item; end = length t + (x.size - length w.held.items) } ∷ [])
     whole_stands item v x =
         let n = x.size - length w.held.items in
         let b = w.held.items ++ take n piece in
@@ -141,7 +141,7 @@ module _ (w : Work) (waiting : FirstAt w w.held.items waits) (piece : List ℕ) 
     -- so with the end marker
     pub marker_stands : (m v : Work) → Marked w (w.held.items ++ piece) m → v.limits ≡ m.limits →
         plain v.state ≡ plain m.state → v.place ≡ m.place + 8 →
-        Stands (shown_by v Done) (t ++ take (8 - length w.held.items) piece) (es ++ record { given = given End; end = length t + (8 - length w.held.items) } ∷ [])
+        ReaderStands (shown_by v Done) (t ++ take (8 - length w.held.items) piece) (es ++ record { given = given End; end = length t + (8 - length w.held.items) } ∷ [])
     marker_stands m v x limits state place =
         let n = 8 - length w.held.items in
         let b = w.held.items ++ take n piece in
@@ -158,7 +158,7 @@ module _ (w : Work) (waiting : FirstAt w w.held.items waits) (piece : List ℕ) 
     -- with a refusal it stands behind the piece
     pub refusal_stands : (k : Refusal) (v : Work) → FirstAt w (w.held.items ++ piece) (refused k) →
         v.limits ≡ w.limits → plain v.state ≡ plain w.state → v.place ≡ w.place →
-        Stands (shown_by v (Bad k)) (t ++ piece) es
+        ReaderStands (shown_by v (Bad k)) (t ++ piece) es
     refusal_stands k v x limits state place =
         let f = front_then piece open_front refl (fails x) in
         let g = subst (λ y. FrontOf w.limits (t ++ piece) y (standing (plain w.state) w.place (w.held.items ++ piece) (Bad k))) (append-nil es) f in
@@ -169,12 +169,12 @@ module _ (w : Work) (waiting : FirstAt w w.held.items waits) (piece : List ℕ) 
         }
 
 -- where a reader has ended, more bytes change nothing
-pub ended_stands : (r : Shows) (t : List ℕ) (es : List Entry) (c : List ℕ) → (r.at.verdict ≡ Open → ⊥) →
-    Stands r t es → Stands r (t ++ c) es
+pub ended_stands : (r : ReaderView) (t : List ℕ) (es : List Entry) (c : List ℕ) → (r.at.verdict ≡ Open → ⊥) →
+    ReaderStands r t es → ReaderStands r (t ++ c) es
 ended_stands r t es c n at = record { rest = at.rest ++ c; front = front_ended c n at.front; held = λ q. absurd (n q) }
 
 -- a reader to which nothing was given stands at nothing
-pub fresh_stands : (l : LimitNumbers) → Stands (fresh l) [] []
+pub fresh_stands : (l : LimitNumbers) → ReaderStands (fresh l) [] []
 fresh_stands l = record { rest = []; front = rests (short_prefix (omega arith)); held = λ _. refl }
 
 -- what a reader shows is told by its parts
@@ -190,11 +190,11 @@ same_shows w o l s p h q a b c d e =
 
 -- so does one whose parts are those of such a reader
 pub anew_stands : (l : LimitNumbers) (s : StreamState) (p : ℕ) (h : List ℕ) → s ≡ nothing_yet → p ≡ 0 → h ≡ [] →
-    Stands (record { limits = l; at = standing s p h Open }) [] []
+    ReaderStands (record { limits = l; at = standing s p h Open }) [] []
 anew_stands l s p h a b c =
-    subst (λ y. Stands (record { limits = l; at = standing y p h Open }) [] []) (sym a)
-    (subst (λ y. Stands (record { limits = l; at = standing nothing_yet y h Open }) [] []) (sym b)
-    (subst (λ y. Stands (record { limits = l; at = standing nothing_yet 0 y Open }) [] []) (sym c) (fresh_stands l)))
+    subst (λ y. ReaderStands (record { limits = l; at = standing y p h Open }) [] []) (sym a)
+    (subst (λ y. ReaderStands (record { limits = l; at = standing nothing_yet y h Open }) [] []) (sym b)
+    (subst (λ y. ReaderStands (record { limits = l; at = standing nothing_yet 0 y Open }) [] []) (sym c) (fresh_stands l)))
 
 -- what is a beginning of the same bytes, and as long
 pub beginning : (a p m r : List ℕ) (k : ℕ) → k ≡ length a → a ++ p ≡ m ++ r → length a ≤ length m → take k m ≡ a

@@ -5,10 +5,10 @@ use Rattle.arrow_stream_reader.specs.declared.reader.Verdict.TheVariants.{Open}
 use Rattle.arrow_stream_reader.specs.Frame.{waits}
 use Rattle.arrow_stream_reader.specs.Views.{plain}
 use Rattle.arrow_stream_reader.specs.Work.{IsAt, FirstAt}
-use Rattle.arrow_stream_reader.specs.Stream.{Shows}
+use Rattle.arrow_stream_reader.specs.Stream.{ReaderView}
 
 -- what the reader shows of its fields
-abbrev pub shows : Inside → Shows
+abbrev pub shows : Inside → ReaderView
 shows a = record {
   limits = a.work.limits;
   at = record { state = plain a.work.state; place = a.work.place; rest = a.work.held.items; verdict = a.verdict };

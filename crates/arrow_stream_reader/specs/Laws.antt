@@ -5,7 +5,7 @@ use Rattle.arrow_stream_reader.specs.declared.reader.Verdict.TheVariants.{Open}
 use Rattle.arrow_stream_reader.specs.State.{StreamState, Given}
 use Rattle.arrow_stream_reader.specs.Frame.{First, whole, waits}
 use Rattle.arrow_stream_reader.specs.Front.{Entry, Standing, FrontOf}
-use Rattle.arrow_stream_reader.specs.Stream.{Shows, Stands}
+use Rattle.arrow_stream_reader.specs.Stream.{ReaderView, ReaderStands}
 
 -- a list of bytes has one front
 abbrev pub OneFront : Type 0
@@ -25,8 +25,8 @@ MoreBytes =
 -- readers that stand at the same bytes show the same, in whatever pieces the bytes came
 abbrev pub SameStanding : Type 0
 SameStanding =
-    (r q : Shows) (t : List ℕ) (es fs : List Entry) →
-    Stands r t es → Stands q t fs → r.limits ≡ q.limits →
+    (r q : ReaderView) (t : List ℕ) (es fs : List Entry) →
+    ReaderStands r t es → ReaderStands q t fs → r.limits ≡ q.limits →
     (es ≡ fs) × (r.at.state ≡ q.at.state) × (r.at.place ≡ q.at.place) × (r.at.verdict ≡ q.at.verdict)
     × (r.at.verdict ≡ Open → r.at.rest ≡ q.at.rest)
 

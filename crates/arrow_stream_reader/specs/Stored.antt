@@ -9,7 +9,7 @@ use Rattle.arrow_stream_reader.specs.declared.reader.Verdict.{Verdict}
 use Rattle.arrow_stream_reader.specs.contracts.reader.Verdict.{the_row as verdict_row}
 use Rattle.arrow_stream_reader.specs.State.{StreamState}
 use Rattle.arrow_stream_reader.specs.Front.{Standing}
-use Rattle.arrow_stream_reader.specs.Stream.{Shows}
+use Rattle.arrow_stream_reader.specs.Stream.{ReaderView}
 
 -- how the logic stores limits
 abbrev limits_code : Coded LimitNumbers
@@ -33,6 +33,6 @@ standing_code = code_by (StreamState × (ℕ × (List ℕ × Verdict)))
     (λ _. refl)
 
 -- and what a reader shows
-abbrev pub shows_code : Coded Shows
+abbrev pub shows_code : Coded ReaderView
 shows_code = code_by (LimitNumbers × Standing) (coded× limits_code standing_code)
     (λ r. (r.limits, r.at)) (λ p. record { limits = p.0; at = p.1 }) (λ _. refl)

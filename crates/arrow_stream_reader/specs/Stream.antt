@@ -15,81 +15,81 @@ use Rattle.arrow_stream_reader.specs.Views.{given}
 
 -- What a reader shows: its limits, and where its stream stands. While the stream is open, the rest is what the reader
 -- holds; after a refusal or the end marker it holds nothing.
-pub record Shows : Type 0 where
+pub record ReaderView : Type 0 where
   pub limits : LimitNumbers
   pub at : Standing
 
 -- a reader to which nothing was given
-abbrev pub fresh : LimitNumbers → Shows
+abbrev pub fresh : LimitNumbers → ReaderView
 fresh limits = record {
   limits = limits;
   at = record { state = nothing_yet; place = 0; rest = []; verdict = Open };
 }
 
 -- A reader stands at the bytes t of its stream, which gave these entries.
-pub record Stands (r : Shows) (t : List ℕ) (es : List Entry) : Type 0 where
+pub record ReaderStands (r : ReaderView) (t : List ℕ) (es : List Entry) : Type 0 where
   pub rest : List ℕ
   pub front : FrontOf r.limits t es
       (record { state = r.at.state; place = r.at.place; rest = rest; verdict = r.at.verdict })
   pub held : r.at.verdict ≡ Open → rest ≡ r.at.rest
 
 -- no item: the whole piece was taken, or nothing behind the end marker
-pub record TakesOn (old : Shows) (piece : List ℕ) (n : ℕ) (new : Shows) (t : List ℕ) (es : List Entry)
+pub record TakesOn (old : ReaderView) (piece : List ℕ) (n : ℕ) (new : ReaderView) (t : List ℕ) (es : List Entry)
     : Type 0 where
-  pub stands : Stands new (t ++ take n piece) es
+  pub stands : ReaderStands new (t ++ take n piece) es
   pub all : old.at.verdict ≡ Open → n ≡ length piece
   pub same : new.at.verdict ≡ old.at.verdict
   pub none : old.at.verdict ≡ Done → n ≡ 0
 
 -- the next item, whose last byte is the last one taken
-pub record GivesNext (piece : List ℕ) (n : ℕ) (item : Item) (new : Shows) (t : List ℕ) (es : List Entry)
+pub record GivesNext (piece : List ℕ) (n : ℕ) (item : Item) (new : ReaderView) (t : List ℕ) (es : List Entry)
     : Type 0 where
   pub some : 0 < n
   pub within : n ≤ length piece
-  pub stands : Stands new (t ++ take n piece) (es ++ record { given = given item; end = length t + n } ∷ [])
+  pub stands : ReaderStands new (t ++ take n piece) (es ++ record { given = given item; end = length t + n } ∷ [])
 
 -- the refusal at the front of the bytes with the whole piece
-pub record Refuses (piece : List ℕ) (fault : Fault) (new : Shows) (t : List ℕ) (es : List Entry) : Type 0 where
+pub record RefusesMessage (piece : List ℕ) (fault : Fault) (new : ReaderView) (t : List ℕ) (es : List Entry) : Type 0 where
   pub refusal : Refusal
   pub kind : fault.kind ≡ kind_of refusal
   pub verdict : new.at.verdict ≡ Bad refusal
   pub place : fault.place ≡ new.at.place
-  pub stands : Stands new (t ++ piece) es
+  pub stands : ReaderStands new (t ++ piece) es
   pub held : new.at.rest ≡ []
 
 -- a growth was refused: nothing was taken and nothing has changed
-pub record WantsMemory (old : Shows) (fault : Fault) (new : Shows) : Type 0 where
+pub record WantsMemory (old : ReaderView) (fault : Fault) (new : ReaderView) : Type 0 where
   pub fault_is : fault ≡ record { kind = Memory; place = old.at.place }
   pub same : new ≡ old
 
 -- what a read answers, where the reader stood at the bytes t with these entries
-abbrev pub Answers : Shows → List ℕ → Result (ℕ × Option Item) Fault → Shows → List ℕ → List Entry → Type 0
+abbrev pub Answers : ReaderView → List ℕ → Result (ℕ × Option Item) Fault → ReaderView → List ℕ → List Entry → Type 0
 Answers old piece (Ok (n, None)) new t es = TakesOn old piece n new t es
 Answers old piece (Ok (n, Some item)) new t es = GivesNext piece n item new t es
-Answers old piece (Err fault) new t es = WantsMemory old fault new ⊎ Refuses piece fault new t es
+Answers old piece (Err fault) new t es = WantsMemory old fault new ⊎ RefusesMessage piece fault new t es
 
 -- what a read does, for all bytes at which the reader stands
-abbrev pub ReadsOn : Shows → List ℕ → Result (ℕ × Option Item) Fault → Shows → Type 0
-ReadsOn old piece result new = (t : List ℕ) (es : List Entry) → Stands old t es → Answers old piece result new t es
+abbrev pub ReadsOn : ReaderView → List ℕ → Result (ℕ × Option Item) Fault → ReaderView → Type 0
+ReadsOn old piece result new = (t : List ℕ) (es : List Entry) → ReaderStands old t es → Answers old piece result new t es
 
 -- want of memory is told of nothing else
-abbrev pub MemoryAlone : Shows → Shows → Fault → Type 0
+abbrev pub MemoryAlone : ReaderView → ReaderView → Fault → Type 0
 MemoryAlone old new fault = fault.kind ≡ Memory → WantsMemory old fault new
 
 -- The reader has failed with this fault: it stands where it stood, holds nothing, and its verdict is the refusal that the fault tells.
-pub record HasFailed (old new : Shows) (fault : Fault) : Type 0 where
+pub record HasFailed (old new : ReaderView) (fault : Fault) : Type 0 where
   pub refusal : Refusal
   pub fault_is : fault ≡ record { kind = kind_of refusal; place = old.at.place }
   pub new_is : new ≡ record old { at = record old.at { rest = []; verdict = Bad refusal } }
 
 -- each fault but want of memory is told by a reader that has failed with it
-abbrev pub FailsFor : Shows → Shows → Fault → Type 0
+abbrev pub FailsFor : ReaderView → ReaderView → Fault → Type 0
 FailsFor old new fault = (fault.kind ≡ Memory → ⊥) → HasFailed old new fault
 
 -- what a read takes: no more than the piece, and at least a byte with an item
-abbrev pub Takes : List ℕ → ℕ × Option Item → Type 0
-Takes piece (n, None) = n ≤ length piece
-Takes piece (n, Some item) = (0 < n) × (n ≤ length piece)
+abbrev pub TakesPiece : List ℕ → ℕ × Option Item → Type 0
+TakesPiece piece (n, None) = n ≤ length piece
+TakesPiece piece (n, Some item) = (0 < n) × (n ≤ length piece)
 
 -- whether the stream goes on: the end marker ends it, another item does not, and where no item came it is as it was
 abbrev pub GoesOn : Option Item → Verdict → Verdict → Type 0

@@ -74,7 +74,7 @@ impl Held {
         }
     }
 
-    /// Takes bytes of a piece until `want` bytes are held or the piece ends, and answers how many
+    /// TakesPiece bytes of a piece until `want` bytes are held or the piece ends, and answers how many
     /// it took. After `AllocError` nothing has changed.
     ///
     /// Shared bytes, which are there only after a growth was refused, are copied first.
@@ -159,7 +159,7 @@ impl Held {
     }
 }
 
-/// Takes bytes of a piece until there are `want` of them or the piece ends, and answers how many it
+/// TakesPiece bytes of a piece until there are `want` of them or the piece ends, and answers how many it
 /// took. After `AllocError` nothing has changed.
 ///
 /// Where there is no room the memory grows to twice its size, or to `room` bytes, but to no more

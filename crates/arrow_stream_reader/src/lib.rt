@@ -12,7 +12,7 @@
 //! What it is measured by is a relation over whole lists of bytes: `First` (`specs/Frame.antt`)
 //! says what stands at the front of a list, one message, the end marker, a refusal or less than
 //! that, and `Front` (`specs/Front.antt`) says the same of all messages, one behind the other; what
-//! a batch says by its body stands in `specs/Batch.antt`. `Stands` (`specs/Stream.antt`) says at
+//! a batch says by its body stands in `specs/Batch.antt`. `ReaderStands` (`specs/Stream.antt`) says at
 //! which bytes a reader stands. So a reader's answers hang on the bytes alone and on no cut between
 //! them: the functions of [`laws`] say so.
 //!
@@ -23,7 +23,7 @@
 //! | what a metadata means and announces | `specs/Meaning.antt`: `Means`; `specs/Message.antt`: `Message` |
 //! | what a batch says by its body | `specs/Batch.antt`: `Holds`, `batch_left`, `dictionary_left` |
 //! | what a stream told so far | `specs/State.antt`: `StreamState`, `Given`; `specs/Tables.antt`: `tables_of` |
-//! | what a reader shows, what its calls answer | `specs/Stream.antt`: `Shows`, `Stands`, `Answers` |
+//! | what a reader shows, what its calls answer | `specs/Stream.antt`: `ReaderView`, `ReaderStands`, `Answers` |
 //! | the kinds of faults | `specs/Kind.antt`: `kind_of`, `number_of` |
 //! | a reader's work, and the bytes that it holds | `specs/Work.antt`, `specs/Held.antt`, `specs/Views.antt`, `specs/Inside.antt` |
 //! | the laws | `specs/Laws.antt`: `OneFront`, `MoreBytes`, `SameStanding`, `LessWaits` |

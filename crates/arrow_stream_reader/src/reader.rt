@@ -5,7 +5,7 @@ ghost use Rattle.std.specs.Prelude.{IfErr};
 ghost use Rattle.arrow_stream_reader.specs.declared.reader.Verdict.TheVariants.{Open, Done, Bad};
 ghost use Rattle.arrow_stream_reader.specs.declared.kind.Refusal.{Refusal as Refused};
 ghost use Rattle.arrow_stream_reader.specs.Kind.{kind_of};
-ghost use Rattle.arrow_stream_reader.specs.Stream.{FailsFor, GoesOn, ReadsOn, Stands, Takes};
+ghost use Rattle.arrow_stream_reader.specs.Stream.{FailsFor, GoesOn, ReadsOn, ReaderStands, TakesPiece};
 ghost use Rattle.arrow_stream_reader.specs.Stream.{MemoryAlone, ended_so, fresh};
 
 use crate::fault::Fault;
@@ -48,10 +48,10 @@ pub struct StreamReader {
 }
 
 impl Model for StreamReader {
-    ghost use Rattle.arrow_stream_reader.specs.Stream.{Shows};
+    ghost use Rattle.arrow_stream_reader.specs.Stream.{ReaderView};
     ghost use Rattle.arrow_stream_reader.specs.Stored.{shows_code};
 
-    ghost Value = { Shows };
+    ghost Value = { ReaderView };
 
     ghost coded = { shows_code };
 
@@ -66,7 +66,7 @@ impl StreamReader {
     /// A reader to which nothing was given, with these limits. It takes no memory.
     pub fn new(alloc: Global, limits: Limits) -> Self
         ensures fresh { result ≡ fresh limits }
-        ensures start { Stands result [] [] }
+        ensures start { ReaderStands result [] [] }
     {
         StreamReader {
             work: Work {
@@ -81,7 +81,7 @@ impl StreamReader {
         }
     }
 
-    /// Takes bytes of a piece up to the end of one message, and answers how many it took, with the
+    /// TakesPiece bytes of a piece up to the end of one message, and answers how many it took, with the
     /// item that the message gave; or takes the whole piece, where no message of it is whole, and
     /// answers no item. The bytes behind an item are left for the next call.
     ///
@@ -100,7 +100,7 @@ impl StreamReader {
     ///
     /// An empty piece, a piece after the end marker and a piece after a refusal take no memory.
     pub fn read(&mut self, piece: &[u8]) -> Result<(usize, Option<Item>), Fault>
-        ensures takes { IfOk result (λ taken. Takes piece.now taken) }
+        ensures takes { IfOk result (λ taken. TakesPiece piece.now taken) }
         ensures reads { ReadsOn self.old piece.now result self.new }
         ensures memory { IfErr result (MemoryAlone self.old self.new) }
         ensures fails { IfErr result (FailsFor self.old self.new) }
@@ -129,7 +129,7 @@ impl StreamReader {
     /// Goes on where no refusal and no end has come.
     fn go_on(&mut self, piece: &[u8]) -> Result<(usize, Option<Item>), Fault>
         requires open { self.old.at.verdict ≡ Open }
-        ensures takes { IfOk result (λ taken. Takes piece.now taken) }
+        ensures takes { IfOk result (λ taken. TakesPiece piece.now taken) }
         ensures reads { ReadsOn self.old piece.now result self.new }
         ensures memory { IfErr result (MemoryAlone self.old self.new) }
         ensures fails { IfErr result (FailsFor self.old self.new) }
@@ -194,7 +194,7 @@ impl StreamReader {
     /// memory.
     pub fn restart(&mut self)
         ensures fresh { self.new ≡ fresh self.old.limits }
-        ensures start { Stands self.new [] [] }
+        ensures start { ReaderStands self.new [] [] }
     {
         self.work.restart();
         self.verdict = Verdict::Open;

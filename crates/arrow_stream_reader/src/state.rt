@@ -145,7 +145,7 @@ impl State {
         }
     }
 
-    /// Takes the values of a dictionary batch with this body: in place of those of its id, or
+    /// TakesPiece the values of a dictionary batch with this body: in place of those of its id, or
     /// behind them.
     fn update(
         &mut self,

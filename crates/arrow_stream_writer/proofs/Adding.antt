@@ -30,7 +30,7 @@ use Rattle.arrow_stream_laws.proofs.Chains.{frames_bytes-append}
 use Rattle.arrow_stream_laws.proofs.Lists.{HasType, ids_typed, with_lists-append}
 use Rattle.arrow_stream_writer.specs.Lists.{AreListsOf, dictionary_for}
 use Rattle.arrow_stream_writer.specs.Terms.{Terms}
-use Rattle.arrow_stream_writer.specs.Updating.{AddsAll, AddsId, AddsOne, IsNamed, IsRefused, IsWorkOf, PutsFrame, Work}
+use Rattle.arrow_stream_writer.specs.Updating.{AddsAll, AddsId, AddsOne, IsNamed, RefusesUpdates, IsWorkOf, PutsFrame, Work}
 use Rattle.arrow_stream_writer.proofs.Gathering.{all_at}
 
 -- all of two lists
@@ -111,7 +111,7 @@ adds_frame terms w old new p s n vs x = record {
 }
 
 -- dictionary batches of which some are refused are refused
-refused_all : (terms : Terms) (us ws vs : List Sending) (fault : WriteFault) → IsRefused terms ws fault → IsRefused terms (us ++ ws ++ vs) fault
+refused_all : (terms : Terms) (us ws vs : List Sending) (fault : WriteFault) → RefusesUpdates terms ws fault → RefusesUpdates terms (us ++ ws ++ vs) fault
 refused_all terms us ws vs TooLarge h = not_all_left (sending_fits terms.limits terms.align terms.shape.fields) (us ++ ws) vs (not_all_right (sending_fits terms.limits terms.align terms.shape.fields) us ws h)
 refused_all terms us ws vs Memory h = h
 refused_all terms us ws vs SchemaDiffers h = h
@@ -163,10 +163,10 @@ pub refused_at : (terms : Terms) (ds : List (ℤ × ValueList)) (lists : ℤ →
     → AddsOne terms (sending_for terms.updates old.tracked.sent id (lists id)) old (Err fault) new → AddsAll terms (sendings terms.updates ds lists ids) start (Err fault) new
 refused_at terms ds lists ids k id fault start old new h is first sent x =
     let mode = terms.updates in
-    let one = subst (λ e. IsRefused terms (sending_for mode e id (lists id)) fault) sent x.0 in
+    let one = subst (λ e. RefusesUpdates terms (sending_for mode e id (lists id)) fault) sent x.0 in
     let all : ids ≡ take k ids ++ id ∷ drop (k + 1) ids =
     sym (take-append-drop k ids) ∙ ap (λ r. take k ids ++ r) (drop_more ids k (pos 0) h ∙ ap (λ i. i ∷ drop (k + 1) ids) (sym is)) in (
-      subst (λ ws. IsRefused terms ws fault) (sym (ap (sendings mode ds lists) all ∙ parted mode ds lists (take k ids) id (drop (k + 1) ids)))
+      subst (λ ws. RefusesUpdates terms ws fault) (sym (ap (sendings mode ds lists) all ∙ parted mode ds lists (take k ids) id (drop (k + 1) ids)))
           (refused_all terms (sendings mode ds lists (take k ids)) (sending_for mode ds id (lists id)) (sendings mode ds lists (drop (k + 1) ids)) fault one),
       x.1 ∙ sent ∙ sym first,
     )

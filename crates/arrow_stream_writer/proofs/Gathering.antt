@@ -7,7 +7,7 @@ use Rattle.arrow_types.specs.Schema.{DictionaryField, dictionary_fields, diction
 use Rattle.arrow_types.specs.declared.field.Encoding.{Encoding}
 use Rattle.arrow_data.specs.Column.{AreOf, Column, HasDictionary, IsColumn, ValueList, column_dictionaries, field_of_listed, listed_of}
 use Rattle.arrow_dict.specs.ValueTypes.{value_type_of}
-use Rattle.arrow_stream_writer.specs.Lists.{Adds, AllNamed, AreFirst, AreFound, AreNamed, Gathers, HaveBelow, IsNamedBy}
+use Rattle.arrow_stream_writer.specs.Lists.{AddsList, AllNamed, AreFirst, AreFound, AreNamed, Gathers, HaveBelow, IsNamedBy}
 use Rattle.arrow_stream_writer.specs.declared.lists.ListsFault.{ListsFault}
 use Rattle.arrow_stream_writer.specs.declared.lists.ListsFault.TheVariants.{DictionariesDiffer, Memory}
 use Rattle.arrow_stream_laws.proofs.Lists.{all_left, all_right}
@@ -64,14 +64,14 @@ stops_at cs i c DictionariesDiffer before mid after h is so_far one = λ fields 
 
 -- the dictionary of an encoded column is all that it lists
 pub one_gathers : (c : Column) (e : Encoding) (d : ValueList) (before after : ℤ → Option ValueList) (answer : Result (Unit {0}) ListsFault) → HasDictionary c d → c.encoding ≡ Some e
-    → Adds e.id d before answer after → Gathers (c ∷ []) before answer after
+    → AddsList e.id d before answer after → Gathers (c ∷ []) before answer after
 one_gathers c e d before after answer has is added = by_answer answer added where
   its_list : c.dictionaries ++ [] ≡ (e.id, d) ∷ []
   its_list =
       let same : has.listed.0 ≡ e = let both : Some has.listed.0 ≡ Some e = sym has.listed.1 ∙ is in cc in
       append-nil c.dictionaries ∙ has.listed.2 ∙ ap (λ (x : Encoding). (x.id, d) ∷ []) same
 
-  by_answer : (r : Result (Unit {0}) ListsFault) → Adds e.id d before r after → Gathers (c ∷ []) before r after
+  by_answer : (r : Result (Unit {0}) ListsFault) → AddsList e.id d before r after → Gathers (c ∷ []) before r after
   by_answer (Ok done) a = λ fields listed named found.
       let its_type : value_type_of fields e.id ≡ Some d.data_type = subst (IsNamedBy fields c.data_type) is named.0 ∙ ap (λ t. Some t) (sym has.typed) in
       subst (λ l. AreFound fields (listed ++ l) after) (sym its_list) (a fields listed its_type found)

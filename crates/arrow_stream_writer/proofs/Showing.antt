@@ -13,7 +13,7 @@ use Rattle.arrow_stream_laws.specs.Frames.{Frame, IsFrameOf, IsMarker, frames_by
 use Rattle.arrow_stream_laws.specs.Plan.{lists_after}
 use Rattle.arrow_stream_laws.specs.Sizes.{Options, schema_size}
 use Rattle.arrow_stream_laws.specs.Text.{IsPart}
-use Rattle.arrow_stream_laws.specs.Writer.{Accepts, Ends, Fails, FailsAtEnd, Finishes, Shows, StartFails, Starts, Writes, first_place}
+use Rattle.arrow_stream_laws.specs.Writer.{Accepts, Ends, Fails, FailsAtEnd, Finishes, WriterView, StartFails, Starts, Writes, first_place}
 use Rattle.arrow_sink.specs.declared.status.Status.{Status}
 use Rattle.arrow_sink.specs.declared.status.Status.TheVariants as statuses
 use Rattle.arrow_sink.specs.declared.write_fault.WriteFault.{WriteFault}
@@ -27,13 +27,13 @@ use Rattle.arrow_stream_writer.specs.Taking.{taking}
 use Rattle.arrow_stream_writer.specs.Terms.{Terms}
 
 -- a writer with these terms shows them
-pub record HasTerms (terms : Terms) (w : Shows) : Type 0 where
+pub record HasTerms (terms : Terms) (w : WriterView) : Type 0 where
   pub limits : w.limits ≡ terms.limits
   pub options : w.options ≡ options_of terms
   pub shape : w.shape ≡ terms.shape
 
 -- two that show the same
-same_shows : (a b : Shows) → a.limits ≡ b.limits → a.options ≡ b.options → a.shape ≡ b.shape → a.sent ≡ b.sent → a.place ≡ b.place → a.status ≡ b.status → a.contents ≡ b.contents → a.failures ≡ b.failures → a ≡ b
+same_shows : (a b : WriterView) → a.limits ≡ b.limits → a.options ≡ b.options → a.shape ≡ b.shape → a.sent ≡ b.sent → a.place ≡ b.place → a.status ≡ b.status → a.contents ≡ b.contents → a.failures ≡ b.failures → a ≡ b
 same_shows a b limits options shape sent place status contents failures = λ i. record {
   limits = limits i;
   options = options i;
@@ -46,12 +46,12 @@ same_shows a b limits options shape sent place status contents failures = λ i. 
 }
 
 -- two of the same terms, with what else they show
-pub same_of_terms : (terms : Terms) (a b : Shows) → HasTerms terms a → HasTerms terms b → a.sent ≡ b.sent → a.place ≡ b.place → a.status ≡ b.status → a.contents ≡ b.contents → a.failures ≡ b.failures → a ≡ b
+pub same_of_terms : (terms : Terms) (a b : WriterView) → HasTerms terms a → HasTerms terms b → a.sent ≡ b.sent → a.place ≡ b.place → a.status ≡ b.status → a.contents ≡ b.contents → a.failures ≡ b.failures → a ≡ b
 same_of_terms terms a b ta tb sent place status contents failures =
     same_shows a b (ta.limits ∙ sym tb.limits) (ta.options ∙ sym tb.options) (ta.shape ∙ sym tb.shape) sent place status contents failures
 
 -- one that takes no more answers so, and stays
-pub writes_nothing : (w : Shows) (t : Table) (status : Status) (fault : WriteFault) → w.status ≡ status → taking status ≡ Err fault → Writes w t (Err fault) w
+pub writes_nothing : (w : WriterView) (t : Table) (status : Status) (fault : WriteFault) → w.status ≡ status → taking status ≡ Err fault → Writes w t (Err fault) w
 writes_nothing w t statuses.Writing fault is x = absurd (cc)
 writes_nothing w t statuses.Finished fault is x =
     let same : Finished ≡ fault = cc in
@@ -60,7 +60,7 @@ writes_nothing w t statuses.Broken fault is x =
     let same : Broken ≡ fault = cc in
     subst (λ k. Writes w t (Err k) w) same (record { before = is; unchanged = refl })
 
-pub finishes_nothing : (w : Shows) (status : Status) (fault : WriteFault) → w.status ≡ status → taking status ≡ Err fault → Finishes w (Err fault) w
+pub finishes_nothing : (w : WriterView) (status : Status) (fault : WriteFault) → w.status ≡ status → taking status ≡ Err fault → Finishes w (Err fault) w
 finishes_nothing w statuses.Writing fault is x = absurd (cc)
 finishes_nothing w statuses.Finished fault is x =
     let same : Finished ≡ fault = cc in
@@ -75,7 +75,7 @@ writing statuses.Writing x = refl
 writing statuses.Finished x = absurd (cc)
 writing statuses.Broken x = absurd (cc)
 
-module _ (terms : Terms) (t : Table) (old new : Shows) (was : HasTerms terms old) (is : HasTerms terms new) (open_before : old.status ≡ statuses.Writing) where
+module _ (terms : Terms) (t : Table) (old new : WriterView) (was : HasTerms terms old) (is : HasTerms terms new) (open_before : old.status ≡ statuses.Writing) where
   -- what was built for the terms is a part for what the writer shows
   own_part : (frames : List Frame) → IsPart terms.limits (options_of terms) terms.shape old.sent old.place t frames → IsPart old.limits old.options old.shape old.sent old.place t frames
   own_part frames part =
@@ -88,7 +88,7 @@ module _ (terms : Terms) (t : Table) (old new : Shows) (was : HasTerms terms old
       → new.sent ≡ lists_after terms.updates terms.shape.fields old.sent t → new.place ≡ old.place + part_size (options_of terms) terms.shape.fields old.sent t → new.status ≡ statuses.Writing → new.failures ≡ old.failures
       → Writes old t (Ok tt) new
   writes_accepted frames part more sent place status failures =
-      let next : Shows = record old {
+      let next : WriterView = record old {
         sent = lists_after old.options.updates old.shape.fields old.sent t;
         place = old.place + part_size old.options old.shape.fields old.sent t;
         contents = new.contents;
@@ -103,7 +103,7 @@ module _ (terms : Terms) (t : Table) (old new : Shows) (was : HasTerms terms old
   pub writes_failed : (frames : List Frame) → IsPart terms.limits (options_of terms) terms.shape old.sent old.place t frames → AcceptsBeginning old.contents new.contents (frames_bytes frames)
       → new.sent ≡ old.sent → new.place ≡ old.place → new.status ≡ statuses.Broken → new.failures ≡ old.failures + 1 → Writes old t (Err Sink) new
   writes_failed frames part some sent place status failures =
-      let next : Shows = record old { status = statuses.Broken; contents = new.contents; failures = old.failures + 1 } in
+      let next : WriterView = record old { status = statuses.Broken; contents = new.contents; failures = old.failures + 1 } in
       let same : next ≡ new = same_shows next new (was.limits ∙ sym is.limits) (was.options ∙ sym is.options) (was.shape ∙ sym is.shape) (sym sent) (sym place) (sym status) refl (sym failures) in
       subst (Fails old t) same (fails_of old t frames new.contents open_before (own_part frames part) some)
 
@@ -138,16 +138,16 @@ near_marker place h = le-leb (place + 8) (2 ^ 62) h
 pub past_marker : (place : ℕ) → 2 ^ 62 < place + 8 → marker_fits place ≡ false
 past_marker place h = lt-leb (place + 8) (2 ^ 62) h
 
-module _ (old new : Shows) (limits : new.limits ≡ old.limits) (options : new.options ≡ old.options) (shape : new.shape ≡ old.shape) (sent : new.sent ≡ old.sent) (open_before : old.status ≡ statuses.Writing) where
+module _ (old new : WriterView) (limits : new.limits ≡ old.limits) (options : new.options ≡ old.options) (shape : new.shape ≡ old.shape) (sent : new.sent ≡ old.sent) (open_before : old.status ≡ statuses.Writing) where
   pub finishes : old.place + 8 ≤ 2 ^ 62 → Appends old.contents new.contents marker → new.place ≡ old.place + 8 → new.status ≡ statuses.Finished → new.failures ≡ old.failures → Finishes old (Ok tt) new
   finishes near more place status failures =
-      let next : Shows = record old { place = old.place + 8; status = statuses.Finished; contents = new.contents } in
+      let next : WriterView = record old { place = old.place + 8; status = statuses.Finished; contents = new.contents } in
       let same : next ≡ new = same_shows next new (sym limits) (sym options) (sym shape) (sym sent) (sym place) (sym status) refl (sym failures) in
       subst (Ends old) same (ends_of old marker new.contents open_before marker_is (near_marker old.place near) more)
 
   pub finish_failed : old.place + 8 ≤ 2 ^ 62 → AcceptsBeginning old.contents new.contents marker → new.place ≡ old.place → new.status ≡ statuses.Broken → new.failures ≡ old.failures + 1 → Finishes old (Err Sink) new
   finish_failed near some place status failures =
-      let next : Shows = record old { status = statuses.Broken; contents = new.contents; failures = old.failures + 1 } in
+      let next : WriterView = record old { status = statuses.Broken; contents = new.contents; failures = old.failures + 1 } in
       let same : next ≡ new = same_shows next new (sym limits) (sym options) (sym shape) (sym sent) (sym place) (sym status) refl (sym failures) in
       subst (FailsAtEnd old) same (fails_at_end old marker new.contents open_before marker_is (near_marker old.place near) some)
 
@@ -168,14 +168,14 @@ module _ (terms : Terms) where
       (le-leb (schema_size terms.align terms.shape) terms.limits.max_metadata small) (le-leb (8 + schema_size terms.align terms.shape) (2 ^ 62) (omega arith))
 
   -- the sink accepted the schema's frame
-  pub starts : (base : Option (List ℕ)) (failures : ℕ) (part : List ℕ) (new : Shows) → terms.limits.max_metadata ≤ 2 ^ 30 → IsNoted terms.shape → PutsMessage terms (schema terms.shape) [] [] (Ok tt) part
+  pub starts : (base : Option (List ℕ)) (failures : ℕ) (part : List ℕ) (new : WriterView) → terms.limits.max_metadata ≤ 2 ^ 30 → IsNoted terms.shape → PutsMessage terms (schema terms.shape) [] [] (Ok tt) part
       → HasTerms terms new → Appends base new.contents part → new.sent ≡ [] → new.place ≡ length part → new.status ≡ statuses.Writing → new.failures ≡ failures
       → Starts terms.limits (options_of terms) terms.shape base failures new
   starts base failures part new ceiling known put is more sent place status same_failures =
       let frame : IsFrameOf terms.limits (schema_size terms.align terms.shape) (schema terms.shape) [] part =
       subst (IsFrameOf terms.limits (schema_size terms.align terms.shape) (schema terms.shape) []) (sym put.appended) put.is_frame in
       let long : length part ≡ first_place (options_of terms) terms.shape = let len = frame_length frame in omega arith in
-      let first : Shows = record {
+      let first : WriterView = record {
         limits = terms.limits;
         options = options_of terms;
         shape = terms.shape;

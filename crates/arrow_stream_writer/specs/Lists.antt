@@ -50,12 +50,12 @@ pub record AreFound (fields : List DictionaryField) (listed : List (ℤ × Value
   pub typed : (id : ℤ) (d : ValueList) → find id ≡ Some d → value_type_of fields id ≡ Some d.data_type
 
 -- an answer to the dictionary of an id, for all that were found before: it was found too, or another one of its id was
-abbrev pub Adds : ℤ → ValueList → (ℤ → Option ValueList) → Result (Unit {0}) ListsFault → (ℤ → Option ValueList) → Type 0
-Adds id d before (Ok done) after = (fields : List DictionaryField) (listed : List (ℤ × ValueList)) → value_type_of fields id ≡ Some d.data_type
+abbrev pub AddsList : ℤ → ValueList → (ℤ → Option ValueList) → Result (Unit {0}) ListsFault → (ℤ → Option ValueList) → Type 0
+AddsList id d before (Ok done) after = (fields : List DictionaryField) (listed : List (ℤ × ValueList)) → value_type_of fields id ≡ Some d.data_type
     → AreFound fields listed before → AreFound fields (listed ++ (id, d) ∷ []) after
-Adds id d before (Err DictionariesDiffer) after = (fields : List DictionaryField) (listed : List (ℤ × ValueList)) → AreFound fields listed before
+AddsList id d before (Err DictionariesDiffer) after = (fields : List DictionaryField) (listed : List (ℤ × ValueList)) → AreFound fields listed before
     → AreFirst (listed ++ (id, d) ∷ []) (listed ++ (id, d) ∷ []) → ⊥
-Adds id d before (Err Memory) after = ⊤
+AddsList id d before (Err Memory) after = ⊤
 
 -- an answer to columns, for all that were found before: their dictionaries were found too, or two of one id differ
 abbrev pub Gathers : List Column → (ℤ → Option ValueList) → Result (Unit {0}) ListsFault → (ℤ → Option ValueList) → Type 0

@@ -2,7 +2,7 @@
 use Rattle.std.specs.Prelude.{ℕ, List, Option}
 use Rattle.arrow_body_writer.specs.Align.{alignment_of}
 use Rattle.arrow_stream_laws.specs.Sizes as sizes
-use Rattle.arrow_stream_laws.specs.Writer.{Shows}
+use Rattle.arrow_stream_laws.specs.Writer.{WriterView}
 use Rattle.arrow_stream_writer.specs.declared.stream_writer.Options.{Options}
 use Rattle.arrow_stream_writer.specs.declared.stream_writer.StreamWriter.{StreamWriter}
 
@@ -11,7 +11,7 @@ abbrev pub options_view : Options → sizes.Options
 options_view o = record { updates = o.updates; align = alignment_of o.align }
 
 -- What a writer shows, whose sink tells by these what it accepted and how many of its calls failed.
-abbrev pub shown : {S : Type 0} → (S → Option (List ℕ)) → (S → ℕ) → StreamWriter S → Shows
+abbrev pub shown : {S : Type 0} → (S → Option (List ℕ)) → (S → ℕ) → StreamWriter S → WriterView
 shown contents failed w = record {
   limits = w.builder.settings.limits;
   options = record { updates = w.builder.settings.updates; align = alignment_of w.builder.settings.align };

@@ -50,16 +50,16 @@ pub record IsWorkOf (terms : Terms) (ds : List (ℤ × ValueList)) (ws : List Se
   pub next : work.tracked.next ≡ with_lists terms.shape.fields ws ds
 
 -- one of the dictionary batches does not keep to the limits, or a growth was refused
-abbrev pub IsRefused : Terms → List Sending → WriteFault → Type 0
-IsRefused terms ws TooLarge = list_all (sending_fits terms.limits terms.align terms.shape.fields) ws ≡ false
-IsRefused terms ws fault = fault ≡ Memory
+abbrev pub RefusesUpdates : Terms → List Sending → WriteFault → Type 0
+RefusesUpdates terms ws TooLarge = list_all (sending_fits terms.limits terms.align terms.shape.fields) ws ≡ false
+RefusesUpdates terms ws fault = fault ≡ Memory
 
 -- An answer to further dictionary batches, for all those before: the work is that of both, or they are refused. What was sent
 -- stays.
 abbrev pub AddsOne : Terms → List Sending → Work → Result (Unit {0}) WriteFault → Work → Type 0
 AddsOne terms ws old (Ok done) new =
     (vs : List Sending) → IsWorkOf terms old.tracked.sent vs old → IsWorkOf terms old.tracked.sent (vs ++ ws) new
-AddsOne terms ws old (Err fault) new = IsRefused terms ws fault × (new.tracked.sent ≡ old.tracked.sent)
+AddsOne terms ws old (Err fault) new = RefusesUpdates terms ws fault × (new.tracked.sent ≡ old.tracked.sent)
 
 -- the schema names this type for the values of the id
 abbrev pub IsNamed : Fields → ℤ → TypeShape → Type 0
@@ -73,7 +73,7 @@ AddsId terms find id old answer new = (d : ValueList) → find id ≡ Some d →
 -- an answer to all dictionary batches of a plan, after none
 abbrev pub AddsAll : Terms → List Sending → Work → Result (Unit {0}) WriteFault → Work → Type 0
 AddsAll terms ws old (Ok done) new = IsWorkOf terms old.tracked.sent ws new
-AddsAll terms ws old (Err fault) new = IsRefused terms ws fault × (new.tracked.sent ≡ old.tracked.sent)
+AddsAll terms ws old (Err fault) new = RefusesUpdates terms ws fault × (new.tracked.sent ≡ old.tracked.sent)
 
 -- an answer to every batch of the schema whose dictionaries were found
 abbrev pub AddsPlan : Terms → (ℤ → Option ValueList) → Work → Result (Unit {0}) WriteFault → Work → Type 0

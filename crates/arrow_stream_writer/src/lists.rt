@@ -3,7 +3,7 @@
 ghost use Rattle.std.specs.Prelude.{◌≡◌, ◌∷◌, [], ℤ, option_map, None, OnOk, MatchOption};
 ghost use Rattle.std.specs.List.{AllByRecursion};
 ghost use Rattle.arrow_data.specs.Column.{IsColumn};
-ghost use Rattle.arrow_stream_writer.specs.Lists.{Adds, FindsLists, Gathers, HaveBelow, dictionary_in};
+ghost use Rattle.arrow_stream_writer.specs.Lists.{AddsList, FindsLists, Gathers, HaveBelow, dictionary_in};
 
 use arrow_data::form::{Form, form_of};
 use arrow_data::{Array, Batch, Dictionary};
@@ -72,7 +72,7 @@ impl<'a> BatchLists<'a> {
 
     // Adds the dictionary of a column, or tells that another one of its id is there.
     fn add(&mut self, id: i64, dictionary: &'a Dictionary) -> Result<(), ListsFault>
-        ensures { Adds id dictionary.now (dictionary_in self.old) result (dictionary_in self.new) }
+        ensures { AddsList id dictionary.now (dictionary_in self.old) result (dictionary_in self.new) }
     {
         match self.get(id) {
             Some(first) => {

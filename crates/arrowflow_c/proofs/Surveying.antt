@@ -10,7 +10,7 @@ use Rattle.arrow_stream_reader.specs.declared.kind.Kind.TheVariants.{Memory}
 use Rattle.arrow_stream_reader.specs.declared.reader.Verdict.{Verdict}
 use Rattle.arrow_stream_reader.specs.declared.reader.Verdict.TheVariants.{Open, Done, Bad}
 use Rattle.arrow_stream_reader.specs.Front.{Entry, Standing, FrontOf}
-use Rattle.arrow_stream_reader.specs.Stream.{Shows, Stands, TakesOn, GivesNext, Refuses, WantsMemory, GoesOn, ended_so}
+use Rattle.arrow_stream_reader.specs.Stream.{ReaderView, ReaderStands, TakesOn, GivesNext, RefusesMessage, WantsMemory, GoesOn, ended_so}
 use Rattle.arrow_stream_reader.specs.State.{Given, schema_given, dictionary_given, batch_given, ended}
 use Rattle.arrow_stream_reader.specs.Tables.{table_in, tables_of}
 use Rattle.arrow_stream_reader.specs.Views.{given}
@@ -19,7 +19,7 @@ use Rattle.arrowflow_report.proofs.Told.{end_is_done}
 use Rattle.arrowflow_c.specs.declared.survey.ReportC.{ReportC}
 use Rattle.arrowflow_c.specs.declared.survey.Counts.{Counts}
 use Rattle.arrowflow_c.specs.Kinds.{kind_by}
-use Rattle.arrowflow_c.specs.Survey.{Adds, AreCounted, HasCounted, IsReport, is_done, reported, rows_in}
+use Rattle.arrowflow_c.specs.Survey.{CountsItem, AreCounted, HasCounted, IsReport, is_done, reported, rows_in}
 
 rows_append : (ts us : List Table) → rows_in (ts ++ us) ≡ rows_in ts + rows_in us
 rows_append [] us = omega arith
@@ -43,7 +43,7 @@ counted_same es x n n' a e b r =
     record { batches = b ∙ a.batches ∙ ap (λ ts. reported (length ts)) (sym all); rows = r ∙ a.rows ∙ ap (λ ts. reported (rows_in ts)) (sym all) }
 
 -- a loop that gives the reader bytes and counts their messages
-pub record IsSurveying (first : Shows) (bytes : List ℕ) (now : Shows) (n : Counts) (rest : List ℕ) : Type 0 where
+pub record IsSurveying (first : ReaderView) (bytes : List ℕ) (now : ReaderView) (n : Counts) (rest : List ℕ) : Type 0 where
   pub taken : List ℕ
   pub whole : taken ++ rest ≡ bytes
   pub has : HasCounted taken n now
@@ -54,11 +54,11 @@ goes_open : (item : Item) (old new : Verdict) → GoesOn (Some item) old new →
 goes_open item old new (inl o) other = o
 goes_open item old new (inr e) other = absurd (other e.0)
 
-module _ {first : Shows} {bytes : List ℕ} {now : Shows} {n : Counts} {rest : List ℕ} (i : IsSurveying first bytes now n rest) (new : Shows) (limits : new.limits ≡ now.limits) where
+module _ {first : ReaderView} {bytes : List ℕ} {now : ReaderView} {n : Counts} {rest : List ℕ} (i : IsSurveying first bytes now n rest) (new : ReaderView) (limits : new.limits ≡ now.limits) where
   abbrev es : List Entry
   es = i.has.entries
 
-  module _ (k : ℕ) (item : Item) (gives : (t : List ℕ) (es : List Entry) → Stands now t es → GivesNext rest k item new t es) (goes : GoesOn (Some item) now.at.verdict new.at.verdict) (is_open : now.at.verdict ≡ Open) where
+  module _ (k : ℕ) (item : Item) (gives : (t : List ℕ) (es : List Entry) → ReaderStands now t es → GivesNext rest k item new t es) (goes : GoesOn (Some item) now.at.verdict new.at.verdict) (is_open : now.at.verdict ≡ Open) where
     abbrev entry : Entry
     entry = record { given = given item; end = length i.taken + k }
 
@@ -78,52 +78,52 @@ module _ {first : Shows} {bytes : List ℕ} {now : Shows} {n : Counts} {rest : L
     goes_on : (item ≡ items.End → ⊥) → n.ended ≡ is_done new.at.verdict
     goes_on other = was_not ∙ ap is_done (sym (goes_open item now.at.verdict new.at.verdict goes other))
 
-    pub surveying_next : (n' : Counts) → Adds n (given item) n' → IsSurveying first bytes new n' (drop k rest)
+    pub surveying_next : (n' : Counts) → CountsItem n (given item) n' → IsSurveying first bytes new n' (drop k rest)
     surveying_next n' a = by item refl
       where
         by : (x : Item) → item ≡ x → IsSurveying first bytes new n' (drop k rest)
         by items.Schema e =
-            let same : n' ≡ n = subst (λ (g : Given). Adds n g n') (ap given e) a in
+            let same : n' ≡ n = subst (λ (g : Given). CountsItem n g n') (ap given e) a in
             next_has n' (counted_same es entry n n' i.has.counted (ap (λ y. table_in (given y)) e) (ap (λ (m : Counts). m.batches) same) (ap (λ (m : Counts). m.rows) same))
             (ap (λ (m : Counts). m.ended) same ∙ goes_on (λ q. let z : items.Schema ≡ items.End = sym e ∙ q in cc))
         by (items.Dictionary id) e =
-            let same : n' ≡ n = subst (λ (g : Given). Adds n g n') (ap given e) a in
+            let same : n' ≡ n = subst (λ (g : Given). CountsItem n g n') (ap given e) a in
             next_has n' (counted_same es entry n n' i.has.counted (ap (λ y. table_in (given y)) e) (ap (λ (m : Counts). m.batches) same) (ap (λ (m : Counts). m.rows) same))
             (ap (λ (m : Counts). m.ended) same ∙ goes_on (λ q. let z : items.Dictionary id ≡ items.End = sym e ∙ q in cc))
         by (items.Batch t) e =
-            let same : n' ≡ record { batches = reported (n.batches + 1); rows = reported (n.rows + t.rows); ended = n.ended } = subst (λ (g : Given). Adds n g n') (ap given e) a in
+            let same : n' ≡ record { batches = reported (n.batches + 1); rows = reported (n.rows + t.rows); ended = n.ended } = subst (λ (g : Given). CountsItem n g n') (ap given e) a in
             next_has n' (subst (λ m. AreCounted (tables_of (es ++ entry ∷ [])) m) (sym same) (counted_table es entry n t i.has.counted (ap given e) n.ended))
             (ap (λ (m : Counts). m.ended) same ∙ goes_on (λ q. let z : items.Batch t ≡ items.End = sym e ∙ q in cc))
         by items.End e =
-            let same : n' ≡ record { batches = n.batches; rows = n.rows; ended = true } = subst (λ (g : Given). Adds n g n') (ap given e) a in
+            let same : n' ≡ record { batches = n.batches; rows = n.rows; ended = true } = subst (λ (g : Given). CountsItem n g n') (ap given e) a in
             let g = gives i.taken es i.has.stands in
             let over : new.at.verdict ≡ Done = end_is_done g.stands.front es entry refl (ap given e) in
             next_has n' (counted_same es entry n n' i.has.counted (ap (λ y. table_in (given y)) e) (ap (λ (m : Counts). m.batches) same) (ap (λ (m : Counts). m.rows) same))
             (ap (λ (m : Counts). m.ended) same ∙ ap is_done (sym over))
 
   -- no item came: all was taken
-  pub surveyed_all : (k : ℕ) → ((t : List ℕ) (es : List Entry) → Stands now t es → TakesOn now rest k new t es) → HasCounted bytes n new
+  pub surveyed_all : (k : ℕ) → ((t : List ℕ) (es : List Entry) → ReaderStands now t es → TakesOn now rest k new t es) → HasCounted bytes n new
   surveyed_all k last =
       let x = last i.taken es i.has.stands in
       record {
         entries = es;
-        stands = subst (λ t. Stands new t es) i.whole (taken_all now new rest k i.taken es x);
+        stands = subst (λ t. ReaderStands new t es) i.whole (taken_all now new rest k i.taken es x);
         counted = i.has.counted;
         is_ended = i.has.is_ended ∙ ap is_done (sym x.same);
       }
 
-  refused_by : (fault : Fault) → (fault.kind ≡ Memory → ⊥) → WantsMemory now fault new ⊎ Refuses rest fault new i.taken es → Refuses rest fault new i.taken es
+  refused_by : (fault : Fault) → (fault.kind ≡ Memory → ⊥) → WantsMemory now fault new ⊎ RefusesMessage rest fault new i.taken es → RefusesMessage rest fault new i.taken es
   refused_by fault some (inl m) = absurd (some (ap (λ (f : Fault). f.kind) m.fault_is))
   refused_by fault some (inr r) = r
 
   -- a fault came that is no want of memory
   pub surveyed_fault : (fault : Fault) → (fault.kind ≡ Memory → ⊥) → (now.at.verdict ≡ Done → ⊥)
-      → ((t : List ℕ) (es : List Entry) → Stands now t es → WantsMemory now fault new ⊎ Refuses rest fault new t es) → HasCounted bytes n new
+      → ((t : List ℕ) (es : List Entry) → ReaderStands now t es → WantsMemory now fault new ⊎ RefusesMessage rest fault new t es) → HasCounted bytes n new
   surveyed_fault fault some going last =
       let r = refused_by fault some (last i.taken es i.has.stands) in
       record {
         entries = es;
-        stands = subst (λ t. Stands new t es) i.whole r.stands;
+        stands = subst (λ t. ReaderStands new t es) i.whole r.stands;
         counted = i.has.counted;
         is_ended = i.has.is_ended ∙ not_done now.at.verdict refl ∙ ap is_done (sym r.verdict);
       }
@@ -134,7 +134,7 @@ module _ {first : Shows} {bytes : List ℕ} {now : Shows} {n : Counts} {rest : L
       not_done (Bad k) e = refl
 
 -- what is reported of a reader that stands at the bytes
-pub reports : (limits : LimitNumbers) (bytes : List ℕ) (n : Counts) (r : Shows) (c : ReportC) → HasCounted bytes n r → r.limits ≡ limits
+pub reports : (limits : LimitNumbers) (bytes : List ℕ) (n : Counts) (r : ReaderView) (c : ReportC) → HasCounted bytes n r → r.limits ≡ limits
     → c.kind ≡ kind_by (ended_so r.at) → c.ended ≡ n.ended → c.place ≡ r.at.place → c.batches ≡ n.batches → c.rows ≡ n.rows → IsReport limits bytes c
 reports limits bytes n r c h same kind ends place batches rows =
     let s : Standing = record { state = r.at.state; place = r.at.place; rest = h.stands.rest; verdict = r.at.verdict } in

@@ -6,7 +6,7 @@ use Rattle.arrow_stream_reader.specs.declared.reader.Verdict.{Verdict}
 use Rattle.arrow_stream_reader.specs.declared.reader.Verdict.TheVariants.{Open, Done, Bad}
 use Rattle.arrow_stream_reader.specs.Front.{Entry, Standing, FrontOf}
 use Rattle.arrow_stream_reader.specs.State.{Given, schema_given, dictionary_given, batch_given, ended}
-use Rattle.arrow_stream_reader.specs.Stream.{Shows, Stands, ended_so}
+use Rattle.arrow_stream_reader.specs.Stream.{ReaderView, ReaderStands, ended_so}
 use Rattle.arrow_stream_reader.specs.Tables.{tables_of}
 use Rattle.arrowflow_c.specs.declared.survey.ReportC.{ReportC}
 use Rattle.arrowflow_c.specs.declared.survey.Counts.{Counts}
@@ -31,11 +31,11 @@ pub record AreCounted (tables : List Table) (n : Counts) : Type 0 where
   pub rows : n.rows ≡ reported (rows_in tables)
 
 -- A message was counted that gives this.
-abbrev pub Adds : Counts → Given → Counts → Type 0
-Adds old schema_given new = new ≡ old
-Adds old (dictionary_given id) new = new ≡ old
-Adds old (batch_given t) new = new ≡ record { batches = reported (old.batches + 1); rows = reported (old.rows + t.rows); ended = old.ended }
-Adds old ended new = new ≡ record { batches = old.batches; rows = old.rows; ended = true }
+abbrev pub CountsItem : Counts → Given → Counts → Type 0
+CountsItem old schema_given new = new ≡ old
+CountsItem old (dictionary_given id) new = new ≡ old
+CountsItem old (batch_given t) new = new ≡ record { batches = reported (old.batches + 1); rows = reported (old.rows + t.rows); ended = old.ended }
+CountsItem old ended new = new ≡ record { batches = old.batches; rows = old.rows; ended = true }
 
 -- whether a stream with this verdict ended with its marker
 abbrev pub is_done : Verdict → Bool
@@ -44,9 +44,9 @@ is_done Done = true
 is_done (Bad k) = false
 
 -- the reader stands at these bytes, and what their messages gave was counted
-pub record HasCounted (bytes : List ℕ) (n : Counts) (r : Shows) : Type 0 where
+pub record HasCounted (bytes : List ℕ) (n : Counts) (r : ReaderView) : Type 0 where
   pub entries : List Entry
-  pub stands : Stands r bytes entries
+  pub stands : ReaderStands r bytes entries
   pub counted : AreCounted (tables_of entries) n
   pub is_ended : n.ended ≡ is_done r.at.verdict
 

@@ -1,9 +1,9 @@
 //! Streams in memory, checked: what is reported of a stream that was read to its end.
 
 ghost use Rattle.std.specs.Prelude.{◌≡◌, [], IfOk};
-ghost use Rattle.arrow_stream_reader.specs.Stream.{Stands};
+ghost use Rattle.arrow_stream_reader.specs.Stream.{ReaderStands};
 ghost use Rattle.arrow_stream_reader.specs.Views.{given};
-ghost use Rattle.arrowflow_c.specs.Survey.{Adds, Checks, HasCounted, Reports, bare_report};
+ghost use Rattle.arrowflow_c.specs.Survey.{CountsItem, Checks, HasCounted, Reports, bare_report};
 ghost use Rattle.arrowflow_c.specs.Terms.{numbers};
 
 use crate::kinds::{BAD_LIMITS, MEMORY, kind_by};
@@ -75,7 +75,7 @@ fn report_of(alloc: Global, bytes: &[u8], limits: Limits) -> ReportC
 /// Gives the reader all of the bytes, and counts what comes. `AllocError` where a growth was
 /// refused.
 fn survey(reader: &mut StreamReader, bytes: &[u8]) -> Result<Counts, AllocError>
-    requires start { Stands reader.old [] [] }
+    requires start { ReaderStands reader.old [] [] }
     ensures counted { IfOk result (λ n. HasCounted bytes.now n reader.new) }
     ensures limits { reader.new.limits ≡ reader.old.limits }
 {
@@ -114,7 +114,7 @@ struct Counts {
 impl Counts {
     /// Counts what an item is.
     fn add(&mut self, item: &Item)
-        ensures { Adds self.old (given item.now) self.new }
+        ensures { CountsItem self.old (given item.now) self.new }
     {
         match item {
             Item::Batch(batch) => {

@@ -17,7 +17,7 @@ use Rattle.arrow_stream_reader.specs.declared.reader.Verdict.{Verdict}
 use Rattle.arrow_stream_reader.specs.Front.{Entry, Standing, Front, FrontOf, closes, fails, goes_on, rests}
 use Rattle.arrow_stream_reader.specs.Kind.{kind_of}
 use Rattle.arrow_stream_reader.specs.State.{StreamState, Given, batch_given, dictionary_given, ended, nothing_yet, schema_given}
-use Rattle.arrow_stream_reader.specs.Stream.{Shows, Stands, GivesNext, TakesOn, Refuses, WantsMemory, ended_by, ended_so}
+use Rattle.arrow_stream_reader.specs.Stream.{ReaderView, ReaderStands, GivesNext, TakesOn, RefusesMessage, WantsMemory, ended_by, ended_so}
 use Rattle.arrow_stream_reader.specs.Tables.{table_in, tables_of}
 use Rattle.arrow_stream_reader.specs.Views.{given}
 use Rattle.arrow_stream_reader.proofs.Streams.{ended_stands}
@@ -45,19 +45,19 @@ use Rattle.arrowflow_report.proofs.Schemas.{front_begins, front_behind, front_ke
 use Rattle.arrowflow_report.proofs.Sent.{begun_all}
 use Rattle.arrowflow_report.proofs.Told.{end_is_done, state_same}
 use Rattle.arrowflow_copy.specs.Copy.{Copies, IsBegun, IsClosed, IsCopied, IsSent, IsSentOf, IsSentInPart, IsSentInPartOf, RefusesBatch, RefusesEnd, RefusesSchema}
-use Rattle.arrowflow_copy.specs.Copying.{Adds, At, Begins, Closes, HasWritten, IsCopying, IsWriting, IsWritingOn, PieceCopied, Takes, TakesFirst, TakesOne, fault_of, failures_at, held_at, waiting, writing}
+use Rattle.arrowflow_copy.specs.Copying.{AddsBatch, At, BeginsCopy, Closes, HasWritten, IsCopying, IsWriting, IsWritingOn, PieceCopied, TakesItem, TakesFirst, TakesOne, fault_of, failures_at, held_at, waiting, writing}
 
 -- ---- what was written
 
 -- the text of a writer that writes
-abbrev writing_text : (limits : LimitNumbers) (o : Options) (first : Option (List ℕ)) (start : ℕ) (schema : Option SchemaShape) (batches : List Table) (w : writers.Shows) (x : IsWritingOn limits o first start schema batches w)
+abbrev writing_text : (limits : LimitNumbers) (o : Options) (first : Option (List ℕ)) (start : ℕ) (schema : Option SchemaShape) (batches : List Table) (w : writers.WriterView) (x : IsWritingOn limits o first start schema batches w)
     → Written limits o w.shape false x.parts batches x.stands.frames
 writing_text limits o first start schema batches w x =
     subst (λ l. Written l o w.shape false x.parts batches x.stands.frames) x.limits_are
     (subst (λ p. Written w.limits p w.shape false x.parts batches x.stands.frames) x.options_are x.stands.written)
 
 -- what it has sent
-abbrev writing_sent : (limits : LimitNumbers) (o : Options) (first : Option (List ℕ)) (start : ℕ) (schema : Option SchemaShape) (batches : List Table) (w : writers.Shows) → IsWritingOn limits o first start schema batches w
+abbrev writing_sent : (limits : LimitNumbers) (o : Options) (first : Option (List ℕ)) (start : ℕ) (schema : Option SchemaShape) (batches : List Table) (w : writers.WriterView) → IsWritingOn limits o first start schema batches w
     → IsSent limits o w.shape false batches first w.contents
 writing_sent limits o first start schema batches w x = record {
   parts = x.parts;
@@ -104,7 +104,7 @@ open_text (finished parts batches frames b text fits marker) c = absurd (false�
 -- ---- which message is the schema
 
 -- the front at which a reader stands
-pub front_at : (limits : LimitNumbers) (r : Shows) (t : List ℕ) (es : List Entry) (x : Stands r t es) → r.limits ≡ limits → FrontOf limits t es (standing_of r x.rest)
+pub front_at : (limits : LimitNumbers) (r : ReaderView) (t : List ℕ) (es : List Entry) (x : ReaderStands r t es) → r.limits ≡ limits → FrontOf limits t es (standing_of r x.rest)
 front_at limits r t es x same = subst (λ l. FrontOf l t es (standing_of r x.rest)) same x.front
 
 -- a stream without a schema has given nothing
@@ -137,7 +137,7 @@ schema_stays c x shape old o known new = let w = front_behind c old o new in (fr
 
 -- ---- one message more
 
-module _ (limits : LimitNumbers) (o : Options) (first : Option (List ℕ)) (start : ℕ) (at : At) (number : ℕ) (now new : Shows) (u rest : List ℕ) (es : List Entry) (n : ℕ) (item : Item) (is_open : now.at.verdict ≡ Open)
+module _ (limits : LimitNumbers) (o : Options) (first : Option (List ℕ)) (start : ℕ) (at : At) (number : ℕ) (now new : ReaderView) (u rest : List ℕ) (es : List Entry) (n : ℕ) (item : Item) (is_open : now.at.verdict ≡ Open)
     (same : new.limits ≡ now.limits) (x : IsCopying limits o first start at number now u es) (gives : GivesNext rest n item new u es) where
   abbrev entry : Entry
   entry = record { given = given item; end = length u + n }
@@ -186,17 +186,17 @@ module _ (limits : LimitNumbers) (o : Options) (first : Option (List ℕ)) (star
     nothing_sent : (held : Option (List ℕ)) → held ≡ first → IsSentInPartOf limits o new.at.state.schema (tables_of entries) first held
     nothing_sent held h = subst (λ s. IsSentInPartOf limits o s (tables_of entries) first held) (sym schema) (inl (subst (λ y. Appends first y []) (sym h) (Appends-nil first)))
 
-    begins_so : (answer : Result (Unit {0}) ToolFault) (at' : At) (number' : ℕ) → Begins limits o shape first start answer at' → number' ≡ number → Goes answer at' number'
+    begins_so : (answer : Result (Unit {0}) ToolFault) (at' : At) (number' : ℕ) → BeginsCopy limits o shape first start answer at' → number' ≡ number → Goes answer at' number'
     begins_so (Ok done) at' number' b k =
         let w = b.0 in
         let s = b.2 in
         subst (λ a. Goes (Ok done) a number') (sym b.1) (copying (writing w) number' (no_number number' k) (record {
           parts = s.part ∷ [];
-          stands = subst (λ ts. writers.Stands w first false (s.part ∷ []) ts) (sym no_tables) s.stands;
-          shape_is = schema ∙ ap Some (sym (ap (λ (v : writers.Shows). v.shape) s.new_is));
-          limits_are = ap (λ (v : writers.Shows). v.limits) s.new_is;
-          options_are = ap (λ (v : writers.Shows). v.options) s.new_is;
-          failures_are = ap (λ (v : writers.Shows). v.failures) s.new_is;
+          stands = subst (λ ts. writers.WriterStands w first false (s.part ∷ []) ts) (sym no_tables) s.stands;
+          shape_is = schema ∙ ap Some (sym (ap (λ (v : writers.WriterView). v.shape) s.new_is));
+          limits_are = ap (λ (v : writers.WriterView). v.limits) s.new_is;
+          options_are = ap (λ (v : writers.WriterView). v.options) s.new_is;
+          failures_are = ap (λ (v : writers.WriterView). v.failures) s.new_is;
         }))
     begins_so (Err f) at' number' b k =
         subst (λ a. Goes (Err f) a number') (sym b.4) (subst (λ g. Goes (Err g) (waiting b.1 b.2) number') (sym b.3) (by b.0 b.1 b.2 b.5))
@@ -243,7 +243,7 @@ module _ (limits : LimitNumbers) (o : Options) (first : Option (List ℕ)) (star
         by kinds.Broken held failed s = absurd s
         by kinds.Finished held failed s = absurd s
 
-  module _ (w : writers.Shows) (y : IsWritingOn limits o first start now.at.state.schema (tables_of es) w) where
+  module _ (w : writers.WriterView) (y : IsWritingOn limits o first start now.at.state.schema (tables_of es) w) where
     stays_open : new.at.state.schema ≡ Some w.shape
     stays_open = schema_stays (take n rest) entry w.shape old_front is_open y.shape_is new_front
 
@@ -259,7 +259,7 @@ module _ (limits : LimitNumbers) (o : Options) (first : Option (List ℕ)) (star
         subst (λ r. Goes r at' number') (sym z.0)
         (subst (λ a. Goes (Ok tt) a number') (sym z.1) (copying (writing w) number' (z.2 ∙ x.counted ∙ ap length all) (record {
           parts = y.parts;
-          stands = subst (λ ts. writers.Stands w first false y.parts ts) all y.stands;
+          stands = subst (λ ts. writers.WriterStands w first false y.parts ts) all y.stands;
           shape_is = stays_open;
           limits_are = y.limits_are;
           options_are = y.options_are;
@@ -270,9 +270,9 @@ module _ (limits : LimitNumbers) (o : Options) (first : Option (List ℕ)) (star
       with_batch : tables_of entries ≡ tables_of es ++ t ∷ []
       with_batch = tables ∙ ap (λ g. tables_of es ++ table_in g) is
 
-      refuses : (kind : WriteFault) (w' : writers.Shows) → writers.Refuses w t kind w' → RefusesBatch limits o (u ++ rest) number kind first w'.contents × (w'.failures ≡ start)
+      refuses : (kind : WriteFault) (w' : writers.WriterView) → writers.RefusesWrite w t kind w' → RefusesBatch limits o (u ++ rest) number kind first w'.contents × (w'.failures ≡ start)
       refuses kind w' r =
-          subst (λ (v : writers.Shows). RefusesBatch limits o (u ++ rest) number kind first v.contents × (v.failures ≡ start)) (sym r.unchanged) (
+          subst (λ (v : writers.WriterView). RefusesBatch limits o (u ++ rest) number kind first v.contents × (v.failures ≡ start)) (sym r.unchanged) (
             record {
               taken = taken;
               rest = drop n rest;
@@ -299,7 +299,7 @@ module _ (limits : LimitNumbers) (o : Options) (first : Option (List ℕ)) (star
           (subst (λ q. IsPart w.limits q w.shape (left_by nothing_yet y.stands.frames).dictionaries (length (joined y.parts)) t fs) y.options_are
           (subst (λ d. IsPart w.limits w.options w.shape d (length (joined y.parts)) t fs) y.stands.sent_are (subst (λ m. IsPart w.limits w.options w.shape w.sent m t fs) y.stands.place_is p)))
 
-      breaks : (w' : writers.Shows) → writers.Fails w t w' → IsSentInPartOf limits o new.at.state.schema (tables_of entries) first w'.contents
+      breaks : (w' : writers.WriterView) → writers.Fails w t w' → IsSentInPartOf limits o new.at.state.schema (tables_of entries) first w'.contents
       breaks w' f = subst (λ z. IsSentInPartOf limits o z (tables_of entries) first w'.contents) (sym stays_open) (inr (record {
         closed = false;
         first = tables_of es ++ t ∷ [];
@@ -312,27 +312,27 @@ module _ (limits : LimitNumbers) (o : Options) (first : Option (List ℕ)) (star
         wrote = f.in_all first y.parts (tables_of es) y.stands;
       }))
 
-      stops : (kind : WriteFault) (w' : writers.Shows) (number' : ℕ) → writers.Writes w t (Err kind) w' → Goes (Err (fault_of (Batch number) kind)) (writing w') number'
+      stops : (kind : WriteFault) (w' : writers.WriterView) (number' : ℕ) → writers.Writes w t (Err kind) w' → Goes (Err (fault_of (Batch number) kind)) (writing w') number'
       stops kinds.SchemaDiffers w' number' r = (tt, λ left. refuses kinds.SchemaDiffers w' r)
       stops kinds.TooLarge w' number' r = (tt, λ left. refuses kinds.TooLarge w' r)
       stops kinds.DictionariesDiffer w' number' r = (tt, λ left. refuses kinds.DictionariesDiffer w' r)
-      stops kinds.Sink w' number' f = (tt, λ left. (begun w'.contents (breaks w' f), ap (λ (v : writers.Shows). v.failures) f.new_is ∙ ap (λ m. m + 1) y.failures_are))
+      stops kinds.Sink w' number' f = (tt, λ left. (begun w'.contents (breaks w' f), ap (λ (v : writers.WriterView). v.failures) f.new_is ∙ ap (λ m. m + 1) y.failures_are))
       stops kinds.Broken w' number' s = let q = sym s.before ∙ y.stands.status_is in absurd (cc)
       stops kinds.Finished w' number' s = let q = sym s.before ∙ y.stands.status_is in absurd (cc)
       stops kinds.Memory w' number' s =
-          (tt, λ left. subst (λ (v : writers.Shows). IsBegun limits o (u ++ rest) first v.contents × (v.failures ≡ start)) (sym s.unchanged) (begun w.contents sent_before, y.failures_are))
+          (tt, λ left. subst (λ (v : writers.WriterView). IsBegun limits o (u ++ rest) first v.contents × (v.failures ≡ start)) (sym s.unchanged) (begun w.contents sent_before, y.failures_are))
 
-      adds_so : (answer : Result (Unit {0}) ToolFault) (at' : At) (number' : ℕ) → Adds w t number answer at' number' → Goes answer at' number'
+      adds_so : (answer : Result (Unit {0}) ToolFault) (at' : At) (number' : ℕ) → AddsBatch w t number answer at' number' → Goes answer at' number'
       adds_so (Ok done) at' number' z =
           let w' = z.0 in
           let a = z.2 in
           subst (λ b. Goes (Ok done) b number') (sym z.1) (copying (writing w') number' (z.3 ∙ ap (λ m. m + 1) x.counted ∙ sym (ap length with_batch ∙ length-append (tables_of es) (t ∷ []))) (record {
             parts = y.parts ++ frames_bytes a.frames ∷ [];
-            stands = subst (λ ts. writers.Stands w' first false (y.parts ++ frames_bytes a.frames ∷ []) ts) (sym with_batch) (a.stands first y.parts (tables_of es) y.stands);
-            shape_is = stays_open ∙ ap Some (sym (ap (λ (v : writers.Shows). v.shape) a.new_is));
-            limits_are = ap (λ (v : writers.Shows). v.limits) a.new_is ∙ y.limits_are;
-            options_are = ap (λ (v : writers.Shows). v.options) a.new_is ∙ y.options_are;
-            failures_are = ap (λ (v : writers.Shows). v.failures) a.new_is ∙ y.failures_are;
+            stands = subst (λ ts. writers.WriterStands w' first false (y.parts ++ frames_bytes a.frames ∷ []) ts) (sym with_batch) (a.stands first y.parts (tables_of es) y.stands);
+            shape_is = stays_open ∙ ap Some (sym (ap (λ (v : writers.WriterView). v.shape) a.new_is));
+            limits_are = ap (λ (v : writers.WriterView). v.limits) a.new_is ∙ y.limits_are;
+            options_are = ap (λ (v : writers.WriterView). v.options) a.new_is ∙ y.options_are;
+            failures_are = ap (λ (v : writers.WriterView). v.failures) a.new_is ∙ y.failures_are;
           }))
       adds_so (Err f) at' number' (inl z) = subst (λ g. Goes (Err g) at' number') (sym z.0) (subst (λ b. Goes (Err Memory) b number') (sym z.1) (tt, λ left. (begun w.contents sent_before, y.failures_are)))
       adds_so (Err f) at' number' (inr z) = subst (λ g. Goes (Err g) at' number') (sym z.2) (subst (λ b. Goes (Err (fault_of (Batch number) z.0)) b number') (sym z.3) (stops z.0 z.1 number' z.4))
@@ -344,25 +344,25 @@ module _ (limits : LimitNumbers) (o : Options) (first : Option (List ℕ)) (star
     takes_one ended is answer at' number' z = passes answer at' number' (ap table_in is) z
 
   -- What is made of a message leaves the copy behind it, or ends it as it should.
-  pub item_goes : (answer : Result (Unit {0}) ToolFault) (at' : At) (number' : ℕ) → Takes limits o new.at.state.schema (given item) at number answer at' number' → Goes answer at' number'
+  pub item_goes : (answer : Result (Unit {0}) ToolFault) (at' : At) (number' : ℕ) → TakesItem limits o new.at.state.schema (given item) at number answer at' number' → Goes answer at' number'
   item_goes answer at' number' takes = by at x.written takes
     where
-      by : (a : At) → HasWritten limits o first start now.at.state.schema (tables_of es) a → Takes limits o new.at.state.schema (given item) a number answer at' number' → Goes answer at' number'
+      by : (a : At) → HasWritten limits o first start now.at.state.schema (tables_of es) a → TakesItem limits o new.at.state.schema (given item) a number answer at' number' → Goes answer at' number'
       by (waiting held failed) h z =
           let c = comes_first (take n rest) entry old_front h.0 new_front in
           let b = subst (λ s. TakesFirst limits o s held failed answer at') c.schema z.0 in
-          begins_so c.shape c.schema b.0 c.none c.is_schema answer at' number' (subst (λ m. Begins limits o c.shape first m answer at') h.2 (subst (λ k. Begins limits o c.shape k failed answer at') h.1 b.1)) z.1
+          begins_so c.shape c.schema b.0 c.none c.is_schema answer at' number' (subst (λ m. BeginsCopy limits o c.shape first m answer at') h.2 (subst (λ k. BeginsCopy limits o c.shape k failed answer at') h.1 b.1)) z.1
       by (writing w) h z = takes_one w h (given item) refl answer at' number' z
 
 -- bytes without a message leave what was written
-pub still : (limits : LimitNumbers) (o : Options) (first : Option (List ℕ)) (start : ℕ) (at : At) (number : ℕ) (now new : Shows) (u c : List ℕ) (es : List Entry) → new.limits ≡ now.limits → IsCopying limits o first start at number now u es
-    → Stands new (u ++ c) es → IsCopying limits o first start at number new (u ++ c) es
+pub still : (limits : LimitNumbers) (o : Options) (first : Option (List ℕ)) (start : ℕ) (at : At) (number : ℕ) (now new : ReaderView) (u c : List ℕ) (es : List Entry) → new.limits ≡ now.limits → IsCopying limits o first start at number now u es
+    → ReaderStands new (u ++ c) es → IsCopying limits o first start at number new (u ++ c) es
 still limits o first start at number now new u c es same x stands =
     let state : new.at.state ≡ now.at.state = state_same c (front_at limits now u es x.stands x.limits_are) (front_at limits new (u ++ c) es stands (same ∙ x.limits_are)) in
     record { stands = stands; limits_are = same ∙ x.limits_are; counted = x.counted; written = subst (λ (s : StreamState). HasWritten limits o first start s.schema (tables_of es) at) (sym state) x.written }
 
 -- so far all was copied
-pub copied_at : (limits : LimitNumbers) (o : Options) (first : Option (List ℕ)) (start : ℕ) (at : At) (number : ℕ) (r : Shows) (t : List ℕ) (es : List Entry) (x : IsCopying limits o first start at number r t es)
+pub copied_at : (limits : LimitNumbers) (o : Options) (first : Option (List ℕ)) (start : ℕ) (at : At) (number : ℕ) (r : ReaderView) (t : List ℕ) (es : List Entry) (x : IsCopying limits o first start at number r t es)
     → IsCopied limits o t (standing_of r x.stands.rest) first (held_at at)
 copied_at limits o first start at number r t es x = record {
   entries = es;
@@ -371,7 +371,7 @@ copied_at limits o first start at number r t es x = record {
 }
 
 -- so it was begun, with more bytes behind
-pub begun_at : (limits : LimitNumbers) (o : Options) (first : Option (List ℕ)) (start : ℕ) (at : At) (number : ℕ) (r : Shows) (t c : List ℕ) (es : List Entry) → IsCopying limits o first start at number r t es → IsBegun limits o (t ++ c) first (held_at at)
+pub begun_at : (limits : LimitNumbers) (o : Options) (first : Option (List ℕ)) (start : ℕ) (at : At) (number : ℕ) (r : ReaderView) (t c : List ℕ) (es : List Entry) → IsCopying limits o first start at number r t es → IsBegun limits o (t ++ c) first (held_at at)
 begun_at limits o first start at number r t c es x = record {
   taken = t;
   rest = c;
@@ -383,8 +383,8 @@ begun_at limits o first start at number r t c es x = record {
 }
 
 -- a fault of the reader ends the copy
-pub refused_at : (limits : LimitNumbers) (o : Options) (first : Option (List ℕ)) (start : ℕ) (at : At) (number : ℕ) (now new : Shows) (u rest : List ℕ) (es : List Entry) (fault : Fault) → new.limits ≡ now.limits
-    → IsCopying limits o first start at number now u es → WantsMemory now fault new ⊎ Refuses rest fault new u es
+pub refused_at : (limits : LimitNumbers) (o : Options) (first : Option (List ℕ)) (start : ℕ) (at : At) (number : ℕ) (now new : ReaderView) (u rest : List ℕ) (es : List Entry) (fault : Fault) → new.limits ≡ now.limits
+    → IsCopying limits o first start at number now u es → WantsMemory now fault new ⊎ RefusesMessage rest fault new u es
     → BlamesNoInput (Err (told fault)) × ((left : Option (List ℕ)) → Copies limits o (u ++ rest) left first start (Err (told fault)) (held_at at) (failures_at at))
 refused_at limits o first start at number now new u rest es fault same x (inl m) =
     subst (λ f. BlamesNoInput (Err (told f)) × ((left : Option (List ℕ)) → Copies limits o (u ++ rest) left first start (Err (told f)) (held_at at) (failures_at at))) (sym m.fault_is)
@@ -398,21 +398,21 @@ refused_at limits o first start at number now new u rest es fault same x (inr r)
 
 -- ---- the end
 
-module _ (limits : LimitNumbers) (o : Options) (first : Option (List ℕ)) (start : ℕ) (number : ℕ) (r : Shows) (t : List ℕ) (es : List Entry) (left : Option (List ℕ)) where
-  module _ (w : writers.Shows) (x : IsCopying limits o first start (writing w) number r t es) (well : EndsWell left (standing_of r x.stands.rest)) where
+module _ (limits : LimitNumbers) (o : Options) (first : Option (List ℕ)) (start : ℕ) (number : ℕ) (r : ReaderView) (t : List ℕ) (es : List Entry) (left : Option (List ℕ)) where
+  module _ (w : writers.WriterView) (x : IsCopying limits o first start (writing w) number r t es) (well : EndsWell left (standing_of r x.stands.rest)) where
     abbrev y : IsWritingOn limits o first start r.at.state.schema (tables_of es) w
     y = x.written
 
     front : FrontOf limits t es (standing_of r x.stands.rest)
     front = front_at limits r t es x.stands x.limits_are
 
-    ends : (w' : writers.Shows) → writers.Ends w w' → IsClosed limits o t (standing_of r x.stands.rest) first w'.contents
+    ends : (w' : writers.WriterView) → writers.Ends w w' → IsClosed limits o t (standing_of r x.stands.rest) first w'.contents
     ends w' e =
         let s = e.stands first y.parts (tables_of es) y.stands in
         let parts = y.parts ++ e.marker ∷ [] in
-        let limits_are : w'.limits ≡ limits = ap (λ (v : writers.Shows). v.limits) e.new_is ∙ y.limits_are in
-        let options_are : w'.options ≡ o = ap (λ (v : writers.Shows). v.options) e.new_is ∙ y.options_are in
-        let shape_is : w'.shape ≡ w.shape = ap (λ (v : writers.Shows). v.shape) e.new_is in
+        let limits_are : w'.limits ≡ limits = ap (λ (v : writers.WriterView). v.limits) e.new_is ∙ y.limits_are in
+        let options_are : w'.options ≡ o = ap (λ (v : writers.WriterView). v.options) e.new_is ∙ y.options_are in
+        let shape_is : w'.shape ≡ w.shape = ap (λ (v : writers.WriterView). v.shape) e.new_is in
         record {
           entries = es;
           front = front;
@@ -427,7 +427,7 @@ module _ (limits : LimitNumbers) (o : Options) (first : Option (List ℕ)) (star
           };
         }
 
-    fails_at_end : (w' : writers.Shows) → writers.FailsAtEnd w w' → IsBegun limits o t first w'.contents
+    fails_at_end : (w' : writers.WriterView) → writers.FailsAtEnd w w' → IsBegun limits o t first w'.contents
     fails_at_end w' f = record {
       taken = t;
       rest = [];
@@ -447,9 +447,9 @@ module _ (limits : LimitNumbers) (o : Options) (first : Option (List ℕ)) (star
       }));
     }
 
-    no_end : (kind : WriteFault) (w' : writers.Shows) → writers.Finishes w (Err kind) w' → Copies limits o t left first start (Err (fault_of Finish kind)) w'.contents w'.failures
+    no_end : (kind : WriteFault) (w' : writers.WriterView) → writers.Finishes w (Err kind) w' → Copies limits o t left first start (Err (fault_of Finish kind)) w'.contents w'.failures
     no_end kinds.TooLarge w' p =
-        subst (λ (v : writers.Shows). Copies limits o t left first start (Err (Refused Finish kinds.TooLarge)) v.contents v.failures) (sym p.unchanged) (
+        subst (λ (v : writers.WriterView). Copies limits o t left first start (Err (Refused Finish kinds.TooLarge)) v.contents v.failures) (sym p.unchanged) (
           (
             standing_of r x.stands.rest,
             record {
@@ -465,7 +465,7 @@ module _ (limits : LimitNumbers) (o : Options) (first : Option (List ℕ)) (star
           ),
           y.failures_are,
         )
-    no_end kinds.Sink w' f = (fails_at_end w' f, ap (λ (v : writers.Shows). v.failures) f.new_is ∙ ap (λ m. m + 1) y.failures_are)
+    no_end kinds.Sink w' f = (fails_at_end w' f, ap (λ (v : writers.WriterView). v.failures) f.new_is ∙ ap (λ m. m + 1) y.failures_are)
     no_end kinds.Broken w' s = let q = sym s.before ∙ y.stands.status_is in absurd (cc)
     no_end kinds.Finished w' s = let q = sym s.before ∙ y.stands.status_is in absurd (cc)
     no_end kinds.Memory w' s = absurd s
@@ -475,7 +475,7 @@ module _ (limits : LimitNumbers) (o : Options) (first : Option (List ℕ)) (star
     closes_so : (answer : Result (Unit {0}) ToolFault) (at' : At) → Closes (writing w) answer at' → Copies limits o t left first start answer (held_at at') (failures_at at')
     closes_so (Ok done) at' z =
         subst (λ b. Copies limits o t left first start (Ok done) (held_at b) (failures_at b)) (sym z.1)
-        ((standing_of r x.stands.rest, ends z.0 z.2, well), ap (λ (v : writers.Shows). v.failures) z.2.new_is ∙ y.failures_are)
+        ((standing_of r x.stands.rest, ends z.0 z.2, well), ap (λ (v : writers.WriterView). v.failures) z.2.new_is ∙ y.failures_are)
     closes_so (Err f) at' z =
         subst (λ g. Copies limits o t left first start (Err g) (held_at at') (failures_at at')) (sym z.2)
         (subst (λ b. Copies limits o t left first start (Err (fault_of Finish z.0)) (held_at b) (failures_at b)) (sym z.3) (no_end z.0 z.1 z.4))
@@ -494,7 +494,7 @@ done_some (closes x) d q = absurd (cc)
 done_some (goes_on x xs) d q = absurd (cc)
 
 -- a stream that ends well has a schema
-pub ended_schema : (r : Shows) (t : List ℕ) (es : List Entry) → Stands r t es → ended_so r.at ≡ Ok tt → (r.at.state.schema ≡ None → ⊥)
+pub ended_schema : (r : ReaderView) (t : List ℕ) (es : List Entry) → ReaderStands r t es → ended_so r.at ≡ Ok tt → (r.at.state.schema ≡ None → ⊥)
 ended_schema r t es x well none = by r.at.verdict refl
   where
     by : (v : Verdict) → r.at.verdict ≡ v → ⊥
@@ -507,39 +507,39 @@ ended_schema r t es x well none = by r.at.verdict refl
         absurd (cc)
 
 -- so does one with an end marker
-pub done_schema : (r : Shows) (t : List ℕ) (es : List Entry) → Stands r t es → r.at.verdict ≡ Done → (r.at.state.schema ≡ None → ⊥)
+pub done_schema : (r : ReaderView) (t : List ℕ) (es : List Entry) → ReaderStands r t es → r.at.verdict ≡ Done → (r.at.state.schema ≡ None → ⊥)
 done_schema r t es x d none = let b = front_begins x.front refl (done_some x.front d) in let q = sym none ∙ b.schema in absurd (cc)
 
 -- where a stream has a schema there is a writer
-pub writes_by : (limits : LimitNumbers) (o : Options) (first : Option (List ℕ)) (start : ℕ) (at : At) (number : ℕ) (r : Shows) (t : List ℕ) (es : List Entry) → IsCopying limits o first start at number r t es → (r.at.state.schema ≡ None → ⊥)
+pub writes_by : (limits : LimitNumbers) (o : Options) (first : Option (List ℕ)) (start : ℕ) (at : At) (number : ℕ) (r : ReaderView) (t : List ℕ) (es : List Entry) → IsCopying limits o first start at number r t es → (r.at.state.schema ≡ None → ⊥)
     → IsWriting at
 writes_by limits o first start (waiting held failed) number r t es x some = absurd (some x.written.0)
 writes_by limits o first start (writing w) number r t es x some = tt
 
 -- a message that is made something of leaves the count of failures
-pub takes_failures : (limits : LimitNumbers) (o : Options) (schema : Option SchemaShape) (g : Given) (at at' : At) (number number' : ℕ) → Takes limits o schema g at number (Ok tt) at' number' → failures_at at' ≡ failures_at at
+pub takes_failures : (limits : LimitNumbers) (o : Options) (schema : Option SchemaShape) (g : Given) (at at' : At) (number number' : ℕ) → TakesItem limits o schema g at number (Ok tt) at' number' → failures_at at' ≡ failures_at at
 takes_failures limits o None g (waiting held failed) at' number number' z = ap failures_at z.0.1
 takes_failures limits o (Some shape) g (waiting held failed) at' number number' z =
     let b = z.0.1 in
-    ap failures_at b.1 ∙ ap (λ (v : writers.Shows). v.failures) b.2.new_is
+    ap failures_at b.1 ∙ ap (λ (v : writers.WriterView). v.failures) b.2.new_is
 takes_failures limits o schema schema_given (writing w) at' number number' z = ap failures_at z.1
 takes_failures limits o schema (dictionary_given id) (writing w) at' number number' z = ap failures_at z.1
-takes_failures limits o schema (batch_given t) (writing w) at' number number' z = ap failures_at z.1 ∙ ap (λ (v : writers.Shows). v.failures) z.2.new_is
+takes_failures limits o schema (batch_given t) (writing w) at' number number' z = ap failures_at z.1 ∙ ap (λ (v : writers.WriterView). v.failures) z.2.new_is
 takes_failures limits o schema ended (writing w) at' number number' z = ap failures_at z.1
 
 -- ---- the loop over a piece
 
-copying_at : (limits : LimitNumbers) (o : Options) (first : Option (List ℕ)) (start : ℕ) (at : At) (number : ℕ) (r : Shows) (u v : List ℕ) (es : List Entry) → u ≡ v → IsCopying limits o first start at number r u es → IsCopying limits o first start at number r v es
+copying_at : (limits : LimitNumbers) (o : Options) (first : Option (List ℕ)) (start : ℕ) (at : At) (number : ℕ) (r : ReaderView) (u v : List ℕ) (es : List Entry) → u ≡ v → IsCopying limits o first start at number r u es → IsCopying limits o first start at number r v es
 copying_at limits o first start at number r u v es e x = subst (λ y. IsCopying limits o first start at number r y es) e x
 
 -- all of a piece but this rest was given to the reader and copied
-pub record IsTaking (limits : LimitNumbers) (o : Options) (before : At) (number : ℕ) (old : Shows) (piece : List ℕ) (at : At) (number' : ℕ) (now : Shows) (rest : List ℕ) : Type 0 where
+pub record IsTaking (limits : LimitNumbers) (o : Options) (before : At) (number : ℕ) (old : ReaderView) (piece : List ℕ) (at : At) (number' : ℕ) (now : ReaderView) (rest : List ℕ) : Type 0 where
   pub taken : List ℕ
   pub whole : taken ++ rest ≡ piece
   pub copied : (first : Option (List ℕ)) (start : ℕ) (t : List ℕ) (es : List Entry) → IsCopying limits o first start before number old t es → (fs : List Entry) × IsCopying limits o first start at number' now (t ++ taken) fs
   pub limits_are : now.limits ≡ old.limits
 
-pub taking_nothing : (limits : LimitNumbers) (o : Options) (at : At) (number : ℕ) (old : Shows) (piece : List ℕ) → IsTaking limits o at number old piece at number old piece
+pub taking_nothing : (limits : LimitNumbers) (o : Options) (at : At) (number : ℕ) (old : ReaderView) (piece : List ℕ) → IsTaking limits o at number old piece at number old piece
 taking_nothing limits o at number old piece = record {
   taken = [];
   whole = refl;
@@ -547,14 +547,14 @@ taking_nothing limits o at number old piece = record {
   limits_are = refl;
 }
 
-module _ (limits : LimitNumbers) (o : Options) (before : At) (number : ℕ) (old : Shows) (piece : List ℕ) (at : At) (number' : ℕ) (now : Shows) (rest : List ℕ) (i : IsTaking limits o before number old piece at number' now rest)
-    (new : Shows) (same : new.limits ≡ now.limits) where
-  module _ (n : ℕ) (item : Item) (is_open : now.at.verdict ≡ Open) (gives : (t : List ℕ) (es : List Entry) → Stands now t es → GivesNext rest n item new t es) where
+module _ (limits : LimitNumbers) (o : Options) (before : At) (number : ℕ) (old : ReaderView) (piece : List ℕ) (at : At) (number' : ℕ) (now : ReaderView) (rest : List ℕ) (i : IsTaking limits o before number old piece at number' now rest)
+    (new : ReaderView) (same : new.limits ≡ now.limits) where
+  module _ (n : ℕ) (item : Item) (is_open : now.at.verdict ≡ Open) (gives : (t : List ℕ) (es : List Entry) → ReaderStands now t es → GivesNext rest n item new t es) where
     whole_next : i.taken ++ take n rest ++ drop n rest ≡ piece
     whole_next = append_assoc i.taken (take n rest) (drop n rest) ∙ ap (λ y. i.taken ++ y) (take-append-drop n rest) ∙ i.whole
 
     -- a message was copied
-    pub taking_next : (at' : At) (number'' : ℕ) → Takes limits o new.at.state.schema (given item) at number' (Ok tt) at' number'' → IsTaking limits o before number old piece at' number'' new (drop n rest)
+    pub taking_next : (at' : At) (number'' : ℕ) → TakesItem limits o new.at.state.schema (given item) at number' (Ok tt) at' number'' → IsTaking limits o before number old piece at' number'' new (drop n rest)
     taking_next at' number'' takes = record {
       taken = i.taken ++ take n rest;
       whole = whole_next;
@@ -570,7 +570,7 @@ module _ (limits : LimitNumbers) (o : Options) (before : At) (number : ℕ) (old
     }
 
     -- the copy ended at a message
-    pub taking_stops : (f : ToolFault) (at' : At) (number'' : ℕ) → Takes limits o new.at.state.schema (given item) at number' (Err f) at' number''
+    pub taking_stops : (f : ToolFault) (at' : At) (number'' : ℕ) → TakesItem limits o new.at.state.schema (given item) at number' (Err f) at' number''
         → (first : Option (List ℕ)) (start : ℕ) (t : List ℕ) (es : List Entry) → IsCopying limits o first start before number old t es → PieceCopied limits o first start t piece (Err f) at' number'' new
     taking_stops f at' number'' takes first start t es x =
         let y = i.copied first start t es x in
@@ -580,7 +580,7 @@ module _ (limits : LimitNumbers) (o : Options) (before : At) (number : ℕ) (old
         (z.0, λ left. subst (λ b. Copies limits o b left first start (Err f) (held_at at') (failures_at at')) all (z.1 left))
 
     -- the end marker came
-    pub taking_ended : (at' : At) (number'' : ℕ) → Takes limits o new.at.state.schema (given item) at number' (Ok tt) at' number'' → given item ≡ ended
+    pub taking_ended : (at' : At) (number'' : ℕ) → TakesItem limits o new.at.state.schema (given item) at number' (Ok tt) at' number'' → given item ≡ ended
         → (first : Option (List ℕ)) (start : ℕ) (t : List ℕ) (es : List Entry) → IsCopying limits o first start before number old t es → PieceCopied limits o first start t piece (Ok true) at' number'' new
     taking_ended at' number'' takes e first start t es x =
         let y = i.copied first start t es x in
@@ -593,7 +593,7 @@ module _ (limits : LimitNumbers) (o : Options) (before : At) (number : ℕ) (old
         ((z.0, copying_at limits o first start at' number'' new _ (t ++ piece) z.0 all (still limits o first start at' number'' new new (t ++ j.taken) (drop n rest) z.0 refl z.1 stands)), λ q. d)
 
   -- no message came: the rest is taken too
-  pub taking_all : (n : ℕ) → ((t : List ℕ) (es : List Entry) → Stands now t es → TakesOn now rest n new t es)
+  pub taking_all : (n : ℕ) → ((t : List ℕ) (es : List Entry) → ReaderStands now t es → TakesOn now rest n new t es)
       → (first : Option (List ℕ)) (start : ℕ) (t : List ℕ) (es : List Entry) → IsCopying limits o first start before number old t es → PieceCopied limits o first start t piece (Ok false) at number' new
   taking_all n takes first start t es x =
       let y = i.copied first start t es x in
@@ -603,7 +603,7 @@ module _ (limits : LimitNumbers) (o : Options) (before : At) (number : ℕ) (old
       ((y.0, copying_at limits o first start at number' new (u ++ rest) (t ++ piece) y.0 all (still limits o first start at number' now new u rest y.0 same y.1 stands)), λ q. absurd (false≢true q))
 
   -- the rest is refused, or a growth was
-  pub taking_refused : (fault : Fault) → ((t : List ℕ) (es : List Entry) → Stands now t es → WantsMemory now fault new ⊎ Refuses rest fault new t es)
+  pub taking_refused : (fault : Fault) → ((t : List ℕ) (es : List Entry) → ReaderStands now t es → WantsMemory now fault new ⊎ RefusesMessage rest fault new t es)
       → (first : Option (List ℕ)) (start : ℕ) (t : List ℕ) (es : List Entry) → IsCopying limits o first start before number old t es → PieceCopied limits o first start t piece (Err (told fault)) at number' new
   taking_refused fault refuses first start t es x =
       let y = i.copied first start t es x in
@@ -637,7 +637,7 @@ ended_told Open true (x ∷ rest) place fault e = let same : record { kind = Tru
 ended_told Done has_schema rest place fault e = absurd (cc)
 ended_told (Bad k) has_schema rest place fault e = let same : record { kind = kind_of k; place = place } ≡ fault = cc in subst (λ f. told f ≡ Stream f) same (told_refusal k place)
 
-module _ (limits : LimitNumbers) (o : Options) (first : Option (List ℕ)) (start : ℕ) (at : At) (number : ℕ) (r : Shows) (t : List ℕ) (es : List Entry) (left : Option (List ℕ)) (x : IsCopying limits o first start at number r t es) (over : IsAtEnd left) where
+module _ (limits : LimitNumbers) (o : Options) (first : Option (List ℕ)) (start : ℕ) (at : At) (number : ℕ) (r : ReaderView) (t : List ℕ) (es : List Entry) (left : Option (List ℕ)) (x : IsCopying limits o first start at number r t es) (over : IsAtEnd left) where
   ends_so : ended_so (standing_of r x.stands.rest) ≡ ended_so r.at
   ends_so = sym (ended_same r.at.verdict (is_some r.at.state.schema) x.stands.rest r.at.rest r.at.place x.stands.held)
 
@@ -652,11 +652,11 @@ module _ (limits : LimitNumbers) (o : Options) (first : Option (List ℕ)) (star
       (tt, ((standing_of r x.stands.rest, copied_at limits o first start at number r t es x, inr (ends_so ∙ bad, over)), failed_of limits o first start r.at.state.schema (tables_of es) at x.written))
 
 -- The end marker came, and behind all batches one is written.
-pub marker_closed : (limits : LimitNumbers) (o : Options) (first : Option (List ℕ)) (start : ℕ) (at : At) (number : ℕ) (r : Shows) (t : List ℕ) (es : List Entry) (left : Option (List ℕ)) (x : IsCopying limits o first start at number r t es)
+pub marker_closed : (limits : LimitNumbers) (o : Options) (first : Option (List ℕ)) (start : ℕ) (at : At) (number : ℕ) (r : ReaderView) (t : List ℕ) (es : List Entry) (left : Option (List ℕ)) (x : IsCopying limits o first start at number r t es)
     → r.at.verdict ≡ Done → (answer : Result (Unit {0}) ToolFault) (at' : At) → Closes at answer at' → BlamesNoInput answer × Copies limits o t left first start answer (held_at at') (failures_at at')
 marker_closed limits o first start at number r t es left x d answer at' z =
     (closes_blameless at answer at' z, closed_so limits o first start number r t es left at x (ap (λ v. ended_by v (is_some r.at.state.schema) x.stands.rest r.at.place) d, inl d) answer at' z)
 
 -- at its beginning nothing was copied
-pub copying_nothing : (limits : LimitNumbers) (o : Options) (held : Option (List ℕ)) (failed : ℕ) (r : Shows) → r.limits ≡ limits → Stands r [] [] → IsCopying limits o held failed (waiting held failed) 0 r [] []
+pub copying_nothing : (limits : LimitNumbers) (o : Options) (held : Option (List ℕ)) (failed : ℕ) (r : ReaderView) → r.limits ≡ limits → ReaderStands r [] [] → IsCopying limits o held failed (waiting held failed) 0 r [] []
 copying_nothing limits o held failed r same stands = record { stands = stands; limits_are = same; counted = refl; written = (ap (λ (s : StreamState). s.schema) (state_stays stands.front refl), refl, refl) }

@@ -90,10 +90,10 @@ pub record RefusesEnd (limits : LimitNumbers) (o : Options) (bytes : List ℕ) (
   pub is_large : kind ≡ TooLarge
 
 -- what is refused of a stream with these bytes, of whose input this is left
-abbrev pub Refuses : LimitNumbers → Options → List ℕ → Option (List ℕ) → What → WriteFault → Option (List ℕ) → Option (List ℕ) → Type 0
-Refuses limits o bytes left parts.Start kind before after = RefusesSchema limits o bytes kind before after
-Refuses limits o bytes left (parts.Batch number) kind before after = RefusesBatch limits o bytes number kind before after
-Refuses limits o bytes left parts.Finish kind before after = (e : Standing) × RefusesEnd limits o bytes e kind before after × EndsWell left e
+abbrev pub IsRefusedFor : LimitNumbers → Options → List ℕ → Option (List ℕ) → What → WriteFault → Option (List ℕ) → Option (List ℕ) → Type 0
+IsRefusedFor limits o bytes left parts.Start kind before after = RefusesSchema limits o bytes kind before after
+IsRefusedFor limits o bytes left (parts.Batch number) kind before after = RefusesBatch limits o bytes number kind before after
+IsRefusedFor limits o bytes left parts.Finish kind before after = (e : Standing) × RefusesEnd limits o bytes e kind before after × EndsWell left e
 
 -- a beginning was written of the text of a connection with the first of these batches, closed or not
 pub record IsSentInPart (limits : LimitNumbers) (o : Options) (shape : SchemaShape) (batches : List Table) (before after : Option (List ℕ)) : Type 0 where
@@ -131,7 +131,7 @@ Copies limits o bytes left before failed (Err (Stream fault)) after failed' =
 Copies limits o bytes left before failed (Err (Input number)) after failed' =
     (number ≡ 0) × ((e : Standing) × (e.verdict ≡ Open) × IsCopied limits o bytes e before after) × (failed' ≡ failed)
 Copies limits o bytes left before failed (Err (Refused what kind)) after failed' =
-    Refuses limits o bytes left what kind before after × (failed' ≡ failed)
+    IsRefusedFor limits o bytes left what kind before after × (failed' ≡ failed)
 Copies limits o bytes left before failed (Err Output) after failed' = IsBegun limits o bytes before after × (failed' ≡ failed + 1)
 Copies limits o bytes left before failed (Err Memory) after failed' = IsBegun limits o bytes before after × (failed' ≡ failed)
 

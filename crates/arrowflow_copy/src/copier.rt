@@ -4,7 +4,7 @@ ghost use Rattle.std.specs.Prelude.{◌≡◌, ◌<◌, ◌-◌, ◌^◌, OnOk};
 ghost use Rattle.arrow_stream_reader.specs.Views.{given};
 ghost use Rattle.arrow_types.specs.Schema.{IsNoted};
 ghost use Rattle.arrow_stream_writer.specs.Shown.{options_view, shown};
-ghost use Rattle.arrowflow_copy.specs.Copying.{Adds, Begins, Closes, IsWriting, Takes, TakesOne};
+ghost use Rattle.arrowflow_copy.specs.Copying.{AddsBatch, BeginsCopy, Closes, IsWriting, TakesItem, TakesOne};
 ghost use Rattle.arrowflow_copy.specs.Copying.{failures_at, fault_of, writing};
 ghost use Rattle.arrowflow_copy.specs.Target.{IsPassedOn, at_of, sink_in};
 
@@ -36,7 +36,7 @@ pub(crate) struct Terms {
 fn begin<S: Sink>(terms: &Terms, sink: S, schema: &Schema) -> (Target<S>, Result<(), ToolFault>)
     requires { S.failed sink < 2 ^ 64 - 1 }
     ensures known { IsNoted schema.now }
-    ensures begins { Begins terms.now.limits (options_view terms.now.options) schema.now (S.contents sink)
+    ensures begins { BeginsCopy terms.now.limits (options_view terms.now.options) schema.now (S.contents sink)
         (S.failed sink) result.1 (at_of S.contents S.failed result.0) }
 {
     // what is known of each schema is known of this one, also where its frame is cut off
@@ -54,7 +54,7 @@ fn add<S: Sink>(
     batch: &Batch,
 ) -> Result<(), ToolFault>
     requires { S.failed writer.old.sink < 2 ^ 64 - 1 }
-    ensures { Adds (shown S.contents S.failed writer.old) batch.now number.old result
+    ensures { AddsBatch (shown S.contents S.failed writer.old) batch.now number.old result
         (writing (shown S.contents S.failed writer.new)) number.new }
 {
     let before = *number;
@@ -96,7 +96,7 @@ pub(crate) fn take<S: Sink>(
     number: &mut usize,
 ) -> (Target<S>, Result<(), ToolFault>)
     requires { failures_at (at_of S.contents S.failed target) < 2 ^ 64 - 1 }
-    ensures { Takes terms.now.limits (options_view terms.now.options) reader.now.at.state.schema
+    ensures { TakesItem terms.now.limits (options_view terms.now.options) reader.now.at.state.schema
         (given item.now) (at_of S.contents S.failed target) number.old result.1
         (at_of S.contents S.failed result.0) number.new }
 {

@@ -2,7 +2,7 @@
 
 ghost use Rattle.std.specs.Prelude.{◌≡◌, ◌<◌, ◌-◌, ◌^◌, [], Err, IfOk, Ok, OnOk, false, length};
 ghost use Rattle.arrow_stream_reader.specs.declared.reader.Verdict.TheVariants.{Open};
-ghost use Rattle.arrow_stream_reader.specs.Stream.{Stands, ended_so};
+ghost use Rattle.arrow_stream_reader.specs.Stream.{ReaderStands, ended_so};
 ghost use Rattle.arrow_stream_writer.specs.Shown.{options_view};
 ghost use Rattle.arrowflow_report.specs.Faults.{told_end};
 ghost use Rattle.arrowflow_report.specs.Reads.{BlamesNoInput, answer_by};
@@ -73,7 +73,7 @@ fn copy_pieces<R: Read, S: Sink>(
     room: &mut [u8],
 ) -> (Target<S>, Result<Result<(), ToolFault>, ReadFailed>)
     requires failed { failures_at (at_of S.contents S.failed target) < 2 ^ 64 - 1 }
-    requires start { Stands reader.old [] [] }
+    requires start { ReaderStands reader.old [] [] }
     requires open { reader.old.at.verdict ≡ Open }
     requires limits { reader.old.limits ≡ terms.now.limits }
     requires waits { IsWaiting target }

@@ -8,7 +8,7 @@ use Rattle.arrow_stream_reader.specs.declared.reader.Verdict.TheVariants.{Done}
 use Rattle.arrow_stream_reader.specs.Front.{Entry}
 use Rattle.arrow_stream_reader.specs.Kind.{kind_of}
 use Rattle.arrow_stream_reader.specs.State.{ended}
-use Rattle.arrow_stream_reader.specs.Stream.{GivesNext, Refuses, Shows, Stands, TakesOn, WantsMemory}
+use Rattle.arrow_stream_reader.specs.Stream.{GivesNext, RefusesMessage, ReaderView, ReaderStands, TakesOn, WantsMemory}
 use Rattle.arrow_stream_reader.specs.Tables.{table_in, tables_of}
 use Rattle.arrow_stream_reader.specs.Views.{given}
 use Rattle.arrow_stream_reader.proofs.Streams.{ended_stands}
@@ -20,7 +20,7 @@ use Rattle.arrowflow_report.proofs.Told.{end_is_done}
 use Rattle.arrowflow_drill.specs.Reading.{KeepsPiece, PieceKept}
 
 -- a reader that was given a part behind bytes whose batches were kept
-pub fed_out : (first now : Shows) (t part : List ℕ) (kept kept' : List Table) → Feeds first kept part now kept' → HandsOut t kept first → HandsOut (t ++ part) kept' now
+pub fed_out : (first now : ReaderView) (t part : List ℕ) (kept kept' : List Table) → Feeds first kept part now kept' → HandsOut t kept first → HandsOut (t ++ part) kept' now
 fed_out first now t part kept kept' feeds h =
     let f = feeds t h.entries h.stands in
     record {
@@ -30,32 +30,32 @@ fed_out first now t part kept kept' feeds h =
     }
 
 -- at other bytes that are the same
-out_at : (r : Shows) (kept : List Table) (t u : List ℕ) → t ≡ u → HandsOut t kept r → HandsOut u kept r
+out_at : (r : ReaderView) (kept : List Table) (t u : List ℕ) → t ≡ u → HandsOut t kept r → HandsOut u kept r
 out_at r kept t u e h = subst (λ y. HandsOut y kept r) e h
 
 -- nothing behind an end marker is looked at
-out_ended : (r : Shows) (kept : List Table) (t rest : List ℕ) → r.at.verdict ≡ Done → HandsOut t kept r → HandsOut (t ++ rest) kept r
+out_ended : (r : ReaderView) (kept : List Table) (t rest : List ℕ) → r.at.verdict ≡ Done → HandsOut t kept r → HandsOut (t ++ rest) kept r
 out_ended r kept t rest d h = record { entries = h.entries; stands = ended_stands r t h.entries rest (λ q. let both = sym d ∙ q in absurd (cc)) h.stands; tables = h.tables }
 
 -- at its beginning nothing of a piece was given
-pub feeding_nothing : (r : Shows) (kept : List Table) (piece : List ℕ) → IsFeeding r kept piece r kept piece
+pub feeding_nothing : (r : ReaderView) (kept : List Table) (piece : List ℕ) → IsFeeding r kept piece r kept piece
 feeding_nothing r kept piece = record {
   taken = [];
   whole = refl;
   feeds = λ t es at. record {
     more = [];
-    stands = subst (λ y. Stands r y (es ++ [])) (sym (append-nil t)) (subst (Stands r t) (sym (append-nil es)) at);
+    stands = subst (λ y. ReaderStands r y (es ++ [])) (sym (append-nil t)) (subst (ReaderStands r t) (sym (append-nil es)) at);
     tables = sym (append-nil kept);
   };
   limits = refl;
 }
 
-module _ (first now new : Shows) (kept kept' : List Table) (piece rest : List ℕ) (i : IsFeeding first kept piece now kept' rest) where
+module _ (first now new : ReaderView) (kept kept' : List Table) (piece rest : List ℕ) (i : IsFeeding first kept piece now kept' rest) where
   whole_with : (t : List ℕ) → (t ++ i.taken) ++ rest ≡ t ++ piece
   whole_with t = append_assoc t i.taken rest ∙ ap (λ y. t ++ y) i.whole
 
   -- an item was taken, and its batch kept
-  pub feeding_next : (kept'' : List Table) (n : ℕ) (item : Item) → ((t : List ℕ) (es : List Entry) → Stands now t es → GivesNext rest n item new t es) → kept'' ≡ kept' ++ table_in (given item) → new.limits ≡ now.limits
+  pub feeding_next : (kept'' : List Table) (n : ℕ) (item : Item) → ((t : List ℕ) (es : List Entry) → ReaderStands now t es → GivesNext rest n item new t es) → kept'' ≡ kept' ++ table_in (given item) → new.limits ≡ now.limits
       → IsFeeding first kept piece new kept'' (drop n rest)
   feeding_next kept'' n item gives k same = record {
     taken = i.taken ++ take n rest;
@@ -65,7 +65,7 @@ module _ (first now new : Shows) (kept kept' : List Table) (piece rest : List �
   }
 
   -- the end marker came
-  pub piece_ended : (kept'' : List Table) (n : ℕ) (item : Item) → ((t : List ℕ) (es : List Entry) → Stands now t es → GivesNext rest n item new t es) → kept'' ≡ kept' ++ table_in (given item) → given item ≡ ended
+  pub piece_ended : (kept'' : List Table) (n : ℕ) (item : Item) → ((t : List ℕ) (es : List Entry) → ReaderStands now t es → GivesNext rest n item new t es) → kept'' ≡ kept' ++ table_in (given item) → given item ≡ ended
       → KeepsPiece first kept piece (Ok true) new kept''
   piece_ended kept'' n item gives k marker t h =
       let o = fed_out first now t i.taken kept kept' i.feeds h in
@@ -77,13 +77,13 @@ module _ (first now new : Shows) (kept kept' : List Table) (piece rest : List �
       (out_at new kept'' _ (t ++ piece) all (out_ended new kept'' (t ++ (i.taken ++ take n rest)) (drop n rest) d next), λ q. d)
 
   -- no item came: the rest is taken too
-  pub piece_taken : (n : ℕ) → ((t : List ℕ) (es : List Entry) → Stands now t es → TakesOn now rest n new t es) → KeepsPiece first kept piece (Ok false) new kept'
+  pub piece_taken : (n : ℕ) → ((t : List ℕ) (es : List Entry) → ReaderStands now t es → TakesOn now rest n new t es) → KeepsPiece first kept piece (Ok false) new kept'
   piece_taken n takes t h =
       let all = fed_out first new t (i.taken ++ rest) kept kept' (fed_all first now new kept kept' i.taken rest i.feeds n takes) h in
       (out_at new kept' _ (t ++ piece) (ap (λ y. t ++ y) i.whole) all, λ q. absurd (false≢true q))
 
   -- a fault came: the stream is refused, or a growth was
-  pub piece_refused : (fault : Fault) → ((t : List ℕ) (es : List Entry) → Stands now t es → WantsMemory now fault new ⊎ Refuses rest fault new t es) → KeepsPiece first kept piece (Err (told fault)) new kept'
+  pub piece_refused : (fault : Fault) → ((t : List ℕ) (es : List Entry) → ReaderStands now t es → WantsMemory now fault new ⊎ RefusesMessage rest fault new t es) → KeepsPiece first kept piece (Err (told fault)) new kept'
   piece_refused fault refuses t h =
       let o = fed_out first now t i.taken kept kept' i.feeds h in
       elim (refuses (t ++ i.taken) o.entries o.stands) [

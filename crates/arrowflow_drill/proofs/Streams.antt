@@ -11,7 +11,7 @@ use Rattle.arrow_stream_reader.specs.declared.reader.Verdict.TheVariants.{Open, 
 use Rattle.arrow_stream_reader.specs.Front.{Entry, Standing, Front, FrontOf, closes, fails, goes_on, rests}
 use Rattle.arrow_stream_reader.specs.Kind.{kind_of}
 use Rattle.arrow_stream_reader.specs.State.{StreamState}
-use Rattle.arrow_stream_reader.specs.Stream.{Shows, Stands, ended_by, ended_so}
+use Rattle.arrow_stream_reader.specs.Stream.{ReaderView, ReaderStands, ended_by, ended_so}
 use Rattle.arrowflow_report.specs.Faults.{told, told_end}
 use Rattle.arrowflow_report.specs.Pieces.{HandsOut}
 use Rattle.arrowflow_report.specs.declared.tool_fault.ToolFault.{ToolFault}
@@ -23,7 +23,7 @@ use Rattle.arrowflow_report.proofs.Schemas.{front_begins}
 use Rattle.arrowflow_drill.specs.Reading.{Decides, IsWhole, PieceKept}
 
 -- the front at which a reader stands
-front_at : (limits : LimitNumbers) (r : Shows) (t : List ℕ) (es : List Entry) (x : Stands r t es) → r.limits ≡ limits → FrontOf limits t es (standing_of r x.rest)
+front_at : (limits : LimitNumbers) (r : ReaderView) (t : List ℕ) (es : List Entry) (x : ReaderStands r t es) → r.limits ≡ limits → FrontOf limits t es (standing_of r x.rest)
 front_at limits r t es x same = subst (λ l. FrontOf l t es (standing_of r x.rest)) same x.front
 
 -- what a reader tells of an end is no want of memory
@@ -34,7 +34,7 @@ ended_told Open true (x ∷ rest) place fault e = let same : record { kind = Tru
 ended_told Done has_schema rest place fault e = absurd (cc)
 ended_told (Bad k) has_schema rest place fault e = let same : record { kind = kind_of k; place = place } ≡ fault = cc in subst (λ f. told f ≡ Stream f) same (told_refusal k place)
 
-module _ (limits : LimitNumbers) (bytes : List ℕ) (left : Option (List ℕ)) (kept : List Table) (r : Shows) (h : HandsOut bytes kept r) (same : r.limits ≡ limits) where
+module _ (limits : LimitNumbers) (bytes : List ℕ) (left : Option (List ℕ)) (kept : List Table) (r : ReaderView) (h : HandsOut bytes kept r) (same : r.limits ≡ limits) where
   abbrev rest : List ℕ
   rest = h.stands.rest
 
@@ -70,7 +70,7 @@ module _ (limits : LimitNumbers) (bytes : List ℕ) (left : Option (List ℕ)) (
           (record { entries = h.entries; standing = standing_of r rest; front = front_at limits r bytes h.entries h.stands same; ends = inr (ends_so ∙ e, over) })
 
 -- a piece ended it
-pub decided_by_piece : (limits : LimitNumbers) (bytes : List ℕ) (left : Option (List ℕ)) (kept : List Table) (r : Shows) → r.limits ≡ limits → (fault : ToolFault) → PieceKept bytes (Err fault) r kept
+pub decided_by_piece : (limits : LimitNumbers) (bytes : List ℕ) (left : Option (List ℕ)) (kept : List Table) (r : ReaderView) → r.limits ≡ limits → (fault : ToolFault) → PieceKept bytes (Err fault) r kept
     → Decides limits bytes left (Err fault) r.at.state.schema kept
 decided_by_piece limits bytes left kept r same (Stream fault) x = record {
   entries = x.0.entries;

@@ -8,7 +8,7 @@ use Rattle.arrow_data.specs.Batch.{Table}
 use Rattle.arrow_stream_reader.specs.declared.fault.Fault.{Fault}
 use Rattle.arrow_stream_reader.specs.declared.reader.Verdict.TheVariants.{Done}
 use Rattle.arrow_stream_reader.specs.Front.{Entry, Standing, FrontOf}
-use Rattle.arrow_stream_reader.specs.Stream.{Shows}
+use Rattle.arrow_stream_reader.specs.Stream.{ReaderView}
 use Rattle.arrow_stream_reader.specs.Tables.{tables_of}
 use Rattle.arrow_stream_laws.specs.Sizes.{Options}
 use Rattle.arrowflow_session.specs.Asked.{Asked, asked_of}
@@ -24,7 +24,7 @@ use Rattle.arrowflow_report.specs.declared.tool_fault.ToolFault.TheVariants.{Inp
 
 -- With these bytes a piece was given to the reader, and the batches of their messages were kept; the answer tells whether an end
 -- marker came, or how the stream is refused.
-abbrev pub PieceKept : List ℕ → Result Bool ToolFault → Shows → List Table → Type 0
+abbrev pub PieceKept : List ℕ → Result Bool ToolFault → ReaderView → List Table → Type 0
 PieceKept bytes (Ok ends) new kept = HandsOut bytes kept new × (IsTrue ends → new.at.verdict ≡ Done)
 PieceKept bytes (Err (Stream fault)) new kept = HandsOut bytes kept new × IsBadBy new.at.verdict new.at.place fault
 PieceKept bytes (Err Memory) new kept = ⊤
@@ -33,7 +33,7 @@ PieceKept bytes (Err Output) new kept = ⊥
 PieceKept bytes (Err (Refused what kind)) new kept = ⊥
 
 -- the same for all bytes before the piece of which the batches were kept
-abbrev pub KeepsPiece : Shows → List Table → List ℕ → Result Bool ToolFault → Shows → List Table → Type 0
+abbrev pub KeepsPiece : ReaderView → List Table → List ℕ → Result Bool ToolFault → ReaderView → List Table → Type 0
 KeepsPiece old kept piece answer new kept' = (t : List ℕ) → HandsOut t kept old → PieceKept (t ++ piece) answer new kept'
 
 -- ---- a stream
@@ -48,7 +48,7 @@ pub record IsWhole (limits : LimitNumbers) (bytes : List ℕ) (left : Option (Li
   pub batches_are : batches ≡ tables_of entries
 
 -- They are a stream that is refused, or ends too early, by this fault.
-pub record IsRefused (limits : LimitNumbers) (bytes : List ℕ) (left : Option (List ℕ)) (fault : Fault) : Type 0 where
+pub record IsRefusedStream (limits : LimitNumbers) (bytes : List ℕ) (left : Option (List ℕ)) (fault : Fault) : Type 0 where
   pub entries : List Entry
   pub standing : Standing
   pub front : FrontOf limits bytes entries standing
@@ -57,7 +57,7 @@ pub record IsRefused (limits : LimitNumbers) (bytes : List ℕ) (left : Option (
 -- what these bytes decided of an input of which this is left: nothing of them holds the input to have failed
 abbrev pub Decides : LimitNumbers → List ℕ → Option (List ℕ) → Result (Unit {0}) ToolFault → Option SchemaShape → List Table → Type 0
 Decides limits bytes left (Ok done) schema batches = IsWhole limits bytes left schema batches
-Decides limits bytes left (Err (Stream fault)) schema batches = IsRefused limits bytes left fault
+Decides limits bytes left (Err (Stream fault)) schema batches = IsRefusedStream limits bytes left fault
 Decides limits bytes left (Err Memory) schema batches = ⊤
 Decides limits bytes left (Err (Input number)) schema batches = ⊥
 Decides limits bytes left (Err Output) schema batches = ⊥
@@ -92,7 +92,7 @@ pub record IsConnectionOf (asks : Asks) (bytes : List ℕ) (left : Option (List 
 -- What comes of the input of this number. Of faults a failed read is the input's alone.
 abbrev pub Brings : Asks → ℕ → List ℕ → Option (List ℕ) → Result Asked ToolFault → Type 0
 Brings asks number bytes left (Ok c) = IsConnectionOf asks bytes left c
-Brings asks number bytes left (Err (Stream fault)) = IsRefused asks.limits bytes left fault
+Brings asks number bytes left (Err (Stream fault)) = IsRefusedStream asks.limits bytes left fault
 Brings asks number bytes left (Err (Input n)) = (n ≡ number) × IsOpenAt asks.limits bytes
 Brings asks number bytes left (Err Memory) = ⊤
 Brings asks number bytes left (Err Output) = ⊥

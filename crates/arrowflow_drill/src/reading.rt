@@ -4,7 +4,7 @@ ghost use Rattle.std.specs.Prelude.{◌≡◌, ◌++◌, [], IfOk, MatchBool, Ma
 ghost use Rattle.std.specs.Prelude.{false, length};
 ghost use Rattle.arrow_stream_reader.specs.declared.item.Item.TheVariants.{End};
 ghost use Rattle.arrow_stream_reader.specs.declared.reader.Verdict.TheVariants.{Open};
-ghost use Rattle.arrow_stream_reader.specs.Stream.{Stands, ended_so};
+ghost use Rattle.arrow_stream_reader.specs.Stream.{ReaderStands, ended_so};
 ghost use Rattle.arrow_stream_reader.specs.Tables.{table_in};
 ghost use Rattle.arrow_stream_reader.specs.Views.{given};
 ghost use Rattle.arrowflow_report.specs.Faults.{told_end};
@@ -105,7 +105,7 @@ fn read_pieces<R: Read>(
     input: &mut R,
     room: &mut [u8],
 ) -> Result<Result<(), ToolFault>, ReadFailed>
-    requires start { Stands reader.old [] [] }
+    requires start { ReaderStands reader.old [] [] }
     requires open { reader.old.at.verdict ≡ Open }
     requires none { batches.old.items ≡ [] }
     requires room { length room.old ≡ 65536 }

@@ -10,7 +10,7 @@ use Rattle.arrow_stream_reader.specs.declared.kind.Kind.TheVariants.{Memory}
 use Rattle.arrow_stream_reader.specs.declared.reader.Verdict.{Verdict}
 use Rattle.arrow_stream_reader.specs.declared.reader.Verdict.TheVariants.{Open, Done, Bad}
 use Rattle.arrow_stream_reader.specs.Front.{Entry}
-use Rattle.arrow_stream_reader.specs.Stream.{Shows, Stands, TakesOn, GivesNext, Refuses, WantsMemory, ended_by}
+use Rattle.arrow_stream_reader.specs.Stream.{ReaderView, ReaderStands, TakesOn, GivesNext, RefusesMessage, WantsMemory, ended_by}
 use Rattle.arrow_stream_reader.specs.Views.{given}
 use Rattle.arrow_stream_reader.proofs.Streams.{ended_stands}
 use Rattle.arrowflow_report.specs.Pieces.{Feeds, FeedsInside, HandsOut}
@@ -27,21 +27,21 @@ tables_then : (h h' h'' : List Table) (es fs : List Entry) → h' ≡ h ++ table
 tables_then h h' h'' es fs a b =
     b ∙ ap (λ y. y ++ tables_of fs) a ∙ append_assoc h (tables_of es) (tables_of fs) ∙ ap (λ y. h ++ y) (sym (tables-append es fs))
 
-stands_at : {r : Shows} {t u : List ℕ} {es fs : List Entry} → t ≡ u → es ≡ fs → Stands r t es → Stands r u fs
-stands_at {r} {t} {u} {es} {fs} a b x = subst (λ y. Stands r u y) b (subst (λ y. Stands r y es) a x)
+stands_at : {r : ReaderView} {t u : List ℕ} {es fs : List Entry} → t ≡ u → es ≡ fs → ReaderStands r t es → ReaderStands r u fs
+stands_at {r} {t} {u} {es} {fs} a b x = subst (λ y. ReaderStands r u y) b (subst (λ y. ReaderStands r y es) a x)
 
 -- a loop that gives the reader a piece
-pub record IsFeeding (first : Shows) (handed : List Table) (piece : List ℕ) (now : Shows) (handed' : List Table) (rest : List ℕ) : Type 0 where
+pub record IsFeeding (first : ReaderView) (handed : List Table) (piece : List ℕ) (now : ReaderView) (handed' : List Table) (rest : List ℕ) : Type 0 where
   pub taken : List ℕ
   pub whole : taken ++ rest ≡ piece
   pub feeds : Feeds first handed taken now handed'
   pub limits : now.limits ≡ first.limits
 
 -- with no item a reader stands behind the whole piece, whatever it took
-pub taken_all : (now new : Shows) (piece : List ℕ) (n : ℕ) (t : List ℕ) (es : List Entry) → TakesOn now piece n new t es → Stands new (t ++ piece) es
+pub taken_all : (now new : ReaderView) (piece : List ℕ) (n : ℕ) (t : List ℕ) (es : List Entry) → TakesOn now piece n new t es → ReaderStands new (t ++ piece) es
 taken_all now new piece n t es x = by now.at.verdict refl
   where
-    by : (o : Verdict) → now.at.verdict ≡ o → Stands new (t ++ piece) es
+    by : (o : Verdict) → now.at.verdict ≡ o → ReaderStands new (t ++ piece) es
     by Open e = stands_at (ap (λ y. t ++ y) (take_all n piece (omega (arith, x.all e)))) refl x.stands
     by Done e =
         stands_at (append_assoc t (take n piece) (drop n piece) ∙ ap (λ y. t ++ y) (take-append-drop n piece)) refl
@@ -50,9 +50,9 @@ taken_all now new piece n t es x = by now.at.verdict refl
         stands_at (append_assoc t (take n piece) (drop n piece) ∙ ap (λ y. t ++ y) (take-append-drop n piece)) refl
         (ended_stands new (t ++ take n piece) es (drop n piece) (λ q. let s = x.same in cc) x.stands)
 
-module _ (first now new : Shows) (h h' : List Table) (taken rest : List ℕ) (a : Feeds first h taken now h') where
+module _ (first now new : ReaderView) (h h' : List Table) (taken rest : List ℕ) (a : Feeds first h taken now h') where
   -- an item was taken, and its batch kept
-  pub fed_next : (h'' : List Table) (n : ℕ) (item : Item) → ((t : List ℕ) (es : List Entry) → Stands now t es → GivesNext rest n item new t es) →
+  pub fed_next : (h'' : List Table) (n : ℕ) (item : Item) → ((t : List ℕ) (es : List Entry) → ReaderStands now t es → GivesNext rest n item new t es) →
       h'' ≡ h' ++ table_in (given item) → Feeds first h (taken ++ take n rest) new h''
   fed_next h'' n item b k t es at =
       let f = a t es at in
@@ -65,7 +65,7 @@ module _ (first now new : Shows) (h h' : List Table) (taken rest : List ℕ) (a 
       }
 
   -- an item was taken, and its batch not kept
-  pub stopped_behind : (n : ℕ) (item : Item) → ((t : List ℕ) (es : List Entry) → Stands now t es → GivesNext rest n item new t es) → FeedsInside first (taken ++ rest) new
+  pub stopped_behind : (n : ℕ) (item : Item) → ((t : List ℕ) (es : List Entry) → ReaderStands now t es → GivesNext rest n item new t es) → FeedsInside first (taken ++ rest) new
   stopped_behind n item b t es at =
       let f = a t es at in
       let g = b (t ++ taken) (es ++ f.more) f.stands in
@@ -82,36 +82,36 @@ module _ (first now new : Shows) (h h' : List Table) (taken rest : List ℕ) (a 
   pub stopped_before : new ≡ now → FeedsInside first (taken ++ rest) new
   stopped_before e t es at =
       let f = a t es at in
-      record { taken = taken; rest = rest; more = f.more; whole = refl; stands = subst (λ r. Stands r (t ++ taken) (es ++ f.more)) (sym e) f.stands }
+      record { taken = taken; rest = rest; more = f.more; whole = refl; stands = subst (λ r. ReaderStands r (t ++ taken) (es ++ f.more)) (sym e) f.stands }
 
   -- no item came, or a fault: the rest is taken too
-  fed_last : ((t : List ℕ) (es : List Entry) → Stands now t es → Stands new (t ++ rest) es) → Feeds first h (taken ++ rest) new h'
+  fed_last : ((t : List ℕ) (es : List Entry) → ReaderStands now t es → ReaderStands new (t ++ rest) es) → Feeds first h (taken ++ rest) new h'
   fed_last b t es at =
       let f = a t es at in
       record { more = f.more; stands = stands_at (append_assoc t taken rest) refl (b (t ++ taken) (es ++ f.more) f.stands); tables = f.tables }
 
   -- no item came
-  pub fed_all : (n : ℕ) → ((t : List ℕ) (es : List Entry) → Stands now t es → TakesOn now rest n new t es) → Feeds first h (taken ++ rest) new h'
+  pub fed_all : (n : ℕ) → ((t : List ℕ) (es : List Entry) → ReaderStands now t es → TakesOn now rest n new t es) → Feeds first h (taken ++ rest) new h'
   fed_all n b = fed_last (λ t es at. taken_all now new rest n t es (b t es at))
 
-  refused_by : (fault : Fault) (t : List ℕ) (es : List Entry) → (fault.kind ≡ Memory → ⊥) → WantsMemory now fault new ⊎ Refuses rest fault new t es → Stands new (t ++ rest) es
+  refused_by : (fault : Fault) (t : List ℕ) (es : List Entry) → (fault.kind ≡ Memory → ⊥) → WantsMemory now fault new ⊎ RefusesMessage rest fault new t es → ReaderStands new (t ++ rest) es
   refused_by fault t es n (inl m) = absurd (n (ap (λ (f : Fault). f.kind) m.fault_is))
   refused_by fault t es n (inr r) = r.stands
 
   -- a fault came that is no want of memory
-  pub fed_fault : (fault : Fault) → (fault.kind ≡ Memory → ⊥) → ((t : List ℕ) (es : List Entry) → Stands now t es → WantsMemory now fault new ⊎ Refuses rest fault new t es) → Feeds first h (taken ++ rest) new h'
+  pub fed_fault : (fault : Fault) → (fault.kind ≡ Memory → ⊥) → ((t : List ℕ) (es : List Entry) → ReaderStands now t es → WantsMemory now fault new ⊎ RefusesMessage rest fault new t es) → Feeds first h (taken ++ rest) new h'
   fed_fault fault n b = fed_last (λ t es at. refused_by fault t es n (b t es at))
 
 -- a reader that began anew and was given the bytes before the rest
-pub record IsReceiving (limits : LimitNumbers) (bytes : List ℕ) (now : Shows) (handed : List Table) (rest : List ℕ) : Type 0 where
+pub record IsReceiving (limits : LimitNumbers) (bytes : List ℕ) (now : ReaderView) (handed : List Table) (rest : List ℕ) : Type 0 where
   pub taken : List ℕ
   pub entries : List Entry
   pub whole : taken ++ rest ≡ bytes
-  pub stands : Stands now taken entries
+  pub stands : ReaderStands now taken entries
   pub tables : handed ≡ tables_of entries
   pub same_limits : now.limits ≡ limits
 
-module _ {l : LimitNumbers} {bytes : List ℕ} {now : Shows} {h : List Table} {rest : List ℕ} (new : Shows) (i : IsReceiving l bytes now h rest) where
+module _ {l : LimitNumbers} {bytes : List ℕ} {now : ReaderView} {h : List Table} {rest : List ℕ} (new : ReaderView) (i : IsReceiving l bytes now h rest) where
   -- one piece more was given
   pub receiving_next : (h' : List Table) (piece rest' : List ℕ) → Feeds now h piece new h' → piece ++ rest' ≡ rest → new.limits ≡ now.limits → IsReceiving l bytes new h' rest'
   receiving_next h' piece rest' f e k =
@@ -148,7 +148,7 @@ module _ {l : LimitNumbers} {bytes : List ℕ} {now : Shows} {h : List Table} {r
       }
 
 -- a reader that stands behind all the bytes stands inside of them
-pub out_inside : (bytes : List ℕ) (h : List Table) (r : Shows) → HandsOut bytes h r → StandsInside bytes r
+pub out_inside : (bytes : List ℕ) (h : List Table) (r : ReaderView) → HandsOut bytes h r → StandsInside bytes r
 out_inside bytes h r out = record { taken = bytes; rest = []; whole = append-nil bytes; stands = (out.entries, out.stands) }
 
 -- what holds always holds of an error

@@ -7,7 +7,7 @@ use Rattle.arrow_stream_reader.specs.declared.reader.Verdict.TheVariants.{Open}
 use Rattle.arrow_stream_reader.specs.Frame.{Outcome, First, whole, waits, short_prefix, short_metadata, short_body, bad_prefix, bad_metadata, bad_body, end_marker, message_comes}
 use Rattle.arrow_stream_reader.specs.Front.{Entry, Standing, Front, rests, fails, closes, goes_on}
 use Rattle.arrow_stream_reader.specs.State.{StreamState, Given}
-use Rattle.arrow_stream_reader.specs.Stream.{Shows, Stands}
+use Rattle.arrow_stream_reader.specs.Stream.{ReaderView, ReaderStands}
 use Rattle.arrow_stream_reader.proofs.Firsts.{First-within, whole_says}
 use Rattle.arrow_stream_reader.proofs.Fronts.{front_place}
 use Rattle.arrow_stream_reader.proofs.Works.{size_small, frame_small}
@@ -44,14 +44,14 @@ open_near {p = p} {b = b} (goes_on {n = m} {s' = s'} {g = g} x xs) o n =
     omega (arith, i, length-drop m b, First-within x)
 
 -- how many bytes of its stream a reader has taken that goes on
-abbrev pub reached : Shows → ℕ
+abbrev pub reached : ReaderView → ℕ
 reached r = r.at.place + length r.at.rest
 
-reached_is : (r : Shows) (t : List ℕ) (es : List Entry) → Stands r t es → r.at.verdict ≡ Open → reached r ≡ length t
+reached_is : (r : ReaderView) (t : List ℕ) (es : List Entry) → ReaderStands r t es → r.at.verdict ≡ Open → reached r ≡ length t
 reached_is r t es s o = omega (arith, ap length (s.held o), front_place s.front)
 
 -- with each piece less is left that a stream can have
-pub less_left : (old new : Shows) (t piece : List ℕ) (es fs : List Entry) → Stands old t es → old.at.verdict ≡ Open → Stands new (t ++ piece) fs → new.at.verdict ≡ Open → 0 < length piece
+pub less_left : (old new : ReaderView) (t piece : List ℕ) (es fs : List Entry) → ReaderStands old t es → old.at.verdict ≡ Open → ReaderStands new (t ++ piece) fs → new.at.verdict ≡ Open → 0 < length piece
     → 2 ^ 62 + 9 - reached new < 2 ^ 62 + 9 - reached old
 less_left old new t piece es fs s o s' o' some =
     let near : 0 + length (t ++ piece) ≤ 2 ^ 62 + 8 = open_near s'.front o' (omega arith) in

@@ -5,11 +5,11 @@ use Rattle.std.proofs.KnownBytes.{Appends-kept, Appends-nil, Appends-trans}
 use Rattle.arrow_types.specs.Limits.{LimitNumbers}
 use Rattle.arrow_sink.specs.Sinks.{AcceptsBeginning}
 use Rattle.arrow_stream_reader.specs.Front.{Entry, Standing, FrontOf}
-use Rattle.arrow_stream_reader.specs.Stream.{Shows, Stands, ended_by, ended_so}
+use Rattle.arrow_stream_reader.specs.Stream.{ReaderView, ReaderStands, ended_by, ended_so}
 use Rattle.arrow_stream_reader.specs.declared.reader.Verdict.{Verdict}
 use Rattle.arrow_stream_reader.specs.declared.reader.Verdict.TheVariants.{Open, Done, Bad}
 use Rattle.arrowflow_report.specs.Reads.{BlamesNoInput}
-use Rattle.arrowflow_report.specs.Reports.{IsOpenAt, IsTextOf, IsEnding, IsLast, EndTold, Sends, IsTold, IsCutOff, PieceTold, IsWritten, IsWrittenWhole, IsBegun, EndsWell, Reports}
+use Rattle.arrowflow_report.specs.Reports.{IsOpenAt, IsTextOf, IsEnding, IsLast, EndTold, SendsText, IsTold, IsCutOff, PieceTold, IsWritten, IsWrittenWhole, IsBegun, EndsWell, Reports}
 use Rattle.arrowflow_report.specs.declared.report.Report.{Report}
 use Rattle.arrowflow_report.specs.declared.report.Report.TheVariants.{Messages, Rows}
 use Rattle.arrowflow_report.specs.declared.tool_fault.ToolFault.{ToolFault}
@@ -19,11 +19,11 @@ use Rattle.arrowflow_report.proofs.First.{state_stays}
 use Rattle.arrowflow_report.proofs.Sent.{begun_behind}
 
 -- where a reader's stream has come to, with this rest
-abbrev pub standing_of : Shows → List ℕ → Standing
+abbrev pub standing_of : ReaderView → List ℕ → Standing
 standing_of r rest = record { state = r.at.state; place = r.at.place; rest = rest; verdict = r.at.verdict }
 
 -- a stream goes on at the bytes at which an open reader stands
-pub open_at : (limits : LimitNumbers) (bytes : List ℕ) (r : Shows) (es : List Entry) → Stands r bytes es → r.limits ≡ limits → r.at.verdict ≡ Open → IsOpenAt limits bytes
+pub open_at : (limits : LimitNumbers) (bytes : List ℕ) (r : ReaderView) (es : List Entry) → ReaderStands r bytes es → r.limits ≡ limits → r.at.verdict ≡ Open → IsOpenAt limits bytes
 open_at limits bytes r es at same o = record {
   entries = es;
   standing = standing_of r at.rest;
@@ -32,7 +32,7 @@ open_at limits bytes r es at same o = record {
 }
 
 -- at its beginning a stream has no text
-pub told_nothing : (report : Report) (held : Option (List ℕ)) (r : Shows) → Stands r [] [] → IsTold report held held 0 r [] []
+pub told_nothing : (report : Report) (held : Option (List ℕ)) (r : ReaderView) → ReaderStands r [] [] → IsTold report held held 0 r [] []
 told_nothing report held r at = record { text = []; stands = at; is = by report; wrote = Appends-nil held; counted = refl }
   where
     by : (p : Report) → IsTextOf p r.at.state.schema [] []
@@ -41,7 +41,7 @@ told_nothing report held r at = record { text = []; stands = at; is = by report;
 
 module _ (report : Report) (limits : LimitNumbers) (bytes : List ℕ) (left first : Option (List ℕ)) (start : ℕ) where
   -- what is left of a text that was told
-  abbrev pub written : (held : Option (List ℕ)) (number : ℕ) (r : Shows) (es : List Entry) (same : r.limits ≡ limits) (x : IsTold report first held number r bytes es)
+  abbrev pub written : (held : Option (List ℕ)) (number : ℕ) (r : ReaderView) (es : List Entry) (same : r.limits ≡ limits) (x : IsTold report first held number r bytes es)
       → IsWritten report limits bytes (standing_of r x.stands.rest) first held
   written held number r es same x = record {
     entries = es;
@@ -79,7 +79,7 @@ module _ (report : Report) (limits : LimitNumbers) (bytes : List ℕ) (left firs
 
   -- the last flush
   pub flushed : (e : Standing) (held held' : Option (List ℕ)) (failed failed' : ℕ) (answer : Result (Unit {0}) ToolFault) → IsWrittenWhole report limits bytes e first held → EndsWell left e → failed ≡ start
-      → Sends held failed [] answer held' failed' → Reports report limits bytes left first start answer held' failed'
+      → SendsText held failed [] answer held' failed' → Reports report limits bytes left first start answer held' failed'
   flushed e held held' failed failed' answer w well count sent = by answer sent
     where
       all : (w.text ++ w.last) ++ [] ≡ w.text ++ w.last
@@ -100,7 +100,7 @@ module _ (report : Report) (limits : LimitNumbers) (bytes : List ℕ) (left firs
         wrote = subst (AcceptsBeginning first held') all (begun_behind first held held' (w.text ++ w.last) [] w.wrote h);
       }
 
-      by : (answer : Result (Unit {0}) ToolFault) → Sends held failed [] answer held' failed' → Reports report limits bytes left first start answer held' failed'
+      by : (answer : Result (Unit {0}) ToolFault) → SendsText held failed [] answer held' failed' → Reports report limits bytes left first start answer held' failed'
       by (Ok done) sent = (
         e,
         record {
@@ -121,7 +121,7 @@ module _ (report : Report) (limits : LimitNumbers) (bytes : List ℕ) (left firs
       by (Err (Refused what kind)) sent = absurd sent
       by (Err (Stream f)) sent = absurd sent
 
-  module _ (held : Option (List ℕ)) (number failed : ℕ) (r : Shows) (es : List Entry) (same : r.limits ≡ limits) (count : failed ≡ start) (over : IsAtEnd left) (x : IsTold report first held number r bytes es) where
+  module _ (held : Option (List ℕ)) (number failed : ℕ) (r : ReaderView) (es : List Entry) (same : r.limits ≡ limits) (count : failed ≡ start) (over : IsAtEnd left) (x : IsTold report first held number r bytes es) where
     abbrev w : IsWritten report limits bytes (standing_of r x.stands.rest) first held
     w = written held number r es same x
 
@@ -129,7 +129,7 @@ module _ (report : Report) (limits : LimitNumbers) (bytes : List ℕ) (left firs
     ends_so = sym (ended_same r.at.verdict (is_some r.at.state.schema) x.stands.rest r.at.rest r.at.place x.stands.held)
 
     -- the input ended at the end of a message
-    pub end_flushed : r.at.verdict ≡ Open → (held' held'' : Option (List ℕ)) (failed' failed'' : ℕ) (answer : Result (Unit {0}) ToolFault) → EndTold report r.at held failed (Ok tt) held' failed' → Sends held' failed' [] answer held'' failed''
+    pub end_flushed : r.at.verdict ≡ Open → (held' held'' : Option (List ℕ)) (failed' failed'' : ℕ) (answer : Result (Unit {0}) ToolFault) → EndTold report r.at held failed (Ok tt) held' failed' → SendsText held' failed' [] answer held'' failed''
         → Reports report limits bytes left first start answer held'' failed''
     end_flushed goes_on held' held'' failed' failed'' answer end sent =
         let e = standing_of r x.stands.rest in
@@ -148,7 +148,7 @@ module _ (report : Report) (limits : LimitNumbers) (bytes : List ℕ) (left firs
     end_reported Memory held' failed' end = (more_begun (standing_of r x.stands.rest) held held' end.0 w end.1 end.2.0, end.2.1 ∙ count)
 
 -- what ends inside of a piece
-module _ (report : Report) (limits : LimitNumbers) (bytes piece : List ℕ) (left first held : Option (List ℕ)) (start failed failed' number : ℕ) (r : Shows) (same : r.limits ≡ limits) (count : failed ≡ start) where
+module _ (report : Report) (limits : LimitNumbers) (bytes piece : List ℕ) (left first held : Option (List ℕ)) (start failed failed' number : ℕ) (r : ReaderView) (same : r.limits ≡ limits) (count : failed ≡ start) where
   cut_begun : IsCutOff report first held r bytes piece → IsBegun report limits (bytes ++ piece) first held
   cut_begun c = record {
     taken = bytes ++ c.taken;
@@ -183,7 +183,7 @@ module _ (report : Report) (limits : LimitNumbers) (bytes piece : List ℕ) (lef
       (standing_of r x.stands.rest, written report limits (bytes ++ piece) left first start held number r told.0.0 same x, inl told.2, told.1 ∙ count)
 
   -- the end marker came, and the output was flushed
-  pub marker_flushed : (held' : Option (List ℕ)) (failed'' : ℕ) (answer : Result (Unit {0}) ToolFault) → PieceTold report first failed bytes piece (Ok true) held failed' number r → Sends held failed' [] answer held' failed''
+  pub marker_flushed : (held' : Option (List ℕ)) (failed'' : ℕ) (answer : Result (Unit {0}) ToolFault) → PieceTold report first failed bytes piece (Ok true) held failed' number r → SendsText held failed' [] answer held' failed''
       → Reports report limits (bytes ++ piece) left first start answer held' failed''
   marker_flushed held' failed'' answer told sent =
       let x = told.0.1 in

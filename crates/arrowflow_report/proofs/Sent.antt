@@ -12,7 +12,7 @@ use Rattle.arrow_sink.specs.Sinks.{AcceptsBeginning}
 use Rattle.arrow_stream_reader.specs.State.{StreamState, Given}
 use Rattle.arrow_types.specs.Notes.{SchemaShape}
 use Rattle.arrowflow_report.specs.Lines.{message_line}
-use Rattle.arrowflow_report.specs.Reports.{IsAdded, Sends}
+use Rattle.arrowflow_report.specs.Reports.{IsAdded, SendsText}
 use Rattle.arrowflow_report.specs.Shown.{text_in}
 use Rattle.arrowflow_report.specs.declared.report.Report.{Report}
 use Rattle.arrowflow_report.specs.declared.report.Report.TheVariants.{Messages, Rows}
@@ -53,7 +53,7 @@ pub begun_longer : (a b : Option (List ℕ)) (s t : List ℕ) → AcceptsBeginni
 begun_longer a b s t (n, within, g) = (n, omega (arith, within, length-append s t), subst (Appends a b) (sym (take-append-le n s t within)) g)
 
 -- a text was not sent to its end: behind one that was sent, and before one that was not
-pub cut_between : (f : ToolFault) (a b c : Option (List ℕ)) (n m k : ℕ) (s t u whole : List ℕ) → Appends a b s → m ≡ n → s ++ t ++ u ≡ whole → Sends b m t (Err f) c k → Sends a n whole (Err f) c k
+pub cut_between : (f : ToolFault) (a b c : Option (List ℕ)) (n m k : ℕ) (s t u whole : List ℕ) → Appends a b s → m ≡ n → s ++ t ++ u ≡ whole → SendsText b m t (Err f) c k → SendsText a n whole (Err f) c k
 cut_between (Input x) a b c n m k s t u whole h same e sent = sent
 cut_between (Refused what kind) a b c n m k s t u whole h same e sent = sent
 cut_between (Stream x) a b c n m k s t u whole h same e sent = sent

@@ -17,7 +17,7 @@ use Rattle.arrow_stream_reader.specs.Frame.{BodySays, schema_comes, dictionary_c
 use Rattle.arrow_stream_reader.specs.Front.{Entry, Standing, Front, FrontOf, rests, fails, closes, goes_on}
 use Rattle.arrow_stream_reader.specs.Kind.{kind_of}
 use Rattle.arrow_stream_reader.specs.State.{StreamState, Given, ended, schema_given, dictionary_given, batch_given}
-use Rattle.arrow_stream_reader.specs.Stream.{Shows, Stands, GoesOn, GivesNext, TakesOn, Refuses, WantsMemory}
+use Rattle.arrow_stream_reader.specs.Stream.{ReaderView, ReaderStands, GoesOn, GivesNext, TakesOn, RefusesMessage, WantsMemory}
 use Rattle.arrow_stream_reader.specs.Views.{given}
 use Rattle.arrow_stream_reader.proofs.Firsts.{whole_says}
 use Rattle.arrow_stream_reader.proofs.Fronts.{more_bytes}
@@ -124,7 +124,7 @@ text_more Messages c {es} {e} {f} x number text added old o new k is more =
 text_more Rows c {es} {e} {f} x number text added old o new k is more =
     ap (λ y. y ++ added) is ∙ ap (λ y. stream_text e.state.schema (tables_of es) ++ y) (more ∙ ap (λ m. text_in f.state.schema m x.given) k) ∙ sym (text_grows c x old o new)
 
-module _ (report : Report) (first held : Option (List ℕ)) (number : ℕ) (now new : Shows) (u rest : List ℕ) (es : List Entry) (n : ℕ) (item : Item) (is_open : now.at.verdict ≡ Open) (limits : new.limits ≡ now.limits)
+module _ (report : Report) (first held : Option (List ℕ)) (number : ℕ) (now new : ReaderView) (u rest : List ℕ) (es : List Entry) (n : ℕ) (item : Item) (is_open : now.at.verdict ≡ Open) (limits : new.limits ≡ now.limits)
     (x : IsTold report first held number now u es) (gives : GivesNext rest n item new u es) (added : List ℕ) (is_added : IsAdded report new.at.state.schema now.at.place number (given item) added) where
   -- the message that came
   abbrev pub entry : Entry
@@ -159,31 +159,31 @@ module _ (report : Report) (first held : Option (List ℕ)) (number : ℕ) (now 
   }
 
 -- bytes without a message leave the text
-pub told_still : (report : Report) (first held : Option (List ℕ)) (number : ℕ) (now new : Shows) (u c : List ℕ) (es : List Entry) → new.limits ≡ now.limits → IsTold report first held number now u es → Stands new (u ++ c) es → IsTold report first held number new (u ++ c) es
+pub told_still : (report : Report) (first held : Option (List ℕ)) (number : ℕ) (now new : ReaderView) (u c : List ℕ) (es : List Entry) → new.limits ≡ now.limits → IsTold report first held number now u es → ReaderStands new (u ++ c) es → IsTold report first held number new (u ++ c) es
 told_still report first held number now new u c es limits x at =
     let standing : Standing = record { state = new.at.state; place = new.at.place; rest = at.rest; verdict = new.at.verdict } in
     let same : new.at.state ≡ now.at.state = state_same c x.stands.front (subst (λ l. FrontOf l (u ++ c) es standing) limits at.front) in
     record { text = x.text; stands = at; is = subst (λ (s : StreamState). IsTextOf report s.schema es x.text) (sym same) x.is; wrote = x.wrote; counted = x.counted }
 
 -- behind an end more bytes change nothing
-told_ended : (report : Report) (first held : Option (List ℕ)) (number : ℕ) (r : Shows) (u c : List ℕ) (es : List Entry) → r.at.verdict ≡ Done → IsTold report first held number r u es → IsTold report first held number r (u ++ c) es
+told_ended : (report : Report) (first held : Option (List ℕ)) (number : ℕ) (r : ReaderView) (u c : List ℕ) (es : List Entry) → r.at.verdict ≡ Done → IsTold report first held number r u es → IsTold report first held number r (u ++ c) es
 told_ended report first held number r u c es d x =
     told_still report first held number r r u c es refl x (ended_stands r u es c (λ q. let z : Done ≡ Open = sym d ∙ q in cc) x.stands)
 
-told_at : (report : Report) (first held : Option (List ℕ)) (number : ℕ) (r : Shows) (u v : List ℕ) (es : List Entry) → u ≡ v → IsTold report first held number r u es → IsTold report first held number r v es
+told_at : (report : Report) (first held : Option (List ℕ)) (number : ℕ) (r : ReaderView) (u v : List ℕ) (es : List Entry) → u ≡ v → IsTold report first held number r u es → IsTold report first held number r v es
 told_at report first held number r u v es e x = subst (λ y. IsTold report first held number r y es) e x
 
 -- ---- the loop over a piece
 
 -- all of a piece but this rest was given to the reader, and its text was sent
-pub record IsTelling (report : Report) (old : Shows) (before : Option (List ℕ)) (number : ℕ) (piece : List ℕ) (now : Shows) (held : Option (List ℕ)) (number' : ℕ) (rest : List ℕ) : Type 0 where
+pub record IsTelling (report : Report) (old : ReaderView) (before : Option (List ℕ)) (number : ℕ) (piece : List ℕ) (now : ReaderView) (held : Option (List ℕ)) (number' : ℕ) (rest : List ℕ) : Type 0 where
   pub taken : List ℕ
   pub whole : taken ++ rest ≡ piece
   pub told : (first : Option (List ℕ)) (t : List ℕ) (es : List Entry) → IsTold report first before number old t es → (fs : List Entry) × IsTold report first held number' now (t ++ taken) fs
   pub limits : now.limits ≡ old.limits
 
 -- before the first message nothing of a piece was given
-pub telling_nothing : (report : Report) (old : Shows) (before : Option (List ℕ)) (number : ℕ) (piece : List ℕ) → IsTelling report old before number piece old before number piece
+pub telling_nothing : (report : Report) (old : ReaderView) (before : Option (List ℕ)) (number : ℕ) (piece : List ℕ) → IsTelling report old before number piece old before number piece
 telling_nothing report old before number piece = record {
   taken = [];
   whole = refl;
@@ -191,9 +191,9 @@ telling_nothing report old before number piece = record {
   limits = refl;
 }
 
-module _ (report : Report) (old : Shows) (before : Option (List ℕ)) (number : ℕ) (piece : List ℕ) (now : Shows) (held : Option (List ℕ)) (number' : ℕ) (rest : List ℕ)
-    (i : IsTelling report old before number piece now held number' rest) (new : Shows) (limits : new.limits ≡ now.limits) where
-  module _ (n : ℕ) (item : Item) (is_open : now.at.verdict ≡ Open) (gives : (t : List ℕ) (es : List Entry) → Stands now t es → GivesNext rest n item new t es) (place : ℕ) (here : place ≡ now.at.place) where
+module _ (report : Report) (old : ReaderView) (before : Option (List ℕ)) (number : ℕ) (piece : List ℕ) (now : ReaderView) (held : Option (List ℕ)) (number' : ℕ) (rest : List ℕ)
+    (i : IsTelling report old before number piece now held number' rest) (new : ReaderView) (limits : new.limits ≡ now.limits) where
+  module _ (n : ℕ) (item : Item) (is_open : now.at.verdict ≡ Open) (gives : (t : List ℕ) (es : List Entry) → ReaderStands now t es → GivesNext rest n item new t es) (place : ℕ) (here : place ≡ now.at.place) where
     -- what was sent is the text of the message at the place where it began
     at_place : (text : List ℕ) → IsAdded report new.at.state.schema place number' (given item) text → IsAdded report new.at.state.schema now.at.place number' (given item) text
     at_place text h = subst (λ p. IsAdded report new.at.state.schema p number' (given item) text) here h
@@ -227,7 +227,7 @@ module _ (report : Report) (old : Shows) (before : Option (List ℕ)) (number : 
       whole = append_assoc i.taken c.taken c.rest ∙ ap (λ y. i.taken ++ y) c.whole ∙ i.whole;
       entries = c.entries;
       text = c.text;
-      stands = subst (λ y. Stands new y c.entries) (append_assoc t i.taken c.taken) c.stands;
+      stands = subst (λ y. ReaderStands new y c.entries) (append_assoc t i.taken c.taken) c.stands;
       is = c.is;
       wrote = c.wrote;
     }
@@ -265,7 +265,7 @@ module _ (report : Report) (old : Shows) (before : Option (List ℕ)) (number : 
         ((y.0, told_at report first held' number'' new _ (t ++ piece) y.0 whole (told_ended report first held' number'' new (t ++ j.taken) (drop n rest) y.0 d y.1)), sent.2.1, λ q. d)
 
   -- no item came: the rest is taken too
-  pub telling_all : (n failed : ℕ) → ((t : List ℕ) (es : List Entry) → Stands now t es → TakesOn now rest n new t es)
+  pub telling_all : (n failed : ℕ) → ((t : List ℕ) (es : List Entry) → ReaderStands now t es → TakesOn now rest n new t es)
       → (first : Option (List ℕ)) (t : List ℕ) (es : List Entry) → IsTold report first before number old t es → PieceTold report first failed t piece (Ok false) held failed number' new
   telling_all n failed takes first t es x =
       let y = i.told first t es x in
@@ -275,7 +275,7 @@ module _ (report : Report) (old : Shows) (before : Option (List ℕ)) (number : 
       ((y.0, told_at report first held number' new (u ++ rest) (t ++ piece) y.0 whole (told_still report first held number' now new u rest y.0 limits y.1 at)), refl, λ q. absurd (false≢true q))
 
   -- a fault came: the rest is refused, or a growth was
-  pub telling_refused : (fault : Fault) (failed : ℕ) → ((t : List ℕ) (es : List Entry) → Stands now t es → WantsMemory now fault new ⊎ Refuses rest fault new t es)
+  pub telling_refused : (fault : Fault) (failed : ℕ) → ((t : List ℕ) (es : List Entry) → ReaderStands now t es → WantsMemory now fault new ⊎ RefusesMessage rest fault new t es)
       → (first : Option (List ℕ)) (t : List ℕ) (es : List Entry) → IsTold report first before number old t es → PieceTold report first failed t piece (Err (told fault)) held failed number' new
   telling_refused fault failed refuses first t es x =
       let y = i.told first t es x in
@@ -289,8 +289,8 @@ module _ (report : Report) (old : Shows) (before : Option (List ℕ)) (number : 
             whole = i.whole;
             entries = y.0;
             text = y.1.text;
-            stands = subst (λ r. Stands r u y.0) (sym m.same) y.1.stands;
-            is = subst (λ (r : Shows). IsTextOf report r.at.state.schema y.0 y.1.text) (sym m.same) y.1.is;
+            stands = subst (λ r. ReaderStands r u y.0) (sym m.same) y.1.stands;
+            is = subst (λ (r : ReaderView). IsTextOf report r.at.state.schema y.0 y.1.text) (sym m.same) y.1.is;
             wrote = begun_all first held y.1.text y.1.wrote;
           },
           refl,

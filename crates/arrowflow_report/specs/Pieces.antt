@@ -2,33 +2,33 @@
 use Rattle.std.specs.Prelude.{◌≡◌, ℕ, List, ◌++◌}
 use Rattle.arrow_data.specs.Batch.{Table}
 use Rattle.arrow_stream_reader.specs.Front.{Entry}
-use Rattle.arrow_stream_reader.specs.Stream.{Shows, Stands}
+use Rattle.arrow_stream_reader.specs.Stream.{ReaderView, ReaderStands}
 use Rattle.arrow_stream_reader.specs.Tables.{tables_of}
 
 -- behind the bytes t the reader was given more bytes, and handed out their batches
-pub record Fed (t : List ℕ) (es : List Entry) (handed : List Table) (given : List ℕ) (new : Shows) (handed' : List Table) : Type 0 where
+pub record Fed (t : List ℕ) (es : List Entry) (handed : List Table) (given : List ℕ) (new : ReaderView) (handed' : List Table) : Type 0 where
   pub more : List Entry
-  pub stands : Stands new (t ++ given) (es ++ more)
+  pub stands : ReaderStands new (t ++ given) (es ++ more)
   pub tables : handed' ≡ handed ++ tables_of more
 
 -- the same for all bytes at which the reader stood
-abbrev pub Feeds : Shows → List Table → List ℕ → Shows → List Table → Type 0
-Feeds old handed given new handed' = (t : List ℕ) (es : List Entry) → Stands old t es → Fed t es handed given new handed'
+abbrev pub Feeds : ReaderView → List Table → List ℕ → ReaderView → List Table → Type 0
+Feeds old handed given new handed' = (t : List ℕ) (es : List Entry) → ReaderStands old t es → Fed t es handed given new handed'
 
 -- behind the bytes t the reader was given a beginning of a piece
-pub record FedInside (t : List ℕ) (es : List Entry) (piece : List ℕ) (new : Shows) : Type 0 where
+pub record FedInside (t : List ℕ) (es : List Entry) (piece : List ℕ) (new : ReaderView) : Type 0 where
   pub taken : List ℕ
   pub rest : List ℕ
   pub more : List Entry
   pub whole : taken ++ rest ≡ piece
-  pub stands : Stands new (t ++ taken) (es ++ more)
+  pub stands : ReaderStands new (t ++ taken) (es ++ more)
 
 -- the same for all bytes at which the reader stood
-abbrev pub FeedsInside : Shows → List ℕ → Shows → Type 0
-FeedsInside old piece new = (t : List ℕ) (es : List Entry) → Stands old t es → FedInside t es piece new
+abbrev pub FeedsInside : ReaderView → List ℕ → ReaderView → Type 0
+FeedsInside old piece new = (t : List ℕ) (es : List Entry) → ReaderStands old t es → FedInside t es piece new
 
 -- the reader stands at these bytes and handed out their batches
-pub record HandsOut (bytes : List ℕ) (handed : List Table) (new : Shows) : Type 0 where
+pub record HandsOut (bytes : List ℕ) (handed : List Table) (new : ReaderView) : Type 0 where
   pub entries : List Entry
-  pub stands : Stands new bytes entries
+  pub stands : ReaderStands new bytes entries
   pub tables : handed ≡ tables_of entries

@@ -12,7 +12,7 @@ use Rattle.arrow_stream_reader.specs.declared.reader.Verdict.TheVariants.{Done, 
 use Rattle.arrow_stream_reader.specs.Front.{Entry, Standing, FrontOf}
 use Rattle.arrow_stream_reader.specs.Kind.{kind_of}
 use Rattle.arrow_stream_reader.specs.State.{Given}
-use Rattle.arrow_stream_reader.specs.Stream.{Shows, Stands, ended_so}
+use Rattle.arrow_stream_reader.specs.Stream.{ReaderView, ReaderStands, ended_so}
 use Rattle.arrowflow_report.specs.Reads.{IsReadWhile}
 use Rattle.arrow_stream_reader.specs.Tables.{tables_of}
 use Rattle.arrowflow_report.specs.Lines.{AreLines, IsLine, end_line}
@@ -45,34 +45,34 @@ IsLast report (Bad kind) place text = ⊥
 
 -- A text was sent to an output that had failed so many times: all of it, or a beginning, where the output failed once more
 -- or memory was wanting. No input and no stream is at fault then.
-abbrev pub Sends : Option (List ℕ) → ℕ → List ℕ → Result (Unit {0}) ToolFault → Option (List ℕ) → ℕ → Type 0
-Sends before failed text (Ok done) after failed' = Appends before after text × (failed' ≡ failed)
-Sends before failed text (Err Output) after failed' = AcceptsBeginning before after text × (failed' ≡ failed + 1)
-Sends before failed text (Err Memory) after failed' = AcceptsBeginning before after text × (failed' ≡ failed)
-Sends before failed text (Err (Input number)) after failed' = ⊥
-Sends before failed text (Err (Stream fault)) after failed' = ⊥
-Sends before failed text (Err (Refused what kind)) after failed' = ⊥
+abbrev pub SendsText : Option (List ℕ) → ℕ → List ℕ → Result (Unit {0}) ToolFault → Option (List ℕ) → ℕ → Type 0
+SendsText before failed text (Ok done) after failed' = Appends before after text × (failed' ≡ failed)
+SendsText before failed text (Err Output) after failed' = AcceptsBeginning before after text × (failed' ≡ failed + 1)
+SendsText before failed text (Err Memory) after failed' = AcceptsBeginning before after text × (failed' ≡ failed)
+SendsText before failed text (Err (Input number)) after failed' = ⊥
+SendsText before failed text (Err (Stream fault)) after failed' = ⊥
+SendsText before failed text (Err (Refused what kind)) after failed' = ⊥
 
 -- a text of this form was sent
 abbrev pub SendsSome : (List ℕ → Type 0) → Option (List ℕ) → ℕ → Result (Unit {0}) ToolFault → Option (List ℕ) → ℕ → Type 0
-SendsSome P before failed answer after failed' = (text : List ℕ) × P text × Sends before failed text answer after failed'
+SendsSome P before failed answer after failed' = (text : List ℕ) × P text × SendsText before failed text answer after failed'
 
 -- A reader stands at the bytes t, and their text stands in the output behind what it held at first; so many batches came.
-pub record IsTold (report : Report) (first held : Option (List ℕ)) (number : ℕ) (r : Shows) (t : List ℕ) (es : List Entry) : Type 0 where
+pub record IsTold (report : Report) (first held : Option (List ℕ)) (number : ℕ) (r : ReaderView) (t : List ℕ) (es : List Entry) : Type 0 where
   pub text : List ℕ
-  pub stands : Stands r t es
+  pub stands : ReaderStands r t es
   pub is : IsTextOf report r.at.state.schema es text
   pub wrote : Appends first held text
   pub counted : number ≡ length (tables_of es)
 
 -- The reader stands at a beginning of the bytes behind t, and a beginning of the text of all that stands in the output.
-pub record IsCutOff (report : Report) (first held : Option (List ℕ)) (r : Shows) (t bytes : List ℕ) : Type 0 where
+pub record IsCutOff (report : Report) (first held : Option (List ℕ)) (r : ReaderView) (t bytes : List ℕ) : Type 0 where
   pub taken : List ℕ
   pub rest : List ℕ
   pub whole : taken ++ rest ≡ bytes
   pub entries : List Entry
   pub text : List ℕ
-  pub stands : Stands r (t ++ taken) entries
+  pub stands : ReaderStands r (t ++ taken) entries
   pub is : IsTextOf report r.at.state.schema entries text
   pub wrote : AcceptsBeginning first held text
 
@@ -81,7 +81,7 @@ abbrev pub IsBadBy : Verdict → ℕ → Fault → Type 0
 IsBadBy verdict place fault = (k : Refusal) × (verdict ≡ Bad k) × (fault ≡ record { kind = kind_of k; place = place })
 
 -- the text of a piece behind the bytes t was told, or a beginning of it; the answer tells whether an end marker came
-abbrev pub PieceTold : Report → Option (List ℕ) → ℕ → List ℕ → List ℕ → Result Bool ToolFault → Option (List ℕ) → ℕ → ℕ → Shows → Type 0
+abbrev pub PieceTold : Report → Option (List ℕ) → ℕ → List ℕ → List ℕ → Result Bool ToolFault → Option (List ℕ) → ℕ → ℕ → ReaderView → Type 0
 PieceTold report first failed t piece (Ok ended) held failed' number r =
     ((es : List Entry) × IsTold report first held number r (t ++ piece) es) × (failed' ≡ failed) × (IsTrue ended → r.at.verdict ≡ Done)
 PieceTold report first failed t piece (Err Output) held failed' number r = IsCutOff report first held r t piece × (failed' ≡ failed + 1)
@@ -92,7 +92,7 @@ PieceTold report first failed t piece (Err (Input n)) held failed' number r = �
 PieceTold report first failed t piece (Err (Refused what kind)) held failed' number r = ⊥
 
 -- the same for all bytes at which the reader stood and for all that was written
-abbrev pub TellsPiece : Report → Shows → Option (List ℕ) → ℕ → ℕ → List ℕ → Result Bool ToolFault → Shows → Option (List ℕ) → ℕ → ℕ → Type 0
+abbrev pub TellsPiece : Report → ReaderView → Option (List ℕ) → ℕ → ℕ → List ℕ → Result Bool ToolFault → ReaderView → Option (List ℕ) → ℕ → ℕ → Type 0
 TellsPiece report old before failed number piece answer new after failed' number' =
     (first : Option (List ℕ)) (t : List ℕ) (es : List Entry) → IsTold report first before number old t es
     → PieceTold report first failed t piece answer after failed' number' new

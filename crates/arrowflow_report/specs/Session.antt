@@ -5,7 +5,7 @@ use Rattle.arrow_data.specs.Batch.{Table}
 use Rattle.arrow_data.specs.Column.{ValueList}
 use Rattle.arrow_stream_reader.specs.declared.fault.Fault.{Fault as StreamFault}
 use Rattle.arrow_stream_reader.specs.Front.{Entry, Standing, FrontOf}
-use Rattle.arrow_stream_reader.specs.Stream.{Shows, Stands, ended_so}
+use Rattle.arrow_stream_reader.specs.Stream.{ReaderView, ReaderStands, ended_so}
 use Rattle.arrow_stream_reader.specs.Tables.{tables_of}
 use Rattle.arrowflow_report.specs.declared.session.Ending.{Ending}
 use Rattle.arrowflow_report.specs.declared.session.Ending.TheVariants.{Clean, Fault}
@@ -30,11 +30,11 @@ pub record Receives (limits : LimitNumbers) (bytes : List ℕ) (handed : List Ta
   pub ended : ending ≡ ending_of standing
 
 -- the reader stands at these bytes
-abbrev pub StandsAt : List ℕ → Shows → Type 0
-StandsAt bytes r = (entries : List Entry) × Stands r bytes entries
+abbrev pub StandsAt : List ℕ → ReaderView → Type 0
+StandsAt bytes r = (entries : List Entry) × ReaderStands r bytes entries
 
 -- the reader stands at a beginning of these bytes
-pub record StandsInside (bytes : List ℕ) (r : Shows) : Type 0 where
+pub record StandsInside (bytes : List ℕ) (r : ReaderView) : Type 0 where
   pub taken : List ℕ
   pub rest : List ℕ
   pub whole : taken ++ rest ≡ bytes

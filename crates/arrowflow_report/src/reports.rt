@@ -2,7 +2,7 @@
 
 ghost use Rattle.std.specs.Prelude.{◌≡◌, ◌<◌, ◌-◌, ◌^◌, [], IfOk, OnOk, length};
 ghost use Rattle.arrow_stream_reader.specs.declared.reader.Verdict.TheVariants.{Open};
-ghost use Rattle.arrow_stream_reader.specs.Stream.{Stands};
+ghost use Rattle.arrow_stream_reader.specs.Stream.{ReaderStands};
 ghost use Rattle.arrowflow_report.specs.Reads.{BlamesNoInput, answer_by};
 ghost use Rattle.arrowflow_report.specs.Reports.{ReportsInput};
 ghost use Rattle.arrowflow_report.specs.declared.report.Report.TheVariants.{Messages, Rows};
@@ -109,7 +109,7 @@ fn report_pieces<R: Read, S: Sink>(
     room: &mut [u8],
 ) -> Result<Result<(), ToolFault>, ReadFailed>
     requires failed { S.failed output.old < 2 ^ 64 - 1 }
-    requires start { Stands reader.old [] [] }
+    requires start { ReaderStands reader.old [] [] }
     requires open { reader.old.at.verdict ≡ Open }
     requires none { teller.old.number ≡ 0 }
     requires room { length room.old ≡ 65536 }

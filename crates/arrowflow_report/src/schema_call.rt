@@ -2,7 +2,7 @@
 
 ghost use Rattle.std.specs.Prelude.{◌≡◌, [], IfOk, length};
 ghost use Rattle.arrow_stream_reader.specs.declared.reader.Verdict.TheVariants.{Open};
-ghost use Rattle.arrow_stream_reader.specs.Stream.{Stands, ended_so};
+ghost use Rattle.arrow_stream_reader.specs.Stream.{ReaderStands, ended_so};
 ghost use Rattle.arrowflow_report.specs.Faults.{told_end};
 ghost use Rattle.arrowflow_report.specs.Reads.{BlamesNoInput, answer_by};
 ghost use Rattle.arrowflow_report.specs.SchemaCall.{AnswersInput, FindsIn};
@@ -56,7 +56,7 @@ fn read_first<R: Read>(
     input: &mut R,
     room: &mut [u8],
 ) -> Result<Result<(), ToolFault>, ReadFailed>
-    requires fresh { Stands reader.old [] [] }
+    requires fresh { ReaderStands reader.old [] [] }
     requires open { reader.old.at.verdict ≡ Open }
     requires room { length room.old ≡ 65536 }
     ensures found { FindsIn reader.old.limits (R.remaining input.old) (R.remaining input.new)

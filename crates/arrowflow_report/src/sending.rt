@@ -2,7 +2,7 @@
 
 ghost use Rattle.std.specs.Prelude.{◌<◌, ◌-◌, ◌^◌, [], OnOk};
 ghost use Rattle.arrow_csv.specs.Records.{batch_rows};
-ghost use Rattle.arrowflow_report.specs.Reports.{Sends};
+ghost use Rattle.arrowflow_report.specs.Reports.{SendsText};
 
 use crate::tool_fault::ToolFault;
 use arrow_csv::BatchRows;
@@ -13,10 +13,10 @@ use std::alloc::Global;
 /// How many rows are put into text at once.
 const ROWS: usize = 1_024;
 
-/// Sends a text.
+/// SendsText a text.
 pub(crate) fn send_text<S: Sink>(output: &mut S, text: &[u8]) -> Result<(), ToolFault>
     requires { S.failed output.old < 2 ^ 64 - 1 }
-    ensures { Sends (S.contents output.old) (S.failed output.old) text.now result
+    ensures { SendsText (S.contents output.old) (S.failed output.old) text.now result
         (S.contents output.new) (S.failed output.new) }
 {
     match send(output, text) {
@@ -25,7 +25,7 @@ pub(crate) fn send_text<S: Sink>(output: &mut S, text: &[u8]) -> Result<(), Tool
     }
 }
 
-/// Sends the records of the rows of the batch that has this number, some of them at a time, which
+/// SendsText the records of the rows of the batch that has this number, some of them at a time, which
 /// are made in the room of a text.
 pub(crate) fn send_rows<S: Sink>(
     alloc: Global,
@@ -35,7 +35,7 @@ pub(crate) fn send_rows<S: Sink>(
     output: &mut S,
 ) -> Result<(), ToolFault>
     requires { S.failed output.old < 2 ^ 64 - 1 }
-    ensures { Sends (S.contents output.old) (S.failed output.old)
+    ensures { SendsText (S.contents output.old) (S.failed output.old)
         (batch_rows number batch.now 0 batch.now.rows) result (S.contents output.new)
         (S.failed output.new) }
 {
@@ -60,7 +60,7 @@ pub(crate) fn send_rows<S: Sink>(
 /// Passes on what was sent.
 pub(crate) fn flush<S: Sink>(output: &mut S) -> Result<(), ToolFault>
     requires { S.failed output.old < 2 ^ 64 - 1 }
-    ensures kept { Sends (S.contents output.old) (S.failed output.old) [] result
+    ensures kept { SendsText (S.contents output.old) (S.failed output.old) [] result
         (S.contents output.new) (S.failed output.new) }
     ensures passed { OnOk result (S.is_passed_on output.new) }
 {

@@ -4,7 +4,7 @@ ghost use Rattle.std.specs.Prelude.{◌≡◌, ◌<◌, ◌+◌, ◌-◌, ◌^�
 ghost use Rattle.arrow_stream_reader.specs.declared.reader.Verdict.TheVariants.{Open};
 ghost use Rattle.arrow_stream_reader.specs.Views.{given};
 ghost use Rattle.arrowflow_report.specs.Lines.{IsLine};
-ghost use Rattle.arrowflow_report.specs.Reports.{EndTold, IsAdded, Sends, SendsSome, TellsPiece};
+ghost use Rattle.arrowflow_report.specs.Reports.{EndTold, IsAdded, SendsText, SendsSome, TellsPiece};
 ghost use Rattle.arrow_stream_reader.specs.Tables.{table_in};
 ghost use Rattle.arrowflow_report.specs.Shown.{text_in};
 
@@ -74,7 +74,7 @@ pub(crate) fn tell_piece<S: Sink>(
     }
 }
 
-/// Sends the text of a message that the reader has just read, and counts the batches.
+/// SendsText the text of a message that the reader has just read, and counts the batches.
 fn tell_item<S: Sink>(
     report: Report,
     reader: &StreamReader,
@@ -103,7 +103,7 @@ fn tell_item<S: Sink>(
     }
 }
 
-/// Sends the line of a message, which is made in the room of a text.
+/// SendsText the line of a message, which is made in the room of a text.
 fn tell_message<S: Sink>(
     reader: &StreamReader,
     place: u64,
@@ -124,7 +124,7 @@ fn tell_message<S: Sink>(
     }
 }
 
-/// Sends what a message adds to the text of the rows, which is made in the room of a text.
+/// SendsText what a message adds to the text of the rows, which is made in the room of a text.
 fn tell_rows<S: Sink>(
     alloc: Global,
     reader: &StreamReader,
@@ -134,7 +134,7 @@ fn tell_rows<S: Sink>(
     output: &mut S,
 ) -> Result<(), ToolFault>
     requires { S.failed output.old < 2 ^ 64 - 1 }
-    ensures { Sends (S.contents output.old) (S.failed output.old)
+    ensures { SendsText (S.contents output.old) (S.failed output.old)
         (text_in reader.now.at.state.schema number (given item.now)) result (S.contents output.new)
         (S.failed output.new) }
 {

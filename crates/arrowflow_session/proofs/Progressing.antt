@@ -17,7 +17,7 @@ use Rattle.arrow_stream_laws.specs.Plan.{lists_after}
 use Rattle.arrow_stream_laws.specs.Admission.{admission, schema_admission, marker_fits, part_size}
 use Rattle.arrow_stream_laws.specs.Frames.{Frame, frames_bytes}
 use Rattle.arrow_stream_laws.specs.Text.{Text, begins, adds, Written, unfinished, finished, joined}
-use Rattle.arrow_stream_laws.specs.Writer.{Shows, Stands, Starts, StartFails, first_place}
+use Rattle.arrow_stream_laws.specs.Writer.{WriterView, WriterStands, Starts, StartFails, first_place}
 use Rattle.arrowflow_session.specs.Asked.{Asked, Progress, Outcome, begun, with_batch, with_batches, ended_after, marker_refusals, outcome_by, outcome_of}
 use Rattle.arrowflow_session.specs.Report.{Sends}
 use Rattle.arrowflow_session.specs.Running.{StartsNot, Tries, SoFar, IsOver, Finished, SentPlain, IsSent, progress_at}
@@ -33,21 +33,21 @@ behind x now more c c' e f a =
 -- ONE BATCH
 
 -- how far a writer comes with the next batch, once the answer for it is known
-next_batch : (w : Shows) (p : Progress) (t : Table) (ts : List Table) (r : Option WriteFault) → admission w.limits w.options w.shape p.sent p.place t ≡ r
+next_batch : (w : WriterView) (p : Progress) (t : Table) (ts : List Table) (r : Option WriteFault) → admission w.limits w.options w.shape p.sent p.place t ≡ r
     → with_batches w.limits w.options w.shape (with_batch w.options w.shape t r p) ts ≡ with_batches w.limits w.options w.shape p (t ∷ ts)
 next_batch w p t ts r e = ap (λ q. with_batches w.limits w.options w.shape (with_batch w.options w.shape t q p) ts) (sym e)
 
 -- what a tried batch leaves
-pub goes_so_far : (w new : Shows) (all : List Table) (n : ℕ) (t : Table) (parts parts' : List (List ℕ)) (refused refused' : List Refusal) → SoFar w all n parts refused → drop n all ≡ t ∷ drop (n + 1) all
+pub goes_so_far : (w new : WriterView) (all : List Table) (n : ℕ) (t : Table) (parts parts' : List (List ℕ)) (refused refused' : List Refusal) → SoFar w all n parts refused → drop n all ≡ t ∷ drop (n + 1) all
     → Tries w t n parts refused new parts' refused' → SoFar new all (n + 1) parts' refused'
 goes_so_far w new all n t parts parts' refused refused' s d (inl x) =
     let ts = drop (n + 1) all in
     let a = x.accepts in
     let bytes = frames_bytes a.frames in
-    let v : Shows = record w { sent = lists_after w.options.updates w.shape.fields w.sent t; place = w.place + part_size w.options w.shape.fields w.sent t; contents = new.contents } in
+    let v : WriterView = record w { sent = lists_after w.options.updates w.shape.fields w.sent t; place = w.place + part_size w.options w.shape.fields w.sent t; contents = new.contents } in
     let made : SoFar v all (n + 1) (parts ++ bytes ∷ []) refused = record {
       admitted = s.admitted ++ t ∷ [];
-      stands = subst (λ z. Stands z (Some []) false (parts ++ bytes ∷ []) (s.admitted ++ t ∷ [])) a.new_is (a.stands (Some []) parts s.admitted s.stands);
+      stands = subst (λ z. WriterStands z (Some []) false (parts ++ bytes ∷ []) (s.admitted ++ t ∷ [])) a.new_is (a.stands (Some []) parts s.admitted s.stands);
       reliable = s.reliable;
       goes_on = next_batch w (progress_at w n s.admitted refused) t ts None a.is_part.admitted
           ∙ ap (with_batches w.limits w.options w.shape (progress_at w n s.admitted refused)) (sym d) ∙ s.goes_on;
@@ -68,27 +68,27 @@ goes_so_far w new all n t parts parts' refused refused' s d (inr x) =
     (subst (λ r. SoFar w all (n + 1) r refused') (sym x.same) (subst (λ r. SoFar w all (n + 1) parts r) (sym x.one_more) made))
 
 -- a tried batch leaves the writer's limits, options and fields
-pub over_same : (w new : Shows) (n : ℕ) (t : Table) (parts parts' : List (List ℕ)) (refused refused' : List Refusal) → Tries w t n parts refused new parts' refused' → IsOver w new
+pub over_same : (w new : WriterView) (n : ℕ) (t : Table) (parts parts' : List (List ℕ)) (refused refused' : List Refusal) → Tries w t n parts refused new parts' refused' → IsOver w new
 over_same w new n t parts parts' refused refused' (inl x) =
-    record { limits = ap (λ (z : Shows). z.limits) x.accepts.new_is; options = ap (λ (z : Shows). z.options) x.accepts.new_is; shape = ap (λ (z : Shows). z.shape) x.accepts.new_is }
+    record { limits = ap (λ (z : WriterView). z.limits) x.accepts.new_is; options = ap (λ (z : WriterView). z.options) x.accepts.new_is; shape = ap (λ (z : WriterView). z.shape) x.accepts.new_is }
 over_same w new n t parts parts' refused refused' (inr x) =
-    record { limits = ap (λ (z : Shows). z.limits) x.unchanged; options = ap (λ (z : Shows). z.options) x.unchanged; shape = ap (λ (z : Shows). z.shape) x.unchanged }
+    record { limits = ap (λ (z : WriterView). z.limits) x.unchanged; options = ap (λ (z : WriterView). z.options) x.unchanged; shape = ap (λ (z : WriterView). z.shape) x.unchanged }
 
-pub over_then : (u v w : Shows) → IsOver u v → IsOver v w → IsOver u w
+pub over_then : (u v w : WriterView) → IsOver u v → IsOver v w → IsOver u w
 over_then u v w x y = record { limits = y.limits ∙ x.limits; options = y.options ∙ x.options; shape = y.shape ∙ x.shape }
 
-pub over_self : (w : Shows) → IsOver w w
+pub over_self : (w : WriterView) → IsOver w w
 over_self w = record { limits = refl; options = refl; shape = refl }
 
 -- a started writer has tried nothing
-pub started : (l : LimitNumbers) (o : Options) (shape : SchemaShape) (w : Shows) (all : List Table) (bytes : List ℕ) → Starts l o shape (Some []) 0 w → Some bytes ≡ w.contents → SoFar w all 0 (bytes ∷ []) []
+pub started : (l : LimitNumbers) (o : Options) (shape : SchemaShape) (w : WriterView) (all : List Table) (bytes : List ℕ) → Starts l o shape (Some []) 0 w → Some bytes ≡ w.contents → SoFar w all 0 (bytes ∷ []) []
 started l o shape w all bytes s e =
     let part : bytes ≡ s.part =
     subst (λ d. Appends (Some []) d (joined (s.part ∷ []))) (sym e) s.stands.accepted ∙ append-nil s.part in
-    let v : Shows = record { limits = l; options = o; shape = shape; sent = []; place = first_place o shape; status = Writing; contents = w.contents; failures = 0 } in
+    let v : WriterView = record { limits = l; options = o; shape = shape; sent = []; place = first_place o shape; status = Writing; contents = w.contents; failures = 0 } in
     let made : SoFar v all 0 (bytes ∷ []) [] = record {
       admitted = [];
-      stands = subst (λ z. Stands z (Some []) false (bytes ∷ []) []) s.new_is (subst (λ b. Stands w (Some []) false (b ∷ []) []) (sym part) s.stands);
+      stands = subst (λ z. WriterStands z (Some []) false (bytes ∷ []) []) s.new_is (subst (λ b. WriterStands w (Some []) false (b ∷ []) []) (sym part) s.stands);
       reliable = refl;
       goes_on = refl;
     } in
@@ -105,16 +105,16 @@ written_admits (unfinished parts batches frames t) = text_admits t
 written_admits (finished parts batches frames b t h m) = text_admits t
 
 -- a writer is over a connection's options and fields
-pub record IsFor (l : LimitNumbers) (c : Asked) (w : Shows) : Type 0 where
+pub record IsFor (l : LimitNumbers) (c : Asked) (w : WriterView) : Type 0 where
   pub limits : w.limits ≡ l
   pub options : w.options ≡ c.options
   pub shape : w.shape ≡ c.shape
 
 -- they are the writer's, all three
-abbrev Same : LimitNumbers → Asked → Shows → Type 0
+abbrev Same : LimitNumbers → Asked → WriterView → Type 0
 Same l c w = ◌≡◌ {A = LimitNumbers × (Options × SchemaShape)} (w.limits, (w.options, w.shape)) (l, (c.options, c.shape))
 
-all_same : (l : LimitNumbers) (c : Asked) (w : Shows) → IsFor l c w → Same l c w
+all_same : (l : LimitNumbers) (c : Asked) (w : WriterView) → IsFor l c w → Same l c w
 all_same l c w i = λ j. (i.limits j, (i.options j, i.shape j))
 
 -- what comes of an end marker that is asked for, by whether it has room
@@ -122,7 +122,7 @@ by_room : (p : Progress) (room : Bool) → marker_fits p.place ≡ room → ende
 by_room p room h = ap (λ b. record { admitted = p.admitted; refused = p.refused ++ marker_refusals true b; sent = p.sent; closed = b }) h
 
 -- What a writer that stands at these parts and batches sent is what comes of the connection, if the outcome is of these.
-sent_from : (l : LimitNumbers) (c : Asked) (w : Shows) (admitted : List Table) (closed : Bool) (s : SentPlain) → IsFor l c w → Stands w (Some []) closed s.parts admitted
+sent_from : (l : LimitNumbers) (c : Asked) (w : WriterView) (admitted : List Table) (closed : Bool) (s : SentPlain) → IsFor l c w → WriterStands w (Some []) closed s.parts admitted
     → outcome_of l c ≡ record { admitted = admitted; refused = s.refused; sent = s.dictionaries; closed = closed } → Some s.bytes ≡ w.contents → s.dictionaries ≡ w.sent → IsSent l c s
 sent_from l c w admitted closed s i st out t e =
     let written : Written l c.options c.shape closed s.parts admitted st.frames =
@@ -138,7 +138,7 @@ sent_from l c w admitted closed s i st out t e =
       all = subst (λ d. Appends (Some []) d (joined s.parts)) (sym t) st.accepted;
     }
 
-module _ (l : LimitNumbers) (c : Asked) (w : Shows) (parts : List (List ℕ)) (refused : List Refusal) (s : SoFar w c.batches (length c.batches) parts refused) (i : IsFor l c w) where
+module _ (l : LimitNumbers) (c : Asked) (w : WriterView) (parts : List (List ℕ)) (refused : List Refusal) (s : SoFar w c.batches (length c.batches) parts refused) (i : IsFor l c w) where
   none_left : drop (length c.batches) c.batches ≡ []
   none_left = drop_of_length-le c.batches {i = length c.batches} (omega arith)
 
@@ -164,22 +164,22 @@ module _ (l : LimitNumbers) (c : Asked) (w : Shows) (parts : List (List ℕ)) (r
       sent_from l c w s.admitted false (record { parts = parts; refused = refused; dictionaries = last; bytes = bytes }) i s.stands out t e
 
   -- one was asked for
-  pub sent_ended : (w2 : Shows) (parts2 : List (List ℕ)) (refused2 : List Refusal) (last : List (ℤ × ValueList)) (bytes : List ℕ) → c.finish ≡ true → Finished w parts refused w2 parts2 refused2 → Some bytes ≡ w2.contents → last ≡ w2.sent
+  pub sent_ended : (w2 : WriterView) (parts2 : List (List ℕ)) (refused2 : List Refusal) (last : List (ℤ × ValueList)) (bytes : List ℕ) → c.finish ≡ true → Finished w parts refused w2 parts2 refused2 → Some bytes ≡ w2.contents → last ≡ w2.sent
       → IsSent l c (record { parts = parts2; refused = refused2; dictionaries = last; bytes = bytes })
   sent_ended w2 parts2 refused2 last bytes f (inl m) t e =
       let new = m.ends.new_is in
-      let i2 : IsFor l c w2 = record { limits = ap (λ (v : Shows). v.limits) new ∙ i.limits; options = ap (λ (v : Shows). v.options) new ∙ i.options; shape = ap (λ (v : Shows). v.shape) new ∙ i.shape } in
-      let st : Stands w2 (Some []) true parts2 s.admitted = subst (λ p. Stands w2 (Some []) true p s.admitted) (sym m.part) (m.ends.stands (Some []) parts s.admitted s.stands) in
+      let i2 : IsFor l c w2 = record { limits = ap (λ (v : WriterView). v.limits) new ∙ i.limits; options = ap (λ (v : WriterView). v.options) new ∙ i.options; shape = ap (λ (v : WriterView). v.shape) new ∙ i.shape } in
+      let st : WriterStands w2 (Some []) true parts2 s.admitted = subst (λ p. WriterStands w2 (Some []) true p s.admitted) (sym m.part) (m.ends.stands (Some []) parts s.admitted s.stands) in
       let refusals : refused ++ [] ≡ refused2 = append-nil refused ∙ sym m.same in
-      let lists : w.sent ≡ last = sym (e ∙ ap (λ (v : Shows). v.sent) new) in
+      let lists : w.sent ≡ last = sym (e ∙ ap (λ (v : WriterView). v.sent) new) in
       let out = outcome_is ∙ ap (λ b. ended_after b end) f ∙ by_room end true m.ends.fits_in ∙ ap (λ r. record { admitted = s.admitted; refused = r; sent = w.sent; closed = true }) refusals
       ∙ ap (λ ds. record { admitted = s.admitted; refused = refused2; sent = ds; closed = true }) lists in
       sent_from l c w2 s.admitted true (record { parts = parts2; refused = refused2; dictionaries = last; bytes = bytes }) i2 st out t e
   sent_ended w2 parts2 refused2 last bytes f (inr m) t e =
-      let lists : w.sent ≡ last = sym (e ∙ ap (λ (v : Shows). v.sent) m.unchanged) in
+      let lists : w.sent ≡ last = sym (e ∙ ap (λ (v : WriterView). v.sent) m.unchanged) in
       let out = outcome_is ∙ ap (λ b. ended_after b end) f ∙ by_room end false m.passes ∙ ap (λ r. record { admitted = s.admitted; refused = r; sent = w.sent; closed = false }) (sym m.one_more)
       ∙ ap (λ ds. record { admitted = s.admitted; refused = refused2; sent = ds; closed = false }) lists in
-      let x = sent_from l c w s.admitted false (record { parts = parts; refused = refused2; dictionaries = last; bytes = bytes }) i s.stands out (t ∙ ap (λ (v : Shows). v.contents) m.unchanged) (sym lists) in
+      let x = sent_from l c w s.admitted false (record { parts = parts; refused = refused2; dictionaries = last; bytes = bytes }) i s.stands out (t ∙ ap (λ (v : WriterView). v.contents) m.unchanged) (sym lists) in
       subst (λ p. IsSent l c (record { parts = p; refused = refused2; dictionaries = last; bytes = bytes })) (sym m.same) x
 
 -- nothing was sent
@@ -200,11 +200,11 @@ if_ok (Ok x) P Q h f = f x h
 if_ok (Err e) P Q h f = tt
 
 -- what a writer that began is over after all batches
-pub for_one : (l : LimitNumbers) (c : Asked) (w v : Shows) → Starts l c.options c.shape (Some []) 0 w → IsOver w v → IsFor l c v
+pub for_one : (l : LimitNumbers) (c : Asked) (w v : WriterView) → Starts l c.options c.shape (Some []) 0 w → IsOver w v → IsFor l c v
 for_one l c w v s o = record {
-  limits = o.limits ∙ ap (λ (z : Shows). z.limits) s.new_is;
-  options = o.options ∙ ap (λ (z : Shows). z.options) s.new_is;
-  shape = o.shape ∙ ap (λ (z : Shows). z.shape) s.new_is;
+  limits = o.limits ∙ ap (λ (z : WriterView). z.limits) s.new_is;
+  options = o.options ∙ ap (λ (z : WriterView). z.options) s.new_is;
+  shape = o.shape ∙ ap (λ (z : WriterView). z.shape) s.new_is;
 }
 
 -- why a start into memory was refused, by what it left of the sink
@@ -218,5 +218,5 @@ starts_not l o shape base contents failures now Broken h = absurd h
 starts_not l o shape base contents failures now Closed h = absurd h
 
 -- a writer over a sink without bytes that has not failed
-pub starts_kept : (l : LimitNumbers) (o : Options) (shape : SchemaShape) (w : Shows) (bytes : List ℕ) (failures : ℕ) → bytes ≡ [] → failures ≡ 0 → Starts l o shape (Some bytes) failures w → Starts l o shape (Some []) 0 w
+pub starts_kept : (l : LimitNumbers) (o : Options) (shape : SchemaShape) (w : WriterView) (bytes : List ℕ) (failures : ℕ) → bytes ≡ [] → failures ≡ 0 → Starts l o shape (Some bytes) failures w → Starts l o shape (Some []) 0 w
 starts_kept l o shape w bytes failures b f s = subst (λ n. Starts l o shape (Some []) n w) f (subst (λ x. Starts l o shape (Some x) failures w) b s)

@@ -11,7 +11,7 @@ use Rattle.arrow_stream_laws.specs.Sizes.{Options}
 use Rattle.arrow_stream_laws.specs.Admission.{admission, schema_admission, marker_fits}
 use Rattle.arrow_stream_laws.specs.Frames.{Frame, frames_bytes, left_by}
 use Rattle.arrow_stream_laws.specs.Text.{joined}
-use Rattle.arrow_stream_laws.specs.Writer.{Shows, Stands, Accepts, Ends}
+use Rattle.arrow_stream_laws.specs.Writer.{WriterView, WriterStands, Accepts, Ends}
 use Rattle.arrow_stream_writer.specs.Shown.{shown}
 use Rattle.arrow_stream_writer.specs.declared.stream_writer.StreamWriter.{StreamWriter}
 use Rattle.arrowflow_session.specs.Asked.{Asked, Progress, begun, outcome_of, with_batches}
@@ -22,7 +22,7 @@ use Rattle.arrowflow_report.specs.declared.what.What.TheVariants.{Start, Batch, 
 use Rattle.arrowflow_session.specs.declared.sending.Sent.{Sent}
 
 -- what a writer into memory shows
-abbrev pub shown_kept : StreamWriter Kept → Shows
+abbrev pub shown_kept : StreamWriter Kept → WriterView
 shown_kept w = shown (λ (k : Kept). Some k.bytes.items) (λ (k : Kept). k.count) w
 
 -- why a start into memory is refused: the schema is too large, or a growth was refused
@@ -31,13 +31,13 @@ StartsNot limits o shape TooLarge = schema_admission limits o shape ≡ Some Too
 StartsNot limits o shape k = (k ≡ Memory) ⊎ (k ≡ Sink)
 
 -- the part of a batch was written, and kept
-pub record Keeps (old : Shows) (t : Table) (parts : List (List ℕ)) (refused : List Refusal) (new : Shows) (parts' : List (List ℕ)) (refused' : List Refusal) : Type 0 where
+pub record Keeps (old : WriterView) (t : Table) (parts : List (List ℕ)) (refused : List Refusal) (new : WriterView) (parts' : List (List ℕ)) (refused' : List Refusal) : Type 0 where
   pub accepts : Accepts old t new
   pub part : parts' ≡ parts ++ frames_bytes accepts.frames ∷ []
   pub same : refused' ≡ refused
 
 -- the batch was refused, and its refusal kept
-pub record Skips (old : Shows) (t : Table) (n : ℕ) (parts : List (List ℕ)) (refused : List Refusal) (new : Shows) (parts' : List (List ℕ)) (refused' : List Refusal) : Type 0 where
+pub record Skips (old : WriterView) (t : Table) (n : ℕ) (parts : List (List ℕ)) (refused : List Refusal) (new : WriterView) (parts' : List (List ℕ)) (refused' : List Refusal) : Type 0 where
   pub kind : WriteFault
   pub refusal : admission old.limits old.options old.shape old.sent old.place t ≡ Some kind
   pub unchanged : new ≡ old
@@ -45,43 +45,43 @@ pub record Skips (old : Shows) (t : Table) (n : ℕ) (parts : List (List ℕ)) (
   pub one_more : refused' ≡ refused ++ record { what = Batch n; kind = kind } ∷ []
 
 -- one or the other
-abbrev pub Tries : Shows → Table → ℕ → List (List ℕ) → List Refusal → Shows → List (List ℕ) → List Refusal → Type 0
+abbrev pub Tries : WriterView → Table → ℕ → List (List ℕ) → List Refusal → WriterView → List (List ℕ) → List Refusal → Type 0
 Tries old t n parts refused new parts' refused' = Keeps old t parts refused new parts' refused' ⊎ Skips old t n parts refused new parts' refused'
 
 -- how far a writer has come that admitted these batches and refused others
-abbrev pub progress_at : Shows → ℕ → List Table → List Refusal → Progress
+abbrev pub progress_at : WriterView → ℕ → List Table → List Refusal → Progress
 progress_at w n admitted refused = record { tried = n; admitted = admitted; refused = refused; sent = w.sent; place = w.place }
 
 -- A writer whose sink was empty at its start has tried the first n of all batches: with the others it comes as far as from its
 -- beginning with all of them.
-pub record SoFar (w : Shows) (all : List Table) (n : ℕ) (parts : List (List ℕ)) (refused : List Refusal) : Type 0 where
+pub record SoFar (w : WriterView) (all : List Table) (n : ℕ) (parts : List (List ℕ)) (refused : List Refusal) : Type 0 where
   pub admitted : List Table
-  pub stands : Stands w (Some []) false parts admitted
+  pub stands : WriterStands w (Some []) false parts admitted
   pub reliable : w.failures ≡ 0
   pub goes_on : with_batches w.limits w.options w.shape (progress_at w n admitted refused) (drop n all) ≡
       with_batches w.limits w.options w.shape (begun w.options w.shape) all
 
 -- a writer has the same limits, options and fields as before
-pub record IsOver (old new : Shows) : Type 0 where
+pub record IsOver (old new : WriterView) : Type 0 where
   pub limits : new.limits ≡ old.limits
   pub options : new.options ≡ old.options
   pub shape : new.shape ≡ old.shape
 
 -- the end marker was written, and kept as a part
-pub record Marks (old : Shows) (parts : List (List ℕ)) (refused : List Refusal) (new : Shows) (parts' : List (List ℕ)) (refused' : List Refusal) : Type 0 where
+pub record Marks (old : WriterView) (parts : List (List ℕ)) (refused : List Refusal) (new : WriterView) (parts' : List (List ℕ)) (refused' : List Refusal) : Type 0 where
   pub ends : Ends old new
   pub part : parts' ≡ parts ++ ends.marker ∷ []
   pub same : refused' ≡ refused
 
 -- it was refused, and its refusal kept
-pub record MarksNot (old : Shows) (parts : List (List ℕ)) (refused : List Refusal) (new : Shows) (parts' : List (List ℕ)) (refused' : List Refusal) : Type 0 where
+pub record MarksNot (old : WriterView) (parts : List (List ℕ)) (refused : List Refusal) (new : WriterView) (parts' : List (List ℕ)) (refused' : List Refusal) : Type 0 where
   pub passes : marker_fits old.place ≡ false
   pub unchanged : new ≡ old
   pub same : parts' ≡ parts
   pub one_more : refused' ≡ refused ++ record { what = Finish; kind = TooLarge } ∷ []
 
 -- one or the other
-abbrev pub Finished : Shows → List (List ℕ) → List Refusal → Shows → List (List ℕ) → List Refusal → Type 0
+abbrev pub Finished : WriterView → List (List ℕ) → List Refusal → WriterView → List (List ℕ) → List Refusal → Type 0
 Finished old parts refused new parts' refused' = Marks old parts refused new parts' refused' ⊎ MarksNot old parts refused new parts' refused'
 
 -- What was sent over a connection: the parts, the refusals, the dictionaries at the end, and all bytes.

@@ -2,7 +2,7 @@ use Rattle.std.proofs.Common.{◌≡◌, ◌<◌, ◌++◌, ℕ, List, [], Optio
 use Rattle.std.specs.Io.KnownBytes.{Consumes}
 use Rattle.std.proofs.KnownBytes.{Consumes-kept, Consumes-nil, Consumes-trans}
 use Rattle.arrow_types.specs.Limits.{LimitNumbers}
-use Rattle.arrow_stream_reader.specs.Stream.{Shows, Stands}
+use Rattle.arrow_stream_reader.specs.Stream.{ReaderView, ReaderStands}
 use Rattle.arrow_stream_laws.specs.Sizes as sizes
 use Rattle.arrow_stream_writer.specs.Shown.{options_view}
 use Rattle.arrowflow_report.specs.Reports.{IsOpenAt}
@@ -16,7 +16,7 @@ use Rattle.arrowflow_copy.proofs.Copied.{copied_at, copying_nothing, done_schema
 use Rattle.arrowflow_copy.proofs.copying.copy_pieces.Goals as goal
 
 -- at its beginning nothing was copied
-starts_at : {S : Type 0} (contents : S → Option (List ℕ)) (failed : S → ℕ) (target : Target S) (limits : LimitNumbers) (o : sizes.Options) (r : Shows) → IsWaiting target → r.limits ≡ limits → Stands r [] []
+starts_at : {S : Type 0} (contents : S → Option (List ℕ)) (failed : S → ℕ) (target : Target S) (limits : LimitNumbers) (o : sizes.Options) (r : ReaderView) → IsWaiting target → r.limits ≡ limits → ReaderStands r [] []
     → IsCopying limits o (held_at (at_of contents failed target)) (failures_at (at_of contents failed target)) (at_of contents failed target) 0 r [] []
 starts_at contents failed (Waiting sink) limits o r waits same stands = copying_nothing limits o (contents sink) (failed sink) r same stands
 starts_at contents failed (Writing writer) limits o r waits same stands = absurd waits

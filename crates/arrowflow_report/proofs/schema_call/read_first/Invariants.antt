@@ -1,7 +1,7 @@
 use Rattle.std.proofs.Common.{◌≡◌, ◌+◌, ◌-◌, ◌^◌, [], List, ℕ}
 use Rattle.std.specs.Io.KnownBytes.{Consumes}
 use Rattle.arrow_stream_reader.specs.declared.reader.Verdict.TheVariants.{Open}
-use Rattle.arrow_stream_reader.specs.Stream.{Stands}
+use Rattle.arrow_stream_reader.specs.Stream.{ReaderStands}
 use Rattle.arrowflow_report.proofs.Reading.{reached}
 use Rattle.arrowflow_report.proofs.schema_call.read_first.Given as goal
 
@@ -9,7 +9,7 @@ use Rattle.arrowflow_report.proofs.schema_call.read_first.Given as goal
 abbrev pub invariant-loop-count : goal.invariant-loop-count
 invariant-loop-count g l = (bytes : List ℕ)
     × Consumes (g.R.Read.remaining l.initial.input) (g.R.Read.remaining l.input) bytes
-    × Stands l.reader bytes []
+    × ReaderStands l.reader bytes []
     × (l.reader.at.verdict ≡ Open)
     × (l.reader.limits ≡ l.initial.reader.limits)
 

@@ -5,7 +5,7 @@ use Rattle.arrow_stream_reader.specs.declared.kind.Kind.TheVariants.{Memory}
 use Rattle.arrow_stream_reader.specs.declared.item.Item.TheVariants.{End}
 use Rattle.arrow_stream_reader.specs.Views.{plain, given}
 use Rattle.arrow_stream_reader.specs.Kind.{kind_of}
-use Rattle.arrow_stream_reader.specs.Stream.{Stands}
+use Rattle.arrow_stream_reader.specs.Stream.{ReaderStands}
 use Rattle.arrow_stream_reader.proofs.Firsts.{First-within, marker-within}
 use Rattle.arrow_stream_reader.proofs.Streams.{shown_by, first_moved, waits_at_nothing, short_stands, whole_stands, marker_stands, refusal_stands, taken_within, whole_some, marker_some, same_shows, beginning}
 use Rattle.arrow_stream_reader.proofs.reader.StreamReader.go_on.Goals as goal
@@ -13,12 +13,12 @@ use Rattle.arrow_stream_reader.proofs.reader.StreamReader.go_on.Goals as goal
 pub returns-in-Ok-Short-clause-reads : goal.returns-in-Ok-Short-clause-reads
 returns-in-Ok-Short-clause-reads c = λ t es at.
     let open_now : c.self.inside.verdict ≡ Open = ap (λ r. r.at.verdict) c.self.view_is ∙ c.requires.open in
-    let at' = subst (λ r. Stands r t es) (sym c.self.view_is) at in
+    let at' = subst (λ r. ReaderStands r t es) (sym c.self.view_is) at in
     let x = rw c.in-Ok-Short.field-0-is at c.in-Ok-Short.ensures.works in
     let piece = c.args.piece.now in
     let w = c.self.inside.work in
     record {
-      stands = subst (λ y. Stands (shown_by c.step.new.self c.self.inside.verdict) (t ++ y) es) (sym (take_all (length piece) piece (omega arith)))
+      stands = subst (λ y. ReaderStands (shown_by c.step.new.self c.self.inside.verdict) (t ++ y) es) (sym (take_all (length piece) piece (omega arith)))
           (short_stands w (c.self.invariant.waiting open_now) piece c.self.inside.verdict open_now t es at' c.step.new.self x);
       all = λ _. refl;
       same = ap (λ r. r.at.verdict) c.self.view_is;
@@ -38,7 +38,7 @@ returns-in-Ok-Whole-clause-takes c =
 pub returns-in-Ok-Whole-clause-reads : goal.returns-in-Ok-Whole-clause-reads
 returns-in-Ok-Whole-clause-reads c = λ t es at.
     let open_now : c.self.inside.verdict ≡ Open = ap (λ r. r.at.verdict) c.self.view_is ∙ c.requires.open in
-    let at' = subst (λ r. Stands r t es) (sym c.self.view_is) at in
+    let at' = subst (λ r. ReaderStands r t es) (sym c.self.view_is) at in
     let x = rw c.in-Ok-Whole.field-0-is at c.in-Ok-Whole.ensures.works in
     let piece = c.args.piece.now in
     let w = c.self.inside.work in
@@ -47,7 +47,7 @@ returns-in-Ok-Whole-clause-reads c = λ t es at.
     record {
       some = rw (← taken) (whole_some w waiting piece c.in-Ok-Whole.item c.step.new.self x);
       within = rw (← taken) (taken_within w waiting piece x.size (First-within x.first));
-      stands = subst (λ n. Stands (shown_by c.step.new.self c.self.inside.verdict) (t ++ take n piece) (es ++ record { given = given c.in-Ok-Whole.item; end = length t + n } ∷ [])) taken
+      stands = subst (λ n. ReaderStands (shown_by c.step.new.self c.self.inside.verdict) (t ++ take n piece) (es ++ record { given = given c.in-Ok-Whole.item; end = length t + n } ∷ [])) taken
           (whole_stands w waiting piece c.self.inside.verdict open_now t es at' c.in-Ok-Whole.item c.step.new.self x);
     }
 
@@ -74,7 +74,7 @@ returns-in-Ok-EndMarker-clause-takes c =
 pub returns-in-Ok-EndMarker-clause-reads : goal.returns-in-Ok-EndMarker-clause-reads
 returns-in-Ok-EndMarker-clause-reads c = λ t es at.
     let open_now : c.self.inside.verdict ≡ Open = ap (λ r. r.at.verdict) c.self.view_is ∙ c.requires.open in
-    let at' = subst (λ r. Stands r t es) (sym c.self.view_is) at in
+    let at' = subst (λ r. ReaderStands r t es) (sym c.self.view_is) at in
     let x = rw c.in-Ok-EndMarker.field-0-is at c.in-Ok-EndMarker.ensures.works in
     let piece = c.args.piece.now in
     let w = c.self.inside.work in
@@ -83,14 +83,14 @@ returns-in-Ok-EndMarker-clause-reads c = λ t es at.
     record {
       some = rw (← taken) (marker_some w waiting piece c.step.new.self x);
       within = rw (← taken) (taken_within w waiting piece 8 (marker-within x.first));
-      stands = subst (λ n. Stands (shown_by c.pass.new.self Done) (t ++ take n piece) (es ++ record { given = given End; end = length t + n } ∷ [])) taken
+      stands = subst (λ n. ReaderStands (shown_by c.pass.new.self Done) (t ++ take n piece) (es ++ record { given = given End; end = length t + n } ∷ [])) taken
           (marker_stands w waiting piece c.self.inside.verdict open_now t es at' c.step.new.self c.pass.new.self x c.pass.ensures.limits c.pass.ensures.state c.pass.ensures.place);
     }
 
 pub returns-in-Err-Refused-clause-reads : goal.returns-in-Err-Refused-clause-reads
 returns-in-Err-Refused-clause-reads c = λ t es at.
     let open_now : c.self.inside.verdict ≡ Open = ap (λ r. r.at.verdict) c.self.view_is ∙ c.requires.open in
-    let at' = subst (λ r. Stands r t es) (sym c.self.view_is) at in
+    let at' = subst (λ r. ReaderStands r t es) (sym c.self.view_is) at in
     let x = rw c.in-Err-Refused.field-0-is at c.in-Err-Refused.ensures.works in
     let y = c.pass-in-Err-Refused.ensures in
     let w = c.self.inside.work in

@@ -3,7 +3,7 @@ use Rattle.std.specs.List.{AllByRecursion}
 use Rattle.std.proofs.lemmas.List.{take_all, take_more}
 use Rattle.arrow_data.specs.Column.{IsColumn, listed_of}
 use Rattle.arrow_data.proofs.Sameness.{parts_smaller}
-use Rattle.arrow_stream_writer.specs.Lists.{Adds, AreFound, dictionary_in}
+use Rattle.arrow_stream_writer.specs.Lists.{AddsList, AreFound, dictionary_in}
 use Rattle.arrow_stream_writer.proofs.Finding.{all_both}
 use Rattle.arrow_stream_writer.proofs.Gathering.{below_gathers, more_gathered, one_gathers, stops_at}
 use Rattle.arrow_stream_writer.proofs.lists.BatchLists.+gathering.Goals as goal
@@ -22,7 +22,7 @@ add_column-returns-in-Some-Some-clause-gathers t c =
     let id = c.in-Some-Some.encoding.now.id in
     let passed : to_z w64 (of_z w64 id) ≡ id = search rules in
     one_gathers c.args.column.now c.in-Some-Some.encoding.now d (dictionary_in c.args.self.now) (dictionary_in c.add.new.self) c.add.result c.in-Some-Some.ensures (sym c.in-Some-Some.ensures')
-    (subst (λ i. Adds i d (dictionary_in c.args.self.now) c.add.result (dictionary_in c.add.new.self)) passed c.add.ensures)
+    (subst (λ i. AddsList i d (dictionary_in c.args.self.now) c.add.result (dictionary_in c.add.new.self)) passed c.add.ensures)
 
 -- those of the columns below it are added
 pub add_column-returns-in-Some-clause-gathers : goal.add_column-returns-in-Some-clause-gathers

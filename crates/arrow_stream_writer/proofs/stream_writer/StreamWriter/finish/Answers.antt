@@ -1,5 +1,5 @@
 use Rattle.std.proofs.Common.{◌≤◌, ◌+◌, ◌^◌, Err, refl, sym, subst, arith}
-use Rattle.arrow_stream_laws.specs.Writer.{Finishes, Shows}
+use Rattle.arrow_stream_laws.specs.Writer.{Finishes, WriterView}
 use Rattle.arrow_sink.specs.declared.status.Status.TheVariants as statuses
 use Rattle.arrow_stream_writer.specs.Shown.{shown}
 use Rattle.arrow_stream_writer.proofs.Showing.{finish_failed, finishes, writing}
@@ -9,7 +9,7 @@ use Rattle.arrow_stream_writer.proofs.stream_writer.StreamWriter.finish.Goals as
 pub returns-in-Ok-send_end-clause-answer : goal.returns-in-Ok-send_end-clause-answer
 returns-in-Ok-send_end-clause-answer g c =
     let old = shown g.S.Sink.contents g.S.Sink.failed c.args.self.now in
-    let new : Shows = record old {
+    let new : WriterView = record old {
       place = old.place + 8;
       status = statuses.Finished;
       contents = g.S.Sink.contents c.send_end.new.sink;
@@ -23,7 +23,7 @@ returns-in-Ok-send_end-clause-answer g c =
 pub returns-in-Err-send_end-clause-answer : goal.returns-in-Err-send_end-clause-answer
 returns-in-Err-send_end-clause-answer g c =
     let old = shown g.S.Sink.contents g.S.Sink.failed c.args.self.now in
-    let new : Shows = record old {
+    let new : WriterView = record old {
       status = statuses.Broken;
       contents = g.S.Sink.contents c.send_end.new.sink;
       failures = g.S.Sink.failed c.send_end.new.sink;

@@ -5,7 +5,7 @@ use Rattle.arrow_dict.specs.Tracking.{Tracked}
 use Rattle.arrow_meta_reader.specs.Means.{schema}
 use Rattle.arrow_sink.specs.Sinks.{AcceptsBeginning}
 use Rattle.arrow_types.specs.Schema.{IsNoted}
-use Rattle.arrow_stream_laws.specs.Writer.{Shows}
+use Rattle.arrow_stream_laws.specs.Writer.{WriterView}
 use Rattle.arrow_sink.specs.declared.status.Status.TheVariants as statuses
 use Rattle.arrow_stream_writer.specs.Framing.{PutsMessage}
 use Rattle.arrow_stream_writer.specs.Parts.{options_of}
@@ -19,7 +19,7 @@ returns-in-Ok-send-clause-starts g c =
     let terms : Terms = record { limits = c.args.limits; align = alignment_of c.args.options.align; shape = c.args.schema.now; updates = c.args.options.updates } in
     let part = c.put_schema.new.self.part.items in
     let settings = c.put_schema.new.self.settings in
-    let new : Shows = record {
+    let new : WriterView = record {
       limits = settings.limits;
       options = options_of (terms_of settings);
       shape = settings.schema.value;

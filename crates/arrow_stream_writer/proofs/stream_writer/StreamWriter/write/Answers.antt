@@ -1,7 +1,7 @@
 use Rattle.std.proofs.Common.{◌+◌, List, Err, refl, sym, ap, ◌∙◌, subst, length, arith}
 use Rattle.std.specs.Io.KnownBytes.{Appends}
 use Rattle.arrow_sink.specs.Sinks.{AcceptsBeginning}
-use Rattle.arrow_stream_laws.specs.Writer.{Shows, Writes}
+use Rattle.arrow_stream_laws.specs.Writer.{WriterView, Writes}
 use Rattle.arrow_sink.specs.declared.status.Status.TheVariants as statuses
 use Rattle.arrow_stream_writer.specs.Parts.{options_of}
 use Rattle.arrow_stream_writer.specs.Shown.{shown}
@@ -17,7 +17,7 @@ returns-in-Ok-send_part-clause-answer g c =
     let settings = c.build.new.self.settings in
     let built = c.in-Ok-build.ensures.built in
     let kept = ap terms_of c.in-Ok-build.ensures.settings in
-    let new : Shows = record {
+    let new : WriterView = record {
       limits = settings.limits;
       options = options_of (terms_of settings);
       shape = settings.schema.value;
@@ -42,7 +42,7 @@ returns-in-Err-send_part-clause-answer g c =
     let settings = c.build.new.self.settings in
     let built = c.in-Ok-build.ensures.built in
     let kept = ap terms_of c.in-Ok-build.ensures.settings in
-    let new : Shows = record {
+    let new : WriterView = record {
       limits = settings.limits;
       options = options_of (terms_of settings);
       shape = settings.schema.value;
