@@ -124,9 +124,9 @@ def crate_sum(name, crates=None):
 
 
 class Kept:
-    """What runs on this machine saw, one line of text for each thing under the sum of all that it hangs on. It lies in the
-    folder `rattle-kept` beside the kit, or in the one that KEPT names, never in the repository. Each line is written as soon
-    as it is known, so a run that is cut off loses none. With `anew` nothing is read."""
+    """What runs on this machine saw, one line of text for each thing under the sum of all that it hangs on. It lies beside
+    what `rt ci` keeps, or in the folder that KEPT names, never in the repository. Each line is written as soon as it is
+    known, so a run that is cut off loses none. With `anew` nothing is read."""
 
     def __init__(self, what, anew=False):
         place = os.environ.get("KEPT") or f"{os.path.dirname(KIT)}/rattle-kept"
