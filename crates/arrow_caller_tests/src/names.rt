@@ -81,6 +81,7 @@ use arrowflow::stream::StreamReader;
 use arrowflow::stream::StreamWriter;
 use arrowflow::stream::Updates;
 use arrowflow::stream::WriteFault;
+use arrowflow::stream::laws::a_front;
 use arrowflow::stream::laws::delivered_beginning;
 use arrowflow::stream::laws::delivered_whole;
 use arrowflow::stream::laws::frames_of_a_beginning;

@@ -1,6 +1,7 @@
 pub mod Meanings
 pub mod Firsts
 pub mod Fronts
+pub mod Always
 pub mod Fitness
 pub mod States
 pub mod Holdings

@@ -13,6 +13,12 @@ OneFront =
     (limits : LimitNumbers) (b : List ℕ) (es fs : List Entry) (e f : Standing) →
     FrontOf limits b es e → FrontOf limits b fs f → (es ≡ fs) × (e ≡ f)
 
+-- No list of bytes is without a front: that no entries and no standing are one of it is refuted. It has this form since no
+-- definition decides whether a tree lies in bytes, or whether a body is laid out as its fields ask.
+abbrev pub NoneWithoutFront : Type 0
+NoneWithoutFront =
+    (limits : LimitNumbers) (b : List ℕ) → ((es : List Entry) (e : Standing) → FrontOf limits b es e → ⊥) → ⊥
+
 -- More bytes leave the entries, and where a front has ended, by a refusal or by the end marker, they leave it too,
 -- and stand in its rest.
 abbrev pub MoreBytes : Type 0

@@ -1,11 +1,18 @@
 //! Laws of the definitions, which no code stands behind. Each is the contract of a function that
 //! does nothing.
 
-ghost use Rattle.arrow_stream_reader.specs.Laws.{OneFront, MoreBytes, SameStanding, LessWaits};
+ghost use Rattle.arrow_stream_reader.specs.Laws.{LessWaits, MoreBytes, NoneWithoutFront};
+ghost use Rattle.arrow_stream_reader.specs.Laws.{OneFront, SameStanding};
 
 /// A list of bytes has one front.
 pub fn one_front()
     ensures single { OneFront }
+{}
+
+/// No list of bytes is without a front: what is said of each front of some bytes is said of one that
+/// there is, and of no other.
+pub fn a_front()
+    ensures some { NoneWithoutFront }
 {}
 
 /// A list of bytes has one front, and the items of a longer list begin with those of a shorter one;

@@ -26,11 +26,12 @@
 //! | what a reader shows, what its calls answer | `specs/Stream.antt`: `ReaderView`, `ReaderStands`, `Answers` |
 //! | the kinds of faults | `specs/Kind.antt`: `kind_of`, `number_of` |
 //! | a reader's work, and the bytes that it holds | `specs/Work.antt`, `specs/Held.antt`, `specs/Views.antt`, `specs/Inside.antt` |
-//! | the laws | `specs/Laws.antt`: `OneFront`, `MoreBytes`, `SameStanding`, `LessWaits` |
+//! | the laws | `specs/Laws.antt`: `OneFront`, `NoneWithoutFront`, `MoreBytes`, `SameStanding`, `LessWaits` |
 //!
-//! Of the proofs, `Firsts` is of one message and `Fronts` of all, `Meanings` and `Holdings` go to
-//! them from the layers below, `States` and `Works` are the steps, and `Streams` carries these over
-//! to the bytes at which a reader stands. `Whole` serves the crates above.
+//! Of the proofs, `Firsts` is of one message and `Fronts` of all, `Always` says that no bytes are
+//! without a front, `Meanings` and `Holdings` go to them from the layers below, `States` and
+//! `Works` are the steps, and `Streams` carries these over to the bytes at which a reader stands.
+//! `Whole` serves the crates above.
 #![tactic(auto)]
 
 mod body;
