@@ -96,6 +96,13 @@ def answers(held):
     return "".join(it + "\n" for it in [*teller.told, *ending])
 
 
+def ending(held):
+    """How many batches and rows all calls hand out, and how the stream ends."""
+    reader = stream.Reader(held)
+    kind = reader.run()
+    return f"batches {reader.batches} rows {reader.rows()} end {f'{kind} at {reader.place}' if kind else 'clean'}"
+
+
 def is_refused(held, place):
     """Whether an end marker stands there, which is refused before the schema."""
     return held[place:place + 8] == b"\xff" * 4 + bytes(4)

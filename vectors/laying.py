@@ -1,0 +1,84 @@
+"""What the vectors are laid out of, beside examples/: the one batch whose parts are changed by name, and columns and streams that
+several of them have."""
+import struct
+
+import bodies
+import constants
+import frames
+import streams
+from frames import (END_MARKER, INT32, LIST, ONE_BATCH, ONE_COLUMN, UTF8, batch, dictionary, dictionary_batch, field, frame, numbers,
+                    pairs, record_batch, scalar, schema, strings, table, text, vector)
+from places import Stream
+from told import TOP
+
+# One nullable column `n` of signed 32-bit integers, and a batch of 1, a null and 3: all changes by name are of these frames.
+ONE = Stream(schema=ONE_COLUMN, batch=ONE_BATCH, end=END_MARKER)
+FIELD, TYPE = "schema.header.fields.0", "schema.header.fields.0.type"
+NODE, VALIDITY, VALUES = "batch.header.nodes.0", "batch.header.buffers.0", "batch.header.buffers.1"
+
+INT32S = schema(field("n", INT32))
+TEXTS = schema(field("t", UTF8))
+WORDS = streams.letters_schema()
+letters = streams.letters
+
+
+def in_one(*settings):
+    """The one batch with these settings, each a name and its bytes."""
+    return ONE.changed(dict(settings))
+
+
+def schema_in_one(*settings):
+    """The schema alone of it."""
+    return in_one(*settings)[:len(ONE_COLUMN)]
+
+
+def i32(*values):
+    return struct.pack(f"<{len(values)}i", *values)
+
+
+def i64(*values):
+    return struct.pack(f"<{len(values)}q", *values)
+
+
+def column(nodes, *buffers):
+    return frames.Column(nodes, list(buffers))
+
+
+def stream(*parts):
+    """The parts with an end marker."""
+    return b"".join(parts) + END_MARKER
+
+
+def one_batch_of(kind, *columns, **how):
+    """A batch of one column of a type, which is a type with what stands below it."""
+    return stream(schema(field("c", *kind)), batch(*columns, **how))
+
+
+def large_texts(values):
+    return bodies.large_strings([value if value is None else value.encode() for value in values])
+
+
+def of_another_writer(place):
+    """Bytes that FlatBuffers' own builder laid out, which examples/foreign wrote into a module of tests."""
+    held = constants.constants((TOP / "crates" / place).read_text(encoding="utf-8"))
+    return {name: bytes(it) for name, it in held.items()}
+
+
+def raw_batch(length, nodes, places, body=b"", more=()):
+    """The frame of a record batch of which everything is told."""
+    return frame(3, table(*record_batch(length, nodes, places)[1], *more), body)
+
+
+def raw_dictionary(number, length, nodes, places, body=b"", delta=False):
+    return frame(2, table(scalar("q", number), record_batch(length, nodes, places), scalar("B", delta)), body)
+
+
+def raw_field(name, code, kind, encoding=None, children=(), noted=None, nullable=True):
+    """A field of which everything is told; None where a part of it is absent."""
+    return table(name and text(name), None if nullable is None else scalar("B", nullable), scalar("B", code), kind, encoding,
+                 None if children is None else vector(children), *([] if noted is None else [noted]))
+
+
+def raw_schema(fields, *more):
+    """A schema with the fields of its table behind the vector of its own."""
+    return frame(1, table(scalar("h", 0), fields if fields is None else vector(fields), *more))

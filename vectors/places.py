@@ -1,0 +1,129 @@
+"""The parts of frames by their names: where each stands, found by following what stands in the bytes themselves, from the prefix
+through the tables of Message.fbs and Schema.fbs to the buffers of the body.
+
+A part of a frame is named by the way to it: `header.nodes.0.null_count`, `header.fields.0.name.bytes`. Where a field is an
+offset, its own name is that of the offset's four bytes, and what stands where it leads is named behind it. A table has
+`to_vtable` and `vtable`, with `size`, `table_size` and an entry for each field; a vector or a text has `count`; `prefix` has
+`continuation` and `size`, `root` is the offset to the Message, and `body.N` are the bytes of buffer N. What no part names is `between`.
+"""
+import struct
+
+# The fields of each table in the order of their numbers: a number of bytes, `text`, a table, a vector of tables in brackets, or
+# a vector of pairs of two numbers; a union is opened by the code before it.
+TABLES = {
+    "Message": "version:2 header_type:1 header:header body_length:8 custom_metadata:[KeyValue]",
+    "Schema": "endianness:2 fields:[Field] custom_metadata:[KeyValue]",
+    "Field": "name:text nullable:1 type_type:1 type:type dictionary:DictionaryEncoding children:[Field] custom_metadata:[KeyValue]",
+    "KeyValue": "key:text value:text",
+    "DictionaryEncoding": "id:8 index_type:Int is_ordered:1 dictionary_kind:2",
+    "RecordBatch": "length:8 nodes:length,null_count buffers:offset,length",
+    "DictionaryBatch": "id:8 data:RecordBatch is_delta:1",
+    "Int": "bit_width:4 is_signed:1", "Date": "unit:2", "Time": "unit:2 bit_width:4", "Timestamp": "unit:2 timezone:text",
+    "FixedSizeBinary": "byte_width:4", "Duration": "unit:2", "": "",
+}
+FIELDS = {name: [tuple(it.split(":")) for it in words.split()] for name, words in TABLES.items()}
+UNIONS = {"header": {1: "Schema", 2: "DictionaryBatch", 3: "RecordBatch"},
+          "type": {2: "Int", 8: "Date", 9: "Time", 10: "Timestamp", 15: "FixedSizeBinary", 18: "Duration"}}
+
+
+class Parts:
+    """The parts of one frame, which begins at a place of a stream; of vectors all elements, or at most so many."""
+
+    def __init__(self, held, start=0, most=None):
+        self.held, self.start, self.most, self.found = held, start, most, {}
+        self.put("prefix.continuation", 0, 4)
+        self.put("prefix.size", 4, 4)
+        size = struct.unpack_from("<i", held, 4)[0]
+        if size:
+            self.put("root", 8, 4)
+            self.table("", self.target(8), "Message")
+            self.body(8 + size)
+
+    def put(self, name, place, size):
+        self.found[name] = range(self.start + place, self.start + place + size)
+
+    def number(self, name):
+        its = self.found[name]
+        return int.from_bytes(self.held[its.start - self.start:its.stop - self.start], "little")
+
+    def target(self, place):
+        return place + struct.unpack_from("<I", self.held, place)[0]
+
+    def table(self, path, place, kind):
+        """The parts of a table; fields whose entry is 0 or that lie behind the vtable are absent."""
+        vtable = place - struct.unpack_from("<i", self.held, place)[0]
+        size = struct.unpack_from("<H", self.held, vtable)[0]
+        self.put(f"{path}to_vtable", place, 4)
+        self.put(f"{path}vtable.size", vtable, 2)
+        self.put(f"{path}vtable.table_size", vtable + 2, 2)
+        for number, (name, what) in enumerate(FIELDS[kind]):
+            at = vtable + 4 + 2 * number
+            if at + 2 <= vtable + size:
+                self.put(f"{path}vtable.{name}", at, 2)
+                entry = struct.unpack_from("<H", self.held, at)[0]
+                if entry:
+                    self.field(path + name, place + entry, what)
+
+    def field(self, path, place, what):
+        if what.isdigit():
+            return self.put(path, place, int(what))
+        self.put(path, place, 4)
+        at = self.target(place)
+        if what == "text":
+            self.put(f"{path}.count", at, 4)
+            return self.put(f"{path}.bytes", at + 4, self.number(f"{path}.count"))
+        if "," in what or what.startswith("["):
+            return self.vector(path, at, what)
+        return self.table(f"{path}.", at, UNIONS[what].get(self.number(f"{path}_type"), "") if what in UNIONS else what)
+
+    def vector(self, path, place, what):
+        self.put(f"{path}.count", place, 4)
+        for number in range(self.number(f"{path}.count"))[:self.most]:
+            if what.startswith("["):
+                at = place + 4 + 4 * number
+                self.put(f"{path}.{number}", at, 4)
+                self.table(f"{path}.{number}.", self.target(at), what[1:-1])
+            else:
+                for half, name in enumerate(what.split(",")):
+                    self.put(f"{path}.{number}.{name}", place + 4 + 16 * number + 8 * half, 8)
+
+    def body(self, start):
+        batch = "header.data." if "header.data.length" in self.found else "header."
+        for number in range(self.number(f"{batch}buffers.count") if f"{batch}buffers.count" in self.found else 0):
+            offset, length = (self.number(f"{batch}buffers.{number}.{it}") for it in ("offset", "length"))
+            if length:
+                self.put(f"body.{number}", start + offset, length)
+
+
+class Stream:
+    """Frames with names, and the stream that they are with some of their bytes changed. A part is named behind its frame; a byte
+    of it by its number, `NAME[2]` being its third."""
+
+    def __init__(self, most=None, **frames):
+        self.frames, self.parts, place = frames, {}, 0
+        for name, held in frames.items():
+            self.parts.update({f"{name}.{part}": its for part, its in Parts(held, place, most).found.items()})
+            place += len(held)
+
+    def held(self):
+        return b"".join(self.frames.values())
+
+    def place(self, name):
+        part, _, at = name.partition("[")
+        return self.parts[part][int(at.rstrip("]") or 0)]
+
+    def changed(self, settings):
+        """The stream in which parts have these bytes, which are given in hexadecimal digits."""
+        held = bytearray(self.held())
+        for name, words in settings.items():
+            place, its = self.place(name), bytes.fromhex(words)
+            held[place:place + len(its)] = its
+        return bytes(held)
+
+    def names(self):
+        """The name of each byte of the stream."""
+        found = [f"{name}.between" for name, held in self.frames.items() for _ in held]
+        for part, its in self.parts.items():
+            for at, place in enumerate(its):
+                found[place] = part if len(its) == 1 else f"{part}[{at}]"
+        return found
