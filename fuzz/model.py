@@ -5,6 +5,7 @@ language, with no code and no definition of the crates. It reads a whole list of
 them, custom metadata as well, which no text shows. Limits are the defaults.
 """
 import collections
+import functools
 
 MAX_METADATA = 67_108_864
 MAX_BODY = 2 ** 36
@@ -212,6 +213,7 @@ def header_of(metadata, header, code):
     return None
 
 
+@functools.lru_cache(maxsize=16)
 def read_message(held):
     """What a metadata says: of its header the place, and the schema where it is one."""
     metadata = Metadata(held)

@@ -74,6 +74,8 @@ def columns():
         "end_marker_behind_the_schema": ("a schema, an end marker, and three bytes behind it", ONE_COLUMN + END_MARKER + b"abc"),
         "texts": ("texts, one of them null", streams.joined(streams.COLUMNS, "TEXTS THREE_TEXTS END")),
         "four_fields": ("a column by a dictionary, a list, a struct and a timestamp in a zone", stream(streams.four_fields(), letters("ab"), batch(*four))),
+        "large_texts": ("large texts, one of them null", one_batch_of([LARGE_UTF8], large_texts(["a", None, "bc"]))),
+        "fixed_bytes": ("byte strings of three bytes, one of them null", one_batch_of([fixed_size_binary(3)], bodies.fixed([b"\x00\x01\xff", None], 3))),
         "later_types": ("each type with large offsets or of a fixed width, with nulls", later_types()),
         "extremes": ("the least and the greatest number of each width, and a null", extremes()),
         "32_levels": ("lists nested so that the innermost field is at level 32", nested(32)),
@@ -160,7 +162,7 @@ def types_in_one():
 
 def growing():
     """Dictionaries that grow, shrink, change and come again between batches."""
-    many = [letters(chr(97 + at % 26) * (1 + at // 26), at > 0) for at in range(70)]
+    many = [letters([chr(97 + at % 26) * (1 + at // 26)], at > 0) for at in range(70)]
     ends = [-2 ** 63, 2 ** 63 - 1]
     widths = [(bits, signed, form if signed else form.upper()) for bits, form in ((8, "b"), (16, "h"), (32, "i"), (64, "q")) for signed in (True, False)]
     two = schema(field("k", UTF8, encoding=dictionary(1)), field("j", INT32, encoding=dictionary(2)))
