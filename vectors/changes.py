@@ -5,7 +5,7 @@ import bodies
 import frames
 import own
 import streams
-from frames import END_MARKER, ONE_BATCH, ONE_COLUMN, LARGE_UTF8, NULL, UTF8, batch, dictionary, dictionary_batch, field, integer, schema, strings
+from frames import END_MARKER, LARGE_UTF8, NULL, UTF8, batch, dictionary, dictionary_batch, field, integer, schema, strings
 from laying import NODE, ONE, column
 from places import Stream
 from told import ending
@@ -35,7 +35,8 @@ def nulls():
 
 def nulls_by_a_dictionary():
     delta, rows = dictionary_batch(0, frames.nulls(1), True), batch(frames.numbers([1, 0, None]))
-    return Stream(schema=schema(field("k", NULL, encoding=dictionary(0))), dictionary=dictionary_batch(0, frames.nulls(1)), delta=delta, batch=rows, end=END_MARKER)
+    return Stream(schema=schema(field("k", NULL, encoding=dictionary(0))), dictionary=dictionary_batch(0, frames.nulls(1)),
+        delta=delta, batch=rows, end=END_MARKER)
 
 
 def bases():
@@ -114,7 +115,8 @@ def null_counts():
     """Of each number of slots the right number of nulls, and one more."""
     of = nulls_of_a5()
     zeros = [sum(0xa5 >> at % 8 & 1 == 0 for at in range(rows)) for rows in range(SLOTS + 1)]
-    its = [[line(of, {**of_rows(rows), f"{NODE}.null_count": number(zeros[rows] + more)}) for rows in range(SLOTS + 1)] for more in (0, 1)]
+    its = [[line(of, {**of_rows(rows), f"{NODE}.null_count": number(zeros[rows] + more)}) for rows in range(SLOTS + 1)]
+        for more in (0, 1)]
     return ["binds standard", *its[0], "binds own", *its[1]]
 
 
@@ -145,7 +147,7 @@ def rows_at_the_limit():
     def known(rows):
         return {"dictionary.header.data.length": number(rows), "dictionary.header.data.nodes.0.length": number(rows)}
     return {"rows_at_the_limit": ["binds own", *(line(of, of_rows(rows)) for rows in (MOST_ROWS, MOST_ROWS + 1))],
-            "values_at_the_limit": ["binds own", *(line(its, known(rows)) for rows in (MOST_ROWS - 1, MOST_ROWS))]}
+        "values_at_the_limit": ["binds own", *(line(its, known(rows)) for rows in (MOST_ROWS - 1, MOST_ROWS))]}
 
 
 def changes():
@@ -157,11 +159,16 @@ def changes():
         "growing_dictionary_cut": ("each length of a growing dictionary", "growing_dictionary", cuts(growing, 8)),
         "int32_column_bytes": ("each byte of one batch set to each other value", "int32_column", each_byte(ONE)),
         "falling_offsets": ("one pair of offsets that falls", "texts_of_a_letter", falling(texts_of_a_letter(), 4)),
-        "falling_large_offsets": ("one pair of large offsets that falls", "large_texts_of_a_letter", falling(large_texts_of_a_letter(), 8)),
+        "falling_large_offsets": ("one pair of large offsets that falls", "large_texts_of_a_letter",
+            falling(large_texts_of_a_letter(), 8)),
         "null_counts": ("the number of nulls of each number of slots, and one more", "nulls_of_a5", null_counts()),
-        "fields_at_the_limit": ("65,535 fields, one level less than are too many", "shared_fields_17_deep", fields_at_the_limit(its["shared_fields_17_deep"][1])),
-        "pairs_at_the_limit": ("65,536 pairs, one less than are too many", "pairs_over_the_limit", pairs_at_the_limit(its["pairs_over_the_limit"][1])),
+        "fields_at_the_limit": ("65,535 fields, one level less than are too many", "shared_fields_17_deep",
+            fields_at_the_limit(its["shared_fields_17_deep"][1])),
+        "pairs_at_the_limit": ("65,536 pairs, one less than are too many", "pairs_over_the_limit",
+            pairs_at_the_limit(its["pairs_over_the_limit"][1])),
         "rows_at_the_limit": ("a batch of 2^31 - 1 rows, and of one more", "one_null", rows["rows_at_the_limit"]),
-        "values_at_the_limit": ("a dictionary of 2^31 - 2 values, and of one more, that grows by one", "nulls_by_a_growing_dictionary", rows["values_at_the_limit"]),
-        "names_at_the_limit": ("8,192 names of 8,192 bytes, one less than are too many", "names_over_the_limit", names_at_the_limit(its["names_over_the_limit"][1])),
+        "values_at_the_limit": ("a dictionary of 2^31 - 2 values, and of one more, that grows by one",
+            "nulls_by_a_growing_dictionary", rows["values_at_the_limit"]),
+        "names_at_the_limit": ("8,192 names of 8,192 bytes, one less than are too many", "names_over_the_limit",
+            names_at_the_limit(its["names_over_the_limit"][1])),
     }

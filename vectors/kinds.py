@@ -1,7 +1,8 @@
 """Each type of the profile: alone, with nulls and without them, and by a dictionary that grows by a delta and is replaced."""
 import bodies
-from frames import (BINARY, BOOL, INT32, LARGE_BINARY, LARGE_LIST, LARGE_UTF8, LIST, NULL, STRUCT, UTF8, batch, bools, date, dictionary,
-                    dictionary_batch, duration, field, fixed_size_binary, integer, lists, nulls, numbers, schema, strings, time, timestamp)
+from frames import (BINARY, BOOL, INT32, LARGE_BINARY, LARGE_LIST, LARGE_UTF8, LIST, NULL, STRUCT, UTF8, batch, bools, date,
+                    dictionary, dictionary_batch, duration, field, fixed_size_binary, integer, lists, nulls, numbers, schema,
+                        strings, time, timestamp)
 from laying import large_texts, stream
 from streams import points
 
@@ -52,24 +53,25 @@ def others():
 
 def alone(kind, laid, first, second):
     """Batches of a column with a null, of no rows, and without nulls."""
-    return stream(schema(field("c", *kind)), batch(laid([first, None, second])), batch(laid([]), length=0), batch(laid([second, first])))
+    return stream(schema(field("c", *kind)), batch(laid([first, None, second])), batch(laid([]), length=0),
+        batch(laid([second, first])))
 
 
 def by_a_dictionary(kind, laid, first, second, index):
     """The first value and a null, then the second by a delta, then the second alone; each after that a batch."""
     bits, signed = index
     places = of(FORMS[bits] if signed else FORMS[bits].upper())
-    return stream(schema(field("k", *kind, encoding=dictionary(0, bits, signed))),
-                  dictionary_batch(0, laid([first, None])), batch(places([1, 0, None])),
-                  dictionary_batch(0, laid([second]), True), batch(places([2, 0])),
-                  dictionary_batch(0, laid([second])), batch(places([0, None])))
+    return stream(schema(field("k", *kind, encoding=dictionary(0, bits, signed))), dictionary_batch(0, laid([first, None])),
+        batch(places([1, 0, None])), dictionary_batch(0, laid([second]), True), batch(places([2, 0])),
+        dictionary_batch(0, laid([second])), batch(places([0, None])))
 
 
 def vectors():
     found = {}
     for at, (name, kind, laid, first, second) in enumerate([*others(), *integers(), *moments()]):
         words = name.replace("_", " ")
-        found[f"{name}_alone"] = f"a column of the type {words}, with a null, without rows and without nulls", alone(kind, laid, first, second)
+        found[f"{name}_alone"] = f"a column of the type {words}, with a null, without rows and without nulls", alone(kind, laid,
+            first, second)
         found[f"{name}_by_a_dictionary"] = (f"a dictionary of the type {words} that grows and is then replaced by a shorter one",
-                                            by_a_dictionary(kind, laid, first, second, INDICES[at % 8]))
+            by_a_dictionary(kind, laid, first, second, INDICES[at % 8]))
     return found

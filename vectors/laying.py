@@ -6,8 +6,8 @@ import bodies
 import constants
 import frames
 import streams
-from frames import (END_MARKER, INT32, LIST, ONE_BATCH, ONE_COLUMN, UTF8, batch, dictionary, dictionary_batch, field, frame, numbers,
-                    pairs, record_batch, scalar, schema, strings, table, text, vector)
+from frames import (END_MARKER, INT32, ONE_BATCH, ONE_COLUMN, UTF8, batch, field, frame, record_batch, scalar, schema, table,
+                    text, vector)
 from places import Stream
 from told import TOP
 
@@ -76,7 +76,7 @@ def raw_dictionary(number, length, nodes, places, body=b"", delta=False):
 def raw_field(name, code, kind, encoding=None, children=(), noted=None, nullable=True):
     """A field of which everything is told; None where a part of it is absent."""
     return table(name and text(name), None if nullable is None else scalar("B", nullable), scalar("B", code), kind, encoding,
-                 None if children is None else vector(children), *([] if noted is None else [noted]))
+        None if children is None else vector(children), *([] if noted is None else [noted]))
 
 
 def raw_schema(fields, *more):

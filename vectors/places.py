@@ -43,7 +43,8 @@ class Parts:
         self.found[name] = range(self.start + place, self.start + place + size)
 
     def number(self, name):
-        its = self.found[name]
+        """The number that stands in a part, 0 where it is absent."""
+        its = self.found.get(name, range(self.start, self.start))
         return int.from_bytes(self.held[its.start - self.start:its.stop - self.start], "little")
 
     def target(self, place):
@@ -89,7 +90,7 @@ class Parts:
 
     def body(self, start):
         batch = "header.data." if "header.data.length" in self.found else "header."
-        for number in range(self.number(f"{batch}buffers.count") if f"{batch}buffers.count" in self.found else 0):
+        for number in range(self.number(f"{batch}buffers.count")):
             offset, length = (self.number(f"{batch}buffers.{number}.{it}") for it in ("offset", "length"))
             if length:
                 self.put(f"body.{number}", start + offset, length)

@@ -4,9 +4,8 @@ import re
 import struct
 
 import noted
-from frames import END_MARKER
-from laying import FIELD, NODE, ONE, TYPE, VALIDITY, VALUES
-from places import Parts, Stream
+from laying import FIELD, ONE
+from places import Parts
 
 CLEAN = ["end clean"]
 
@@ -23,35 +22,42 @@ def rows(*values):
     return [f"  row {it}" for it in values] + CLEAN
 
 
-LETTERS_SHOWN = ['  row 0 -> "a"', '  row 1 -> "b"', '  row 2 -> "c"', '  row 4 -> "e"', '  row 0 -> "a"', '  row 1 -> "c"', '  row 3 -> "e"']
+LETTERS_SHOWN = ['  row 0 -> "a"', '  row 1 -> "b"', '  row 2 -> "c"', '  row 4 -> "e"', '  row 0 -> "a"', '  row 1 -> "c"',
+    '  row 3 -> "e"']
 THREE = rows("1", "null", "3")
-FOUR_FIELDS = ["  column k: dictionary<int32, utf8> id 0", "  column l: list not null", "    column item: int32", "  column s: struct",
-               "    column m: uint8 not null", "  column t: timestamp[us, UTC]"]
-CUT = ["length 200 -> batches 0 rows 0 end clean", "length 592 -> batches 1 rows 3 end clean", "length 976 -> batches 2 rows 5 end clean",
-       "length 1368 -> batches 3 rows 7 end clean", "length 201..423 -> batches 0 rows 0 end Truncated at 200",
-       "length 425..591 -> batches 0 rows 0 end Truncated at 424", "length 593..815 -> batches 1 rows 3 end Truncated at 592",
-       "length 817..975 -> batches 1 rows 3 end Truncated at 816", "length 1369..1375 -> batches 3 rows 7 end Truncated at 1368"]
+FOUR_FIELDS = ["  column k: dictionary<int32, utf8> id 0", "  column l: list not null", "    column item: int32",
+    "  column s: struct", "    column m: uint8 not null", "  column t: timestamp[us, UTC]"]
+CUT = ["length 200 -> batches 0 rows 0 end clean", "length 592 -> batches 1 rows 3 end clean",
+    "length 976 -> batches 2 rows 5 end clean", "length 1368 -> batches 3 rows 7 end clean",
+    "length 201..423 -> batches 0 rows 0 end Truncated at 200", "length 425..591 -> batches 0 rows 0 end Truncated at 424",
+    "length 593..815 -> batches 1 rows 3 end Truncated at 592", "length 817..975 -> batches 1 rows 3 end Truncated at 816",
+    "length 1369..1375 -> batches 3 rows 7 end Truncated at 1368"]
 
 # By the name of an example: the tests that have what is no stream, and of each vector the lines that stand in its text, in this
 # order, * being any words.
 EXAMPLES = {
     "no schema": (["arrowflow_tests/schema_call"], {
-        "nothing": ["take 0 nothing", "hold 0", "end NoSchema at 0"], "cut_off_in_the_schema": ["take 100 nothing", "hold 100", "end NoSchema at 0"]}),
+        "nothing": ["take 0 nothing", "hold 0", "end NoSchema at 0"], "cut_off_in_the_schema": ["take 100 nothing", "hold 100",
+            "end NoSchema at 0"]}),
     "first frame": ([], {
-        "one_column": ["take 152 schema", *column("n: int32"), *CLEAN], "end_marker_behind_the_schema": ["take 152 schema", "take 8 end", "take 0 nothing", *CLEAN]}),
+        "one_column": ["take 152 schema", *column("n: int32"), *CLEAN], "end_marker_behind_the_schema": ["take 152 schema",
+            "take 8 end", "take 0 nothing", *CLEAN]}),
     "int32 column": (["arrowflow_tests/reports"], {
         "int32_column": ["take 152 schema", "take 176 batch of 3", *THREE[:3], "take 8 end", *CLEAN],
         "int32_column_64": ["take 192 schema", "take 320 batch of 3", *THREE[:3], "take 8 end", *CLEAN]}),
     "text and bits": ([], {"texts": rows('"a"', "null", '"bc"'), "truths": rows("true", "false", "null", "true")}),
     "empty offsets": ([], {
-        "no_offsets": ["take * batch of 0", *CLEAN], "one_offset": ["take * batch of 0", *CLEAN], "two_bytes_of_offsets": refused("Layout", "*")}),
+        "no_offsets": ["take * batch of 0", *CLEAN], "one_offset": ["take * batch of 0", *CLEAN],
+            "two_bytes_of_offsets": refused("Layout", "*")}),
     "no columns": (["arrowflow_tests/reports"], {"no_columns": ["take * batch of 3", "  row", "  row", "  row", *CLEAN]}),
     "growing dictionary": (["arrowflow_session_tests/calls"], {
-        "growing_dictionary": ["take 200 schema", "take 224 dictionary 0 of 3", "take 168 batch of 3", *LETTERS_SHOWN[:3], "take 224 dictionary 0 of 5",
-                               "take 160 batch of 2", *LETTERS_SHOWN[3:5], "take 232 dictionary 0 of 4", "take 160 batch of 2", *LETTERS_SHOWN[5:], "take 8 end"],
+        "growing_dictionary": ["take 200 schema", "take 224 dictionary 0 of 3", "take 168 batch of 3", *LETTERS_SHOWN[:3],
+            "take 224 dictionary 0 of 5", "take 160 batch of 2", *LETTERS_SHOWN[3:5], "take 232 dictionary 0 of 4",
+            "take 160 batch of 2", *LETTERS_SHOWN[5:], "take 8 end"],
         "resent_dictionary": [*LETTERS_SHOWN, "take 8 end"]}),
     "hidden bytes": (["arrowflow_session_tests/copies"], {
-        "hidden_bytes": ['  value "a"', "  value null", '  row 0 -> "a"', "  row 1 -> null", '  value "a"', "  value null", '  row 0 -> "a"', "  row 1 -> null", *CLEAN],
+        "hidden_bytes": ['  value "a"', "  value null", '  row 0 -> "a"', "  row 1 -> null", '  value "a"', "  value null",
+            '  row 0 -> "a"', "  row 1 -> null", *CLEAN],
         "no_hidden_bytes": ["take * dictionary 0 of 2", "take * batch of 2", "take * batch of 2", "take 8 end"]}),
     "broken inside a batch": (["arrowflow_tests/drilling", "arrowflow_session_tests/session"], {
         "cut_off_in_the_second_batch": ["take 224 dictionary 0 of 5", "take 159 nothing", "hold 159", "end Truncated at 816"],
@@ -60,124 +66,165 @@ EXAMPLES = {
         "cut_off_behind_the_second_batch": [*LETTERS_SHOWN[:5], *CLEAN], "growing_dictionary_cut.changes": [CUT[2]]}),
     "all null indices": ([], {"null_indices_without_a_dictionary": rows("null", "null")}),
     "index range": ([], {
-        "index_above": refused("Index", 424), "index_below": refused("Index", 424), "index_under_a_null": CLEAN, "negative_index_under_a_null": CLEAN}),
+        "index_above": refused("Index", 424), "index_below": refused("Index", 424), "index_under_a_null": CLEAN,
+            "negative_index_under_a_null": CLEAN}),
     "two lists": (["arrowflow_session_tests/one_id"], {
-        "one_dictionary_of_two_columns": ["take * dictionary 0 of 1", '  value "x"', "take * batch of 1", '  row 0 -> "x", 0 -> "x"', "take 8 end"]}),
-    "delta without base": (["arrow_stream_reader_tests/updates"], {"delta_without_base": refused("NoBase", 200), "unknown_id": refused("UnknownId", 200)}),
+        "one_dictionary_of_two_columns": ["take * dictionary 0 of 1", '  value "x"', "take * batch of 1",
+            '  row 0 -> "x", 0 -> "x"', "take 8 end"]}),
+    "delta without base": (["arrow_stream_reader_tests/updates"], {"delta_without_base": refused("NoBase", 200),
+        "unknown_id": refused("UnknownId", 200)}),
     "bad headers": ([], {
         "negative_size_at_the_start": refused("MetadataSize", 0), "no_continuation_at_the_start": refused("Continuation", 0),
         "end_marker_before_the_schema": refused("NoSchema", 0)}),
     "lists and CSV": (["arrowflow_tests/reports"], {"lists_and_texts": rows('[1, 2], "a,b"', "null, null", '[], ""')}),
     "struct column": (["arrowflow_tests/reports"], {"struct_column": rows('{"m": 5}', "null")}),
     "shared fields": (["arrow_meta_reader_tests/visits"], {
-        "shared_fields_17_deep": refused("Metadata", 0), "fields_at_the_limit.changes": ["schema.header.fields.0 at * -> batches 0 rows 0 end clean"]}),
+        "shared_fields_17_deep": refused("Metadata", 0),
+            "fields_at_the_limit.changes": ["schema.header.fields.0 at * -> batches 0 rows 0 end clean"]}),
     "two connections": (["arrowflow_session_tests/session"], {
-        "cut_off_in_the_first_prefix": ["take 5 nothing", "hold 5", "end NoSchema at 0"], "other_letters": rows('1 -> "y"', '0 -> "x"', '1 -> "y"')}),
+        "cut_off_in_the_first_prefix": ["take 5 nothing", "hold 5", "end NoSchema at 0"], "other_letters": rows('1 -> "y"',
+            '0 -> "x"', '1 -> "y"')}),
     "cut and changed": ([], {
         "cut_off_in_the_end_marker": ["take 176 batch of 3", "take 7 nothing", "end Truncated at 328"], "no_end_marker": THREE,
-        "null_count_wrong": refused("Layout", 152), "negative_body_length": refused("BodyLength", 152), "second_schema": refused("Order", 152),
+        "null_count_wrong": refused("Layout", 152), "negative_body_length": refused("BodyLength", 152),
+            "second_schema": refused("Order", 152),
         "date_without_a_unit": column("d: date[ms]")}),
     "a schema's text, byte by byte": (["arrowflow_tests/schema_call"], {
-        "not_nullable": column("n: int32 not null"), "unsigned": column("n: uint32"), "vtable_without_the_sign": column("n: uint32"),
-        "one_vtable_for_two_tables": column("n: int32"), "nulls_for_integers": column("n: null"), "texts_for_integers": column("n: utf8"),
-        "truths_for_integers": column("n: bool"), "name_of_a_line_feed": column("\\x0a: int32"), "body_of_the_schema": ["take 160 schema", *column("n: int32")]}),
+        "not_nullable": column("n: int32 not null"), "unsigned": column("n: uint32"),
+            "vtable_without_the_sign": column("n: uint32"),
+        "one_vtable_for_two_tables": column("n: int32"), "nulls_for_integers": column("n: null"),
+            "texts_for_integers": column("n: utf8"),
+        "truths_for_integers": column("n: bool"), "name_of_a_line_feed": column("\\x0a: int32"),
+            "body_of_the_schema": ["take 160 schema", *column("n: int32")]}),
     "a schema's faults, byte by byte": (["arrowflow_tests/schema_call"], {
-        "name_not_utf8": refused("Metadata", 0), "version_3": refused("Version", 0), "version_3_and_floating_point": refused("Version", 0),
-        "tensor_for_a_schema": refused("Header", 0), "negative_body_length_of_the_schema": refused("BodyLength", 0), "big_endian": refused("Unsupported", 0),
+        "name_not_utf8": refused("Metadata", 0), "version_3": refused("Version", 0),
+            "version_3_and_floating_point": refused("Version", 0),
+        "tensor_for_a_schema": refused("Header", 0), "negative_body_length_of_the_schema": refused("BodyLength", 0),
+            "big_endian": refused("Unsupported", 0),
         "floating_point": refused("Unsupported", 0), "width_24": refused("Schema", 0)}),
     "bits, offsets and numbers": (["arrow_small_tests/bits"], {
-        "validity_too_short": refused("Layout", "*"), "an_empty_text_behind_two_bytes": rows('""', '"abc"'), "offsets_past_the_data": refused("Layout", "*"),
-        "falling_offsets": refused("Layout", "*"), "negative_offset": refused("Layout", "*"), "three_bytes_of_offsets": refused("Layout", "*"),
+        "validity_too_short": refused("Layout", "*"), "an_empty_text_behind_two_bytes": rows('""', '"abc"'),
+            "offsets_past_the_data": refused("Layout", "*"),
+        "falling_offsets": refused("Layout", "*"), "negative_offset": refused("Layout", "*"),
+            "three_bytes_of_offsets": refused("Layout", "*"),
         "one_offset": CLEAN, "int8_alone": rows("-128", "null", "127", "127", "-128")}),
-    "columns built, dictionaries, batches": (
-        ["arrow_builder_tests/pushes", "arrow_builder_tests/arrays", "arrow_data_tests/batches", "arrow_small_tests/types"], {
-            "index_above": refused("Index", "*"), "null_indices_without_a_dictionary": rows("null", "null"), "columns_of_unequal_lengths": refused("Layout", "*")}),
+    "columns built, dictionaries, batches": (["arrow_builder_tests/pushes", "arrow_builder_tests/arrays",
+        "arrow_data_tests/batches", "arrow_small_tests/types"], {
+            "index_above": refused("Index", "*"), "null_indices_without_a_dictionary": rows("null", "null"),
+                "columns_of_unequal_lengths": refused("Layout", "*")}),
     "messages written and read": (["arrow_meta_writer_tests/written"], {
-        "date_of_the_unit_32": refused("Schema", 0), "dates_for_integers": column("n: date[ms]"), "timestamp_in_an_unaligned_zone": column("n: timestamp[s, ]"),
+        "date_of_the_unit_32": refused("Schema", 0), "dates_for_integers": column("n: date[ms]"),
+            "timestamp_in_an_unaligned_zone": column("n: timestamp[s, ]"),
         "four_fields": FOUR_FIELDS}),
     "columns and bodies": (["arrow_body_tests/stored", "arrow_body_tests/rests"], {
         "text_behind_two_bytes": rows('"a"'), "longer_child": rows('{"m": 5}', '{"m": 6}'), "shorter_child": refused("Layout", "*"),
-        "text_under_a_null_struct": refused("Text", "*"), "bad_text_beside_a_short_buffer": refused("Layout", "*"), "index_below": refused("Index", "*"),
+        "text_under_a_null_struct": refused("Text", "*"), "bad_text_beside_a_short_buffer": refused("Layout", "*"),
+            "index_below": refused("Index", "*"),
         "negative_index_under_a_null": CLEAN}),
-    "a reader, call by call": (["arrow_stream_reader_tests/growing", "arrow_stream_reader_tests/limits", "arrow_stream_reader_tests/deciding"], {
-        "cut_off_in_the_delta": ["take 224 dictionary 0 of 3", "take 168 batch of 3", "take 223 nothing", "hold 223", "end Truncated at 592"],
+    "a reader, call by call": (["arrow_stream_reader_tests/growing", "arrow_stream_reader_tests/limits",
+        "arrow_stream_reader_tests/deciding"], {
+        "cut_off_in_the_delta": ["take 224 dictionary 0 of 3", "take 168 batch of 3", "take 223 nothing", "hold 223",
+            "end Truncated at 592"],
         "cut_off_behind_the_delta": ["take 224 dictionary 0 of 5", "take 0 nothing", "hold 0", *CLEAN]}),
     "a writer's frames": (["arrowflow_session_tests/calls"], {
-        "second_batch_left_out": ["take 200 schema", "take 224 dictionary 0 of 3", "take 168 batch of 3", "take 232 dictionary 0 of 4", "take 160 batch of 2",
-                                  "take 8 end"],
-        "dictionary_of_no_values": ["take 200 schema", "take 208 dictionary 0 of 0", "take 168 batch of 2", "take 168 batch of 2", "take 216 dictionary 0 of 1",
-                                    "take 160 batch of 1", "take 8 end"]}),
-    "a stream checked, copied, drilled": (["arrowflow_tests/reports", "arrowflow_tests/copying", "arrowflow_tests/drilling", "arrowflow_session_tests/session"], {
+        "second_batch_left_out": ["take 200 schema", "take 224 dictionary 0 of 3", "take 168 batch of 3",
+            "take 232 dictionary 0 of 4", "take 160 batch of 2", "take 8 end"],
+        "dictionary_of_no_values": ["take 200 schema", "take 208 dictionary 0 of 0", "take 168 batch of 2", "take 168 batch of 2",
+            "take 216 dictionary 0 of 1", "take 160 batch of 1", "take 8 end"]}),
+    "a stream checked, copied, drilled": (["arrowflow_tests/reports", "arrowflow_tests/copying", "arrowflow_tests/drilling",
+        "arrowflow_session_tests/session"], {
         "growing_dictionary": ["take 224 dictionary 0 of 5", "take 8 end"], "resent_dictionary": ["take 8 end"],
         "list_after_a_gap": rows("[8]"), "list_without_its_gap": rows("[8]")}),
     "one falling pair of offsets, at each place": (["arrow_small_tests/bits"], {
         "falling_offsets.changes": ["batch.body.1[516] at * -> batches 0 rows 0 end Layout at *"], "falling_large_offsets.changes":
         ["batch.body.1[1032] at * -> batches 0 rows 0 end Layout at *"]}),
-    "zeros of each number of bits": (["arrow_small_tests/bits"], {"null_counts.changes": ["* := 6400000000000000 -> batches 1 rows 200 end clean"]}),
+    "zeros of each number of bits": (["arrow_small_tests/bits"],
+        {"null_counts.changes": ["* := 6400000000000000 -> batches 1 rows 200 end clean"]}),
     "dictionaries of several segments": (["arrow_data_tests/dictionaries", "arrow_dict_tests/trackers", "arrow_body_tests/rests"], {
-        "growing_dictionary": LETTERS_SHOWN, "dictionary_in_other_pieces": ['  row 4 -> "e"', '  row 5 -> "f"', '  row 4 -> "e"', *CLEAN],
-        "dictionary_of_70_deltas": ["take * dictionary 0 of 70", *rows('0 -> "a"', '1 -> "b"', '25 -> "z"', '26 -> "aa"', '*', '*', '*', '69 -> "rrr"')]}),
+        "growing_dictionary": LETTERS_SHOWN, "dictionary_in_other_pieces": ['  row 4 -> "e"', '  row 5 -> "f"', '  row 4 -> "e"',
+            *CLEAN],
+        "dictionary_of_70_pieces": ["take * dictionary 0 of 70", *rows('0 -> "a"', '1 -> "b"', '25 -> "z"', '26 -> "aa"', '*', '*',
+            '*', '69 -> "rrr"')]}),
     "sinks and inputs that fail": (["arrowflow_session_tests/broken", "arrowflow_tests/failures"], {
-        "cut_off_in_the_first_dictionary": ["take 200 schema", "take 200 nothing", "hold 200", "end Truncated at 200"], "growing_dictionary_cut.changes": CUT}),
+        "cut_off_in_the_first_dictionary": ["take 200 schema", "take 200 nothing", "hold 200", "end Truncated at 200"],
+            "growing_dictionary_cut.changes": CUT}),
     "one batch, cut to each length": ([], {"int32_column_cut.changes": [
-        "length 152 -> batches 0 rows 0 end clean", "length 328 -> batches 1 rows 3 end clean", "length 336 -> batches 1 rows 3 end clean",
+        "length 152 -> batches 0 rows 0 end clean", "length 328 -> batches 1 rows 3 end clean",
+            "length 336 -> batches 1 rows 3 end clean",
         "length 0..151 -> batches 0 rows 0 end NoSchema at 0", "length 153..327 -> batches 0 rows 0 end Truncated at 152",
         "length 329..335 -> batches 1 rows 3 end Truncated at 328"]}),
     "one batch, each byte set": (["arrowflow_tests/single_bytes"], {
-        "int32_column_bytes.changes": ["schema.version[0] at 28 := 00..02 -> batches 0 rows 0 end Version at 0", f"{FIELD}.name.bytes at 120 := 00..6d -> batches 1 rows 3 end clean"]}),
+        "int32_column_bytes.changes": ["schema.version[0] at 28 := 00..02 -> batches 0 rows 0 end Version at 0",
+            f"{FIELD}.name.bytes at 120 := 00..6d -> batches 1 rows 3 end clean"]}),
     "a batch's metadata, byte by byte": (["arrow_stream_reader_tests/declared"], {
-        "root_outside": refused("Metadata", 152), "vtable_too_long": refused("Metadata", 152), "too_many_buffers": refused("Metadata", 152),
-        "most_negative_rows": refused("Rows", 152), "rows_of_the_batch_and_of_its_node": refused("Layout", 152), "node_longer_than_the_batch": refused("Layout", 152),
-        "no_node": refused("Layout", 152), "one_buffer": refused("Layout", 152), "null_count_not_told": THREE, "values_outside": refused("Layout", 152),
-        "declared_body_of_2_36": ["take 162 nothing", "hold 162", "end Truncated at 152"], "body_over_the_limit": refused("BodyLength", 152)}),
+        "root_outside": refused("Metadata", 152), "vtable_too_long": refused("Metadata", 152),
+            "too_many_buffers": refused("Metadata", 152),
+        "most_negative_rows": refused("Rows", 152), "rows_of_the_batch_and_of_its_node": refused("Layout", 152),
+            "node_longer_than_the_batch": refused("Layout", 152),
+        "no_node": refused("Layout", 152), "one_buffer": refused("Layout", 152), "null_count_not_told": THREE,
+            "values_outside": refused("Layout", 152),
+        "declared_body_of_2_36": ["take 162 nothing", "hold 162", "end Truncated at 152"],
+            "body_over_the_limit": refused("BodyLength", 152)}),
     "a batch's validity, byte by byte": ([], {
-        "no_validity_and_a_null": refused("Layout", 152), "no_validity": rows("1", "0", "3"), "validity_of_no_nulls": refused("Layout", 152), "spare_bit": THREE}),
+        "no_validity_and_a_null": refused("Layout", 152), "no_validity": rows("1", "0", "3"),
+            "validity_of_no_nulls": refused("Layout", 152), "spare_bit": THREE}),
     "levels, visits and bytes of names": (["arrow_meta_reader_tests/visits", "arrow_pairs_tests/limits"], {
-        "32_levels": CLEAN, "33_levels": refused("Metadata", 0), "shared_name_of_40_bytes": CLEAN, "shared_name_of_4000_bytes": CLEAN,
+        "32_levels": CLEAN, "33_levels": refused("Metadata", 0), "shared_name_of_40_bytes": CLEAN,
+            "shared_name_of_4000_bytes": CLEAN,
         "names_over_the_limit": refused("Metadata", 0), "names_at_the_limit.changes": ["* -> batches 0 rows 0 end clean"]}),
     "large offsets, fixed widths, durations": (["arrow_body_tests/wide"], {
-        "large_texts": rows('"a"', "null", '"bc"'), "fixed_bytes": rows('x"0001ff"', "null"), "fixed_bytes_for_integers": column("n: fixed_size_binary[32]"),
+        "large_texts": rows('"a"', "null", '"bc"'), "fixed_bytes": rows('x"0001ff"', "null"),
+            "fixed_bytes_for_integers": column("n: fixed_size_binary[32]"),
         "fixed_bytes_without_a_width": column("n: fixed_size_binary[0]"), "duration_of_the_unit_32": refused("Schema", 0),
-        "durations_for_integers": column("n: duration[ms]"), "large_bytes_for_integers": column("n: large_binary"), "large_list_without_a_child": refused("Schema", 0),
+        "durations_for_integers": column("n: duration[ms]"), "large_bytes_for_integers": column("n: large_binary"),
+            "large_list_without_a_child": refused("Schema", 0),
         "later_types": CLEAN, "dictionary_of_large_lists": CLEAN, "lists_in_structs_in_lists": CLEAN}),
     "V4": (["arrow_pairs_tests/versions", "arrowflow_tests/copying"], {
-        "version_4_of_the_schema": column("n: int32") + THREE, "version_4_of_the_batch": THREE, "version_4": LETTERS_SHOWN, "mixed_versions": LETTERS_SHOWN,
+        "version_4_of_the_schema": column("n: int32") + THREE, "version_4_of_the_batch": THREE, "version_4": LETTERS_SHOWN,
+            "mixed_versions": LETTERS_SHOWN,
         "version_3": refused("Version", 0), "version_4_and_floating_point": refused("Unsupported", 0)}),
     "custom metadata": (["arrow_pairs_tests/written", "arrowflow_session_tests/other_schemas", "arrowflow_tests/copying"], {
         "pair_of_the_schema": ["take 208 schema", '  metadata x"6b"=x"76"', *column("n: int32"), *THREE],
         "pairs_on_every_level": ['  metadata x"6f726967696e"=x"68657265" x""=x"" x"6f726967696e"=x"7468657265"', *CLEAN],
-        "absent_keys_and_values": ['    metadata x""=x"76" x"6b"=x"" x""=x""', *THREE], "custom_metadata": ['    metadata x"fffe"=x"0080"', *CLEAN],
-        "vectors_of_no_pairs": THREE, "pairs_of_the_messages": CLEAN, "unreadable_pairs_of_the_messages": THREE, "pairs_over_the_limit": refused("Metadata", 0),
+        "absent_keys_and_values": ['    metadata x""=x"76" x"6b"=x"" x""=x""', *THREE],
+            "custom_metadata": ['    metadata x"fffe"=x"0080"', *CLEAN],
+        "vectors_of_no_pairs": THREE, "pairs_of_the_messages": CLEAN, "unreadable_pairs_of_the_messages": THREE,
+            "pairs_over_the_limit": refused("Metadata", 0),
         "pairs_at_the_limit.changes": ["* -> batches 0 rows 0 end clean"]}),
 }
 
 # How many bytes some streams have.
-SIZES = {"growing_dictionary": 1376, "resent_dictionary": 1384, "int32_column": 336, "int32_column_64": 520, "second_batch_left_out": 992,
-         "dictionary_of_no_values": 1128}
+SIZES = {"growing_dictionary": 1376, "resent_dictionary": 1384, "int32_column": 336, "int32_column_64": 520,
+    "second_batch_left_out": 992, "dictionary_of_no_values": 1128}
 
 # Of some batches, by the number of their frame, the first nodes, the first buffers, and the bytes with which the body begins.
 BODIES = {
     ("int32_column", 1): ([(3, 1)], [(0, 1), (8, 12)], "05 00 00 00 00 00 00 00 01 00 00 00 00 00 00 00 03 00 00 00 00 00 00 00"),
-    ("texts", 1): ([(3, 1)], [(0, 1), (8, 16), (24, 3)], "05 00 00 00 00 00 00 00 00 00 00 00 01 00 00 00 01 00 00 00 03 00 00 00 61 62 63"),
+    ("texts", 1): ([(3, 1)], [(0, 1), (8, 16), (24, 3)],
+        "05 00 00 00 00 00 00 00 00 00 00 00 01 00 00 00 01 00 00 00 03 00 00 00 61 62 63"),
     ("truths", 1): ([(4, 1)], [(0, 1), (8, 1)], "0b 00 00 00 00 00 00 00 09"),
     ("lists_and_texts", 1): ([(3, 1), (2, 0)], [(0, 1), (8, 16), (24, 0), (24, 8)],
-                             "05 00 00 00 00 00 00 00 00 00 00 00 02 00 00 00 02 00 00 00 02 00 00 00 01 00 00 00 02 00 00 00"),
-    ("struct_column", 1): ([(2, 1), (2, 1)], [(0, 1), (8, 1), (16, 8)], "01 00 00 00 00 00 00 00 01 00 00 00 00 00 00 00 05 00 00 00 00 00 00 00"),
+        "05 00 00 00 00 00 00 00 00 00 00 00 02 00 00 00 02 00 00 00 02 00 00 00 01 00 00 00 02 00 00 00"),
+    ("struct_column", 1): ([(2, 1), (2, 1)], [(0, 1), (8, 1), (16, 8)],
+        "01 00 00 00 00 00 00 00 01 00 00 00 00 00 00 00 05 00 00 00 00 00 00 00"),
     ("growing_dictionary", 3): ([(2, 0)], [(0, 0), (0, 12), (16, 2)], "00 00 00 00 01 00 00 00 02 00 00 00 00 00 00 00 64 65"),
     ("longer_child", 1): ([(2, 0), (3, 0)], [(0, 0), (0, 0), (0, 12)], ""),
     ("text_behind_two_bytes", 1): ([(1, 0)], [(0, 0), (0, 8), (8, 3)], "02 00 00 00 03 00 00 00 78 78 61"),
-    ("text_under_a_null_struct", 1): ([(1, 1), (1, 0)], [(0, 1), (8, 0), (8, 8), (16, 1)], "00 00 00 00 00 00 00 00 00 00 00 00 01 00 00 00 ff"),
+    ("text_under_a_null_struct", 1): ([(1, 1), (1, 0)], [(0, 1), (8, 0), (8, 8), (16, 1)],
+        "00 00 00 00 00 00 00 00 00 00 00 00 01 00 00 00 ff"),
     ("large_texts", 1): ([(3, 1)], [(0, 1), (8, 32), (40, 3)], "05"),
     ("fixed_bytes", 1): ([(2, 1)], [(0, 1), (8, 6)], "01 00 00 00 00 00 00 00 00 01 ff 00 00 00"),
 }
 
 # Where parts stand in the schema and in the batch of the one batch, and in the schema with one pair, each from its frame's first byte.
 PLACES = {
-    "schema": {"version": 28, "header_type": 30, "body_length": 40, "header.endianness": 60, "header.fields.0.nullable": 104, "header.fields.0.type_type": 105,
-               "header.fields.0.name.bytes": 120, "header.fields.0.type.vtable.size": 122, "header.fields.0.type.vtable.bit_width": 126,
-               "header.fields.0.type.to_vtable": 136, "header.fields.0.type.bit_width": 140, "header.fields.0.type.is_signed": 144},
-    "batch": {"root": 8, "version": 28, "body_length": 40, "header.length": 72, "header.nodes.count": 92, "header.nodes.0.length": 96,
-              "header.nodes.0.null_count": 104, "header.buffers.count": 116, "header.buffers.0.length": 128, "header.buffers.1.offset": 136, "body.0": 152},
+    "schema": {"version": 28, "header_type": 30, "body_length": 40, "header.endianness": 60, "header.fields.0.nullable": 104,
+        "header.fields.0.type_type": 105, "header.fields.0.name.bytes": 120, "header.fields.0.type.vtable.size": 122,
+        "header.fields.0.type.vtable.bit_width": 126, "header.fields.0.type.to_vtable": 136, "header.fields.0.type.bit_width": 140,
+        "header.fields.0.type.is_signed": 144},
+    "batch": {"root": 8, "version": 28, "body_length": 40, "header.length": 72, "header.nodes.count": 92,
+        "header.nodes.0.length": 96, "header.nodes.0.null_count": 104, "header.buffers.count": 116, "header.buffers.0.length": 128,
+        "header.buffers.1.offset": 136, "body.0": 152},
     "paired": {"header.to_vtable": 64, "header.custom_metadata.count": 160, "header.custom_metadata.0.to_vtable": 176},
 }
 
@@ -214,8 +261,10 @@ def laid(frame):
     batch = "header.data" if "header.data" in its.found else "header"
 
     def pairs(of, first, second):
-        return [(its.number(f"{batch}.{of}.{at}.{first}"), its.number(f"{batch}.{of}.{at}.{second}")) for at in range(its.number(f"{batch}.{of}.count"))]
-    return pairs("nodes", "length", "null_count"), pairs("buffers", "offset", "length"), frame[len(frame) - its.number("body_length"):]
+        return [(its.number(f"{batch}.{of}.{at}.{first}"), its.number(f"{batch}.{of}.{at}.{second}"))
+            for at in range(its.number(f"{batch}.{of}.count"))]
+    return pairs("nodes", "length", "null_count"), pairs("buffers", "offset",
+        "length"), frame[len(frame) - its.number("body_length"):]
 
 
 def wrong_bytes(files):
@@ -229,7 +278,8 @@ def wrong_bytes(files):
     its = {"schema": ONE.frames["schema"], "batch": ONE.frames["batch"], "paired": noted.numbers_with(noted.PAIR)}
     for frame, places in PLACES.items():
         found = Parts(its[frame]).found
-        yield from (f"{frame}.{name}: stands at {found[name].start}" for name, place in places.items() if found[name].start != place)
+        yield from (f"{frame}.{name}: stands at {found[name].start}" for name,
+            place in places.items() if found[name].start != place)
 
 
 def wrong(files):
@@ -253,4 +303,5 @@ def table():
 
 def tests():
     """The modules of tests that the table names, each below the crate's folder."""
-    return {f"crates/{crate}/src/tests/{module}.rt" for its, _ in EXAMPLES.values() for crate, module in (it.split("/") for it in its)}
+    return {f"crates/{crate}/src/tests/{module}.rt" for its, _ in EXAMPLES.values() for crate,
+        module in (it.split("/") for it in its)}
