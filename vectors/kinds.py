@@ -2,7 +2,7 @@
 import bodies
 from frames import (BINARY, BOOL, INT32, LARGE_BINARY, LARGE_LIST, LARGE_UTF8, LIST, NULL, STRUCT, UTF8, batch, bools, date,
                     dictionary, dictionary_batch, duration, field, fixed_size_binary, integer, lists, nulls, numbers, schema,
-                        strings, time, timestamp)
+                    strings, time, timestamp)
 from laying import large_texts, stream
 from streams import points
 

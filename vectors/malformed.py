@@ -5,7 +5,7 @@ import noted
 import streams
 from frames import (BOOL, END_MARKER, INT32, LARGE_BINARY, LARGE_LIST, LARGE_UTF8, LIST, ONE_BATCH, ONE_COLUMN, STRUCT, UTF8,
                     batch, dictionary, dictionary_batch, duration, field, fixed_size_binary, frame, integer, numbers, scalar,
-                        schema, strings, table, timestamp)
+                    schema, strings, table, timestamp)
 from laying import (FIELD, NODE, TYPE, VALIDITY, VALUES, WORDS, column, i32, i64, in_one, letters, one_batch_of, raw_dictionary,
                     schema_in_one, stream)
 from places import Stream

@@ -7,8 +7,8 @@ import noted
 import schemas
 import streams
 from frames import (END_MARKER, INT32, LARGE_LIST, LARGE_UTF8, LIST, NULL, ONE_BATCH, ONE_COLUMN, STRUCT, UTF8, batch, date,
-                    dictionary, dictionary_batch, field, fixed_size_binary, floating, frame, numbers, pairs, scalar, schema, table,
-                        text, time, vector)
+                    dictionary, dictionary_batch, field, fixed_size_binary, floating, frame, lists, numbers, pairs, scalar,
+                    schema, table, text, time, vector)
 from laying import (FIELD, INT32S, NODE, ONE, TEXTS, TYPE, VALIDITY, WORDS, column, i32, in_one, letters, of_another_writer,
                     one_batch_of, raw_batch, raw_dictionary, raw_field, raw_schema, schema_in_one, stream)
 from sound import nested
@@ -107,6 +107,8 @@ def profile():
         "unequal_names_below_an_id": ("two columns of one id whose types differ in a name",
             schema(field("k", LIST, [field("a", INT32)], encoding=dictionary(0)), field("j", LIST, [field("b", INT32)],
             encoding=dictionary(0)))),
+        "other_pairs_below_an_id": ("two columns of one id, whose items have other pairs", stream(noted.shared(),
+            dictionary_batch(7, lists([[1], []], numbers)), batch(numbers([1, 0]), numbers([0, None])))),
         "dictionary_without_data": ("a dictionary batch without a record batch", WORDS + frame(2,
             table(scalar("q", 0), None, scalar("B", 0)))),
     }

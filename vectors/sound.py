@@ -7,7 +7,7 @@ import noted
 import streams
 from frames import (BOOL, END_MARKER, INT32, LARGE_BINARY, LARGE_LIST, LARGE_UTF8, LIST, NULL, ONE_BATCH, ONE_COLUMN, STRUCT,
                     UTF8, batch, bools, date, dictionary, dictionary_batch, duration, field, fixed_size_binary, frame, integer,
-                        lists, nulls, numbers, pairs, scalar, schema, strings, structs, table, time, timestamp, vector)
+                    lists, nulls, numbers, pairs, scalar, schema, strings, structs, table, time, timestamp, vector)
 from kinds import DAY_IN_MS, POINT
 from laying import (FIELD, INT32S, NODE, TEXTS, TYPE, VALIDITY, WORDS, column, i32, in_one, large_texts, letters,
                     of_another_writer, one_batch_of, raw_batch, raw_field, raw_schema, schema_in_one, stream)
@@ -293,8 +293,6 @@ def skipped():
         "pair_of_the_schema": ("the pair of k and v at the schema", stream(noted.numbers_with(noted.PAIR), ONE_BATCH)),
         "pair_of_the_column": ("the pair of k and v at the column", stream(noted.numbers_with((), noted.PAIR), ONE_BATCH)),
         "vectors_of_no_pairs": ("vectors of no pairs at the schema and at the column", stream(noted.no_pairs(), ONE_BATCH)),
-        "other_pairs_below_an_id": ("two columns of one id, whose items have other pairs", stream(noted.shared(),
-            dictionary_batch(7, lists([[1], []], numbers)), batch(numbers([1, 0]), numbers([0, None])))),
         "pairs_of_the_messages": ("custom metadata at each message, which are skipped",
             stream(said(1, table(scalar("h", 0), vector(one_field))),
             said(2, table(scalar("q", 0), record(2, nodes, places), scalar("B", 0)), body), said(3, record(3, rows, row_places),
