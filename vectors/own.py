@@ -7,8 +7,8 @@ import noted
 import schemas
 import streams
 from frames import (END_MARKER, INT32, LARGE_LIST, LARGE_UTF8, LIST, NULL, ONE_BATCH, ONE_COLUMN, STRUCT, UTF8, batch, date,
-                    dictionary, dictionary_batch, field, fixed_size_binary, floating, frame, lists, numbers, pairs, scalar,
-                    schema, table, text, time, vector)
+                    dictionary, dictionary_batch, field, fixed_size_binary, floating, frame, lists, numbers, pairs, scalar, schema,
+                        table, text, time, vector)
 from laying import (FIELD, INT32S, NODE, ONE, TEXTS, TYPE, VALIDITY, WORDS, column, i32, in_one, letters, of_another_writer,
                     one_batch_of, raw_batch, raw_dictionary, raw_field, raw_schema, schema_in_one, stream)
 from sound import nested
@@ -232,6 +232,9 @@ def absent():
         "no_vector_of_fields": ("a schema without a vector of fields, which has no columns", stream(raw_schema(None), no_rows)),
         "no_vector_of_children": ("a column without a vector of children",
             stream(raw_schema([raw_field("n", code, kind, children=None)]), ONE_BATCH)),
+        "vtable_of_an_odd_size": ("integers whose vtable ends within the entry of the sign, which is absent then",
+            in_one((f"{TYPE}.vtable.size", "07"))),
+        "offset_of_0": ("an offset that names its own place", in_one((f"{FIELD}.name", "00"))),
         "no_name": ("a column without a name, whose name is empty", stream(raw_schema([raw_field(None, code, kind)]), ONE_BATCH)),
         "no_vectors_of_nodes_and_buffers": ("a batch without vectors of nodes and buffers, for no columns",
             stream(schema(), no_rows, frame(3, table(scalar("q", 2))))),

@@ -7,10 +7,11 @@ import noted
 import streams
 from frames import (BOOL, END_MARKER, INT32, LARGE_BINARY, LARGE_LIST, LARGE_UTF8, LIST, NULL, ONE_BATCH, ONE_COLUMN, STRUCT,
                     UTF8, batch, bools, date, dictionary, dictionary_batch, duration, field, fixed_size_binary, frame, integer,
-                    lists, nulls, numbers, pairs, scalar, schema, strings, structs, table, time, timestamp, vector)
+                        lists, nulls, numbers, pairs, scalar, schema, strings, structs, table, time, timestamp, vector)
 from kinds import DAY_IN_MS, POINT
 from laying import (FIELD, INT32S, NODE, TEXTS, TYPE, VALIDITY, WORDS, column, i32, in_one, large_texts, letters,
                     of_another_writer, one_batch_of, raw_batch, raw_field, raw_schema, schema_in_one, stream)
+from places import Stream
 
 ABC = WORDS + letters("abc")
 GROWING = b"".join(streams.growing_dictionary())
@@ -129,10 +130,20 @@ def lenient():
         "vtable_without_the_sign": ("integers whose vtable ends before the field of the sign",
             in_one((f"{TYPE}.vtable.size", "06"))),
         "one_vtable_for_two_tables": ("integers by the vtable of the schema", in_one((f"{TYPE}.to_vtable", "58"))),
+        "vtable_behind_its_table": ("integers whose vtable stands behind their table", vtable_behind()),
         "metadata_padded_to_4096": ("metadata of a batch with bytes behind them that nothing names", padded(4096)),
         "body_longer_than_its_buffers": ("bytes of a body that no buffer has", longer_body()),
         "scalars_left_out": ("numbers that have their defaults are left out", scalars_left_out()),
     }
+
+
+def vtable_behind():
+    """The one column, whose type has its vtable at the end of the metadata."""
+    its = Stream(schema=ONE_COLUMN)
+    size, vtable = len(ONE_COLUMN) - 8, its.place(f"{TYPE}.vtable.size")
+    back = its.place(f"{TYPE}.to_vtable") - len(ONE_COLUMN)
+    held = its.changed({"schema.prefix.size": i32(size + 8).hex(), f"{TYPE}.to_vtable": i32(back).hex()})
+    return stream(held, held[vtable:vtable + 8], ONE_BATCH)
 
 
 def padded(size):

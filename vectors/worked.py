@@ -193,6 +193,57 @@ EXAMPLES = {
         "pairs_at_the_limit.changes": ["* -> batches 0 rows 0 end clean"]}),
 }
 
+# The rules of a body: of each the vectors that keep it at its edge, and those that break it, with the kind that they are refused by.
+RULES = {
+    "there are as many nodes as the fields take": (["surplus_nodes_and_buffers", "surplus_of_a_dictionary",
+        "no_vectors_of_nodes_and_buffers"], "Layout", [
+        "no_node", "no_node_for_the_second", "no_node_for_the_child", "no_nodes_for_a_column"]),
+    "there are as many buffers as the fields take": (["surplus_nodes_and_buffers"], "Layout",
+        ["one_buffer", "no_buffer_for_the_child"]),
+    "a node has 0 slots or more": (["empty_batches", "no_columns_and_no_rows"], "Rows", ["negative_rows", "negative_node",
+        "negative_rows_of_a_dictionary"]),
+    "a node, and a dictionary, has 2^31 - 1 slots at most": (["rows_at_the_limit.changes", "values_at_the_limit.changes"], "Rows", [
+        "rows_over_the_limit", "node_over_the_limit", "delta_over_the_limit"]),
+    "a column's own node has as many slots as the batch": (["int32_column"], "Layout", [
+        "rows_of_the_batch_and_of_its_node", "node_longer_than_the_batch", "rows_of_the_dictionary_and_of_its_node",
+            "columns_of_unequal_lengths"]),
+    "a struct's child has as many slots as the struct, or more": (["struct_column", "longer_child"], "Layout", ["shorter_child"]),
+    "a buffer's length is not negative": (["no_validity"], "Layout", ["negative_buffer_length"]),
+    "a buffer that is not empty begins in the body": (["buffers_that_overlap", "buffers_not_aligned"], "Layout",
+        ["negative_buffer_offset", "validity_outside"]),
+    "a buffer that is not empty ends in the body": (["body_longer_than_its_buffers", "metadata_of_an_odd_size"], "Layout",
+        ["values_outside", "buffer_past_2_63"]),
+    "an empty buffer may stand anywhere": (["empty_buffer_outside", "empty_buffer_before_the_body"], "", []),
+    "a validity that is not empty has a bit for each slot": (["validity_of_all_bits", "spare_bit", "nulls_of_a5"], "Layout",
+        ["validity_too_short"]),
+    "values and indices have all their slots": (["spare_bits_and_slots", "fixed_bytes_of_width_0"], "Layout", [
+        "values_too_short", "truths_too_short", "fixed_bytes_too_short", "durations_too_short", "indices_too_short"]),
+    "there is one offset more than slots, or there are no slots": (["one_offset", "no_offsets", "no_large_offsets"], "Layout", [
+        "offsets_too_short", "large_offsets_too_short", "no_offsets_for_a_slot", "two_bytes_of_offsets", "three_bytes_of_offsets"]),
+    "the first offset is not negative": (["first_offset_above_zero", "text_behind_two_bytes"], "Layout", [
+        "negative_offset", "negative_large_offset", "list_from_a_negative_offset"]),
+    "no offset falls": (["an_empty_text_behind_two_bytes", "null_of_some_bytes"], "Layout", [
+        "falling_offsets", "falling_offsets_under_a_null", "falling_large_offsets", "falling_large_list"]),
+    "the last offset lies in the values or the child": (["list_after_a_gap", "texts_of_a_letter"], "Layout", [
+        "offsets_past_the_data", "large_offsets_past_the_data", "large_offset_of_2_32", "list_past_its_child",
+            "large_list_past_its_child"]),
+    "the number of nulls is -1 or that of the bits, of nulls any": (["null_count_not_told", "null_count_of_nulls", "no_validity"],
+        "Layout", [
+        "null_count_wrong", "null_count_of_minus_2", "no_validity_and_a_null", "validity_of_no_nulls",
+            "null_count_of_indices_wrong", "null_count_of_a_struct_wrong"]),
+    "each valid text is UTF-8, also where nothing reaches it": (["utf8_alone", "null_of_some_bytes"], "Text", [
+        "text_not_utf8", "text_of_a_surrogate", "text_longer_than_it_need_be", "text_cut_off", "large_text_not_utf8",
+            "text_of_a_dictionary_not_utf8",
+        "text_in_a_list_not_utf8", "text_under_a_null_struct", "text_that_no_list_reaches"]),
+    "each valid index has a value, also where nothing reaches it": (["index_under_a_null", "negative_index_under_a_null",
+        "index_of_255", "null_indices_without_a_dictionary"], "Index", ["index_above", "index_below", "index_without_a_dictionary",
+        "index_of_an_emptied_dictionary", "index_above_a_shorter_dictionary", "index_before_its_delta", "index_of_2_64",
+        "index_in_a_list_above", "index_under_a_null_struct", "index_that_no_list_reaches"]),
+}
+
+# The kinds of faults in the order of their numbers, each of which has to have several causes.
+KINDS = ("Continuation MetadataSize Metadata Version Header BodyLength Order Unsupported Schema Compressed UnknownId NoBase Rows Layout Text Index " "NoSchema Truncated").split()
+
 # How many bytes some streams have.
 SIZES = {"growing_dictionary": 1376, "resent_dictionary": 1384, "int32_column": 336, "int32_column_64": 520,
     "second_batch_left_out": 992, "dictionary_of_no_values": 1128}
@@ -282,9 +333,32 @@ def wrong_bytes(files):
             place in places.items() if found[name].start != place)
 
 
+def wrong_rules(files):
+    """Rules that are kept or broken otherwise than is stated, and kinds with less than two causes."""
+    endings = {name: held.decode().rstrip("\n").rsplit("\n", 1)[-1] for name, held in files.items() if name.endswith(".txt")}
+    for rule, (kept, kind, broken) in RULES.items():
+        its = [(it, "end clean") for it in kept if not it.endswith(".changes")] + [(it, f"end {kind} at *") for it in broken]
+        yield from (f"{rule}: {it} ends otherwise" for it, ending in its if not stands(endings.get(f"{it}.txt", ""), ending))
+        yield from (f"{rule}: there is no {it}" for it in kept if it.endswith(".changes") and it not in files)
+    for kind in KINDS:
+        if sum(it.startswith(f"end {kind} ") for it in endings.values()) < 2:
+            yield f"{kind}: less than two vectors end so"
+
+
 def wrong(files):
     """What is stated and is not so."""
-    return [*wrong_texts(files), *wrong_bytes(files)]
+    return [*wrong_texts(files), *wrong_bytes(files), *wrong_rules(files)]
+
+
+def quoted(names):
+    return ", ".join(f"`vectors/{it}`" if it.endswith(".changes") else f"`{it}`" for it in names)
+
+
+def rules():
+    """The table of README.md: each rule of a body, the vectors that keep it and those that break it."""
+    rows = [f"| {rule} | {quoted(kept)} | {f'{kind}: ' if kind else ''}{quoted(broken)} |" for rule,
+        (kept, kind, broken) in RULES.items()]
+    return ["| Rule of a body | Kept by | Broken by |", "|---|---|---|", *rows]
 
 
 def table():
@@ -296,8 +370,7 @@ def table():
             crate, module = it.split("/")
             crates.setdefault(crate, []).append(module)
         beside = "; ".join(f"`{crate}`: {', '.join(modules)}" for crate, modules in crates.items())
-        vectors = ", ".join(f"`vectors/{it}`" if it.endswith(".changes") else f"`{it}`" for it in stated)
-        lines.append(f"| {name} | {vectors} | {beside} |")
+        lines.append(f"| {name} | {quoted(stated)} | {beside} |")
     return lines
 
 
