@@ -172,11 +172,6 @@ def joined(held, names):
     return b"".join(END_MARKER if name == "END" else held[name][1] for name in names.split())
 
 
-def changed(stream, place, words):
-    """The stream with these bytes at a place of it."""
-    return stream[:place] + words + stream[place + len(words):]
-
-
 def encoded(names):
     """A stream of frames of dictionaries of other forms, or of letters."""
     return b"".join(joined(ENCODED if name in ENCODED else LETTERS, name) for name in names.split())
@@ -184,16 +179,17 @@ def encoded(names):
 
 def streams():
     """Streams by name; a fault is told of those that end without an end marker."""
-    abc = joined(LETTERS, "SCHEMA ABC FIRST")
+    abc = joined(LETTERS, "SCHEMA ABC")
+    under_a_null = frames.Column([(3, 1)], [b"\x03", struct.pack("<3i", 0, 1, 3)])
     return {
         "growing_dictionary": b"".join(growing_dictionary()),
         "growing_dictionary_64": b"".join(growing_dictionary(64)),
         "other_letters": b"".join(other_letters()),
         "one_batch": frames.ONE_COLUMN + frames.ONE_BATCH + END_MARKER,
         "all_null_indices": letters_schema() + batch(numbers([None, None, None])) + END_MARKER,
-        "index_above": changed(abc, 584, b"\x03"),
-        "index_below": changed(abc, 584, b"\xff\xff\xff\xff"),
-        "null_index_above": changed(joined(LETTERS, "SCHEMA ABC WITH_NULL END"), 592, b"\x03"),
+        "index_above": abc + batch(numbers([0, 1, 3])),
+        "index_below": abc + batch(numbers([0, 1, -1])),
+        "null_index_above": abc + batch(under_a_null) + END_MARKER,
         "delta_without_base": joined(LETTERS, "SCHEMA DE"),
         "unknown_id": letters_schema() + dictionary_batch(7, strings("abc")),
         "no_texts": joined(COLUMNS, "TEXTS NO_TEXTS END"),

@@ -7,8 +7,8 @@ import noted
 import schemas
 import streams
 from frames import (END_MARKER, INT32, LARGE_LIST, LARGE_UTF8, LIST, NULL, ONE_BATCH, ONE_COLUMN, STRUCT, UTF8, batch, date,
-                    dictionary, dictionary_batch, field, fixed_size_binary, floating, frame, lists, numbers, pairs, scalar, schema,
-                        table, text, time, vector)
+                    dictionary, dictionary_batch, field, fixed_size_binary, floating, frame, lists, numbers, pairs, scalar,
+                    schema, table, text, time, vector)
 from laying import (FIELD, INT32S, NODE, ONE, TEXTS, TYPE, VALIDITY, WORDS, column, i32, in_one, letters, of_another_writer,
                     one_batch_of, raw_batch, raw_dictionary, raw_field, raw_schema, schema_in_one, stream)
 from sound import nested

@@ -7,7 +7,7 @@ import noted
 import streams
 from frames import (BOOL, END_MARKER, INT32, LARGE_BINARY, LARGE_LIST, LARGE_UTF8, LIST, NULL, ONE_BATCH, ONE_COLUMN, STRUCT,
                     UTF8, batch, bools, date, dictionary, dictionary_batch, duration, field, fixed_size_binary, frame, integer,
-                        lists, nulls, numbers, pairs, scalar, schema, strings, structs, table, time, timestamp, vector)
+                    lists, nulls, numbers, pairs, scalar, schema, strings, structs, table, time, timestamp, vector)
 from kinds import DAY_IN_MS, POINT
 from laying import (FIELD, INT32S, NODE, TEXTS, TYPE, VALIDITY, WORDS, column, i32, in_one, large_texts, letters,
                     of_another_writer, one_batch_of, raw_batch, raw_field, raw_schema, schema_in_one, stream)

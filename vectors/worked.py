@@ -138,13 +138,17 @@ EXAMPLES = {
     "one falling pair of offsets, at each place": (["arrow_small_tests/bits"], {
         "falling_offsets.changes": ["batch.body.1[516] at * -> batches 0 rows 0 end Layout at *"], "falling_large_offsets.changes":
         ["batch.body.1[1032] at * -> batches 0 rows 0 end Layout at *"]}),
+    "texts loaded, of which none is copied": (["growths/loading"], {}),
     "zeros of each number of bits": (["arrow_small_tests/bits"],
         {"null_counts.changes": ["* := 6400000000000000 -> batches 1 rows 200 end clean"]}),
-    "dictionaries of several segments": (["arrow_data_tests/dictionaries", "arrow_dict_tests/trackers", "arrow_body_tests/rests"], {
+    "dictionaries of several segments": (["arrow_data_tests/dictionaries", "arrow_dict_tests/trackers", "arrow_body_tests/rests",
+        "arrow_body_tests/greatest"], {
         "growing_dictionary": LETTERS_SHOWN, "dictionary_in_other_pieces": ['  row 4 -> "e"', '  row 5 -> "f"', '  row 4 -> "e"',
             *CLEAN],
         "dictionary_of_70_pieces": ["take * dictionary 0 of 70", *rows('0 -> "a"', '1 -> "b"', '25 -> "z"', '26 -> "aa"', '*', '*',
             '*', '69 -> "rrr"')]}),
+    "each growth refused in turn": (["growths/reading", "growths/writing", "growths/telling", "growths/copying", "growths/decoding",
+        "growths/storing"], {"growing_dictionary": ["end clean"], "int32_column": ["end clean"]}),
     "sinks and inputs that fail": (["arrowflow_session_tests/broken", "arrowflow_tests/failures"], {
         "cut_off_in_the_first_dictionary": ["take 200 schema", "take 200 nothing", "hold 200", "end Truncated at 200"],
             "growing_dictionary_cut.changes": CUT}),
@@ -365,16 +369,17 @@ def table():
     """The table of docs/TESTING.md: each example, the vectors and the tests that have it."""
     lines = ["| Worked example | Vectors | Tests |", "|---|---|---|"]
     for name, (tests, stated) in EXAMPLES.items():
-        crates = {}
-        for it in tests:
-            crate, module = it.split("/")
-            crates.setdefault(crate, []).append(module)
-        beside = "; ".join(f"`{crate}`: {', '.join(modules)}" for crate, modules in crates.items())
-        lines.append(f"| {name} | {quoted(stated)} | {beside} |")
+        beside = {}
+        for crate, module in (it.split("/") for it in tests):
+            beside.setdefault(crate, []).append(module)
+        told = "; ".join(f"`{crate}`: {', '.join(modules)}" for crate, modules in beside.items())
+        lines.append(f"| {name} | {quoted(stated)} | {told} |")
     return lines
 
 
 def tests():
-    """The modules of tests that the table names, each below the crate's folder."""
-    return {f"crates/{crate}/src/tests/{module}.rt" for its, _ in EXAMPLES.values() for crate,
-        module in (it.split("/") for it in its)}
+    """The files of the tests that the table names: of a crate a module, of growths/ a program."""
+    found = set()
+    for crate, module in (it.split("/") for its, _ in EXAMPLES.values() for it in its):
+        found.add(f"growths/{module}.rt.txt" if crate == "growths" else f"crates/{crate}/src/tests/{module}.rt")
+    return found
