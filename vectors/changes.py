@@ -3,6 +3,7 @@ import struct
 
 import bodies
 import frames
+import noted
 import own
 import streams
 from frames import END_MARKER, LARGE_UTF8, NULL, UTF8, batch, dictionary, dictionary_batch, field, integer, schema, strings
@@ -13,6 +14,8 @@ from told import ending
 # So many texts of one letter, and so many numbers of which the validity is A5 again and again.
 LETTERS, SLOTS = 130, 200
 MOST_ROWS = 2 ** 31 - 1
+# Values of a byte at edges.
+SOME = [0x00, 0x01, 0x7f, 0x80, 0xfe, 0xff]
 
 
 def texts_of_a_letter():
@@ -33,6 +36,18 @@ def nulls():
     return Stream(schema=schema(field("c", NULL)), batch=batch(frames.nulls(1)), end=END_MARKER)
 
 
+def one_delta():
+    """A dictionary of one text, which grows by a null, and a batch of both."""
+    parts = {"dictionary": streams.letters("a"), "delta": streams.letters([None], True),
+        "batch": batch(frames.numbers([1, 0, None]))}
+    return Stream(schema=streams.letters_schema(), **parts, end=END_MARKER)
+
+
+def noted_column():
+    """The one column, with a pair at the schema and at itself."""
+    return Stream(schema=noted.numbers_with(noted.PAIR, noted.PAIR), batch=batch(frames.numbers([5])), end=END_MARKER)
+
+
 def nulls_by_a_dictionary():
     delta, rows = dictionary_batch(0, frames.nulls(1), True), batch(frames.numbers([1, 0, None]))
     return Stream(schema=schema(field("k", NULL, encoding=dictionary(0))), dictionary=dictionary_batch(0, frames.nulls(1)),
@@ -44,6 +59,8 @@ def bases():
     return {
         "texts_of_a_letter": (f"{LETTERS} texts of one letter", texts_of_a_letter().held()),
         "large_texts_of_a_letter": (f"{LETTERS} large texts of one letter", large_texts_of_a_letter().held()),
+        "one_delta": ("a dictionary of one text that grows by a null", one_delta().held()),
+        "noted_column": ("a column with a pair, below a schema with one", noted_column().held()),
         "one_null": ("one null", nulls().held()),
         "nulls_by_a_growing_dictionary": ("a dictionary of one null that grows by another", nulls_by_a_dictionary().held()),
         "nulls_of_a5": (f"{SLOTS} numbers whose validity is A5 again and again", nulls_of_a5().held()),
@@ -82,14 +99,15 @@ def cuts(held, bounds):
     return ["binds standard", *sound, "binds malformed", *(it for it in lines if it not in sound)]
 
 
-def each_byte(of):
-    """Each byte of a stream set to each other value."""
+def each_byte(of, frames=None, values=range(256)):
+    """Each byte of a stream, or of some of its frames, set to each of these values that it has not."""
     held, lines = of.held(), []
     for place, name in enumerate(of.names()):
         def told(first, last, name=name, place=place):
             return f"{name} at {place} := {first:02x}" if first == last else f"{name} at {place} := {first:02x}..{last:02x}"
-        others = [it for it in range(256) if it != held[place]]
-        lines += ranges([(it, ending(held[:place] + bytes([it]) + held[place + 1:])) for it in others], told)
+        if frames is None or name.split(".")[0] in frames:
+            others = [it for it in values if it != held[place]]
+            lines += ranges([(it, ending(held[:place] + bytes([it]) + held[place + 1:])) for it in others], told)
     return ["binds own", *lines]
 
 
@@ -158,6 +176,10 @@ def changes():
         "int32_column_cut": ("each length of one batch", "int32_column", cuts(ONE.held(), 3)),
         "growing_dictionary_cut": ("each length of a growing dictionary", "growing_dictionary", cuts(growing, 8)),
         "int32_column_bytes": ("each byte of one batch set to each other value", "int32_column", each_byte(ONE)),
+        "one_delta_bytes": ("each byte of a dictionary and of a delta set to some other values", "one_delta",
+            each_byte(one_delta(), ["dictionary", "delta"], SOME)),
+        "noted_column_bytes": ("each byte of a schema with custom metadata set to some other values", "noted_column",
+            each_byte(noted_column(), ["schema"], SOME)),
         "falling_offsets": ("one pair of offsets that falls", "texts_of_a_letter", falling(texts_of_a_letter(), 4)),
         "falling_large_offsets": ("one pair of large offsets that falls", "large_texts_of_a_letter",
             falling(large_texts_of_a_letter(), 8)),
