@@ -85,6 +85,18 @@ def profile():
         "dictionary_of_another_kind": ("a dictionary of a kind that is not read",
             schema(field("k", UTF8, encoding=kinded)) + END_MARKER),
         "big_endian": ("a schema that says it is big-endian", in_one(("schema.header.endianness", "01"))),
+        "tensor": ("a message that is a tensor", in_one(("batch.header_type", "04"))),
+        "header_of_an_unknown_code": ("a message whose header has a code that the standard has not",
+            in_one(("batch.header_type", "09"))),
+        "tensor_for_a_schema": ("a first message that is a tensor", in_one(("schema.header_type", "04"))),
+        "compressed": ("a body that is said to be compressed", streams.streams()["compressed_batch"]),
+        "compressed_dictionary": ("a dictionary whose body is said to be compressed", streams.streams()["compressed_dictionary"]),
+    }
+
+
+def versions():
+    """Metadata of each version, and of two in one stream."""
+    return {
         "version_1": ("metadata of V1", in_one(("schema.version", "00"))),
         "version_3": ("metadata of V3", in_one(("schema.version", "02"))),
         "version_3_and_floating_point": ("metadata of V3, and a type that is not read", in_one(("schema.version", "02"),
@@ -96,12 +108,12 @@ def profile():
         "version_4_of_the_schema": ("a schema of V4 and a batch of V5", in_one(("schema.version", "03"))),
         "version_4_of_the_batch": ("a schema of V5 and a batch of V4", in_one(("batch.version", "03"))),
         "mixed_versions": ("messages of V4 and of V5", b"".join(streams.mixed_versions())),
-        "tensor": ("a message that is a tensor", in_one(("batch.header_type", "04"))),
-        "header_of_an_unknown_code": ("a message whose header has a code that the standard has not",
-            in_one(("batch.header_type", "09"))),
-        "tensor_for_a_schema": ("a first message that is a tensor", in_one(("schema.header_type", "04"))),
-        "compressed": ("a body that is said to be compressed", streams.streams()["compressed_batch"]),
-        "compressed_dictionary": ("a dictionary whose body is said to be compressed", streams.streams()["compressed_dictionary"]),
+    }
+
+
+def one_id():
+    """Two columns of one dictionary, and a dictionary batch without values."""
+    return {
         "unequal_types_of_an_id": ("two columns of one id and other types", schema(field("k", UTF8, encoding=dictionary(0)),
             field("j", INT32, encoding=dictionary(0))) + END_MARKER),
         "unequal_names_below_an_id": ("two columns of one id whose types differ in a name",
@@ -195,6 +207,12 @@ def skipped():
         "unreadable_tensor": ("a tensor that does not lie inside: its code is enough", ONE_COLUMN + message(4, OUTSIDE)),
         "unreadable_unknown_header": ("a header of an unknown code that does not lie inside: its code is enough",
             ONE_COLUMN + message(9, OUTSIDE)),
+    }
+
+
+def places():
+    """Where buffers stand, and how many bytes there are of what."""
+    return {
         "body_of_the_schema": ("a body behind the schema, which is skipped",
             ONE.changed({"schema.body_length": "08"})[:len(ONE_COLUMN)] + b"skipped." + ONE_BATCH + END_MARKER),
         "empty_buffer_outside": ("an empty validity that stands behind the body", in_one((f"{VALIDITY}.length", "00"),
@@ -273,7 +291,8 @@ def foreign():
 
 def vectors():
     found = {}
-    for group in (counts(), hidden(), profile(), limits(), skipped(), absent(), other_texts(), foreign()):
+    for group in (counts(), hidden(), profile(), versions(), one_id(), limits(), skipped(), places(), absent(), other_texts(),
+        foreign()):
         assert not found.keys() & group.keys()
         found.update(group)
     return found

@@ -188,18 +188,36 @@ def types_in_one():
     }
 
 
-def growing():
-    """Dictionaries that grow, shrink, change and come again between batches."""
-    many = [letters([chr(97 + at % 26) * (1 + at // 26)], at > 0) for at in range(70)]
+def indices():
+    """Indices of each width, under nulls and of nulls, and ids."""
     ends = [-2 ** 63, 2 ** 63 - 1]
     widths = [(bits, signed, form if signed else form.upper()) for bits, form in ((8, "b"), (16, "h"), (32, "i"), (64, "q"))
         for signed in (True, False)]
-    two = schema(field("k", UTF8, encoding=dictionary(1)), field("j", INT32, encoding=dictionary(2)))
     return {
-        "cut_off_behind_the_delta": ("a growing dictionary up to the end of its delta", GROWING[:816]),
-        "cut_off_behind_the_second_batch": ("a growing dictionary up to the end of its second batch", GROWING[:976]),
-        "version_4": ("a growing dictionary whose messages are all of V4",
-            b"".join(frames.as_v4(it) for it in streams.growing_dictionary()[:-1]) + END_MARKER),
+        "null_indices_without_a_dictionary": ("null indices, and no dictionary", stream(WORDS, batch(numbers([None, None])))),
+        "index_under_a_null": ("an index above its dictionary in a null slot", streams.streams()["null_index_above"]),
+        "negative_index_under_a_null": ("an index of -1 in a null slot", stream(ABC, batch(column([(2, 1)], b"\x01", i32(2, -1))))),
+        "index_of_a_null_value": ("an index of a value that is null, and a null index", stream(WORDS, letters(["a", None]),
+            batch(numbers([1, None, 0])))),
+        "dictionary_of_nulls_alone": ("a dictionary whose values are all null", stream(WORDS, letters([None, None]),
+            batch(numbers([1, None, 0])))),
+        "dictionary_of_null_and_other_structs": ("a dictionary of structs below lists, null on each level",
+            stream(schema(field("l", LIST, [field("item", STRUCT, POINT, encoding=dictionary(9, 16))])),
+            dictionary_batch(9, streams.points([(1, "a"), None, (None, None)])),
+            batch(lists([[2, 1, None, 0], None, []], lambda it: numbers(it, "h"))))),
+        "ids_at_the_ends": ("the least and the greatest id",
+            stream(schema(*(field("k", UTF8, encoding=dictionary(it)) for it in ends)), *(letters_of(it, "ab") for it in ends),
+            batch(numbers([0, 1]), numbers([1, None])))),
+        "indices_of_each_width": ("one dictionary of eight columns, by indices of each width",
+            stream(schema(*(field(f"k{at}", UTF8, encoding=dictionary(0, bits, signed)) for at,
+            (bits, signed, _) in enumerate(widths))), letters("abc"),
+            batch(*(numbers([2, None, at % 3], form) for at, (_, _, form) in enumerate(widths))))),
+        "index_of_255": ("the greatest index of 8 bits without a sign",
+            stream(schema(field("k", UTF8, encoding=dictionary(0, 8, False))), letters([f"{at}" for at in range(256)]),
+            batch(numbers([255, 128, 127], "B")))),
+        "ordered_dictionary": ("a dictionary whose order means something, of a column that is not nullable",
+            stream(schema(field("k", UTF8, nullable=False, encoding=dictionary(4, 8, True, True))), letters_of(4, "ab"),
+            batch(numbers([1, 0], "b")))),
         "dictionary_of_large_texts": ("a dictionary of large texts that grows", two_batches([LARGE_UTF8], ["a", None], large_texts,
             ["bc"])),
         "dictionary_of_fixed_bytes": ("a dictionary of byte strings of three bytes that grows",
@@ -208,11 +226,18 @@ def growing():
             lambda it: numbers(it, "q"), [-1])),
         "dictionary_of_large_lists": ("a dictionary of large lists that grows", two_batches([LARGE_LIST, [field("item", INT32)]],
             [[1, None], None], lambda it: bodies.large_lists(it, numbers), [[]])),
-        "null_indices_without_a_dictionary": ("null indices, and no dictionary", stream(WORDS, batch(numbers([None, None])))),
-        "index_under_a_null": ("an index above its dictionary in a null slot", streams.streams()["null_index_above"]),
-        "negative_index_under_a_null": ("an index of -1 in a null slot", stream(ABC, batch(column([(2, 1)], b"\x01", i32(2, -1))))),
-        "index_of_a_null_value": ("an index of a value that is null, and a null index", stream(WORDS, letters(["a", None]),
-            batch(numbers([1, None, 0])))),
+    }
+
+
+def growing():
+    """Dictionaries that grow, shrink, change and come again between batches."""
+    many = [letters([chr(97 + at % 26) * (1 + at // 26)], at > 0) for at in range(70)]
+    two = schema(field("k", UTF8, encoding=dictionary(1)), field("j", INT32, encoding=dictionary(2)))
+    return {
+        "cut_off_behind_the_delta": ("a growing dictionary up to the end of its delta", GROWING[:816]),
+        "cut_off_behind_the_second_batch": ("a growing dictionary up to the end of its second batch", GROWING[:976]),
+        "version_4": ("a growing dictionary whose messages are all of V4",
+            b"".join(frames.as_v4(it) for it in streams.growing_dictionary()[:-1]) + END_MARKER),
         "dictionary_used_before_it_changes": ("a batch, then another dictionary of the same id, then the same indices",
             stream(WORDS, letters("abc"), batch(numbers([0, 2])), letters("xyz"), batch(numbers([0, 2])))),
         "dictionary_that_shrinks": ("a dictionary that is replaced by a shorter one each time",
@@ -230,28 +255,9 @@ def growing():
             stream(ABC, letters("de", True), batch(numbers([4])), letters("a"), letters("bcdef", True), batch(numbers([5, 4])))),
         "dictionary_sent_twice": ("a dictionary, a batch, and the same dictionary", stream(ABC, batch(numbers([1])), letters("abc"),
             batch(numbers([1])))),
-        "dictionary_of_nulls_alone": ("a dictionary whose values are all null", stream(WORDS, letters([None, None]),
-            batch(numbers([1, None, 0])))),
-        "dictionary_of_null_and_other_structs": ("a dictionary of structs below lists, null on each level",
-            stream(schema(field("l", LIST, [field("item", STRUCT, POINT, encoding=dictionary(9, 16))])),
-            dictionary_batch(9, streams.points([(1, "a"), None, (None, None)])),
-            batch(lists([[2, 1, None, 0], None, []], lambda it: numbers(it, "h"))))),
         "deltas_of_two_ids": ("two dictionaries that grow in turn", stream(two, letters_of(1, "a"),
             dictionary_batch(2, numbers([7])), batch(numbers([0]), numbers([0])), dictionary_batch(2, numbers([None, 9]), True),
             batch(numbers([0]), numbers([2])), letters_of(1, "bc", True), batch(numbers([2]), numbers([1])))),
-        "ids_at_the_ends": ("the least and the greatest id",
-            stream(schema(*(field("k", UTF8, encoding=dictionary(it)) for it in ends)), *(letters_of(it, "ab") for it in ends),
-            batch(numbers([0, 1]), numbers([1, None])))),
-        "indices_of_each_width": ("one dictionary of eight columns, by indices of each width",
-            stream(schema(*(field(f"k{at}", UTF8, encoding=dictionary(0, bits, signed)) for at,
-            (bits, signed, _) in enumerate(widths))), letters("abc"),
-            batch(*(numbers([2, None, at % 3], form) for at, (_, _, form) in enumerate(widths))))),
-        "index_of_255": ("the greatest index of 8 bits without a sign",
-            stream(schema(field("k", UTF8, encoding=dictionary(0, 8, False))), letters([f"{at}" for at in range(256)]),
-            batch(numbers([255, 128, 127], "B")))),
-        "ordered_dictionary": ("a dictionary whose order means something, of a column that is not nullable",
-            stream(schema(field("k", UTF8, nullable=False, encoding=dictionary(4, 8, True, True))), letters_of(4, "ab"),
-            batch(numbers([1, 0], "b")))),
         "dictionaries_without_batches": ("dictionaries that no batch uses", stream(ABC, letters("d", True), letters("x"))),
     }
 
@@ -324,7 +330,7 @@ def featured():
 
 def vectors():
     found = {}
-    for group in (of_written(), columns(), lenient(), types_in_one(), growing(), other_writers(), skipped()):
+    for group in (of_written(), columns(), lenient(), types_in_one(), indices(), growing(), other_writers(), skipped()):
         assert not found.keys() & group.keys()
         found.update(group)
     return found
