@@ -2,6 +2,7 @@
 //   verifier make SEED COUNT FILE     writes COUNT metadata to FILE, each behind the number of its bytes in four bytes
 //   verifier check READ WRITTEN       verifies each metadata of WRITTEN, with the alignment of its scalars, and compares
 //                                     what stands in it with what stands in that of READ
+//   verifier take FILE                verifies each metadata of FILE, with the alignment of its scalars
 // metadata_generated.h is made by flatc from metadata.fbs.
 #include <cstdint>
 #include <cstring>
@@ -306,6 +307,20 @@ int check(const char *read, const char *written) {
     return wrong == 0 ? 0 : 1;
 }
 
+int take(const char *name) {
+    std::vector<size_t> sizes;
+    auto given = metadata_in(name, sizes);
+    size_t wrong = given.empty() ? 1 : 0;
+    for (size_t number = 0; number < given.size(); number++) {
+        flatbuffers::Verifier verifier(reinterpret_cast<const uint8_t *>(given[number].data()), sizes[number], 128, 10000000, true);
+        if (VerifyMessageBuffer(verifier)) continue;
+        std::cout << "metadata " << number << " is not taken\n";
+        wrong++;
+    }
+    std::cout << given.size() << " metadata verified, " << wrong << " wrong\n";
+    return wrong == 0 ? 0 : 1;
+}
+
 }  // namespace
 
 int main(int count, char **words) {
@@ -321,5 +336,6 @@ int main(int count, char **words) {
         return file.good() ? 0 : 1;
     }
     if (count == 4 && std::string(words[1]) == "check") return check(words[2], words[3]);
+    if (count == 3 && std::string(words[1]) == "take") return take(words[2]);
     return 2;
 }
