@@ -12,6 +12,7 @@ from kinds import DAY_IN_MS, POINT
 from laying import (FIELD, INT32S, NODE, TEXTS, TYPE, VALIDITY, WORDS, column, i32, in_one, large_texts, letters,
                     of_another_writer, one_batch_of, raw_batch, raw_field, raw_schema, schema_in_one, stream)
 from places import Stream
+from told import TOP
 
 ABC = WORDS + letters("abc")
 GROWING = b"".join(streams.growing_dictionary())
@@ -287,6 +288,9 @@ def other_writers():
     rows = [numbers([65_535, None], "H"), numbers([0, DAY_IN_MS], "q"), numbers([None, 1]), numbers([1, None], "q"),
         numbers([0, 5], "q"), numbers([2, 0])]
     return {
+        "stream_of_another_writer": (
+            "a stream of another writer, who leaves out numbers that have their defaults, and gives equal vtables one place",
+            (TOP / "vectors/stream_of_another_writer.arrows").read_bytes()),
         "dictionaries_of_another_writer": ("a dictionary and a delta of another writer, who leaves out what has its default",
             stream(WORDS, its["DICTIONARY"], batch(numbers([1, None])), its["DELTA"], batch(numbers([2, 0])))),
         "batch_of_another_writer": (
