@@ -140,16 +140,42 @@ fn put_column(body: Body, align: Align, array: &Array) -> Result<Body, AllocErro
     Ok(written)
 }
 
-// A body to which nothing was added yet, with room for so many nodes, for as many buffers as these
-// can have, and for so many bytes.
-fn begun(alloc: Global, nodes: usize, size: usize) -> Result<Body, AllocError>
+impl Body {
+    /// The body of no columns. It takes no memory.
+    pub fn new(alloc: Global) -> Body
+        ensures { IsEmpty result }
+    {
+        Body {
+            nodes: Vec::new(alloc),
+            buffers: Vec::new(alloc),
+            bytes: Vec::new(alloc),
+        }
+    }
+
+    /// Takes all out of the body, and makes room for so many bytes, which takes at most one growth.
+    /// After `AllocError` it is empty too.
+    pub fn make_room(&mut self, size: usize) -> Result<(), AllocError>
+        ensures { IsEmpty self.new }
+    {
+        self.nodes.clear();
+        self.buffers.clear();
+        self.bytes.clear();
+        self.bytes.reserve_exact(size)
+    }
+}
+
+// A body to which nothing was added yet, in this room, with room for so many nodes and for as many
+// buffers as these can have.
+fn begun(room: Body, nodes: usize) -> Result<Body, AllocError>
     ensures { IfOk result (λ body. IsEmpty body) }
 {
-    Ok(Body {
-        nodes: Vec::with_capacity(alloc, nodes)?,
-        buffers: Vec::with_capacity(alloc, nodes.saturating_mul(3))?,
-        bytes: Vec::with_capacity(alloc, size)?,
-    })
+    let mut empty = room;
+    empty.nodes.clear();
+    empty.buffers.clear();
+    empty.bytes.clear();
+    empty.nodes.reserve_exact(nodes)?;
+    empty.buffers.reserve_exact(nodes.saturating_mul(3))?;
+    Ok(empty)
 }
 
 /// The body of the columns, laid out anew: each node with the slots that it is sent and no others,
@@ -171,7 +197,27 @@ pub fn store(alloc: Global, arrays: &[Array], align: Align) -> Result<Body, Allo
     let Some(size) = body_size(arrays, align) else {
         unreachable!();
     };
-    let empty = begun(alloc, nodes_in_all(arrays), size as usize)?;
+    let mut room = Body::new(alloc);
+    room.make_room(size as usize)?;
+    store_in(room, arrays, align)
+}
+
+/// The same body as that of `store`, in the room of an earlier one, of which nothing is left. Nodes,
+/// buffers and bytes take a growth each only where this room is too small for them; who knows how
+/// many bytes there will be makes room for them before. `AllocError` where a growth was refused.
+///
+/// Condition: the columns can be stored, that is, `body_size` answers a number.
+pub fn store_in(room: Body, arrays: &[Array], align: Align) -> Result<Body, AllocError>
+    requires { CanBeStored (alignment_of align) arrays.now }
+    ensures same { IfOk result (λ b. body_view b ≡ stored (alignment_of align)
+        (fields_of_columns arrays.now) (raws_of arrays.now)) }
+    ensures read { IfOk result (λ b. IsBodyOf (alignment_of align)
+        (fields_of_columns arrays.now) (raws_of arrays.now) (body_view b)) }
+    ensures tidy { IfOk result (λ b. IsTidy (alignment_of align)
+        (fields_of_columns arrays.now) b.nodes.items b.buffers.items b.bytes.items) }
+{
+    let count = nodes_in_all(arrays);
+    let empty = begun(room, count)?;
     let mut body = empty;
     for array in arrays {
         body = put_column(body, align, array)?;
@@ -207,8 +253,35 @@ pub fn store_rest(
     let Some(size) = rest_size(dictionary, from, align) else {
         unreachable!();
     };
+    let mut room = Body::new(alloc);
+    room.make_room(size as usize)?;
+    store_rest_in(room, dictionary, from, align)
+}
+
+/// The same body as that of `store_rest`, in the room of an earlier one, as `store_in` has it.
+/// `AllocError` where a growth was refused.
+///
+/// Condition: the column can be stored, that is, `rest_size` answers a number.
+pub fn store_rest_in(
+    room: Body,
+    dictionary: &Dictionary,
+    from: usize,
+    align: Align,
+) -> Result<Body, AllocError>
+    requires { CanBeStored (alignment_of align) (rest_of dictionary.now from ∷ []) }
+    ensures same { IfOk result (λ b. body_view b ≡ stored (alignment_of align)
+        (fields_of_columns (rest_of dictionary.now from ∷ []))
+        (raws_of (rest_of dictionary.now from ∷ []))) }
+    ensures read { IfOk result (λ b. IsBodyOf (alignment_of align)
+        (fields_of_columns (rest_of dictionary.now from ∷ []))
+        (raws_of (rest_of dictionary.now from ∷ [])) (body_view b)) }
+    ensures tidy { IfOk result (λ b. IsTidy (alignment_of align)
+        (fields_of_columns (rest_of dictionary.now from ∷ []))
+        b.nodes.items b.buffers.items b.bytes.items) }
+{
     let source = Source::Rest(dictionary, from);
-    let empty = begun(alloc, nodes_in(&source), size as usize)?;
+    let count = nodes_in(&source);
+    let empty = begun(room, count)?;
     let rest = put_by_number(empty, align, &source)?;
     Ok(rest)
 }

@@ -98,9 +98,11 @@ pub(crate) fn nodes_in(source: &Source) -> usize
     }
 }
 
-// How many nodes the columns of the arrays have, or the greatest number where there are more.
+// How many nodes the columns of the arrays have, or the greatest number where there are more. Their
+// raw values can be stored.
 pub(crate) fn nodes_in_all(arrays: &[Array]) -> usize
-    ensures { result ≡ capped (taken_nodes (fields_of_columns arrays.now)) }
+    ensures count { result ≡ capped (taken_nodes (fields_of_columns arrays.now)) }
+    ensures raws { AreRaws (fields_of_columns arrays.now) (raws_of arrays.now) }
 {
     let mut count: usize = 0;
     for array in arrays {

@@ -4,7 +4,8 @@
 //! `arrow_body_laws`, as one function of the alignment, the fields and the raw values. `store`
 //! gives just that body of columns, and `body_size` tells before, without memory, how many bytes it
 //! has, or that it cannot be stored. `store_rest` and `rest_size` do the same of one column whose
-//! slots hold the values of a dictionary from one on.
+//! slots hold the values of a dictionary from one on. `store_in` and `store_rest_in` give the same
+//! bodies in the room of an earlier one, so that who stores one after another asks for memory once.
 //!
 //! A body is written front to back, by the public calls of `arrow_data` alone, so that no byte is
 //! copied that stood under a null. A node is known by its number in pre-order. One walk finds the
@@ -50,5 +51,5 @@ pub(crate) mod whole;
 pub(crate) mod writing;
 
 pub use align::Align;
-pub use body::{Body, store, store_rest};
+pub use body::{Body, store, store_in, store_rest, store_rest_in};
 pub use measured::{body_size, rest_size};

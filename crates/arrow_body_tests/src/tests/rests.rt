@@ -4,7 +4,7 @@ use super::fields::Kind;
 use super::reading::Pairs;
 use super::written::{Held, dictionary, written};
 use arrow_body_reader::BodyFault;
-use arrow_body_writer::{Align, rest_size, store_rest};
+use arrow_body_writer::{Align, Body, rest_size, store_rest, store_rest_in};
 use arrow_data::{Array, Dictionary};
 use std::alloc::Global;
 use std::process::Abort;
@@ -253,6 +253,11 @@ fn is_stored(alloc: Global, dictionary: &Dictionary, case: &Case) -> bool {
     let Ok(body) = store_rest(alloc, dictionary, case.from, case.align) else {
         return false;
     };
+    size == case.size as u64 && is_as_said(&body, case)
+}
+
+// Whether the body is as the case says.
+fn is_as_said(body: &Body, case: &Case) -> bool {
     let nodes = body.nodes.iter().map(|node| (node.length, node.null_count));
     let buffers = body.buffers.iter().map(|it| (it.offset, it.length));
     let Some(zeros) = body.bytes.strip_prefix(case.bytes) else {
@@ -262,7 +267,15 @@ fn is_stored(alloc: Global, dictionary: &Dictionary, case: &Case) -> bool {
         && buffers.eq(case.buffers.iter().copied())
         && zeros.iter().all(|byte| *byte == 0)
         && body.bytes.len() == case.size
-        && size == case.size as u64
+}
+
+// The body of the rest in this room, where it is as the case says.
+fn stored_in(room: Body, dictionary: &Dictionary, case: &Case) -> Option<Body> {
+    let size = rest_size(dictionary, case.from, case.align)?;
+    let mut room = room;
+    room.make_room(size as usize).ok()?;
+    let body = store_rest_in(room, dictionary, case.from, case.align).ok()?;
+    is_as_said(&body, case).then_some(body)
 }
 
 #[test]
@@ -270,5 +283,16 @@ fn rests_are_laid_out(rt: HostRuntime) {
     for (k, case) in CASES.iter().enumerate() {
         let whole = of_segments(&rt, case.of, case.segments).expect(&rt, "a segment");
         assert!(rt; is_stored(rt.alloc(), &whole, case), "case {k}");
+    }
+}
+
+#[test]
+fn rests_are_laid_out_in_the_room_of_others(rt: HostRuntime) {
+    let mut room = Body::new(rt.alloc());
+    for (k, case) in CASES.iter().enumerate() {
+        let whole = of_segments(&rt, case.of, case.segments).expect(&rt, "a segment");
+        let body = stored_in(room, &whole, case);
+        assert!(rt; body.is_some(), "case {k}");
+        room = body.expect(&rt, "a body");
     }
 }

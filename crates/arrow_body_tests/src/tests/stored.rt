@@ -3,7 +3,7 @@
 use super::fields::Kind;
 use super::reading::Pairs;
 use super::written::{Held, written};
-use arrow_body_writer::{Align, body_size, store};
+use arrow_body_writer::{Align, Body, body_size, store, store_in};
 use arrow_data::Array;
 use std::alloc::Global;
 use std::process::Abort;
@@ -144,6 +144,11 @@ pub(super) fn is_stored(alloc: Global, columns: &[Array], case: &Case) -> bool {
     let Ok(body) = store(alloc, columns, case.align) else {
         return false;
     };
+    size == case.size as u64 && is_as_said(&body, case)
+}
+
+// Whether the body is as the case says.
+fn is_as_said(body: &Body, case: &Case) -> bool {
     let nodes = body.nodes.iter().map(|node| (node.length, node.null_count));
     let buffers = body.buffers.iter().map(|it| (it.offset, it.length));
     let Some(zeros) = body.bytes.strip_prefix(case.bytes) else {
@@ -153,7 +158,15 @@ pub(super) fn is_stored(alloc: Global, columns: &[Array], case: &Case) -> bool {
         && buffers.eq(case.stored_buffers.iter().copied())
         && zeros.iter().all(|byte| *byte == 0)
         && body.bytes.len() == case.size
-        && size == case.size as u64
+}
+
+// The body of the columns in this room, where it is as the case says.
+fn stored_in(room: Body, columns: &[Array], case: &Case) -> Option<Body> {
+    let size = body_size(columns, case.align)?;
+    let mut room = room;
+    room.make_room(size as usize).ok()?;
+    let body = store_in(room, columns, case.align).ok()?;
+    is_as_said(&body, case).then_some(body)
 }
 
 // Whether the columns that are read are stored as the case says.
@@ -167,5 +180,17 @@ pub(super) fn lay_out(rt: &(impl Abort + AllocGlobal), case: &Case) -> bool {
 fn columns_are_laid_out_again(rt: HostRuntime) {
     for (k, case) in CASES.iter().enumerate() {
         assert!(rt; lay_out(&rt, case), "case {k}");
+    }
+}
+
+#[test]
+fn columns_are_laid_out_in_the_room_of_others(rt: HostRuntime) {
+    let mut room = Body::new(rt.alloc());
+    for (k, case) in CASES.iter().enumerate() {
+        let columns = written(&rt, case.of, case.nodes, case.held, &[]);
+        let columns = columns.expect(&rt, "a body that is sound");
+        let body = stored_in(room, &columns, case);
+        assert!(rt; body.is_some(), "case {k}");
+        room = body.expect(&rt, "a body");
     }
 }

@@ -7,7 +7,7 @@ use Rattle.arrow_body_laws.specs.Tidy.{IsTidy}
 use Rattle.arrow_body_writer.proofs.Chunks.{leads_start, some_alignment}
 use Rattle.arrow_body_writer.specs.Align.{alignment_of}
 use Rattle.arrow_body_writer.specs.Source.{rest_of}
-use Rattle.arrow_body_writer.proofs.body.store_rest.Goals as goal
+use Rattle.arrow_body_writer.proofs.body.store_rest_in.Goals as goal
 
 -- the column
 pub returns-clause-same : goal.returns-clause-same
@@ -22,7 +22,7 @@ returns-clause-read c =
     let rest = rest_of c.args.dictionary.now c.args.from ∷ [] in
     let align = alignment_of c.args.align in
     subst (IsBodyOf align (fields_of_columns rest) (raws_of rest)) (sym (returns-clause-same c))
-    (is_read align (fields_of_columns rest) (raws_of rest) (some_alignment c.args.align) c.in-Some.ensures.raws c.in-Some.ensures.size.0.told.small)
+    (is_read align (fields_of_columns rest) (raws_of rest) (some_alignment c.args.align) c.nodes_in-count.ensures.raws c.requires.told.small)
 
 -- and tidy
 pub returns-clause-tidy : goal.returns-clause-tidy
@@ -30,4 +30,4 @@ returns-clause-tidy c =
     let rest = rest_of c.args.dictionary.now c.args.from ∷ [] in
     let align = alignment_of c.args.align in
     subst (λ (b : PlainBody). IsTidy align (fields_of_columns rest) b.nodes b.buffers b.bytes) (sym (returns-clause-same c))
-    (is_tidy align (fields_of_columns rest) (raws_of rest) (some_alignment c.args.align) c.in-Some.ensures.raws c.in-Some.ensures.size.0.told.small)
+    (is_tidy align (fields_of_columns rest) (raws_of rest) (some_alignment c.args.align) c.nodes_in-count.ensures.raws c.requires.told.small)

@@ -9,7 +9,7 @@ use Rattle.arrow_body_writer.proofs.Chunks.{LeadsTo, leads_end, leads_next, lead
 use Rattle.arrow_body_writer.proofs.Measures.{columns_from, none_left, raws_one, raws_others, told_one, told_others}
 use Rattle.arrow_body_writer.specs.Align.{alignment_of}
 use Rattle.arrow_body_writer.specs.Storable.{AreTold}
-use Rattle.arrow_body_writer.proofs.body.store.Goals as goal
+use Rattle.arrow_body_writer.proofs.body.store_in.Goals as goal
 
 -- the column can be told
 pub put_column-requires-clause-told : goal.put_column-requires-clause-told
@@ -31,7 +31,7 @@ put_column-requires-clause-raws c =
 pub loop-array-init : goal.loop-array-init
 loop-array-init c =
     let empty = c.in_ok-empty.ensures in
-    (c.in-Some.ensures.size.0.told, c.in-Some.ensures.raws, leads_start (alignment_of c.args.align) c.args.arrays.now c.in_ok-empty.empty empty.no_nodes empty.no_buffers empty.no_bytes)
+    (c.requires.told, c.nodes_in_all-count.ensures.raws, leads_start (alignment_of c.args.align) c.args.arrays.now c.in_ok-empty.empty empty.no_nodes empty.no_buffers empty.no_bytes)
 
 -- one column more
 pub loop-array-preserved : goal.loop-array-preserved
@@ -61,7 +61,7 @@ returns-clause-read c =
     let all = c.args.arrays.now in
     let align = alignment_of c.args.align in
     subst (IsBodyOf align (fields_of_columns all) (raws_of all)) (sym (returns-clause-same c))
-    (is_read align (fields_of_columns all) (raws_of all) (some_alignment c.args.align) c.in-Some.ensures.raws c.in-Some.ensures.size.0.told.small)
+    (is_read align (fields_of_columns all) (raws_of all) (some_alignment c.args.align) c.nodes_in_all-count.ensures.raws c.requires.told.small)
 
 -- and tidy
 pub returns-clause-tidy : goal.returns-clause-tidy
@@ -69,4 +69,4 @@ returns-clause-tidy c =
     let all = c.args.arrays.now in
     let align = alignment_of c.args.align in
     subst (λ (b : PlainBody). IsTidy align (fields_of_columns all) b.nodes b.buffers b.bytes) (sym (returns-clause-same c))
-    (is_tidy align (fields_of_columns all) (raws_of all) (some_alignment c.args.align) c.in-Some.ensures.raws c.in-Some.ensures.size.0.told.small)
+    (is_tidy align (fields_of_columns all) (raws_of all) (some_alignment c.args.align) c.nodes_in_all-count.ensures.raws c.requires.told.small)

@@ -5,7 +5,7 @@ use Rattle.arrow_body_laws.specs.Stored.{fields_of_columns}
 use Rattle.arrow_body_writer.proofs.Chunks.{LeadsTo}
 use Rattle.arrow_body_writer.specs.Align.{alignment_of}
 use Rattle.arrow_body_writer.specs.Storable.{AreTold}
-use Rattle.arrow_body_writer.proofs.body.store.Given as goal
+use Rattle.arrow_body_writer.proofs.body.store_in.Given as goal
 
 -- the columns to come can be told and stored, and with them the body is the stored one
 abbrev pub invariant-loop-array : goal.invariant-loop-array
