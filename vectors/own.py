@@ -7,8 +7,8 @@ import noted
 import schemas
 import streams
 from frames import (END_MARKER, INT32, LARGE_LIST, LARGE_UTF8, LIST, NULL, ONE_BATCH, ONE_COLUMN, STRUCT, UTF8, batch, date,
-                    dictionary, dictionary_batch, field, fixed_size_binary, floating, frame, lists, numbers, pairs, scalar,
-                    schema, table, text, time, vector)
+                    dictionary, dictionary_batch, field, fixed_size_binary, floating, frame, lists, numbers, pairs, record_batch,
+                    scalar, schema, strings, table, text, time, vector)
 from laying import (FIELD, INT32S, NODE, ONE, TEXTS, TYPE, VALIDITY, WORDS, column, i32, in_one, letters, of_another_writer,
                     one_batch_of, raw_batch, raw_dictionary, raw_field, raw_schema, schema_in_one, stream)
 from sound import nested
@@ -185,13 +185,18 @@ def skipped():
     rows = table(scalar("q", 3), pairs(nodes), pairs(places))
 
     def message(code, header, held=b""):
-        return metadata_frame(table(scalar("h", 4), scalar("B", code), header, scalar("q", len(held)), OUTSIDE), held)
+        return message_and(code, header, held, OUTSIDE)
+    words, its_places, its_body = frames.laid([strings(["a", "b"])])
+    text_rows, text_places, text_body = frames.laid([numbers([1, 0])])
 
     def rows_and(*more):
         return frame(3, table(*rows[1], *more), body)
     return {
         "unreadable_pairs_of_the_messages": ("custom metadata at each message that do not lie inside, which are skipped",
-            stream(message(1, table(scalar("h", 0), vector(one_field))), message(3, rows, body))),
+            stream(message(1, table(scalar("h", 0), vector([field("k", UTF8, encoding=dictionary(0))]))),
+            message(2, table(scalar("q", 0), record_batch(2, words, its_places), scalar("B", 0)), its_body),
+            message(3, record_batch(2, text_rows, text_places), text_body))),
+        "fields_of_a_later_standard": ("behind the fields of each table one more, an offset that leads outside", later_fields()),
         "unreadable_features": ("features of the schema that do not lie inside, which are skipped",
             stream(raw_schema(one_field, None, OUTSIDE), ONE_BATCH)),
         "unreadable_type_tables": ("tables of types without fields that do not lie inside, which are skipped",
@@ -229,9 +234,26 @@ def places():
     }
 
 
-def metadata_frame(message, held):
-    words = frames.metadata(message)
+def message_and(code, header, held, *more):
+    """The frame of a message of V5, with fields behind the length of its body."""
+    words = frames.metadata(table(scalar("h", 4), scalar("B", code), header, scalar("q", len(held)), *more))
     return b"\xff" * 4 + struct.pack("<i", len(words)) + words + held
+
+
+def later_fields():
+    """A text by a dictionary, with custom metadata: each table has a field more than those of the standard."""
+    pair = table(text("k"), text("v"), OUTSIDE)
+    index = table(scalar("i", 32), scalar("B", 1), OUTSIDE)
+    encoding = table(scalar("q", 0), index, scalar("B", 0), scalar("h", 0), OUTSIDE)
+    column = table(text("k"), scalar("B", 1), scalar("B", 5), table(OUTSIDE), encoding, vector([]), vector([pair]), OUTSIDE)
+
+    def rows(values):
+        nodes, its_places, body = frames.laid([values])
+        return table(*record_batch(len(values), nodes, its_places)[1], None, None, OUTSIDE), body
+    (words, words_body), (indices, indices_body) = rows(strings(["a", "b"])), rows(numbers([1, None]))
+    return stream(message_and(1, table(scalar("h", 0), vector([column]), vector([pair]), None, OUTSIDE), b"", None, OUTSIDE),
+        message_and(2, table(scalar("q", 0), words, scalar("B", 0), OUTSIDE), words_body, None, OUTSIDE),
+        message_and(3, indices, indices_body, None, OUTSIDE))
 
 
 def odd_sizes():

@@ -192,7 +192,8 @@ EXAMPLES = {
         "pairs_on_every_level": ['  metadata x"6f726967696e"=x"68657265" x""=x"" x"6f726967696e"=x"7468657265"', *CLEAN],
         "absent_keys_and_values": ['    metadata x""=x"76" x"6b"=x"" x""=x""', *THREE],
             "custom_metadata": ['    metadata x"fffe"=x"0080"', *CLEAN],
-        "vectors_of_no_pairs": THREE, "pairs_of_the_messages": CLEAN, "unreadable_pairs_of_the_messages": THREE,
+        "vectors_of_no_pairs": THREE, "pairs_of_the_messages": CLEAN, "unreadable_pairs_of_the_messages": CLEAN,
+            "features_of_the_schema": CLEAN, "unreadable_features": THREE, "fields_of_a_later_standard": CLEAN,
             "pairs_over_the_limit": refused("Metadata", 0),
         "pairs_at_the_limit.changes": ["* -> batches 0 rows 0 end clean"]}),
 }
