@@ -12,7 +12,7 @@ use std::mem;
 
 /// From how many bytes on a body is shared, and not copied: columns of a shorter one have a copy of
 /// their own. The copy of a short body costs less than the memory that every owner of the message
-/// keeps alive, and a reader goes on with the memory that it has.
+/// keeps alive.
 const SHARED: usize = 65_536;
 
 /// The bytes of the message in work. A clause sees them as `items`.
@@ -22,6 +22,8 @@ pub(crate) struct Held {
     storage: Storage,
     /// For how many bytes there was room in memory that was shared, where it was most.
     room: usize,
+    /// The memory that was shared last: it takes bytes again once no column has it any more.
+    spent: Option<Bytes>,
 }
 
 /// Where bytes are held.
@@ -50,6 +52,7 @@ impl Held {
             alloc,
             storage: Storage::Growing(Vec::new(alloc)),
             room: 0,
+            spent: None,
         }
     }
 
@@ -77,7 +80,8 @@ impl Held {
     /// TakesPiece bytes of a piece until `want` bytes are held or the piece ends, and answers how many
     /// it took. After `AllocError` nothing has changed.
     ///
-    /// Shared bytes, which are there only after a growth was refused, are copied first.
+    /// The first bytes go into memory that was shared, where no column has it any more. Shared bytes,
+    /// which are there only after a growth was refused, are copied first.
     pub(crate) fn fill(&mut self, piece: &[u8], want: usize) -> Result<usize, AllocError>
         requires room { length self.old.items ≤ want }
         ensures filled { IfOk result
@@ -85,7 +89,10 @@ impl Held {
         ensures unchanged { OnErr result (self.new.items ≡ self.old.items) }
     {
         match &mut self.storage {
-            Storage::Growing(bytes) => append(bytes, piece, want, self.room),
+            Storage::Growing(bytes) => {
+                take_back(self.alloc, bytes, &mut self.spent);
+                append(bytes, piece, want, self.room)
+            }
             Storage::Whole(bytes) => {
                 let mut copy = Vec::from_slice(self.alloc, bytes.as_slice())?;
                 let taken = append(&mut copy, piece, want, self.room)?;
@@ -148,14 +155,50 @@ impl Held {
         }
     }
 
-    /// Keeps no bytes, and no memory that columns may share. It takes no memory.
+    /// Keeps no bytes. It takes no memory.
     pub(crate) fn clear(&mut self)
         ensures items { self.new.items ≡ [] }
     {
         match &mut self.storage {
             Storage::Growing(bytes) => bytes.clear(),
-            Storage::Whole(_) => self.storage = Storage::Growing(Vec::new(self.alloc)),
+            Storage::Whole(_) => self.part_with_shared(),
         }
+    }
+
+    /// Keeps no bytes, and the memory that columns may share apart.
+    fn part_with_shared(&mut self)
+        ensures items { self.new.items ≡ [] }
+    {
+        let none = Storage::Growing(Vec::new(self.alloc));
+        if let Storage::Whole(message) = mem::replace(&mut self.storage, none) {
+            self.spent = Some(message);
+        }
+    }
+}
+
+/// Gives no bytes the memory of a message that was shared, where no column has it any more.
+fn take_back(alloc: Global, bytes: &mut Vec<u8>, shared: &mut Option<Bytes>)
+    ensures same { bytes.new.items ≡ bytes.old.items }
+{
+    if !bytes.is_empty() {
+        return;
+    }
+    if let Some(message) = shared.take() {
+        *bytes = room_of(alloc, message);
+    }
+}
+
+/// The memory of a message with no bytes in it, where no column has it any more; else no memory.
+fn room_of(alloc: Global, message: Bytes) -> Vec<u8>
+    ensures none { result.items ≡ [] }
+{
+    let Some(mut room) = message.reclaim() else {
+        return Vec::new(alloc);
+    };
+    room.clear();
+    match room.into_vec() {
+        Ok(bytes) => bytes,
+        Err(_) => Vec::new(alloc),
     }
 }
 

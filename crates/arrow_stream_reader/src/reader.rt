@@ -35,8 +35,9 @@ pub(crate) enum Verdict {
 ///
 /// A reader is given pieces by [`StreamReader::read`], which hands out one item at a time, and is
 /// told by [`StreamReader::end`] that no more will come. It keeps the bytes of one unfinished
-/// message, the schema, the dictionaries as they stand and its place, and nothing else. Where a
-/// stream was cut into pieces changes no answer.
+/// message, the schema, the dictionaries as they stand and its place, and nothing else. Memory that
+/// a batch shared takes the next message, where the batch was dropped before. Where a stream was cut
+/// into pieces changes no answer.
 ///
 /// After a refusal the reader has failed: it takes nothing and answers the same fault, until
 /// [`StreamReader::restart`]. After the end marker it takes nothing either. Where a growth was
