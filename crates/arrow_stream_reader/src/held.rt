@@ -77,7 +77,7 @@ impl Held {
         }
     }
 
-    /// TakesPiece bytes of a piece until `want` bytes are held or the piece ends, and answers how many
+    /// Takes bytes of a piece until `want` bytes are held or the piece ends, and answers how many
     /// it took. After `AllocError` nothing has changed.
     ///
     /// The first bytes go into memory that was shared, where no column has it any more. Shared bytes,
@@ -202,7 +202,7 @@ fn room_of(alloc: Global, message: Bytes) -> Vec<u8>
     }
 }
 
-/// TakesPiece bytes of a piece until there are `want` of them or the piece ends, and answers how many it
+/// Takes bytes of a piece until there are `want` of them or the piece ends, and answers how many it
 /// took. After `AllocError` nothing has changed.
 ///
 /// Where there is no room the memory grows to twice its size, or to `room` bytes, but to no more

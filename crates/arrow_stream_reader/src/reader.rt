@@ -82,7 +82,7 @@ impl StreamReader {
         }
     }
 
-    /// TakesPiece bytes of a piece up to the end of one message, and answers how many it took, with the
+    /// Takes bytes of a piece up to the end of one message, and answers how many it took, with the
     /// item that the message gave; or takes the whole piece, where no message of it is whole, and
     /// answers no item. The bytes behind an item are left for the next call.
     ///

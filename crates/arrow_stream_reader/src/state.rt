@@ -145,7 +145,7 @@ impl State {
         }
     }
 
-    /// TakesPiece the values of a dictionary batch with this body: in place of those of its id, or
+    /// Takes the values of a dictionary batch with this body: in place of those of its id, or
     /// behind them.
     fn update(
         &mut self,

@@ -13,7 +13,7 @@ use std::alloc::Global;
 /// How many rows are put into text at once.
 const ROWS: usize = 1_024;
 
-/// SendsText a text.
+/// Sends a text.
 pub(crate) fn send_text<S: Sink>(output: &mut S, text: &[u8]) -> Result<(), ToolFault>
     requires { S.failed output.old < 2 ^ 64 - 1 }
     ensures { SendsText (S.contents output.old) (S.failed output.old) text.now result
@@ -25,7 +25,7 @@ pub(crate) fn send_text<S: Sink>(output: &mut S, text: &[u8]) -> Result<(), Tool
     }
 }
 
-/// SendsText the records of the rows of the batch that has this number, some of them at a time, which
+/// Sends the records of the rows of the batch that has this number, some of them at a time, which
 /// are made in the room of a text.
 pub(crate) fn send_rows<S: Sink>(
     alloc: Global,

@@ -74,7 +74,7 @@ pub(crate) fn tell_piece<S: Sink>(
     }
 }
 
-/// SendsText the text of a message that the reader has just read, and counts the batches.
+/// Sends the text of a message that the reader has just read, and counts the batches.
 fn tell_item<S: Sink>(
     report: Report,
     reader: &StreamReader,
@@ -103,7 +103,7 @@ fn tell_item<S: Sink>(
     }
 }
 
-/// SendsText the line of a message, which is made in the room of a text.
+/// Sends the line of a message, which is made in the room of a text.
 fn tell_message<S: Sink>(
     reader: &StreamReader,
     place: u64,
