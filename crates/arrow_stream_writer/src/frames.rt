@@ -17,12 +17,13 @@ ghost use Rattle.arrow_stream_writer.specs.Updating.{IsNamed, PutsUpdate, sendin
 
 use crate::frame::put_frame;
 use crate::settings::Settings;
-use arrow_body_writer::{Align, Body, body_size, rest_size, store, store_rest};
+use arrow_body_writer::{Align, Body, body_size, rest_size, store_in, store_rest_in};
 use arrow_data::{Batch, Dictionary};
 use arrow_meta_reader::{Header, Message, RecordBatch};
 use arrow_meta_writer::encoded_size;
 use arrow_sink::WriteFault;
 use arrow_types::FieldNode;
+use std::mem;
 
 /// What a batch is to a reader (`Message.fbs`, union `MessageHeader`).
 #[derive(Clone, Copy)]
@@ -51,6 +52,19 @@ fn header_of(kind: BatchKind, batch: RecordBatch) -> Header
     match kind {
         BatchKind::Record => Header::Batch(batch),
         BatchKind::Dictionary(id, is_delta) => Header::Dictionary(id, is_delta, batch),
+    }
+}
+
+// Gives a body the nodes and the buffers back that a message has, for their room.
+fn give_back(message: Message, body: &mut Body)
+    ensures { body.new.bytes.items ≡ body.old.bytes.items }
+{
+    match message.header {
+        Header::Batch(batch) | Header::Dictionary(_, _, batch) => {
+            body.nodes = batch.nodes;
+            body.buffers = batch.buffers;
+        }
+        Header::Schema(_) => {}
     }
 }
 
@@ -124,50 +138,52 @@ impl Settings {
         }
     }
 
-    /// Appends the frame of a batch whose columns were stored. After a fault what stands behind the
-    /// bytes is a rest of which nothing is said.
+    /// Appends the frame of a batch whose columns were stored. Of what was stored the room alone is
+    /// left. After a fault what stands behind the bytes is a rest of which nothing is said.
     pub(crate) fn put_stored(
         &self,
         kind: BatchKind,
         rows: usize,
-        body: Body,
+        body: &mut Body,
         out: &mut Vec<u8>,
     ) -> Result<(), WriteFault>
         ensures { (load : Load) → load.kind ≡ kind → load.rows ≡ rows
-            → IsStored (terms_of self.now).align load (body_view body)
+            → IsStored (terms_of self.now).align load (body_view body.old)
             → Puts (terms_of self.now) load out.old.items result out.new.items }
     {
-        let Body {
-            nodes,
-            buffers,
-            bytes,
-        } = body;
         let max_rows = self.limits.max_rows();
         if rows as u64 > max_rows {
             return Err(WriteFault::TooLarge);
         }
-        if bytes.len() as u64 > self.limits.max_body() {
+        if body.bytes.len() as u64 > self.limits.max_body() {
             return Err(WriteFault::TooLarge);
         }
-        if have_bad_length(max_rows, &nodes) {
+        if have_bad_length(max_rows, &body.nodes) {
             return Err(WriteFault::TooLarge);
         }
         let batch = RecordBatch {
             length: rows as i64,
-            nodes,
-            buffers,
+            nodes: mem::replace(&mut body.nodes, Vec::new(self.alloc)),
+            buffers: mem::replace(&mut body.buffers, Vec::new(self.alloc)),
         };
         let message = Message {
             version: 4,
             header: header_of(kind, batch),
-            body_len: bytes.len() as u64,
+            body_len: body.bytes.len() as u64,
         };
-        self.put_message(&message, &bytes, out)
+        let answer = self.put_message(&message, &body.bytes, out);
+        give_back(message, body);
+        answer
     }
 
-    /// Appends the frame of the batch's record batch. After a fault what stands behind the bytes is a
-    /// rest of which nothing is said.
-    pub(crate) fn put_record(&self, batch: &Batch, out: &mut Vec<u8>) -> Result<(), WriteFault>
+    /// Appends the frame of the batch's record batch, whose body is stored in a room that is kept.
+    /// After a fault what stands behind the bytes is a rest of which nothing is said.
+    pub(crate) fn put_record(
+        &self,
+        batch: &Batch,
+        room: &mut Body,
+        out: &mut Vec<u8>,
+    ) -> Result<(), WriteFault>
         ensures { Puts (terms_of self.now) (record_load batch.now) out.old.items result
             out.new.items }
     {
@@ -185,17 +201,25 @@ impl Settings {
         if batch.rows() as u64 > max_rows {
             return Err(WriteFault::TooLarge);
         }
-        match store(self.alloc, columns, self.align) {
-            Ok(body) => self.put_stored(BatchKind::Record, batch.rows(), body, out),
+        let Ok(()) = room.make_room(size as usize) else {
+            return Err(WriteFault::Memory);
+        };
+        let empty = mem::replace(room, Body::new(self.alloc));
+        match store_in(empty, columns, self.align) {
+            Ok(body) => {
+                *room = body;
+                self.put_stored(BatchKind::Record, batch.rows(), room, out)
+            }
             Err(_) => Err(WriteFault::Memory),
         }
     }
 
-    /// Appends the frame of the dictionary batch. After a fault what stands behind the bytes is a
-    /// rest of which nothing is said.
+    /// Appends the frame of the dictionary batch, whose body is stored in a room that is kept. After a
+    /// fault what stands behind the bytes is a rest of which nothing is said.
     pub(crate) fn put_update(
         &self,
         update: &DictionaryBatch,
+        room: &mut Body,
         out: &mut Vec<u8>,
     ) -> Result<(), WriteFault>
         requires { update.now.from ≤ length update.now.dictionary.now.values }
@@ -218,10 +242,15 @@ impl Settings {
         if size > max_body {
             return Err(WriteFault::TooLarge);
         }
-        match store_rest(self.alloc, dictionary, update.from, self.align) {
+        let Ok(()) = room.make_room(size as usize) else {
+            return Err(WriteFault::Memory);
+        };
+        let empty = mem::replace(room, Body::new(self.alloc));
+        match store_rest_in(empty, dictionary, update.from, self.align) {
             Ok(body) => {
+                *room = body;
                 let kind = BatchKind::Dictionary(update.id, update.is_delta);
-                self.put_stored(kind, len - update.from, body, out)
+                self.put_stored(kind, len - update.from, room, out)
             }
             Err(_) => Err(WriteFault::Memory),
         }

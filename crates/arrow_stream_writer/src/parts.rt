@@ -13,6 +13,7 @@ use crate::lists::{BatchLists, ListsFault};
 use crate::settings::Settings;
 use crate::stream_writer::Options;
 use crate::updating::Updater;
+use arrow_body_writer::Body;
 use arrow_data::Batch;
 use arrow_dict::Tracker;
 use arrow_meta_reader::{Header, Message};
@@ -30,6 +31,8 @@ pub(crate) struct PartBuilder {
     pub(crate) tracker: Tracker,
     /// The bytes of the part that was built last. They keep their room.
     pub(crate) part: Vec<u8>,
+    /// The room of the body that was stored last.
+    pub(crate) room: Body,
 }
 
 impl PartBuilder {
@@ -60,6 +63,7 @@ impl PartBuilder {
             },
             tracker: Tracker::new(alloc),
             part: Vec::new(alloc),
+            room: Body::new(alloc),
         })
     }
 
@@ -119,11 +123,12 @@ impl PartBuilder {
         if !same {
             return Err(WriteFault::SchemaDiffers);
         }
-        match put_updates(&self.settings, batch, &mut self.tracker, &mut self.part) {
+        let (room, part) = (&mut self.room, &mut self.part);
+        match put_updates(&self.settings, batch, &mut self.tracker, room, part) {
             Ok(()) => {}
             Err(fault) => return Err(fault),
         }
-        match self.settings.put_record(batch, &mut self.part) {
+        match self.settings.put_record(batch, room, part) {
             Ok(()) => {}
             Err(fault) => return Err(fault),
         }
@@ -139,6 +144,7 @@ fn put_updates(
     settings: &Settings,
     batch: &Batch,
     tracker: &mut Tracker,
+    room: &mut Body,
     bytes: &mut Vec<u8>,
 ) -> Result<(), WriteFault>
     requires schema { batch.now.schema ≡ settings.now.schema.value }
@@ -153,7 +159,7 @@ fn put_updates(
                 settings,
                 lists: &lists,
             };
-            updater.add_all(tracker, bytes)
+            updater.add_all(tracker, room, bytes)
         }
         Err(ListsFault::DictionariesDiffer) => Err(WriteFault::DictionariesDiffer),
         Err(ListsFault::Memory) => Err(WriteFault::Memory),

@@ -9,6 +9,7 @@ ghost use Rattle.arrow_stream_writer.specs.Updating.{IsNamed, sending_of, work_o
 use crate::frames::DictionaryBatch;
 use crate::lists::BatchLists;
 use crate::settings::Settings;
+use arrow_body_writer::Body;
 use arrow_dict::{Tracker, Update};
 use arrow_sink::WriteFault;
 
@@ -25,6 +26,7 @@ impl<'s, 'l, 'd> Updater<'s, 'l, 'd> {
     pub(crate) fn add_all(
         &self,
         tracker: &mut Tracker,
+        room: &mut Body,
         bytes: &mut Vec<u8>,
     ) -> Result<(), WriteFault>
         requires empty { bytes.old.items ≡ [] }
@@ -35,7 +37,7 @@ impl<'s, 'l, 'd> Updater<'s, 'l, 'd> {
     {
         let ids = self.settings.schema.dictionary_ids();
         for k in 0..ids.len() {
-            match self.add_one(ids[k], tracker, bytes) {
+            match self.add_one(ids[k], tracker, room, bytes) {
                 Ok(()) => {}
                 Err(fault) => return Err(fault),
             }
@@ -44,7 +46,13 @@ impl<'s, 'l, 'd> Updater<'s, 'l, 'd> {
     }
 
     // Appends the frame for one id, if there is one to send, and stages the dictionary.
-    fn add_one(&self, id: i64, tracker: &mut Tracker, bytes: &mut Vec<u8>) -> Result<(), WriteFault>
+    fn add_one(
+        &self,
+        id: i64,
+        tracker: &mut Tracker,
+        room: &mut Body,
+        bytes: &mut Vec<u8>,
+    ) -> Result<(), WriteFault>
         ensures { AddsId (terms_of self.now.settings.now) (dictionary_in self.now.lists.now)
             id (work_of bytes.old.items tracker.old) result
             (work_of bytes.new.items tracker.new) }
@@ -62,7 +70,7 @@ impl<'s, 'l, 'd> Updater<'s, 'l, 'd> {
                     from: 0,
                     dictionary,
                 };
-                self.send(&update, tracker, bytes)
+                self.send(&update, tracker, room, bytes)
             }
             Update::Delta(from) => {
                 let update = DictionaryBatch {
@@ -71,7 +79,7 @@ impl<'s, 'l, 'd> Updater<'s, 'l, 'd> {
                     from,
                     dictionary,
                 };
-                self.send(&update, tracker, bytes)
+                self.send(&update, tracker, room, bytes)
             }
         }
     }
@@ -81,6 +89,7 @@ impl<'s, 'l, 'd> Updater<'s, 'l, 'd> {
         &self,
         update: &DictionaryBatch,
         tracker: &mut Tracker,
+        room: &mut Body,
         bytes: &mut Vec<u8>,
     ) -> Result<(), WriteFault>
         requires inside { update.now.from ≤ length update.now.dictionary.now.values }
@@ -90,7 +99,7 @@ impl<'s, 'l, 'd> Updater<'s, 'l, 'd> {
             (work_of bytes.old.items tracker.old) result
             (work_of bytes.new.items tracker.new) }
     {
-        match self.settings.put_update(update, bytes) {
+        match self.settings.put_update(update, room, bytes) {
             Ok(()) => {}
             Err(fault) => return Err(fault),
         }

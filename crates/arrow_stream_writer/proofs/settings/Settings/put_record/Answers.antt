@@ -32,8 +32,8 @@ returns-then-rows-max_rows c =
     many_rows (terms_of c.args.self.now) c.args.batch.now c.columns-columns.result.now c.schema.ensures.known c.columns-columns.ensures.same (omega arith)
 
 -- the columns were stored
-pub returns-in-Ok : goal.returns-in-Ok
-returns-in-Ok c =
-    let stored = stored_of (alignment_of c.args.self.now.align) c.args.batch.now c.columns-columns.result.now (body_view c.in-Ok.body) c.schema.ensures.known c.columns-columns.ensures.same
-    c.in-Some.ensures.raws c.in-Some.ensures.size.0.told.small c.in-Ok.ensures.same in
-    c.put_stored.ensures (record_load c.args.batch.now) refl (sym c.rows-in-Ok.ensures) stored
+pub returns-in-Ok-store_in : goal.returns-in-Ok-store_in
+returns-in-Ok-store_in c =
+    let stored = stored_of (alignment_of c.args.self.now.align) c.args.batch.now c.columns-columns.result.now (body_view c.in-Ok-store_in.body) c.schema.ensures.known c.columns-columns.ensures.same
+    c.in-Some.ensures.raws c.in-Some.ensures.size.0.told.small c.in-Ok-store_in.ensures.same in
+    c.put_stored.ensures (record_load c.args.batch.now) refl (sym c.rows-in-Ok-store_in.ensures) stored

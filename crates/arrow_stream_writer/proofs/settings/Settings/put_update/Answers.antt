@@ -21,12 +21,12 @@ returns-in-None c named =
     never_rest terms update.id update.is_delta update.from update.dictionary.now named (omega arith) (omega arith) known c.in-None.ensures.size
 
 -- they were stored
-pub returns-in-Ok : goal.returns-in-Ok
-returns-in-Ok c named =
+pub returns-in-Ok-store_rest_in : goal.returns-in-Ok-store_rest_in
+returns-in-Ok-store_rest_in c named =
     let terms = terms_of c.args.self.now in
     let update = c.args.update.now in
     let d = update.dictionary.now in
-    let stored = stored_rest terms update.id update.is_delta update.from d named (body_view c.in-Ok.body) c.in-Some.ensures.raws c.in-Some.ensures.size.0.told.small c.in-Ok.ensures.same in
+    let stored = stored_rest terms update.id update.is_delta update.from d named (body_view c.in-Ok-store_rest_in.body) c.in-Some.ensures.raws c.in-Some.ensures.size.0.told.small c.in-Ok-store_rest_in.ensures.same in
     let rows = length-drop update.from d.values ∙ ap (λ n. n - update.from) (sym c.len-len.ensures) in
     let row_limit = c.max_rows-max_rows.ensures.value in
     let long = c.len-len.ensures in
