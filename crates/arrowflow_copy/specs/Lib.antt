@@ -1,3 +1,4 @@
 pub mod Copy
+pub mod OfFront
 pub mod Copying
 pub mod Target

@@ -9,10 +9,12 @@
 //! | Notion | Definition |
 //! |---|---|
 //! | what is written, and how that ends | `specs/Copy.antt`: `CopiesInput` |
+//! | the same by the front of all bytes read | `specs/OfFront.antt`: `RefusesSchemaOf`, `RefusesBatchOf` |
 //! | where a copy stands | `specs/Copying.antt`: `At`; `specs/Target.antt`: `at_of` |
 #![tactic(auto)]
 
 mod copier;
 mod copying;
+pub mod laws;
 
 pub use copying::copy;

@@ -14,7 +14,7 @@ use Rattle.arrowflow_report.proofs.Feeding.{tables-append}
 use Rattle.arrowflow_report.proofs.Schemas.{front_begins, front_behind, front_keeps}
 
 -- the records of two parts of the batches are those of all
-batches_join : (n : ℕ) (ts us : List Table) → batches_text n (ts ++ us) ≡ batches_text n ts ++ batches_text (n + length ts) us
+pub batches_join : (n : ℕ) (ts us : List Table) → batches_text n (ts ++ us) ≡ batches_text n ts ++ batches_text (n + length ts) us
 batches_join n [] us = let e : n ≡ n + 0 = omega arith in ap (λ k. batches_text k us) e
 batches_join n (t ∷ ts) us =
     let e : n + 1 + length ts ≡ n + suc (length ts) = omega arith in

@@ -10,4 +10,5 @@ pub mod Lined
 pub mod Told
 pub mod Reading
 pub mod Reporting
+pub mod OfFront
 mod Wanting

@@ -67,15 +67,15 @@ module _ (report : Report) (limits : LimitNumbers) (bytes : List ℕ) (left firs
     text = w.text;
     is = w.is;
     last = last;
-    is_last = inr is;
+    is_last = inr (refl, is);
     wrote = begun_behind first held held' w.text last w.wrote h;
   }
 
-  -- what stands last is nothing, or tells the end of the input
-  may_stand : (v : Verdict) (place : ℕ) (last : List ℕ) → IsLast report v place last → (last ≡ []) ⊎ IsEnding report place last
-  may_stand Done place last h = inl h
-  may_stand Open place last h = inr h
-  may_stand (Bad kind) place last h = absurd h
+  -- what stands last is nothing, or tells the end of the input, of which nothing is left
+  may_stand : (v : Verdict) (place : ℕ) (last rest : List ℕ) → rest ≡ [] → IsLast report v place last → (last ≡ []) ⊎ ((rest ≡ []) × IsEnding report place last)
+  may_stand Done place last rest none h = inl h
+  may_stand Open place last rest none h = inr (none, h)
+  may_stand (Bad kind) place last rest none h = absurd h
 
   -- the last flush
   pub flushed : (e : Standing) (held held' : Option (List ℕ)) (failed failed' : ℕ) (answer : Result (Unit {0}) ToolFault) → IsWrittenWhole report limits bytes e first held → EndsWell left e → failed ≡ start
@@ -96,7 +96,7 @@ module _ (report : Report) (limits : LimitNumbers) (bytes : List ℕ) (left firs
         text = w.text;
         is = w.is;
         last = w.last;
-        is_last = may_stand e.verdict e.place w.last w.is_last;
+        is_last = may_stand e.verdict e.place w.last [] refl w.is_last;
         wrote = subst (AcceptsBeginning first held') all (begun_behind first held held' (w.text ++ w.last) [] w.wrote h);
       }
 

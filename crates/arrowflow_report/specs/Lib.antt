@@ -7,6 +7,7 @@ pub mod Pieces
 pub mod Reads
 pub mod Lines
 pub mod Reports
+pub mod OfFront
 pub mod TypeNames
 pub mod Shown
 pub mod Calls

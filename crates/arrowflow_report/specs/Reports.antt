@@ -115,8 +115,8 @@ pub record IsWrittenWhole (report : Report) (limits : LimitNumbers) (bytes : Lis
   pub is_last : IsLast report e.verdict e.place last
   pub wrote : Appends before after (text ++ last)
 
--- a beginning was written of the text of the messages at the front of a beginning of these bytes, and of what may stand
--- behind it
+-- A beginning was written of the text of the messages at the front of a beginning of these bytes, and of what may stand
+-- behind it where that is all of them.
 pub record IsBegun (report : Report) (limits : LimitNumbers) (bytes : List ℕ) (before after : Option (List ℕ)) : Type 0 where
   pub taken : List ℕ
   pub rest : List ℕ
@@ -127,7 +127,7 @@ pub record IsBegun (report : Report) (limits : LimitNumbers) (bytes : List ℕ) 
   pub text : List ℕ
   pub is : IsTextOf report standing.state.schema entries text
   pub last : List ℕ
-  pub is_last : (last ≡ []) ⊎ IsEnding report standing.place last
+  pub is_last : (last ≡ []) ⊎ ((rest ≡ []) × IsEnding report standing.place last)
   pub wrote : AcceptsBeginning before after (text ++ last)
 
 -- the stream ended well: with its end marker, or with the input at the end of a message

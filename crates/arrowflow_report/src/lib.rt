@@ -21,14 +21,14 @@
 //! | what is received of bytes | `specs/Session.antt`: `Receives`; `specs/Pieces.antt`: `Feeds` |
 //! | the text of a schema | `specs/SchemaText.antt`: `schema_lines`; `specs/TypeNames.antt`; `specs/Escapes.antt` |
 //! | what an input answers with it | `specs/SchemaCall.antt`: `AnswersInput` |
-//! | what is written of a stream | `specs/Reports.antt`: `ReportsInput`; `specs/Shown.antt`: `text_at` |
+//! | what is written of a stream | `specs/Reports.antt`: `ReportsInput`; `specs/OfFront.antt`: `IsBegunOf`; `specs/Shown.antt`: `text_at` |
 //! | the lines of messages | `specs/Lines.antt`: `message_line`, `AreLines` |
 //! | how far an input is read | `specs/Reads.antt`: `IsReadWhile` |
 //! | what is said of a fault | `specs/Faults.antt`: `fault_line`, `status_of` |
 //!
 //! Of the proofs, `Feeding` says what comes of pieces, `Growing` shows the law, `Told` and `Lined`
-//! how a text grows, `Sent` what of it was sent, `Reporting` how that ends, and `Reading` that the
-//! loops over an input end.
+//! how a text grows, `Sent` what of it was sent, `Reporting` how that ends, `OfFront` that it is so
+//! by the front of all bytes, and `Reading` that the loops over an input end.
 #![tactic(auto)]
 
 mod escapes;

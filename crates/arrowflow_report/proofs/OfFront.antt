@@ -1,0 +1,108 @@
+-- From a beginning of bytes to the front of all of them.
+use Rattle.std.proofs.Common.{◌≡◌, ℕ, ◌+◌, List, [], ◌∷◌, ◌++◌, length, Option, None, Some, ◌⊎◌, inl, inr, refl, sym, ap, ◌∙◌, subst, append_assoc, append-nil}
+use Rattle.arrow_types.specs.Limits.{LimitNumbers}
+use Rattle.arrow_types.specs.Notes.{SchemaShape}
+use Rattle.arrow_data.specs.Batch.{Table}
+use Rattle.arrow_csv.specs.Records.{batches_text, header_record, stream_text}
+use Rattle.arrow_sink.specs.Sinks.{AcceptsBeginning}
+use Rattle.arrow_stream_reader.specs.Front.{Entry, Standing, Front, FrontOf, rests, fails, closes, goes_on}
+use Rattle.arrow_stream_reader.specs.State.{StreamState, nothing_yet}
+use Rattle.arrow_stream_reader.specs.Tables.{table_in, tables_of}
+use Rattle.arrow_stream_reader.proofs.Beginnings.{whole_gives}
+use Rattle.arrow_stream_reader.proofs.Firsts.{First-append}
+use Rattle.arrow_stream_reader.proofs.Fronts.{at_bytes, front_follows, more_bytes, one_front}
+use Rattle.arrowflow_report.specs.Lines.{AreLines, message_line}
+use Rattle.arrowflow_report.specs.OfFront.{IsBegunOf, TextOfFront}
+use Rattle.arrowflow_report.specs.Reports.{IsEnding, IsTextOf}
+use Rattle.arrowflow_report.specs.declared.report.Report.{Report}
+use Rattle.arrowflow_report.specs.declared.report.Report.TheVariants.{Messages, Rows}
+use Rattle.arrowflow_report.proofs.Feeding.{tables-append}
+use Rattle.arrowflow_report.proofs.First.{not_marker, state_stays}
+use Rattle.arrowflow_report.proofs.Growing.{batches_join}
+use Rattle.arrowflow_report.proofs.Schemas.{front_keeps}
+use Rattle.arrowflow_report.proofs.Sent.{begun_longer}
+
+-- where a stream has given something, more bytes leave its schema
+pub schema_kept : {l : LimitNumbers} {s : StreamState} {p : ℕ} {b : List ℕ} {es fs : List Entry} {e f : Standing} (c : List ℕ) → Front l s p b es e → Front l s p (b ++ c) fs f → s ≡ nothing_yet → (es ≡ [] → ⊥) → f.state.schema ≡ e.state.schema
+schema_kept c (rests x) y n some = absurd (some refl)
+schema_kept c (fails x) y n some = absurd (some refl)
+schema_kept c (closes x) y n some = absurd (not_marker x n refl)
+schema_kept c (goes_on {n = m} {s' = s'} {g = g} x xs) y n some =
+    let w = front_follows (First-append c (λ q. cc) x) y in
+    let b = whole_gives x n m s' g refl in
+    let k = ap (λ (t : StreamState). t.schema) b.state in
+    (front_keeps w.2 b.shape k).schema ∙ sym (front_keeps xs b.shape k).schema
+
+-- messages have lines
+some_lines : (schema : Option SchemaShape) (p n : ℕ) (es : List Entry) → (text : List ℕ) × AreLines schema p n es text
+some_lines schema p n [] = ([], refl)
+some_lines schema p n (x ∷ es) =
+    let state : StreamState = record { schema = schema; dictionaries = [] } in
+    let line = message_line p n state x.given in
+    let rest = some_lines schema x.end (n + length (table_in x.given)) es in
+    (line ++ rest.0, (line, rest.0, (state, refl, refl), rest.1, refl))
+
+-- so do messages behind others
+lines_behind : (schema : Option SchemaShape) (p n : ℕ) (es more : List Entry) (text : List ℕ) → AreLines schema p n es text → (added : List ℕ) × AreLines schema p n (es ++ more) (text ++ added)
+lines_behind schema p n [] more text is =
+    let w = some_lines schema p n more in
+    (w.0, subst (λ t. AreLines schema p n more (t ++ w.0)) (sym is) w.1)
+lines_behind schema p n (x ∷ es) more text (first, rest, own, others, whole) =
+    let w = lines_behind schema x.end (n + length (table_in x.given)) es more rest others in
+    (w.0, (first, rest ++ w.0, own, w.1, ap (λ t. t ++ w.0) whole ∙ append_assoc first rest w.0))
+
+-- the rows of batches behind others
+rows_behind : (schema : Option SchemaShape) (ts us : List Table) → (added : List ℕ) × (stream_text schema (ts ++ us) ≡ stream_text schema ts ++ added)
+rows_behind None ts us = ([], refl)
+rows_behind (Some shape) ts us =
+    let head = header_record shape.fields in
+    let added = batches_text (0 + length ts) us in
+    (added, ap (λ t. head ++ t) (batches_join 0 ts us) ∙ sym (append_assoc head (batches_text 0 ts) added))
+
+-- the text of messages behind others, by one schema
+more_text : (report : Report) (schema : Option SchemaShape) (es more : List Entry) (text : List ℕ) → IsTextOf report schema es text → (added : List ℕ) × IsTextOf report schema (es ++ more) (text ++ added)
+more_text Messages schema es more text is = lines_behind schema 0 0 es more text is
+more_text Rows schema es more text is =
+    let w = rows_behind schema (tables_of es) (tables_of more) in
+    (w.0, ap (λ t. t ++ w.0) is ∙ sym w.1 ∙ ap (stream_text schema) (sym (tables-append es more)))
+
+-- the text of a beginning of bytes goes on to one of all
+text_behind : (report : Report) {l : LimitNumbers} {b : List ℕ} {es fs : List Entry} {e f : Standing} (c text : List ℕ) → FrontOf l b es e → FrontOf l (b ++ c) fs f → IsTextOf report e.state.schema es text
+    → (added : List ℕ) × IsTextOf report f.state.schema fs (text ++ added)
+text_behind Messages {es = []} {fs = fs} {f = f} c text x y is = more_text Messages f.state.schema [] fs text is
+text_behind Rows {es = []} {fs = fs} {e = e} {f = f} c text x y is =
+    let none : text ≡ [] = is ∙ ap (λ (s : StreamState). stream_text s.schema []) (state_stays x refl) in
+    let all = stream_text f.state.schema (tables_of fs) in
+    (all, ap (λ t. t ++ all) none)
+text_behind report {es = z ∷ zs} {fs = fs} {e = e} {f = f} c text x y is =
+    let m = (more_bytes c x y).0 in
+    let w = more_text report e.state.schema (z ∷ zs) m.0 text is in
+    (w.0, subst (λ s. IsTextOf report s fs (text ++ w.0)) (sym (schema_kept c x y refl (λ q. cc))) (subst (λ r. IsTextOf report e.state.schema r (text ++ w.0)) (sym m.1) w.1))
+
+-- what is begun of a beginning of bytes is begun of the front of all
+pub text_of_front : TextOfFront
+text_of_front report limits bytes before after es e y x = by x.is_last
+  where
+    all : FrontOf limits (x.taken ++ x.rest) es e
+    all = at_bytes (sym x.whole) y
+
+    by : (x.last ≡ []) ⊎ ((x.rest ≡ []) × IsEnding report x.standing.place x.last) → IsBegunOf report es e before after
+    by (inl none) =
+        let w = text_behind report x.rest x.text x.front all x.is in
+        let begun : AcceptsBeginning before after x.text = subst (AcceptsBeginning before after) (ap (λ t. x.text ++ t) none ∙ append-nil x.text) x.wrote in
+        record {
+          text = x.text ++ w.0;
+          is = w.1;
+          last = [];
+          is_last = inl refl;
+          wrote = begun_longer before after (x.text ++ w.0) [] (begun_longer before after x.text w.0 begun);
+        }
+    by (inr (none, ending)) =
+        let same = one_front (at_bytes (sym (append-nil x.taken) ∙ ap (λ t. x.taken ++ t) (sym none)) x.front) all in
+        record {
+          text = x.text;
+          is = subst (λ r. IsTextOf report e.state.schema r x.text) same.0 (subst (λ (s : Standing). IsTextOf report s.state.schema x.entries x.text) same.1 x.is);
+          last = x.last;
+          is_last = inr (subst (λ (s : Standing). IsEnding report s.place x.last) same.1 ending);
+          wrote = x.wrote;
+        }
