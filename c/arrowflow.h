@@ -7,7 +7,9 @@
  *
  * Ownership   Nothing that a call answers has to be freed, but for a reader: what
  *             arrowflow_reader_open made, arrowflow_reader_close frees. A call keeps no pointer:
- *             bytes and rooms may be freed or changed as soon as it has returned.
+ *             bytes and rooms may be freed or changed as soon as it has returned. The pointers that
+ *             arrowflow_reader_column gives are the reader's: they are read alone, and until the
+ *             next call of arrowflow_reader_read, _open or _close.
  * Errors      A call answers a struct whose `kind` is ARROWFLOW_FINE or says why not (enum
  *             arrowflow_kind; arrowflow_kind_name has its name). It never aborts, prints or sets
  *             errno.
@@ -227,6 +229,52 @@ arrowflow_fault arrowflow_reader_end(arrowflow_reader *reader);
 arrowflow_cell arrowflow_reader_cell(arrowflow_reader *reader, size_t column, size_t row,
                                      uint8_t *out, size_t room);
 
+/* How the slots of a column lie in its buffers: Arrow Columnar Format, "Physical Memory Layout". */
+enum arrowflow_layout {
+    ARROWFLOW_NO_COLUMN = 0,   /* no batch, or nothing where the path leads */
+    ARROWFLOW_NULLS = 1,       /* no buffer: no slot has a value */
+    ARROWFLOW_BITS = 2,        /* slot i is bit i of `values` */
+    ARROWFLOW_NUMBERS = 3,     /* slot i is the number of `width` bytes at byte width * i */
+    ARROWFLOW_BINARIES = 4,    /* slot i is `values` from offset i up to offset i + 1 */
+    ARROWFLOW_TEXTS = 5,       /* the same, and UTF-8 */
+    ARROWFLOW_FIXED_BYTES = 6, /* slot i is the `width` bytes at byte width * i */
+    ARROWFLOW_LISTS = 7,       /* slot i are the child's slots from offset i up to offset i + 1 */
+    ARROWFLOW_STRUCTS = 8,     /* slot i is slot i of each child */
+    ARROWFLOW_INDICES = 9      /* slot i is the number of a value of the dictionary, as NUMBERS */
+};
+
+/* A column as its buffers. Numbers and offsets are little-endian, and may lie at any address: they
+ * are read byte by byte, or by memcpy. Where a length is 0 its pointer is of nothing, and not NULL.
+ * A buffer has the bytes that the slots take, and may have more. */
+typedef struct {
+    uint32_t layout;         /* enum arrowflow_layout */
+    bool has_sign;           /* of numbers and indices: two's complement */
+    uint64_t width;          /* bytes of a number, an index, a byte string of FIXED_BYTES or an offset */
+    uint64_t slots;          /* of a column of the batch, as many as rows */
+    uint64_t children;       /* of LISTS 1, of STRUCTS one for each field */
+    uint64_t entries;        /* of INDICES, how many values the dictionary has */
+    uint64_t slot;           /* where the path ends with a value of a dictionary, the slot it stands in */
+    const uint8_t *validity; /* bit i: slot i has a value; of 0 bytes: each slot has one */
+    size_t validity_len;
+    const uint8_t *offsets; /* slots + 1 of them; of no slots, there may be 0 bytes */
+    size_t offsets_len;
+    const uint8_t *values;
+    size_t values_len;
+} arrowflow_column;
+
+/* Tells in *column where the buffers lie of a column of the batch that the last call of
+ * arrowflow_reader_read gave. path[0] is the number of the column, and each number behind it leads a
+ * level down: below LISTS it is 0, below STRUCTS that of a field, and below INDICES that of a value
+ * of the dictionary, which leads to the array that this value stands in, at `slot`. The array's other
+ * slots are the dictionary's values around it, one after another, so that value n - slot + slots is
+ * the first of the next array. Depth 0 leads nowhere.
+ * All of it was tested when the batch was read: offsets never fall and end inside the child or the
+ * values, and in a slot that has a value an index is below `entries` and a text is UTF-8. What stands
+ * in a slot without a value says nothing.
+ * The pointers in *column are not NULL before the call: arrowflow_column_at sees to that. */
+void arrowflow_reader_column(arrowflow_reader *reader, const size_t *path, size_t depth,
+                             arrowflow_column *column);
+
 /* Ends the reader, if there is one, frees what it holds, and leaves the handle as
  * ARROWFLOW_CLOSED. */
 void arrowflow_reader_close(arrowflow_reader *reader);
@@ -245,6 +293,15 @@ static inline const uint8_t *arrowflow_some(const uint8_t *at) {
 static inline uint8_t *arrowflow_some_room(uint8_t *at) {
     static uint8_t none = 0;
     return at == NULL ? &none : at;
+}
+
+/* A column as its buffers, by value. */
+static inline arrowflow_column arrowflow_column_at(arrowflow_reader *reader, const size_t *path, size_t depth) {
+    static const size_t nowhere = 0;
+    const uint8_t *none = arrowflow_some(NULL);
+    arrowflow_column column = {0, false, 0, 0, 0, 0, 0, none, 0, none, 0, none, 0};
+    arrowflow_reader_column(reader, path == NULL ? &nowhere : path, depth, &column);
+    return column;
 }
 
 #define arrowflow_check(bytes, len, limits) arrowflow_check(arrowflow_some(bytes), len, limits)

@@ -1,11 +1,11 @@
 /* usage: flood SEED COUNT FILE..
  *
  * Changes streams at random and compares what the calls of arrowflow.h say of each: check with a
- * reader in other pieces, with the messages, the schema and the rows; and what copy writes with what
- * was read, with its own copy, and with itself in rooms that are too small. Ends with status 1 and the
- * stream in a file `flood.NUMBER.arrows` at the first disagreement, and with a signal where the calls
- * on one stream take more than 20 seconds of a processor. Prints how many streams there were of each kind,
- * also where it is interrupted.
+ * reader in other pieces, whose columns are read, with the messages, the schema and the rows; and
+ * what copy writes with what was read, with its own copy, and with itself in rooms that are too small.
+ * Ends with status 1 and the stream in a file `flood.NUMBER.arrows` at the first disagreement, and
+ * with a signal where the calls on one stream take more than 20 seconds of a processor. Prints how
+ * many streams there were of each kind, also where it is interrupted.
  */
 #include "../c/arrowflow.h"
 
@@ -114,7 +114,32 @@ static void fail(const char *why) {
 
 static uint8_t copies[2][ROOM];
 
-/* What a reader finds in pieces of random lengths, and whether cells can be asked for. */
+/* Reads each byte of a buffer. */
+static bool is_read(const uint8_t *bytes, size_t size) {
+    uint64_t sum = 0;
+    for (size_t i = 0; i < size; i++) sum += bytes[i];
+    return sum <= 255 * size;
+}
+
+/* Reads the buffers of a column, and of what a random path leads to below it, which have what their slots take. */
+static void look_into(arrowflow_reader *reader, size_t column, uint64_t rows) {
+    size_t path[40] = {column};
+    for (size_t depth = 1; depth < 40; depth++) {
+        arrowflow_column of = arrowflow_column_at(reader, path, depth);
+        bool has_offsets = of.layout == ARROWFLOW_BINARIES || of.layout == ARROWFLOW_TEXTS || of.layout == ARROWFLOW_LISTS;
+        uint64_t bits = of.layout == ARROWFLOW_BITS ? of.slots : has_offsets ? 0 : of.slots * of.width * 8;
+        uint64_t below_it = of.children > 0 ? of.children : of.entries;
+        WANT(of.layout != ARROWFLOW_NO_COLUMN && (depth > 1 ? of.slot < of.slots || of.slot == 0 : of.slots == rows));
+        WANT(of.validity_len == 0 || of.slots <= 8 * of.validity_len);
+        WANT(bits <= 8 * of.values_len);
+        WANT(!has_offsets || of.slots + of.offsets_len == 0 || of.width * (of.slots + 1) <= of.offsets_len);
+        WANT(is_read(of.validity, of.validity_len) && is_read(of.offsets, of.offsets_len) && is_read(of.values, of.values_len));
+        if (below_it == 0) return;
+        path[depth] = below(below_it);
+    }
+}
+
+/* What a reader finds in pieces of random lengths, and whether cells and columns can be asked for. */
 static arrowflow_report in_pieces(void) {
     arrowflow_reader reader = ARROWFLOW_CLOSED;
     arrowflow_report found = {0, false, 0, 0, 0};
@@ -137,6 +162,7 @@ static arrowflow_report in_pieces(void) {
             arrowflow_cell cell = arrowflow_reader_cell(&reader, column, row, text, sizeof text);
             WANT((cell.what == ARROWFLOW_NO_CELL) == !has);
             WANT(arrowflow_reader_cell(&reader, column, step.rows, text, 0).what == ARROWFLOW_NO_CELL);
+            if (step.columns > 0) look_into(&reader, column, step.rows);
         }
     }
     arrowflow_fault end = arrowflow_reader_end(&reader);

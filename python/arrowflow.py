@@ -9,6 +9,9 @@ for C (c/arrowflow.h) over ctypes. `c/build` makes the shared library; ARROWFLOW
         for piece in pieces:
             for batch in reader.feed(piece):
                 print(batch.rows, batch.columns, batch.row(0))
+                ages = batch.column(1)    # layout, width, and the buffers as memoryviews, of which none is copied
+                if ages.layout == arrowflow.Layout.NUMBERS and ages.width == 4 and not ages.validity:
+                    print(sum(ages.values.cast("i")))
         reader.end()
 
 `data` and `piece` are bytes, or anything that `bytes` takes, which is copied first. With arguments it is a program:
@@ -50,6 +53,20 @@ class Kind(enum.IntEnum):
 
     def __str__(self):
         return self.name.title().replace("_", "")
+
+
+class Layout(enum.IntEnum):
+    """How the slots of a column lie in its buffers: Arrow Columnar Format, "Physical Memory Layout"."""
+    NO_COLUMN = 0
+    NULLS = 1
+    BITS = 2
+    NUMBERS = 3
+    BINARIES = 4
+    TEXTS = 5
+    FIXED_BYTES = 6
+    LISTS = 7
+    STRUCTS = 8
+    INDICES = 9
 
 
 class Fault(Exception):
@@ -107,6 +124,13 @@ class _Cell(ctypes.Structure):
                 ("size", ctypes.c_uint64)]
 
 
+class _Column(ctypes.Structure):
+    _fields_ = [("layout", ctypes.c_uint32), ("has_sign", ctypes.c_bool),
+                *((name, ctypes.c_uint64) for name in ("width", "slots", "children", "entries", "slot")),
+                *((name, kind) for buffer in ("validity", "offsets", "values")
+                  for name, kind in ((buffer, ctypes.c_void_p), (f"{buffer}_len", ctypes.c_size_t)))]
+
+
 # ---- the calls
 
 _TOP = os.path.dirname(os.path.dirname(os.path.abspath(__file__)))
@@ -121,6 +145,7 @@ _CALLS = {
     "reader_read": (_Step, [_HANDLE, ctypes.c_void_p, ctypes.c_size_t]),
     "reader_end": (_End, [_HANDLE]),
     "reader_cell": (_Cell, [_HANDLE, ctypes.c_size_t, ctypes.c_size_t, *_ROOM]),
+    "reader_column": (None, [_HANDLE, ctypes.POINTER(ctypes.c_size_t), ctypes.c_size_t, ctypes.POINTER(_Column)]),
     "reader_close": (None, [_HANDLE]),
 }
 
@@ -136,6 +161,7 @@ def _loaded(place):
 
 _c = _loaded(os.environ.get("ARROWFLOW_LIBRARY") or f"{_TOP}/c/out/libarrowflow.so")
 STANDARD = Limits(1 << 26, 1 << 36, (1 << 31) - 1)
+_NONE = ctypes.c_ubyte()
 
 
 def check(data, limits=STANDARD):
@@ -190,6 +216,35 @@ class Nested:
         return "..."
 
 
+class Column:
+    """A column of a batch, or what stands below one: its layout, how many slots it has, how many bytes a number, an index, a byte
+    string of FIXED_BYTES or an offset takes, whether numbers have a sign, and its buffers as memoryviews of bytes. Bit i of
+    `validity` says whether slot i has a value; where it is empty, each slot has one. `offsets` and `values` are little-endian, and
+    may have bytes behind those of the slots. The views hold until the reader is asked for the next batch, which releases them: of
+    parts that are made of a view no more than that is known, and they are let go before."""
+
+    def __init__(self, batch, path):
+        told = batch._column(path)
+        self._batch, self._path, self.layout, self.slots, self.width, self.has_sign = (
+            batch, path, Layout(told.layout), told.slots, told.width, told.has_sign)
+        self.children, self.entries, self.slot = told.children, told.entries, told.slot
+        self.validity, self.offsets, self.values = (
+            batch._view(getattr(told, name), getattr(told, f"{name}_len")) for name in ("validity", "offsets", "values"))
+
+    def child(self, number=0):
+        """The child of lists, or that of a field of structs: slot i of a struct is slot i of each child."""
+        if not 0 <= number < self.children:
+            raise IndexError(f"no child {number} of {self.children}")
+        return Column(self._batch, [*self._path, number])
+
+    def entry(self, number):
+        """Where a value of the dictionary of INDICES stands: a column, whose `slot` is that value's. Its other slots are the values
+        of the dictionary around it."""
+        if not 0 <= number < self.entries:
+            raise IndexError(f"no value {number} of {self.entries}")
+        return Column(self._batch, [*self._path, number])
+
+
 class Batch:
     """A batch that a reader gave: how many rows and columns it has, and its values. It holds until the reader is asked for the
     next one, and raises Fault afterwards."""
@@ -202,9 +257,30 @@ class Batch:
         timestamp or a duration its units), bytes, a str, or a Nested."""
         if not (0 <= column < self.columns and 0 <= row < self.rows):
             raise IndexError(f"no column {column} and row {row} in {self.columns} columns of {self.rows} rows")
+        self._ask()
+        return self._reader._cell(column, row)
+
+    def column(self, number):
+        """A column, from 0, as its buffers."""
+        if not 0 <= number < self.columns:
+            raise IndexError(f"no column {number} of {self.columns}")
+        return Column(self, [number])
+
+    def _ask(self):
         if self._reader._number != self._number:
             raise Fault(Kind.NO_READER, 0)
-        return self._reader._cell(column, row)
+
+    def _column(self, path):
+        self._ask()
+        none = ctypes.addressof(_NONE)
+        told = _Column(validity=none, offsets=none, values=none)
+        _c["reader_column"](self._reader._handle, (ctypes.c_size_t * len(path))(*path), len(path), told)
+        return told
+
+    def _view(self, at, size):
+        view = memoryview((ctypes.c_ubyte * size).from_address(at)).toreadonly().cast("B") if size else memoryview(b"")
+        self._reader._views.append(view)
+        return view
 
     def row(self, row):
         """The values of a row."""
@@ -215,7 +291,7 @@ class Reader:
     """A reader of a stream that comes in pieces. It stays on the thread that made it."""
 
     def __init__(self, limits=STANDARD):
-        self._handle, self._number = _Handle(None, False), 0
+        self._handle, self._number, self._views = _Handle(None, False), 0, []
         kind = _c["reader_open"](limits, self._handle)
         if kind:
             raise Fault(kind, 0)
@@ -226,7 +302,7 @@ class Reader:
         piece, at = bytes(piece), 0
         start = ctypes.cast(ctypes.c_char_p(piece), ctypes.c_void_p).value
         while True:
-            self._number += 1
+            self._let_go()
             step = _c["reader_read"](self._handle, start + at, len(piece) - at)
             if step.kind:
                 raise Fault(step.kind, step.place)
@@ -235,6 +311,15 @@ class Reader:
                 yield Batch(self, step)
             if step.what in (0, 4):
                 return
+
+    def _let_go(self):
+        self._number += 1
+        for view in self._views:
+            try:
+                view.release()
+            except BufferError: # the caller made another view of it
+                pass
+        self._views.clear()
 
     def _cell(self, column, row):
         size = 64
@@ -256,7 +341,7 @@ class Reader:
 
     def close(self):
         """Frees what the reader holds. It takes nothing afterwards."""
-        self._number += 1
+        self._let_go()
         _c["reader_close"](self._handle)
 
     def __enter__(self):

@@ -1,8 +1,8 @@
-/* usage: check schema|check|show FILE, check --bad
+/* usage: check schema|check|show FILE, check --bad [FILE..]
  *
  * Prints what `arrowflow schema`, `check` and `show` print of a stream, and ends as they do. Before
- * that the stream is checked, and read again in pieces, which has to give the same. With --bad each
- * call is given what no stream is.
+ * that the stream is checked, and read again in pieces, which has to give the same, and each value
+ * has to stand in the buffers of its column. With --bad each call is given what no stream is.
  */
 #include "arrowflow.h"
 
@@ -27,6 +27,71 @@ static uint8_t *read_file(const char *name, size_t *len) {
     return bytes;
 }
 
+/* The number of so many bytes, the first of them the least significant. */
+static uint64_t number_at(const uint8_t *at, size_t width) {
+    uint64_t number = 0;
+    for (size_t k = width; k-- > 0;) number = number << 8 | at[k];
+    return number;
+}
+
+/* The same, of slot i of numbers or indices, a negative one as two's complement of 64 bits. */
+static uint64_t number_of(const arrowflow_column *of, size_t i) {
+    uint64_t number = number_at(of->values + of->width * i, of->width);
+    bool is_negative = of->has_sign && of->width < 8 && number >> (8 * of->width - 1);
+    return is_negative ? number | UINT64_MAX << 8 * of->width : number;
+}
+
+static bool bit_at(const uint8_t *bits, size_t i) { return bits[i / 8] >> i % 8 & 1; }
+
+/* Whether a cell has just these bytes, which the call put into the room. */
+static bool has_bytes(arrowflow_cell cell, uint32_t what, const uint8_t *room, const uint8_t *from, size_t len) {
+    return cell.what == what && cell.size == len && memcmp(room, from, len < 64 ? len : 64) == 0;
+}
+
+/* Whether the value of a cell is what stands in slot i of the column that the path leads to. */
+static bool is_in_column(arrowflow_reader *reader, size_t *path, size_t depth, size_t i, arrowflow_cell cell,
+                         const uint8_t *room) {
+    arrowflow_column of = arrowflow_column_at(reader, path, depth), below;
+    uint64_t start = 0, end = 0;
+    if (of.layout == ARROWFLOW_NO_COLUMN || i >= of.slots) return false;
+    if (of.layout == ARROWFLOW_NULLS || (of.validity_len > 0 && !bit_at(of.validity, i)))
+        return cell.what == ARROWFLOW_NULL;
+    if (of.layout == ARROWFLOW_BINARIES || of.layout == ARROWFLOW_TEXTS || of.layout == ARROWFLOW_LISTS) {
+        start = number_at(of.offsets + of.width * i, of.width);
+        end = number_at(of.offsets + of.width * (i + 1), of.width);
+    }
+    switch (of.layout) {
+    case ARROWFLOW_BITS: return cell.what == ARROWFLOW_BOOL && cell.truth == bit_at(of.values, i);
+    case ARROWFLOW_NUMBERS:
+        return cell.what == ARROWFLOW_NUMBER ? (uint64_t)cell.number == number_of(&of, i)
+                                             : cell.what == ARROWFLOW_LARGE && cell.large == number_of(&of, i);
+    case ARROWFLOW_BINARIES: return has_bytes(cell, ARROWFLOW_BYTES, room, of.values + start, end - start);
+    case ARROWFLOW_TEXTS: return has_bytes(cell, ARROWFLOW_UTF8, room, of.values + start, end - start);
+    case ARROWFLOW_FIXED_BYTES: return has_bytes(cell, ARROWFLOW_BYTES, room, of.values + of.width * i, of.width);
+    case ARROWFLOW_INDICES:
+        path[depth] = number_of(&of, i);
+        below = arrowflow_column_at(reader, path, depth + 1);
+        return path[depth] < of.entries && is_in_column(reader, path, depth + 1, below.slot, cell, room);
+    default:
+        path[depth] = 0;
+        below = arrowflow_column_at(reader, path, depth + 1);
+        if (of.layout == ARROWFLOW_LISTS) return cell.what == ARROWFLOW_LIST && start <= end && end <= below.slots;
+        return cell.what == ARROWFLOW_STRUCT && (of.children == 0 || i < below.slots);
+    }
+}
+
+/* Whether each value of the batch that came last stands in the buffers of its column. */
+static bool are_in_columns(arrowflow_reader *reader, arrowflow_step step) {
+    for (size_t column = 0; column < step.columns; column++)
+        for (size_t row = 0; row < step.rows; row++) {
+            uint8_t room[64];
+            size_t path[8] = {column};
+            arrowflow_cell cell = arrowflow_reader_cell(reader, column, row, room, sizeof room);
+            if (!is_in_column(reader, path, 1, row, cell, room)) return false;
+        }
+    return true;
+}
+
 /* What a reader finds that is given the stream in pieces of this length. */
 static arrowflow_report in_pieces(const uint8_t *bytes, size_t len, size_t piece) {
     arrowflow_reader reader = ARROWFLOW_CLOSED;
@@ -38,7 +103,7 @@ static arrowflow_report in_pieces(const uint8_t *bytes, size_t len, size_t piece
         step = arrowflow_reader_read(&reader, bytes + at, given);
         found.kind = step.kind;
         found.ended = step.what == ARROWFLOW_END_READ;
-        if (step.what == ARROWFLOW_BATCH_READ) {
+        if (step.what == ARROWFLOW_BATCH_READ && are_in_columns(&reader, step)) {
             found.batches++;
             found.rows += step.rows;
         }
@@ -138,22 +203,33 @@ static void bad_streams(void) {
     WANT(room[0] == 9 && room[3] == 9);
 }
 
+/* Whether a path leads to no column, of which nothing is told. */
+static bool is_no_column(arrowflow_reader *reader, const size_t *path, size_t depth) {
+    arrowflow_column none = arrowflow_column_at(reader, path, depth);
+    return none.layout == ARROWFLOW_NO_COLUMN && none.slots == 0 && none.children == 0 && none.entries == 0
+        && none.validity_len == 0 && none.offsets_len == 0 && none.values_len == 0;
+}
+
 /* The calls of a reader: on no reader, with nothing, behind a fault, with bad limits, closed twice. */
 static void bad_readers(void) {
     const uint8_t junk[8] = {0};
+    const size_t path[2] = {0, SIZE_MAX};
     arrowflow_limits fine = arrowflow_standard_limits(), high = fine;
     high.max_rows++;
     arrowflow_reader reader = ARROWFLOW_CLOSED;
     WANT(arrowflow_reader_read(&reader, junk, 8).kind == ARROWFLOW_NO_READER);
     WANT(arrowflow_reader_end(&reader).kind == ARROWFLOW_NO_READER);
     WANT(arrowflow_reader_cell(&reader, 0, 0, NULL, 0).what == ARROWFLOW_NO_CELL);
+    WANT(is_no_column(&reader, NULL, 0) && is_no_column(&reader, path, 1) && is_no_column(&reader, path, 2));
     WANT(arrowflow_reader_open(high, &reader) == ARROWFLOW_BAD_LIMITS);
     arrowflow_reader_close(&reader);
     WANT(arrowflow_reader_open(fine, &reader) == ARROWFLOW_FINE);
     WANT(arrowflow_reader_read(&reader, NULL, 0).what == ARROWFLOW_NOTHING);
     WANT(arrowflow_reader_end(&reader).kind == ARROWFLOW_NO_SCHEMA);
+    WANT(is_no_column(&reader, NULL, 0) && is_no_column(&reader, path, 1));
     WANT(arrowflow_reader_read(&reader, junk, 8).kind == ARROWFLOW_CONTINUATION);
     WANT(arrowflow_reader_read(&reader, junk, 8).kind == ARROWFLOW_CONTINUATION);
+    WANT(is_no_column(&reader, path, 1));
     WANT(arrowflow_reader_read(&reader, junk, 8).taken == 0);
     WANT(arrowflow_reader_end(&reader).kind == ARROWFLOW_CONTINUATION);
     WANT(arrowflow_reader_cell(&reader, SIZE_MAX, SIZE_MAX, NULL, 0).what == ARROWFLOW_NO_CELL);
@@ -164,13 +240,40 @@ static void bad_readers(void) {
     WANT(!reader.live);
 }
 
+/* Paths that lead nowhere, out of the columns of each batch of a stream. */
+static void bad_paths(const uint8_t *bytes, size_t len) {
+    arrowflow_reader reader = ARROWFLOW_CLOSED;
+    arrowflow_step step = {0, 0, 0, 0, 0, 0, 0};
+    WANT(arrowflow_reader_open(arrowflow_standard_limits(), &reader) == ARROWFLOW_FINE);
+    for (size_t at = 0; at < len && step.kind == ARROWFLOW_FINE && step.what != ARROWFLOW_END_READ; at += step.taken) {
+        step = arrowflow_reader_read(&reader, bytes + at, len - at);
+        for (size_t k = 0; k < step.columns; k++) {
+            size_t path[2] = {k, 0}, none[2] = {k, SIZE_MAX}, past[1] = {step.columns};
+            arrowflow_column of = arrowflow_column_at(&reader, path, 1);
+            WANT(of.slots == step.rows && of.slot == 0);
+            WANT(is_no_column(&reader, path, 2) == (of.children == 0 && of.entries == 0));
+            WANT(is_no_column(&reader, none, 2) && is_no_column(&reader, past, 1) && is_no_column(&reader, path, 0));
+        }
+        if (step.what == ARROWFLOW_NOTHING) break;
+    }
+    arrowflow_reader_close(&reader);
+    WANT(is_no_column(&reader, NULL, 0));
+}
+
 int main(int argc, char **argv) {
-    if (argc == 2 && strcmp(argv[1], "--bad") == 0) {
+    size_t len;
+    uint8_t *bytes;
+    if (argc >= 2 && strcmp(argv[1], "--bad") == 0) {
         bad_streams();
         bad_readers();
+        for (int k = 2; k < argc; k++) {
+            WANT((bytes = read_file(argv[k], &len)) != NULL);
+            bad_paths(bytes, len);
+            free(bytes);
+        }
         return failed;
     }
     if (argc == 3) return tell(argv[1], argv[2]);
-    fprintf(stderr, "usage: check schema|check|show FILE, check --bad\n");
+    fprintf(stderr, "usage: check schema|check|show FILE, check --bad [FILE..]\n");
     return 2;
 }

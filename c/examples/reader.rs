@@ -1,12 +1,13 @@
 //! usage: reader FILE PIECE, reader --bad
 //!
 //! Reads a stream in pieces of so many bytes, and prints the number of the batch and the values of
-//! each row, as `arrowflow show` does below its first line; `...` stands for a list or a struct. With
-//! --bad the calls of a reader are given what no stream is.
+//! each row, as `arrowflow show` does below its first line; `...` stands for a list or a struct. Texts
+//! are printed out of the buffers of their column, everything else cell by cell. With --bad the calls
+//! of a reader are given what no stream is.
 
 use std::io::{self, BufWriter, Write};
 use std::process::ExitCode;
-use std::{env, fs, ptr};
+use std::{env, fs, ptr, slice};
 
 /// The calls of `arrowflow.h`.
 mod c {
@@ -53,16 +54,63 @@ mod c {
         pub size: u64,
     }
 
+    #[repr(C)]
+    pub struct Column {
+        pub layout: u32,
+        pub has_sign: bool,
+        pub width: u64,
+        pub slots: u64,
+        pub children: u64,
+        pub entries: u64,
+        pub slot: u64,
+        pub validity: *const u8,
+        pub validity_len: usize,
+        pub offsets: *const u8,
+        pub offsets_len: usize,
+        pub values: *const u8,
+        pub values_len: usize,
+    }
+
     unsafe extern "C" {
         pub fn arrowflow_reader_open(limits: Limits, reader: &mut Handle) -> u32;
         pub fn arrowflow_reader_read(reader: &mut Handle, piece: *const u8, len: usize) -> Step;
         pub fn arrowflow_reader_end(reader: &mut Handle) -> Fault;
         pub fn arrowflow_reader_cell(reader: &mut Handle, column: usize, row: usize, out: *mut u8, room: usize) -> Cell;
+        pub fn arrowflow_reader_column(reader: &mut Handle, path: *const usize, depth: usize, column: &mut Column);
         pub fn arrowflow_reader_close(reader: &mut Handle);
     }
 }
 
 const STANDARD: c::Limits = c::Limits { max_metadata: 1 << 26, max_body: 1 << 36, max_rows: i32::MAX as u64 };
+
+/// A column of the batch that came last, as its buffers.
+struct Column<'a> {
+    layout: u32,
+    slots: usize,
+    /// How many bytes a number, an index or an offset takes.
+    width: usize,
+    validity: &'a [u8],
+    offsets: &'a [u8],
+    values: &'a [u8],
+}
+
+impl<'a> Column<'a> {
+    fn is_null(&self, i: usize) -> bool {
+        !self.validity.is_empty() && self.validity[i / 8] >> (i % 8) & 1 == 0
+    }
+
+    fn offset(&self, i: usize) -> usize {
+        self.offsets[self.width * i..self.width * (i + 1)].iter().rev().fold(0, |sum, byte| sum << 8 | *byte as usize)
+    }
+
+    /// The text in slot i, if slots hold texts and this one has one.
+    fn text(&self, i: usize) -> Option<&'a str> {
+        if self.layout != 5 || self.is_null(i) {
+            return None;
+        }
+        Some(str::from_utf8(&self.values[self.offset(i)..self.offset(i + 1)]).expect("UTF-8, as was checked"))
+    }
+}
 
 /// A reader of a stream that comes in pieces. It is neither `Send` nor `Sync`, since its handle holds a pointer.
 struct Reader(c::Handle);
@@ -90,8 +138,49 @@ impl Reader {
         unsafe { c::arrowflow_reader_end(&mut self.0) }
     }
 
+    /// A column of the batch that came last, or what stands below one. Its buffers are the reader's, which the borrow keeps
+    /// as it is.
+    fn column<'a>(&'a mut self, path: &[usize]) -> Column<'a> {
+        let none: *const u8 = ptr::NonNull::dangling().as_ptr();
+        let mut it = c::Column {
+            layout: 0,
+            has_sign: false,
+            width: 0,
+            slots: 0,
+            children: 0,
+            entries: 0,
+            slot: 0,
+            validity: none,
+            validity_len: 0,
+            offsets: none,
+            offsets_len: 0,
+            values: none,
+            values_len: 0,
+        };
+        // SAFETY: as in `read`; no pointer is NULL, and those that come out are read until the reader is used again.
+        unsafe {
+            c::arrowflow_reader_column(&mut self.0, path.as_ptr(), path.len(), &mut it);
+            Column {
+                layout: it.layout,
+                slots: it.slots as usize,
+                width: it.width as usize,
+                validity: slice::from_raw_parts(it.validity, it.validity_len),
+                offsets: slice::from_raw_parts(it.offsets, it.offsets_len),
+                values: slice::from_raw_parts(it.values, it.values_len),
+            }
+        }
+    }
+
     /// A value of the batch that came last, as `show` prints it.
-    fn text(&mut self, column: usize, row: usize) -> String {
+    fn shown(&mut self, column: usize, row: usize) -> String {
+        match self.column(&[column]).text(row) {
+            Some(text) => quoted(text),
+            None => self.cell(column, row),
+        }
+    }
+
+    /// The same, of a cell.
+    fn cell(&mut self, column: usize, row: usize) -> String {
         let mut room = vec![0; 64];
         loop {
             // SAFETY: as in `read`; the room is a vector's own.
@@ -142,10 +231,12 @@ fn print(stream: &[u8], size: usize, out: &mut impl Write) -> io::Result<c::Faul
             let step = reader.read(piece);
             piece = &piece[step.taken as usize..];
             if step.what == 3 {
+                let mut columns = 0..step.columns as usize;
+                assert!(columns.all(|k| reader.column(&[k]).slots == step.rows as usize), "a slot for each row");
                 for row in 0..step.rows as usize {
                     write!(out, "{number}")?;
                     for column in 0..step.columns as usize {
-                        write!(out, ",{}", reader.text(column, row))?;
+                        write!(out, ",{}", reader.shown(column, row))?;
                     }
                     writeln!(out)?;
                 }
@@ -172,7 +263,8 @@ fn bad() -> bool {
         && (fault.kind, fault.place, fault.taken) == (1, 0, 0)
         && again == fault
         && end == c::Fault { kind: 1, place: 0 }
-        && reader.text(usize::MAX, 0) == "no cell"
+        && reader.shown(usize::MAX, 0) == "no cell"
+        && [&[][..], &[0], &[0, usize::MAX]].iter().all(|path| reader.column(path).layout == 0)
 }
 
 fn main() -> ExitCode {

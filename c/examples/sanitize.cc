@@ -78,6 +78,12 @@ void bad(const Bytes &stream) {
     want(small == Bytes({0xff, 0xff, 0xff, 0xff, 7}), "and holds its front alone");
     told = arrowflow_copy(stream.data(), stream.size(), high, plain, small.data(), 4);
     want(told.kind == ARROWFLOW_BAD_LIMITS, "limits have ceilings");
+    arrowflow_reader reader = ARROWFLOW_CLOSED;
+    const std::size_t path = 0;
+    want(arrowflow_reader_open(limits, &reader) == ARROWFLOW_FINE, "a reader is opened");
+    want(arrowflow_reader_read(&reader, stream.data(), stream.size()).what == ARROWFLOW_SCHEMA_READ, "it reads a schema");
+    want(arrowflow_column_at(&reader, &path, 1).layout == ARROWFLOW_NO_COLUMN, "a schema is no batch");
+    arrowflow_reader_close(&reader);
     limits.max_metadata = 144;
     told = arrowflow_copy(stream.data(), stream.size(), limits, plain, small.data(), 4);
     want(told.kind == ARROWFLOW_SCHEMA_TOO_LARGE, "a copy that is past a limit is refused");

@@ -6,3 +6,5 @@ pub mod Owned
 pub mod Steps
 pub mod Reading
 pub mod Cells
+pub mod Columns
+pub mod Lending

@@ -3,9 +3,10 @@
 //!
 //! An export takes bytes by a pointer and a length, and numbers and plain structs by value. It
 //! answers a plain struct, and puts texts into the caller's room: nothing that it gives has to be
-//! freed. A reader alone is kept between calls, behind a handle. Each export makes one call of the
-//! crates below, and its contract says that call's promise again, of the bytes that it was given.
-//! What a caller owes stands in the header `c/arrowflow.h`.
+//! freed. A reader alone is kept between calls, behind a handle; where the buffers of its batch lie
+//! is told by address. Each export makes one call of the crates below, and its contract says that
+//! call's promise again, of the bytes that it was given. What a caller owes stands in the header
+//! `c/arrowflow.h`.
 //!
 //! | Notion | Definition |
 //! |---|---|
@@ -14,10 +15,12 @@
 //! | what is put into the caller's room | `specs/Texts.antt`: `Gives`, `filled` |
 //! | what a reader does between two calls | `specs/Reading.antt`: `ReadsIf`, `Opens`, `Ends` |
 //! | the value of a cell | `specs/Cells.antt`: `CellIf` |
-//! | what a handle owns | `specs/Owned.antt` |
+//! | a column as its buffers | `specs/Columns.antt`: `ColumnIf` |
+//! | what a handle owns, and lends | `specs/Owned.antt`, `specs/Lending.antt` |
 #![tactic(auto)]
 
 mod cells;
+mod columns;
 mod copying;
 mod handle;
 mod kinds;
@@ -32,6 +35,7 @@ mod terms;
 mod texts;
 
 pub use cells::CellC;
+pub use columns::ColumnC;
 pub use handle::ReaderC;
 pub use slot::Slot;
 pub use steps::{FaultC, StepC};

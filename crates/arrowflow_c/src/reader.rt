@@ -2,10 +2,12 @@
 
 ghost use Rattle.std.specs.Prelude.{◌≡◌, None};
 ghost use Rattle.arrowflow_c.specs.Cells.{CellIf};
+ghost use Rattle.arrowflow_c.specs.Columns.{ColumnIf};
 ghost use Rattle.arrowflow_c.specs.Terms.{numbers};
 ghost use Rattle.arrowflow_c.specs.Reading.{Ends, Opens, ReadsIf};
 
 use crate::cells::{CellC, cell_at};
+use crate::columns::{ColumnC, column_at};
 use crate::handle::ReaderC;
 use crate::kinds::{BAD_LIMITS, MEMORY, NO_READER};
 use crate::reading::Reading;
@@ -89,6 +91,25 @@ pub extern "C" fn arrowflow_reader_cell(
         }
         None => CellC::none(),
     }
+}
+
+/// Tells of a column of the batch that the last call of `arrowflow_reader_read` gave where its
+/// buffers lie, which stay there until the handle is used again. The path has the number of the
+/// column, and behind it, from level to level, what stands below: of lists 0, of structs the number
+/// of a field, of indices the number of a value of the dictionary, which leads to the array that this
+/// value stands in. All are counted from 0.
+#[unsafe(no_mangle)]
+pub extern "C" fn arrowflow_reader_column<'a>(
+    reader: &'a mut ReaderC,
+    path: &[usize],
+    column: &mut ColumnC<'a>,
+)
+    ensures { ColumnIf reader.old.slot.value path.now column.new }
+{
+    *column = match reader.reading() {
+        Some(reading) => column_at(&reading.batch, path),
+        None => ColumnC::none(),
+    };
 }
 
 /// Ends the reader, if there is one, and frees what it holds.

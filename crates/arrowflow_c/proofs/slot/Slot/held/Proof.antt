@@ -1,0 +1,126 @@
+-- `held` lends the reader at the address, and the slot follows it.
+use mathlib.Core.Path.{◌≡◌, refl, sym, ap}
+use Prim.Native.Nat.{ℕ}
+use mathlib.Core.List.{List, [], ◌∷◌}
+use seplogic.Ra.Ura.{Ura}
+use base.Fraction.{full_share}
+use mir.Syntax.{named}
+use mir.Val.{Val, vptr}
+use base.Logic.{SProp, ent, sep, emp, via, fst∗, snd∗}
+use base.Fml.{Lft, GName, Share, Fml, ftrue, flft, fsep}
+use prog.Memory.{Memory}
+use prog.Routine.{Routine}
+use prog.Wp.{Env, Calls, Loops, WpFn, Tables}
+use types.Logic.{Logic, sem}
+use sound.WpLaws.{WpFn-mono}
+use types.Kit.{‵, ◌⊛◌, some, at_ret, ◌$◌, ◌∵◌, !, qed, by, move, keep, use1, drop, split, join, pick, fsplit, fsplit3, fjoin, suffices, frame, done, raw, later, await, group, fpack, rewrite}
+use types.Part.{whole, sub, look_in}
+use types.Run.{stop, fld, load, of_opd, first, blocks, exec, returns, enter, addr}
+use types.ByLocal.{alloc_all, pass_all, free_all, look_at, get, through, sets, env, sets_last}
+use denote.RattleType.{RattleType, owns}
+use denote.Memory.{lone, part_at, mem, cell_at, part_of}
+use denote.RawPtr.{Ptr, block_ptr, ptr_val}
+use denote.Ref.{MutRef, mut_vals, mut_Tells}
+use denote.Signature.{plain, mut_ref_to}
+use denote.Steps.{nothing, opens}
+use denote.Triple.Entry.{on_entry}
+use denote.Triple.Spec.{Meets, triple_of}
+use denote.Triple.Walked.{says, Stays, stay_dropped, walk_of, ends_at, walked, walk_Meets, Goes-spent_ref}
+use denote.Triple.Table.{entered}
+use mir.Raw.{raw as bare}
+use contract.Monad.{Fun, fact, fact_use}
+use contract.Running.{tables, tables_of}
+use denote.Exit.{no}
+use denote.Follow.{follows, Part, lends_Part}
+use Rattle.std.proofs.alloc.Shapes.{after}
+use Rattle.std.specs.Prelude.{IsTrue, is_some, Option, None, Some}
+use Rattle.std.specs.contracts.impls.GlobalAllocator.TheImpl.{ghosts}
+use Rattle.arrowflow_c.specs.Lending.{with_held}
+use Rattle.arrowflow_c.specs.Owned.{heap, owned}
+use Rattle.arrowflow_c.specs.declared.reading.Reading.{Reading}
+use Rattle.arrowflow_c.specs.contracts.reading.Reading as held
+use Rattle.arrowflow_c.specs.contracts.slot.Slot as slot
+use Rattle.arrowflow_c.proofs.Addresses.{one_val, slot_in, slot_out}
+use Rattle.arrowflow_c.specs.contracts.slot.Slot.held as F
+use Rattle.arrowflow_c.specs.contracts.slot.Slot.held.Key.{name as #self}
+use Rattle.arrowflow_c.proofs.slot.Slot.held.Statement.{statement}
+use Rattle.arrowflow_c.proofs.slot.Slot.held.Code as code
+
+abbrev B : RattleType
+B = slot.the_row
+
+abbrev R : RattleType
+R = held.the_row
+
+held_in : (o : Option Reading) → IsTrue (is_some o) → (x : Reading) × (o ≡ Some x)
+held_in None there = absurd (cc)
+held_in (Some x) there = (x, refl)
+
+abbrev stayed : Stays (F.ended).signature.params (F.ended).kept
+stayed = (stay_dropped (mut_ref_to (0 ∷ []) tt (plain (λ _. B))) no, tt)
+
+module _ {M : Type 1} {𝓤 : Ura M} (𝓛 : Logic 𝓤) (at_mem : Memory → SProp 𝓤) (run : Routine → Fun 𝓤) where
+  open 𝓛 use {H, A}
+
+  module _ (κ : Lft) (q : Share) (rb ro : ℕ) (γ : GName) (d : B.Denot) (x : Reading) (is : d.value ≡ Some x) where
+    abbrev bound : (walk_of 𝓛 F.ended stayed (F.clauses 𝓛 at_mem run)).Ghost
+    bound = (((κ, tt), (q, tt), tt, (record { ref_ptr = (rb, ro); ghost_name = γ; now = d }, tt), (vptr rb ro ∷ [], tt)), tt)
+
+    abbrev Post : Val → SProp 𝓤
+    Post = (walk_of 𝓛 F.ended stayed (F.clauses 𝓛 at_mem run)).post bound
+
+    module _ (b o : ℕ) where
+      -- all of the slot but its reader
+      abbrev Rest : Fml
+      Rest = fsep (ghosts.dealloc_token heap (bare (lone R.mir)) (block_ptr b o)) (cell_at full_share B.mir (one_val (vptr b o) ∷ []) rb ro)
+
+      back : d.at ≡ block_ptr b o → (w : Reading) → ent 𝓤 (sep 𝓤 (sem 𝓛 ((mem R).own_at w b o)) (sem 𝓛 Rest)) (sem 𝓛 ((mem B).own_at (with_held d w) rb ro))
+      unfolding part_of
+      back at_b w =
+          qed 𝓛 (‵ (part_at R full_share w b o) ∷ ‵ Rest ∷ []) ∵ move ! (1 ∷ []) $ fsplit ! $ move ! (2 ∷ 0 ∷ []) $ fjoin ! $
+          rewrite ! 0 (λ (p : Ptr). ‵ (owned p (Some w))) (sym at_b) refl $ slot_in ! d.at (vptr b o) (Some w) (ap ptr_val at_b) $ move ! (1 ∷ 0 ∷ []) $ fjoin ! $
+          fpack ! (List Val) (λ us. fsep (cell_at full_share B.mir us rb ro) (B.own_val (with_held d w) us)) (one_val (vptr b o) ∷ []) $ done !
+
+      exits : (γ' : GName)
+          → ent 𝓤 (sep 𝓤 (sem 𝓛 ((MutRef (named 0) κ R).own_val (record { ref_ptr = (b, o); ghost_name = γ'; now = x }) (vptr b o ∷ []))) (sep 𝓤 (A.lft κ q) (sem 𝓛 (follows B R γ γ' (with_held d))))) (Post (vptr b o))
+      exits γ' =
+          qed 𝓛 (‵ ((MutRef (named 0) κ R).own_val (record { ref_ptr = (b, o); ghost_name = γ'; now = x }) (vptr b o ∷ [])) ∷ ‵ (flft κ q) ∷ ‵ (follows B R γ γ' (with_held d)) ∷ []) ∵
+          suffices ! _ (ends_at 𝓛 F.ended stayed (F.clauses 𝓛 at_mem run) bound (vptr b o) (record { ref_ptr = (b, o); ghost_name = γ'; now = x }) (tt, tt) (tt, tt)) $
+          nothing ! $ nothing ! $ fjoin ! $ join ! $ nothing ! $ move ! (2 ∷ 0 ∷ []) $ join ! $ join ! $ frame ! $ says ! is $ done !
+
+    module _ (C : Calls 𝓤 H) (Λ : Loops 𝓤 H) where
+      walk : ent 𝓤 (on_entry 𝓛 F.signature (κ, tt) (q, tt) (record { ref_ptr = (rb, ro); ghost_name = γ; now = d }, tt) (vptr rb ro ∷ [], tt)) (WpFn 𝓤 H C Λ code.function (vptr rb ro ∷ []) Post)
+      walk =
+          qed 𝓛 ((‵ (flft κ q) ⊛ ‵ ftrue) ∷ ‵ (owns (MutRef (named 0) κ B ∷ []) (record { ref_ptr = (rb, ro); ghost_name = γ; now = d }, tt) (vptr rb ro ∷ [], tt)) ∷ []) ∵
+          enter ! C Λ code.function (vptr rb ro ∷ []) _ $
+          alloc_all ! (λ l. pass_all ! refl ((tt, tt), tt) $
+          let En : Env 𝓤 H = env code.function.locals l in
+          move ! (1 ∷ []) $ fsplit ! $ fsplit3 ! $ drop ! $ move ! (3 ∷ []) $ split ! $ move ! (2 ∷ 3 ∷ 0 ∷ []) $
+          opens ! tt B {h = d} rb ro (λ vs. move ! (1 ∷ []) $ slot_out ! d vs x is (λ b o at_b ws. fsplit ! $
+          rewrite ! 2 (λ (us : List Val). ‵ (cell_at full_share B.mir us rb ro)) ws refl $
+          first ! $ blocks ! $
+          sets ! (of_opd ! (load ! (through ! refl (fld ! refl (stop !))) (look_in ! 2 (sub ! 0 refl (whole !))))) refl (tt, tt) $
+          sets ! (of_opd ! (get ! refl)) refl (tt, tt) $
+          sets_last ! (addr ! (through ! refl (stop !))) refl (tt, tt) $
+          exec ! C Λ En (after 1 code.function.body) (at_ret En Post) $
+          sets ! (of_opd ! (get ! refl)) refl (tt, tt) $
+          move ! (1 ∷ 2 ∷ []) $ fjoin ! $ move ! (2 ∷ 3 ∷ 4 ∷ 1 ∷ 0 ∷ []) $ group ! 5 $
+          use1 𝓛 (later (some (λ (γ' : GName). raw (Part 𝓛 B R (with_held d) (named 0) κ q rb ro b o γ (sem 𝓛 (Rest b o)) (back b o at_b) x γ'))))
+          (lends_Part 𝓛 B R (with_held d) (named 0) κ q rb ro b o γ (sem 𝓛 (Rest b o)) (back b o at_b) (B.coded.code d) (B.coded.code d) x) $ await ! tt $ pick ! (λ γ'.
+          returns ! (look_at ! 0 refl) $ free_all ! refl $
+          keep ! (0 ∷ []) $ by ! (exits b o γ')))))
+
+  meets : (𝓣 : Tables 𝓤 H) → Meets 𝓛 F.signature (WpFn 𝓤 H 𝓣.C 𝓣.Λ code.function) (F.spec 𝓛 at_mem run)
+  meets 𝓣 =
+      walk_Meets 𝓛 F.ended stayed (Goes-spent_ref 𝓛 1 (0 ∷ []) tt (plain (λ _. B)), tt) (F.clauses 𝓛 at_mem run) (WpFn 𝓤 H 𝓣.C 𝓣.Λ code.function) (WpFn-mono 𝓤 H 𝓛.laws 𝓣 code.function)
+      (walked 𝓛 F.ended stayed (F.clauses 𝓛 at_mem run) (WpFn 𝓤 H 𝓣.C 𝓣.Λ code.function) (λ κs. (mut_vals, tt)) (λ κs. (mut_Tells (named 0) κs.0 B, tt))
+      (λ κs qs bounds a g are. let d = a.0.now in let asked = fact 𝓤 (IsTrue (is_some d.value)) in
+      let given = on_entry 𝓛 F.signature (κs.0, tt) (qs.0, tt) (a.0, tt) (vptr a.0.ref_ptr.0 a.0.ref_ptr.1 ∷ [], tt) in
+      fact_use 𝓤 (IsTrue (is_some d.value)) (snd∗ 𝓤 given asked) (λ there. let found = held_in d.value there in
+      via 𝓤 given (fst∗ 𝓤 given asked) (walk κs.0 qs.0 a.0.ref_ptr.0 a.0.ref_ptr.1 a.0.ghost_name d found.0 found.1 𝓣.C 𝓣.Λ))))
+
+pub held_spec : {M : Type 1} → statement M
+unfolding tables_of
+held_spec 𝓤 𝓛 𝓜 𝓡 wired =
+    let 𝓣 : Tables 𝓤 𝓛.H = tables_of 𝓤 𝓛.H 𝓜 (tables 𝓤 𝓛.H 𝓜 𝓡 𝓡.env) in
+    entered 𝓤 𝓛.H (triple_of 𝓛 F.signature (F.spec 𝓛 𝓜.mem 𝓡.returns)) 𝓣.C 𝓣.Λ #self code.function (code.unfolded 𝓤 𝓛.H 𝓜 𝓡 wired) (meets 𝓛 𝓜.mem 𝓡.returns 𝓣)

@@ -1,0 +1,214 @@
+//! Columns of a batch, as the buffers that they lie in.
+
+ghost use Rattle.std.specs.Prelude.{◌≡◌, ◌≤◌, MatchOption, length};
+ghost use Rattle.arrow_data.specs.Column.{HasValue};
+ghost use Rattle.arrow_data.specs.Form.{offset_bytes};
+ghost use Rattle.arrowflow_c.specs.Columns.{ColumnAt, HasNothing, IsBelow, IsColumnOf, ShowsBelow};
+ghost use Rattle.arrowflow_c.specs.Columns.{bare_column, no_column, plain_of, told_of};
+ghost use Rattle.arrowflow_c.specs.Columns.{with_numbers, with_strings};
+
+use arrow_data::form::OffsetWidth;
+use arrow_data::{Array, Batch, Buffers, Dictionary, NumberBuffers, StringBuffers};
+
+/// A column as its buffers.
+#[repr(C)]
+#[derive(Clone, Copy)]
+pub struct ColumnC<'a> {
+    /// 0 no such column, 1 nulls, 2 truth values, 3 numbers, 4 byte strings, 5 texts, 6 byte strings
+    /// of one length, 7 lists, 8 structs, 9 indices.
+    pub layout: u32,
+    /// Whether the numbers or the indices have a sign.
+    pub has_sign: bool,
+    /// How many bytes a number, an index, a byte string of one length or an offset takes.
+    pub width: u64,
+    /// How many slots there are.
+    pub slots: u64,
+    /// How many children stand below the column: of lists one, of structs one for each field.
+    pub children: u64,
+    /// How many values the dictionary has, of indices.
+    pub entries: u64,
+    /// Where the path ends with a value of a dictionary, the slot that this value stands in.
+    pub slot: u64,
+    /// A bit for each slot, or nothing where each slot has a value.
+    pub validity: &'a [u8],
+    /// The offsets of lists, byte strings and texts; of no slots there may be none.
+    pub offsets: &'a [u8],
+    /// The bits, numbers or indices; of byte strings and texts their bytes.
+    pub values: &'a [u8],
+}
+
+impl<'a> ColumnC<'a> {
+    /// No column.
+    pub(crate) fn none() -> ColumnC<'a>
+        ensures { plain_of result ≡ no_column }
+    {
+        ColumnC::bare(0, 0, 0)
+    }
+
+    /// A column of this layout without a buffer.
+    fn bare(layout: u32, slots: usize, place: usize) -> ColumnC<'a>
+        ensures { plain_of result ≡ bare_column layout slots place }
+    {
+        ColumnC {
+            layout,
+            has_sign: false,
+            width: 0,
+            slots: slots as u64,
+            children: 0,
+            entries: 0,
+            slot: place as u64,
+            validity: &[],
+            offsets: &[],
+            values: &[],
+        }
+    }
+
+    /// Numbers or indices.
+    fn of_numbers(self, of: NumberBuffers<'a>) -> ColumnC<'a>
+        ensures { plain_of result ≡ with_numbers (plain_of self.entry) of.entry }
+    {
+        ColumnC {
+            has_sign: of.signed,
+            width: of.width as u64,
+            validity: of.validity,
+            values: of.values,
+            ..self
+        }
+    }
+
+    /// Byte strings or texts.
+    fn of_strings(self, of: StringBuffers<'a>) -> ColumnC<'a>
+        ensures { plain_of result ≡ with_strings (plain_of self.entry) of.entry }
+    {
+        ColumnC {
+            width: bytes_of(of.width),
+            validity: of.validity,
+            offsets: of.offsets,
+            values: of.bytes,
+            ..self
+        }
+    }
+
+    /// A column of so many slots with these buffers.
+    fn told(slots: usize, place: usize, buffers: Buffers<'a>) -> ColumnC<'a>
+        ensures { plain_of result ≡ told_of slots place buffers.entry }
+    {
+        match buffers {
+            Buffers::Nulls => ColumnC::bare(1, slots, place),
+            Buffers::Bools { validity, values } => ColumnC {
+                validity,
+                values,
+                ..ColumnC::bare(2, slots, place)
+            },
+            Buffers::Numbers(of) => ColumnC::bare(3, slots, place).of_numbers(of),
+            Buffers::Binaries(of) => ColumnC::bare(4, slots, place).of_strings(of),
+            Buffers::Texts(of) => ColumnC::bare(5, slots, place).of_strings(of),
+            Buffers::FixedBytes {
+                width,
+                validity,
+                values,
+            } => ColumnC {
+                width: width as u64,
+                validity,
+                values,
+                ..ColumnC::bare(6, slots, place)
+            },
+            Buffers::Lists {
+                width,
+                validity,
+                offsets,
+                child: _,
+            } => ColumnC {
+                width: bytes_of(width),
+                children: 1,
+                validity,
+                offsets,
+                ..ColumnC::bare(7, slots, place)
+            },
+            Buffers::Structs { validity, children } => ColumnC {
+                children: children.len() as u64,
+                validity,
+                ..ColumnC::bare(8, slots, place)
+            },
+            Buffers::Indices(of, dictionary) => ColumnC {
+                entries: dictionary.len() as u64,
+                ..ColumnC::bare(9, slots, place).of_numbers(of)
+            },
+        }
+    }
+
+    /// A column, of which a place is meant.
+    fn of(column: &'a Array, place: usize) -> ColumnC<'a>
+        ensures { IsColumnOf column.now place result }
+    {
+        ColumnC::told(column.len(), place, column.buffers())
+    }
+}
+
+/// How many bytes an offset takes.
+fn bytes_of(width: OffsetWidth) -> u64
+    ensures { result ≡ offset_bytes width }
+{
+    match width {
+        OffsetWidth::Small => 4,
+        OffsetWidth::Large => 8,
+    }
+}
+
+/// Value `n` of a dictionary: the array that it stands in, and its place there.
+fn entry_of(dictionary: &Dictionary, n: usize) -> Option<(&Array, usize)>
+    ensures { MatchOption result (length dictionary.now.values ≤ n)
+        (λ r. HasValue dictionary.now n r.0.now r.1) }
+{
+    if n < dictionary.len() {
+        Some(dictionary.value(n))
+    } else {
+        None
+    }
+}
+
+/// What stands below a column under a number: the child of a list under 0, field `n` of a struct,
+/// and the array in which value `n` of a dictionary stands, with its place there.
+fn below(column: &Array, n: usize) -> Option<(&Array, usize)>
+    ensures { MatchOption result (HasNothing column.now n)
+        (λ r. IsBelow column.now n r.0.now r.1) }
+{
+    if let Some(dictionary) = column.dictionary() {
+        return entry_of(dictionary, n);
+    }
+    if n == 0
+        && let Some(child) = column.items()
+    {
+        return Some((child, 0));
+    }
+    match column.field(n) {
+        Some(child) => Some((child, 0)),
+        None => None,
+    }
+}
+
+/// The column that a path leads to from this one, of which a place is meant.
+fn column_below<'a>(column: &'a Array, place: usize, path: &[usize]) -> ColumnC<'a>
+    ensures { ShowsBelow column.now place path.now result }
+{
+    match path.split_first() {
+        Some((n, rest)) => match below(column, *n) {
+            Some((child, place)) => column_below(child, place, rest),
+            None => ColumnC::none(),
+        },
+        None => ColumnC::of(column, place),
+    }
+}
+
+/// The column of a batch that a path leads to, if there is one.
+pub(crate) fn column_at<'a>(batch: &'a Option<Batch>, path: &[usize]) -> ColumnC<'a>
+    ensures { ColumnAt batch.now path.now result }
+{
+    match (batch, path.split_first()) {
+        (Some(batch), Some((k, rest))) => match batch.columns().get(*k) {
+            Some(column) => column_below(column, 0, rest),
+            None => ColumnC::none(),
+        },
+        (None, _) | (Some(_), None) => ColumnC::none(),
+    }
+}
