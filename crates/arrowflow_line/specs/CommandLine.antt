@@ -1,5 +1,5 @@
 -- What the words of a command line ask for, in the terms of clap: what it reads of a command, and what it finds in words.
-use Rattle.std.specs.Prelude.{◌≡◌, ◌≤◌, ◌^◌, ◌⊎◌, ℕ, List, [], ◌∷◌, true, false, codes, map, if◌then◌else◌, Option, Some, Result, Ok, Err, ⊤, string_bytes, unwrap_or}
+use Rattle.std.specs.Prelude.{◌≡◌, ◌≤◌, ◌^◌, ◌⊎◌, ℕ, List, [], ◌∷◌, Bool, true, false, codes, map, if◌then◌else◌, Option, Some, Result, Ok, Err, ⊤, string_bytes, unwrap_or}
 use Rattle.std.specs.Str.{bytes_eq}
 use Rattle.std.specs.Str.Parse.{digits_value, without_leading_plus}
 use Rattle.std.specs.Borrow.{Bor}
@@ -8,6 +8,8 @@ use Rattle.arrow_body_writer.specs.declared.align.Align.TheVariants.{Eight, Sixt
 use Rattle.arrow_dict.specs.declared.update.Updates.{Updates}
 use Rattle.arrow_dict.specs.declared.update.Updates.TheVariants.{Delta, Resend}
 use Rattle.arrow_stream_writer.specs.declared.stream_writer.Options.{Options}
+use Rattle.arrow_types.specs.Limits.{LimitNumbers}
+use Rattle.clap.specs.declared.builder.action.ArgAction.TheVariants.{SetTrue}
 use Rattle.clap.specs.Lexer.{usize_max}
 use Rattle.clap.specs.Values.{IsUnsignedIn}
 use Rattle.clap.specs.declared.builder.command.Command.{Command}
@@ -20,7 +22,8 @@ use Rattle.clap.specs.Words.{App, HasKind, Row, Text, all_of, fault_of, first_of
 use Rattle.arrowflow_line.specs.declared.fault.ArgFault.{ArgFault}
 use Rattle.arrowflow_line.specs.declared.fault.ArgFault.TheVariants.{Line, Memory}
 use Rattle.arrowflow_line.specs.declared.plans.Plan.{Plan}
-use Rattle.arrowflow_line.specs.declared.plans.Plan.TheVariants.{Schema, Check, Show, Copy, Drill}
+use Rattle.arrowflow_line.specs.declared.plans.Task.{Task}
+use Rattle.arrowflow_line.specs.declared.plans.Task.TheVariants.{Schema, Check, Show, Copy, Drill}
 
 -- no argument of the command is one of its subcommands too
 abbrev pub HasNoGlobals : Command → Type 0
@@ -44,6 +47,20 @@ needed_some id = record (needed id) { range = Some (record { start_inclusive = 1
 abbrev pub option : Text → ValueParser → Text → Rule
 option name parser default = record (new_rule name) { long = Some name; parser = Some parser; defaults = default ∷ [] }
 
+-- an option of this name without a value
+abbrev pub flag : Text → Rule
+flag name = record (new_rule name) { long = Some name; action = Some SetTrue }
+
+-- an option of this name with a number up to this ceiling, and what stands for it where it is not given; help has one word
+-- for the number
+abbrev pub limit : Text → ℕ → Text → Rule
+limit name ceiling default = record (option name (parsers.Unsigned 0 ceiling) default) { value_names = 1 }
+
+-- a command with the limits that it keeps to
+abbrev pub with_limits : App → App
+with_limits app =
+    with_rule (with_rule (with_rule app (limit (codes "limit-metadata") (2 ^ 30) (codes "67108864"))) (limit (codes "limit-body") (2 ^ 40) (codes "68719476736"))) (limit (codes "limit-rows") 2147483647 (codes "2147483647"))
+
 -- words among which a value has to be
 abbrev pub Choices : Type 0
 Choices = Bor (List (Bor Text))
@@ -61,9 +78,21 @@ with_options app updates aligns =
 abbrev pub file_app : Text → App
 file_app name = with_rule (new_app name) (needed (codes "FILE"))
 
+-- the command that prints a schema
+abbrev pub schema_app : App
+schema_app = with_limits (file_app (codes "schema"))
+
+-- the command that checks
+abbrev pub check_app : App
+check_app = with_limits (with_rule (file_app (codes "check")) (flag (codes "quiet")))
+
+-- the command that shows rows
+abbrev pub show_app : App
+show_app = with_limits (file_app (codes "show"))
+
 -- the command that copies
 abbrev pub copy_app : Choices → Choices → App
-copy_app updates aligns = with_options (with_rule (with_rule (new_app (codes "copy")) (needed (codes "IN"))) (needed (codes "OUT"))) updates aligns
+copy_app updates aligns = with_limits (with_options (with_rule (with_rule (new_app (codes "copy")) (needed (codes "IN"))) (needed (codes "OUT"))) updates aligns)
 
 -- a command with the options of what is delivered of a connection
 abbrev pub with_delivery : App → App
@@ -72,7 +101,7 @@ with_delivery app =
 
 -- the command that drills
 abbrev pub drill_app : Choices → Choices → App
-drill_app updates aligns = with_options (with_delivery (with_rule (new_app (codes "drill")) (needed_some (codes "FILE")))) updates aligns
+drill_app updates aligns = with_limits (with_options (with_delivery (with_rule (new_app (codes "drill")) (needed_some (codes "FILE")))) updates aligns)
 
 -- a command with such options: updates are sent as deltas or again, and the alignment is 8 or 64
 pub record Offers (command : Choices → Choices → App) (app : App) : Type 0 where
@@ -88,7 +117,7 @@ with_command app command = with_subcommand app command.top
 
 -- the commands of one file
 abbrev pub reading_app : App
-reading_app = with_command (with_command (with_command (new_app (codes "arrowflow")) (file_app (codes "schema"))) (file_app (codes "check"))) (file_app (codes "show"))
+reading_app = with_command (with_command (with_command (new_app (codes "arrowflow")) schema_app) check_app) show_app
 
 -- the program's command line: one of five commands has to stand there
 abbrev pub program_app : App → App → App
@@ -130,6 +159,10 @@ updates_by word = if bytes_eq word (codes "resend") then Resend else Delta
 abbrev pub align_by : Text → Align
 align_by word = if bytes_eq word (codes "8") then Eight else SixtyFour
 
+-- whether an option without a value was given: clap finds `true` of it then, else `false`
+abbrev pub is_given : Text → List Row → Bool
+is_given id rows = bytes_eq (name_in id rows) (codes "true")
+
 -- how a stream is written
 abbrev pub options_in : List Row → Options
 options_in rows = record { updates = updates_by (name_in (codes "updates") rows); align = align_by (name_in (codes "align") rows) }
@@ -138,16 +171,26 @@ options_in rows = record { updates = updates_by (name_in (codes "updates") rows)
 abbrev pub IsCommand : Text → Type 0
 IsCommand name = (name ≡ codes "schema") ⊎ ((name ≡ codes "check") ⊎ ((name ≡ codes "show") ⊎ ((name ≡ codes "copy") ⊎ (name ≡ codes "drill"))))
 
--- the plan of the command of this name, with what clap found behind it
-abbrev pub IsPlan : Text → List Row → Plan → Type 0
-IsPlan name rows (Schema file) = (name ≡ codes "schema") × (string_bytes file ≡ name_in (codes "FILE") rows)
-IsPlan name rows (Check file) = (name ≡ codes "check") × (string_bytes file ≡ name_in (codes "FILE") rows)
-IsPlan name rows (Show file) = (name ≡ codes "show") × (string_bytes file ≡ name_in (codes "FILE") rows)
-IsPlan name rows (Copy input output options) =
+-- the limits that were asked for
+pub record AreLimitsIn (rows : List Row) (limits : LimitNumbers) : Type 0 where
+  pub metadata : IsNumberOf 0 (2 ^ 30) (number_text (codes "limit-metadata") rows) limits.max_metadata
+  pub body : IsNumberOf 0 (2 ^ 40) (number_text (codes "limit-body") rows) limits.max_body
+  pub most_rows : IsNumberOf 0 2147483647 (number_text (codes "limit-rows") rows) limits.max_rows
+
+-- the task of the command of this name, with what clap found behind it
+abbrev pub IsTask : Text → List Row → Task → Type 0
+IsTask name rows (Schema file) = (name ≡ codes "schema") × (string_bytes file ≡ name_in (codes "FILE") rows)
+IsTask name rows (Check file quiet) = (name ≡ codes "check") × (string_bytes file ≡ name_in (codes "FILE") rows) × (quiet ≡ is_given (codes "quiet") rows)
+IsTask name rows (Show file) = (name ≡ codes "show") × (string_bytes file ≡ name_in (codes "FILE") rows)
+IsTask name rows (Copy input output options) =
     (name ≡ codes "copy") × (string_bytes input ≡ name_in (codes "IN") rows) × (string_bytes output ≡ name_in (codes "OUT") rows) × (options ≡ options_in rows)
-IsPlan name rows (Drill files options bytes piece) =
+IsTask name rows (Drill files options bytes piece) =
     (name ≡ codes "drill") × (map string_bytes files.items ≡ names_in (codes "FILE") rows) × (options ≡ options_in rows)
     × IsNumberOf 0 (2 ^ 62) (number_text (codes "bytes") rows) bytes × IsNumberOf 1 (2 ^ 30) (number_text (codes "piece") rows) piece
+
+-- the plan of that task, within the limits that were asked for
+abbrev pub IsPlan : Text → List Row → Plan → Type 0
+IsPlan name rows plan = IsTask name rows plan.task × AreLimitsIn rows plan.limits
 
 -- the plan of the command that clap finds in the words, with what it finds behind its name
 pub record IsAskedFor (app : App) (words : List Text) (plan : Plan) : Type 0 where

@@ -4,15 +4,17 @@ ghost use Rattle.std.specs.Prelude.{◌≡◌, IfOk, false, map};
 ghost use Rattle.clap.specs.Walk.{rule_of};
 ghost use Rattle.clap.specs.Words.{app_of};
 ghost use Rattle.arrowflow_line.specs.CommandLine.{AnswersLine, HasNoGlobals, IsProgram};
-ghost use Rattle.arrowflow_line.specs.CommandLine.{NeedsSubcommand, Offers, copy_app, drill_app};
-ghost use Rattle.arrowflow_line.specs.CommandLine.{file_app, needed, needed_some, option};
-ghost use Rattle.arrowflow_line.specs.CommandLine.{with_delivery, with_options};
+ghost use Rattle.arrowflow_line.specs.CommandLine.{NeedsSubcommand, Offers, check_app, copy_app};
+ghost use Rattle.arrowflow_line.specs.CommandLine.{drill_app, file_app, flag, limit, needed};
+ghost use Rattle.arrowflow_line.specs.CommandLine.{needed_some, option, schema_app, show_app};
+ghost use Rattle.arrowflow_line.specs.CommandLine.{with_delivery, with_limits, with_options};
 
 use crate::fault::ArgFault;
 use crate::plans::Plan;
 use crate::reading::{MOST_BYTES, MOST_PIECE, plan_of};
+use arrow_types::Limits;
 use clap::builder::ValueParser;
-use clap::{Arg, Command};
+use clap::{Arg, ArgAction, Command};
 use std::alloc::{AllocError, Global};
 
 /// What the help of the whole program says before the commands.
@@ -65,6 +67,18 @@ static UPDATES: [&str; 2] = ["delta", "resend"];
 /// The alignments, in bytes.
 static ALIGNS: [&str; 2] = ["8", "64"];
 
+/// What help calls the number of `--limit-metadata`, and what it says of it.
+const METADATA_HELP: (&str, &str) = ("BYTES", "The most bytes of one message's metadata");
+
+/// The same of `--limit-body`.
+const BODY_HELP: (&str, &str) = ("BYTES", "The most bytes of one message's body");
+
+/// The same of `--limit-rows`.
+const ROWS_HELP: (&str, &str) = (
+    "ROWS",
+    "The most rows of a batch, slots of a column, and values of a dictionary",
+);
+
 /// A name that has to stand in the line.
 fn needed<'a>(alloc: Global, id: &'a str, help: &'a str) -> Arg<'a>
     ensures rule { rule_of result ≡ needed id.now }
@@ -99,6 +113,64 @@ fn option<'a>(
         .help(help)
 }
 
+/// An option without a value.
+fn flag<'a>(alloc: Global, name: &'a str, help: &'a str) -> Arg<'a>
+    ensures rule { rule_of result ≡ flag name.now }
+    ensures local { result.global ≡ false }
+{
+    Arg::new(alloc, name)
+        .long(name)
+        .action(ArgAction::SetTrue)
+        .help(help)
+}
+
+/// A limit of this name, with its ceiling, what stands for it where it is not given, and the words
+/// of its help.
+fn limit<'a>(
+    alloc: Global,
+    name: &'a str,
+    ceiling: u64,
+    default: &'a str,
+    words: (&'a str, &'a str),
+) -> Arg<'a>
+    ensures rule { rule_of result ≡ limit name.now ceiling default.now }
+    ensures local { result.global ≡ false }
+{
+    let parser = ValueParser::unsigned(0, ceiling);
+    option(alloc, name, parser, default, words.1).value_name(words.0)
+}
+
+/// The command with the limits that it keeps to.
+fn with_limits<'a>(alloc: Global, command: Command<'a>) -> Result<Command<'a>, AllocError>
+    requires { HasNoGlobals command }
+    ensures globals { IfOk result HasNoGlobals }
+    ensures app { IfOk result (λ c. app_of c ≡ with_limits (app_of command.entry)) }
+{
+    let metadata = limit(
+        alloc,
+        "limit-metadata",
+        Limits::METADATA_CEILING,
+        "67108864",
+        METADATA_HELP,
+    );
+    let body = limit(
+        alloc,
+        "limit-body",
+        Limits::BODY_CEILING,
+        "68719476736",
+        BODY_HELP,
+    );
+    let rows = limit(
+        alloc,
+        "limit-rows",
+        Limits::ROWS_CEILING,
+        "2147483647",
+        ROWS_HELP,
+    );
+    let whole = command.arg(metadata)?.arg(body)?.arg(rows)?;
+    Ok(whole)
+}
+
 /// A command of one file, with what its help says before and behind the argument.
 fn file_command<'a>(
     alloc: Global,
@@ -118,6 +190,38 @@ fn file_command<'a>(
         .about(about)
         .after_help(example)
         .arg(file)
+}
+
+/// The command that prints a schema.
+fn schema_command<'a>(alloc: Global) -> Result<Command<'a>, AllocError>
+    ensures globals { IfOk result HasNoGlobals }
+    ensures app { IfOk result (λ c. app_of c ≡ schema_app) }
+{
+    let command = file_command(alloc, "schema", SCHEMA_ABOUT, SCHEMA_EXAMPLE)?;
+    with_limits(alloc, command)
+}
+
+/// The command that checks.
+fn check_command<'a>(alloc: Global) -> Result<Command<'a>, AllocError>
+    ensures globals { IfOk result HasNoGlobals }
+    ensures app { IfOk result (λ c. app_of c ≡ check_app) }
+{
+    let quiet = flag(
+        alloc,
+        "quiet",
+        "Print no lines: the exit status tells, and the line of a fault",
+    );
+    let command = file_command(alloc, "check", CHECK_ABOUT, CHECK_EXAMPLE)?.arg(quiet)?;
+    with_limits(alloc, command)
+}
+
+/// The command that shows rows.
+fn show_command<'a>(alloc: Global) -> Result<Command<'a>, AllocError>
+    ensures globals { IfOk result HasNoGlobals }
+    ensures app { IfOk result (λ c. app_of c ≡ show_app) }
+{
+    let command = file_command(alloc, "show", SHOW_ABOUT, SHOW_EXAMPLE)?;
+    with_limits(alloc, command)
 }
 
 /// The command with the options of how a stream is written.
@@ -163,7 +267,7 @@ fn copy_command<'a>(alloc: Global) -> Result<Command<'a>, AllocError>
         .after_help(COPY_EXAMPLE)
         .arg(input)?
         .arg(output)?;
-    with_options(alloc, command)
+    with_limits(alloc, with_options(alloc, command)?)
 }
 
 /// The command with the options of what is delivered of a connection.
@@ -204,7 +308,7 @@ fn drill_command<'a>(alloc: Global) -> Result<Command<'a>, AllocError>
         .about(DRILL_ABOUT)
         .after_help(DRILL_EXAMPLE)
         .arg(files)?;
-    with_options(alloc, with_delivery(alloc, command)?)
+    with_limits(alloc, with_options(alloc, with_delivery(alloc, command)?)?)
 }
 
 /// The whole command line.
@@ -217,9 +321,9 @@ fn command<'a>(alloc: Global) -> Result<Command<'a>, AllocError>
         .bin_name("arrowflow")?
         .about(ABOUT)
         .after_help(EXAMPLE)
-        .subcommand(file_command(alloc, "schema", SCHEMA_ABOUT, SCHEMA_EXAMPLE)?)?
-        .subcommand(file_command(alloc, "check", CHECK_ABOUT, CHECK_EXAMPLE)?)?
-        .subcommand(file_command(alloc, "show", SHOW_ABOUT, SHOW_EXAMPLE)?)?
+        .subcommand(schema_command(alloc)?)?
+        .subcommand(check_command(alloc)?)?
+        .subcommand(show_command(alloc)?)?
         .subcommand(copy_command(alloc)?)?
         .subcommand(drill_command(alloc)?)?;
     Ok(whole.subcommand_required(true))

@@ -1,8 +1,9 @@
 //! The command line of the program `arrowflow`, and what it asks for.
 //!
-//! [`plan`] takes the words of a line and gives a [`Plan`]: the command, the names that it was
-//! given and its options; or an [`ArgFault`], which prints itself. What the words of a line ask for
-//! is said by `AnswersLine` (`specs/CommandLine.antt`), in the words of clap.
+//! [`plan`] takes the words of a line and gives a [`Plan`]: the [`Task`], which is the command with
+//! the names that it was given and its options, and the limits; or an [`ArgFault`], which prints
+//! itself. What the words of a line ask for is said by `AnswersLine` (`specs/CommandLine.antt`), in
+//! the words of clap.
 //!
 //! | Notion | Definition |
 //! |---|---|
@@ -16,4 +17,4 @@ mod reading;
 
 pub use command_line::plan;
 pub use fault::ArgFault;
-pub use plans::Plan;
+pub use plans::{Plan, Task};

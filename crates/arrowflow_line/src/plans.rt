@@ -1,15 +1,26 @@
 //! What a command line asks for.
 
 use arrow_stream_writer::Options;
+use arrow_types::Limits;
+
+/// What a command line asks for.
+#[derive(Debug, Drop, PartialEq, Eq)]
+pub struct Plan {
+    /// What is to be done.
+    pub task: Task,
+    /// How much a stream may ask of the reader, and how much is sent.
+    pub limits: Limits,
+}
 
 /// One command of the program, with the names that it was given, `-` being standard input or
 /// output.
 #[derive(Debug, Drop, PartialEq, Eq)]
-pub enum Plan {
+pub enum Task {
     /// Print the schema of the stream in the file of this name.
     Schema(String),
-    /// Print a line for each message of the stream in the file of this name.
-    Check(String),
+    /// Print a line for each message of the stream in the file of this name; none where it is to be
+    /// quiet.
+    Check(String, bool),
     /// Print the rows of the stream in the file of this name.
     Show(String),
     /// Write the stream in the file of the first name again, into that of the second.

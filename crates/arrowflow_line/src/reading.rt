@@ -3,14 +3,15 @@
 ghost use Rattle.std.specs.Prelude.{◌≡◌, ◌≤◌, IfOk, MatchOption, codes, map};
 ghost use Rattle.std.specs.Prelude.{string_bytes};
 ghost use Rattle.clap.specs.Words.{found_of, rows_of};
-ghost use Rattle.arrowflow_line.specs.CommandLine.{IsCommand, IsNumberOf, IsPlan, align_by};
-ghost use Rattle.arrowflow_line.specs.CommandLine.{name_in, names_in, number_text, options_in};
-ghost use Rattle.arrowflow_line.specs.CommandLine.{updates_by};
+ghost use Rattle.arrowflow_line.specs.CommandLine.{AreLimitsIn, IsCommand, IsNumberOf, IsPlan};
+ghost use Rattle.arrowflow_line.specs.CommandLine.{IsTask, align_by, is_given, name_in, names_in};
+ghost use Rattle.arrowflow_line.specs.CommandLine.{number_text, options_in, updates_by};
 
-use crate::plans::Plan;
+use crate::plans::{Plan, Task};
 use arrow_body_writer::Align;
 use arrow_dict::Updates;
 use arrow_stream_writer::Options;
+use arrow_types::Limits;
 use clap::ArgMatches;
 use std::alloc::{AllocError, Global};
 
@@ -68,6 +69,26 @@ fn number_of(matches: &ArgMatches<'_>, argument: &str, least: u64, most: u64) ->
     }
 }
 
+/// Whether an option without a value was given.
+fn is_given(matches: &ArgMatches<'_>, argument: &str) -> bool
+    ensures { result ≡ is_given argument.now (rows_of (found_of matches.now)) }
+{
+    text_of(matches, argument) == "true"
+}
+
+/// The limits that a command was given.
+fn limits_of(matches: &ArgMatches<'_>) -> Limits
+    ensures { AreLimitsIn (rows_of (found_of matches.now)) result }
+{
+    let metadata = number_of(matches, "limit-metadata", 0, Limits::METADATA_CEILING);
+    let body = number_of(matches, "limit-body", 0, Limits::BODY_CEILING);
+    let rows = number_of(matches, "limit-rows", 0, Limits::ROWS_CEILING);
+    let Some(limits) = Limits::new(metadata, body, rows) else {
+        unreachable!();
+    };
+    limits
+}
+
 /// What is sent of dictionaries, by the word for it.
 fn updates_by(word: &str) -> Updates
     ensures { result ≡ updates_by word.now }
@@ -110,10 +131,24 @@ pub(crate) fn plan_of(
     ensures { IfOk result (λ plan. MatchOption plan (IsCommand command.now → ⊥)
         (λ p. IsPlan command.now (rows_of (found_of given.now)) p)) }
 {
+    match task_of(alloc, command, given)? {
+        Some(task) => Ok(Some(Plan {
+            task,
+            limits: limits_of(given),
+        })),
+        None => Ok(None),
+    }
+}
+
+/// What the command of this name is to do; None where there is no such command.
+fn task_of(alloc: Global, command: &str, given: &ArgMatches<'_>) -> Result<Option<Task>, AllocError>
+    ensures { IfOk result (λ task. MatchOption task (IsCommand command.now → ⊥)
+        (λ t. IsTask command.now (rows_of (found_of given.now)) t)) }
+{
     Ok(Some(match command {
-        "schema" => Plan::Schema(name_of(alloc, given, "FILE")?),
-        "check" => Plan::Check(name_of(alloc, given, "FILE")?),
-        "show" => Plan::Show(name_of(alloc, given, "FILE")?),
+        "schema" => Task::Schema(name_of(alloc, given, "FILE")?),
+        "check" => Task::Check(name_of(alloc, given, "FILE")?, is_given(given, "quiet")),
+        "show" => Task::Show(name_of(alloc, given, "FILE")?),
         "copy" => copy_of(alloc, given)?,
         "drill" => drill_of(alloc, given)?,
         // a text that names no command
@@ -122,20 +157,20 @@ pub(crate) fn plan_of(
 }
 
 /// What is copied, and how.
-fn copy_of(alloc: Global, given: &ArgMatches<'_>) -> Result<Plan, AllocError>
-    ensures { IfOk result (λ p. IsPlan (codes "copy") (rows_of (found_of given.now)) p) }
+fn copy_of(alloc: Global, given: &ArgMatches<'_>) -> Result<Task, AllocError>
+    ensures { IfOk result (λ t. IsTask (codes "copy") (rows_of (found_of given.now)) t) }
 {
     let input = name_of(alloc, given, "IN")?;
     let output = name_of(alloc, given, "OUT")?;
-    Ok(Plan::Copy(input, output, options_of(given)))
+    Ok(Task::Copy(input, output, options_of(given)))
 }
 
 /// What is drilled, and how.
-fn drill_of(alloc: Global, given: &ArgMatches<'_>) -> Result<Plan, AllocError>
-    ensures { IfOk result (λ p. IsPlan (codes "drill") (rows_of (found_of given.now)) p) }
+fn drill_of(alloc: Global, given: &ArgMatches<'_>) -> Result<Task, AllocError>
+    ensures { IfOk result (λ t. IsTask (codes "drill") (rows_of (found_of given.now)) t) }
 {
     let inputs = names_of(alloc, given, "FILE")?;
     let bytes = number_of(given, "bytes", 0, MOST_BYTES);
     let piece = number_of(given, "piece", 1, MOST_PIECE);
-    Ok(Plan::Drill(inputs, options_of(given), bytes, piece))
+    Ok(Task::Drill(inputs, options_of(given), bytes, piece))
 }

@@ -15,6 +15,7 @@ pub(crate) fn drill_files<R: Files + Input + Print + Eprint>(
     names: &[String],
     options: Options,
     delivery: (u64, u64),
+    limits: &Limits,
 ) -> u8
 where
     R::File: Drop,
@@ -24,8 +25,7 @@ where
         Err(fault) => return tell_of(rt, alloc, &fault, names),
     };
     let (bytes, piece) = delivery;
-    let limits = Limits::standard();
-    match drill(alloc, &mut inputs, options, bytes, piece, &limits) {
+    match drill(alloc, &mut inputs, options, bytes, piece, limits) {
         Ok(text) => print_text(rt, alloc, &text),
         Err(fault) => tell_of(rt, alloc, &fault, names),
     }

@@ -13,7 +13,8 @@ use crate::drilling::drill_files;
 use crate::ends::{create, input_name, is_same_file, open, output_name};
 use crate::pipe::Pipe;
 use arrowflow::{
-    ArgFault, Counted, Limits, Options, Plan, ToolFault, check, copy, plan, schema_text, show,
+    ArgFault, Counted, Limits, Options, Plan, Task, ToolFault, check, check_quietly, copy, plan,
+    schema_text, show,
 };
 use std::alloc::Global;
 use std::io::{ErrorKind, Input, Write};
@@ -67,13 +68,17 @@ fn carry_out<R: Files + Input + Print + Eprint>(rt: &R, alloc: Global, plan: &Pl
 where
     R::File: Drop,
 {
-    match plan {
-        Plan::Schema(name) => print_schema(rt, alloc, name),
-        Plan::Check(name) => print_messages(rt, alloc, name),
-        Plan::Show(name) => print_rows(rt, alloc, name),
-        Plan::Copy(input, output, options) => copy_file(rt, alloc, input, output, *options),
-        Plan::Drill(names, options, bytes, piece) => {
-            drill_files(rt, alloc, names, *options, (*bytes, *piece))
+    let limits = &plan.limits;
+    match &plan.task {
+        Task::Schema(name) => print_schema(rt, alloc, name, limits),
+        Task::Check(name, false) => print_messages(rt, alloc, name, limits),
+        Task::Check(name, true) => check_file(rt, alloc, name, limits),
+        Task::Show(name) => print_rows(rt, alloc, name, limits),
+        Task::Copy(input, output, options) => {
+            copy_file(rt, alloc, (input, output), *options, limits)
+        }
+        Task::Drill(names, options, bytes, piece) => {
+            drill_files(rt, alloc, names, *options, (*bytes, *piece), limits)
         }
     }
 }
@@ -89,7 +94,12 @@ fn print_help<R: Print + Eprint>(rt: &R, error: &clap::Error) -> u8 {
 }
 
 /// Prints the schema of the stream in the file of this name.
-fn print_schema<R: Files + Input + Print + Eprint>(rt: &R, alloc: Global, name: &str) -> u8
+fn print_schema<R: Files + Input + Print + Eprint>(
+    rt: &R,
+    alloc: Global,
+    name: &str,
+    limits: &Limits,
+) -> u8
 where
     R::File: Drop,
 {
@@ -97,7 +107,7 @@ where
         Ok(file) => file,
         Err(fault) => return tell(rt, alloc, &fault, name, "-"),
     };
-    match schema_text(alloc, &mut file, &Limits::standard()) {
+    match schema_text(alloc, &mut file, limits) {
         Ok(text) => print_text(rt, alloc, &text),
         Err(fault) => tell(rt, alloc, &fault, name, "-"),
     }
@@ -114,7 +124,12 @@ pub(crate) fn print_text<R: Print + Eprint>(rt: &R, alloc: Global, text: &str) -
 }
 
 /// Prints a line for each message of the stream in the file of this name.
-fn print_messages<R: Files + Input + Print + Eprint>(rt: &R, alloc: Global, name: &str) -> u8
+fn print_messages<R: Files + Input + Print + Eprint>(
+    rt: &R,
+    alloc: Global,
+    name: &str,
+    limits: &Limits,
+) -> u8
 where
     R::File: Drop,
 {
@@ -123,12 +138,32 @@ where
         Err(fault) => return tell(rt, alloc, &fault, name, "-"),
     };
     let output = Counted::new(Pipe::new(io::writer(rt)));
-    let (output, answer) = check(alloc, &mut file, output, &Limits::standard());
+    let (output, answer) = check(alloc, &mut file, output, limits);
     status_of(rt, alloc, answer, (name, "-"), &output.into_inner())
 }
 
+/// Reads the stream in the file of this name, and prints the line of its fault alone.
+fn check_file<R: Files + Input + Eprint>(rt: &R, alloc: Global, name: &str, limits: &Limits) -> u8
+where
+    R::File: Drop,
+{
+    let mut file = match open(rt, 0, name) {
+        Ok(file) => file,
+        Err(fault) => return tell(rt, alloc, &fault, name, "-"),
+    };
+    match check_quietly(alloc, &mut file, limits) {
+        Ok(()) => FINE,
+        Err(fault) => tell(rt, alloc, &fault, name, "-"),
+    }
+}
+
 /// Prints the rows of the stream in the file of this name.
-fn print_rows<R: Files + Input + Print + Eprint>(rt: &R, alloc: Global, name: &str) -> u8
+fn print_rows<R: Files + Input + Print + Eprint>(
+    rt: &R,
+    alloc: Global,
+    name: &str,
+    limits: &Limits,
+) -> u8
 where
     R::File: Drop,
 {
@@ -137,7 +172,7 @@ where
         Err(fault) => return tell(rt, alloc, &fault, name, "-"),
     };
     let output = Counted::new(Pipe::new(io::writer(rt)));
-    let (output, answer) = show(alloc, &mut file, output, &Limits::standard());
+    let (output, answer) = show(alloc, &mut file, output, limits);
     status_of(rt, alloc, answer, (name, "-"), &output.into_inner())
 }
 
@@ -145,13 +180,14 @@ where
 fn copy_file<R: Files + Input + Print + Eprint>(
     rt: &R,
     alloc: Global,
-    from: &str,
-    to: &str,
+    names: (&str, &str),
     options: Options,
+    limits: &Limits,
 ) -> u8
 where
     R::File: Drop,
 {
+    let (from, to) = names;
     let mut input = match open(rt, 0, from) {
         Ok(input) => input,
         Err(fault) => return tell(rt, alloc, &fault, from, to),
@@ -164,7 +200,7 @@ where
         Ok(output) => Counted::new(Pipe::new(output)),
         Err(fault) => return tell(rt, alloc, &fault, from, to),
     };
-    let (output, answer) = copy(alloc, &mut input, output, options, &Limits::standard());
+    let (output, answer) = copy(alloc, &mut input, output, options, limits);
     status_of(rt, alloc, answer, (from, to), &output.into_inner())
 }
 

@@ -8,6 +8,7 @@ pub mod Growing
 pub mod Sent
 pub mod Lined
 pub mod Told
+mod Quiet
 pub mod Reading
 pub mod Reporting
 pub mod OfFront

@@ -4,6 +4,7 @@ pub mod SchemaCall
 pub mod SchemaText
 pub mod Session
 pub mod Pieces
+pub mod Quiet
 pub mod Reads
 pub mod Lines
 pub mod Reports

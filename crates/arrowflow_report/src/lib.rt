@@ -12,8 +12,9 @@
 //! `AnswersInput` (`specs/SchemaCall.antt`), in the words of the layer that reads streams; what is
 //! said of a fault by `specs/Faults.antt`. [`show`] writes the rows of a stream and [`check`] a
 //! line for each of its messages, as they come: what is written, and how that ends, is said by
-//! `ReportsInput` (`specs/Reports.antt`). How far both read their input is said by
-//! `specs/Reads.antt`. What each message adds to the text of a stream's rows is said by
+//! `ReportsInput` (`specs/Reports.antt`). What the answer of [`check_quietly`], which writes nothing,
+//! says of its input, is said by `ChecksInput` (`specs/Quiet.antt`). How far they read their input is
+//! said by `specs/Reads.antt`. What each message adds to the text of a stream's rows is said by
 //! `specs/Shown.antt`, and that the text grows so by [`laws`].
 //!
 //! | Notion | Definition |
@@ -22,6 +23,7 @@
 //! | the text of a schema | `specs/SchemaText.antt`: `schema_lines`; `specs/TypeNames.antt`; `specs/Escapes.antt` |
 //! | what an input answers with it | `specs/SchemaCall.antt`: `AnswersInput` |
 //! | what is written of a stream | `specs/Reports.antt`: `ReportsInput`; `specs/OfFront.antt`: `IsBegunOf`; `specs/Shown.antt`: `text_at` |
+//! | what a check that writes nothing says of an input | `specs/Quiet.antt`: `ChecksInput` |
 //! | the lines of messages | `specs/Lines.antt`: `message_line`, `AreLines` |
 //! | how far an input is read | `specs/Reads.antt`: `IsReadWhile` |
 //! | what is said of a fault | `specs/Faults.antt`: `fault_line`, `status_of` |
@@ -34,6 +36,7 @@
 mod escapes;
 pub mod laws;
 mod lines;
+mod nowhere;
 pub mod pieces;
 mod report;
 mod reports;
@@ -46,7 +49,7 @@ mod tool_fault;
 mod type_names;
 mod what;
 
-pub use reports::{check, show};
+pub use reports::{check, check_quietly, show};
 pub use schema_call::schema_text;
 pub use schema_lines::schema_lines_of;
 pub use tool_fault::ToolFault;

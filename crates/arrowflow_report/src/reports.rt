@@ -3,10 +3,12 @@
 ghost use Rattle.std.specs.Prelude.{◌≡◌, ◌<◌, ◌-◌, ◌^◌, [], IfOk, OnOk, length};
 ghost use Rattle.arrow_stream_reader.specs.declared.reader.Verdict.TheVariants.{Open};
 ghost use Rattle.arrow_stream_reader.specs.Stream.{ReaderStands};
+ghost use Rattle.arrowflow_report.specs.Quiet.{ChecksInput};
 ghost use Rattle.arrowflow_report.specs.Reads.{BlamesNoInput, answer_by};
 ghost use Rattle.arrowflow_report.specs.Reports.{ReportsInput};
 ghost use Rattle.arrowflow_report.specs.declared.report.Report.TheVariants.{Messages, Rows};
 
+use crate::nowhere::Nowhere;
 use crate::pieces::{ReadFailed, answer_of, read_piece, room_for_a_piece};
 use crate::report::Report;
 use crate::sending::flush;
@@ -43,6 +45,23 @@ pub fn check<R: Read, S: Sink>(
     let mut output = output;
     let answer = report(alloc, Report::Messages, input, &mut output, limits);
     (output, answer)
+}
+
+/// Reads a whole stream as [`check`] does, and writes nothing: the answer alone tells.
+///
+/// `Ok` where the stream ends well, with an end marker or with the input at the end of a message
+/// behind its schema. `Stream` where it is refused or ends elsewhere, with the fault that [`check`]
+/// answers too; `Input(0)` where a read failed, an interrupted one included; `Memory` where a growth
+/// was refused. `Output` never.
+#[tactic(auto, using(crate::proofs::Quiet::checked))]
+pub fn check_quietly<R: Read>(
+    alloc: Global,
+    input: &mut R,
+    limits: &Limits,
+) -> Result<(), ToolFault>
+    ensures { ChecksInput limits.now (R.remaining input.old) (R.remaining input.new) result }
+{
+    report(alloc, Report::Messages, input, &mut Nowhere, limits)
 }
 
 /// Writes the rows of a stream as records of comma-separated values, and hands the output back.

@@ -124,7 +124,7 @@ fn tell_message<S: Sink>(
     }
 }
 
-/// SendsText what a message adds to the text of the rows, which is made in the room of a text.
+/// Sends what a message adds to the text of the rows, which is made in the room of a text.
 fn tell_rows<S: Sink>(
     alloc: Global,
     reader: &StreamReader,

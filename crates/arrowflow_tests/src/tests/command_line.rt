@@ -1,11 +1,12 @@
 //! Good and bad command lines, with the exit statuses of their faults.
 
+use arrow_types::Limits;
 use arrowflow_line::{ArgFault, plan};
 use std::alloc::Global;
 use std::process::Abort;
 
-// The words of a line, and what they ask for.
-static PLANS: [(&[&str], &str); 13] = [
+// The words of a line, and what they ask for, within the limits that stand where none is given.
+static TASKS: [(&[&str], &str); 16] = [
     (&["arrowflow", "schema", "a.arrows"], "Schema(\"a.arrows\")"),
     (
         &["any name", "schema", "/dev/stdin"],
@@ -13,7 +14,7 @@ static PLANS: [(&[&str], &str); 13] = [
     ),
     (
         &["arrowflow", "check", "two words é"],
-        "Check(\"two words é\")",
+        "Check(\"two words é\", false)",
     ),
     (&["arrowflow", "show", ""], "Show(\"\")"),
     (&["arrowflow", "show", "--", "-x"], "Show(\"-x\")"),
@@ -87,23 +88,102 @@ static PLANS: [(&[&str], &str); 13] = [
         ],
         "Drill([\"-\"], Options { updates: Resend, align: SixtyFour }, 4611686018427387904, 65536)",
     ),
+    (
+        &["arrowflow", "check", "a", "--quiet"],
+        "Check(\"a\", true)",
+    ),
+    (
+        &["arrowflow", "check", "--quiet", "-"],
+        "Check(\"-\", true)",
+    ),
+    (
+        &["arrowflow", "check", "--", "--quiet"],
+        "Check(\"--quiet\", false)",
+    ),
 ];
 
-fn assert_plan(rt: &impl Abort, alloc: Global, words: &[&str], expected: &str) {
+const METADATA: u64 = 67_108_864;
+
+const BODY: u64 = 68_719_476_736;
+
+const ROWS: u64 = 2_147_483_647;
+
+// The words of a line, and the limits of metadata, of a body and of rows that they ask for.
+static LIMITS: [(&[&str], [u64; 3]); 9] = [
+    (&["arrowflow", "show", "a"], [METADATA, BODY, ROWS]),
+    (
+        &["arrowflow", "show", "a", "--limit-metadata", "5"],
+        [5, BODY, ROWS],
+    ),
+    (
+        &["arrowflow", "check", "--limit-body=6", "a"],
+        [METADATA, 6, ROWS],
+    ),
+    (
+        &["arrowflow", "schema", "a", "--limit-rows", "7"],
+        [METADATA, BODY, 7],
+    ),
+    (
+        &[
+            "arrowflow",
+            "copy",
+            "--limit-rows=3",
+            "a",
+            "--limit-body",
+            "2",
+            "b",
+            "--limit-metadata=1",
+        ],
+        [1, 2, 3],
+    ),
+    (
+        &["arrowflow", "drill", "a", "b", "--limit-body", "0"],
+        [METADATA, 0, ROWS],
+    ),
+    (
+        &["arrowflow", "drill", "--limit-metadata=1073741824", "a"],
+        [1_073_741_824, BODY, ROWS],
+    ),
+    (
+        &["arrowflow", "copy", "a", "b", "--limit-body=1099511627776"],
+        [METADATA, 1_099_511_627_776, ROWS],
+    ),
+    (
+        &["arrowflow", "check", "--limit-rows", "2147483647", "a"],
+        [METADATA, BODY, ROWS],
+    ),
+];
+
+fn assert_task(rt: &impl Abort, alloc: Global, words: &[&str], expected: &str) {
     let plan = plan(alloc, words).expect(rt, "a plan");
-    let text = format!(in alloc; "{plan:?}").expect(rt, "memory");
+    let text = format!(in alloc; "{:?}", plan.task).expect(rt, "memory");
     assert_eq!(rt; text.as_str(), expected);
+    assert!(rt; plan.limits == Limits::standard());
 }
 
 #[test]
 fn good_lines_name_their_files(rt: HostRuntime) {
-    for (words, expected) in &PLANS {
-        assert_plan(&rt, rt.alloc(), words, expected);
+    for (words, expected) in &TASKS {
+        assert_task(&rt, rt.alloc(), words, expected);
+    }
+}
+
+fn assert_limits(rt: &impl Abort, alloc: Global, words: &[&str], expected: &[u64; 3]) {
+    let limits = plan(alloc, words).expect(rt, "a plan").limits;
+    assert_eq!(rt; limits.max_metadata(), expected[0], "of {words:?}");
+    assert_eq!(rt; limits.max_body(), expected[1], "of {words:?}");
+    assert_eq!(rt; limits.max_rows(), expected[2], "of {words:?}");
+}
+
+#[test]
+fn limits_are_those_of_the_line(rt: HostRuntime) {
+    for (words, expected) in &LIMITS {
+        assert_limits(&rt, rt.alloc(), words, expected);
     }
 }
 
 // The words of a line without a plan, the exit status, and a part of what is printed.
-static OTHERS: [(&[&str], i32, &str); 38] = [
+static OTHERS: [(&[&str], i32, &str); 47] = [
     (&["arrowflow"], 2, ""),
     (&["arrowflow", "schema"], 2, ""),
     (&["arrowflow", "schema", "a", "b"], 2, ""),
@@ -133,7 +213,7 @@ static OTHERS: [(&[&str], i32, &str); 38] = [
     (
         &["arrowflow", "check", "--help"],
         0,
-        "Usage: arrowflow check <FILE>",
+        "Usage: arrowflow check [OPTIONS] <FILE>",
     ),
     (
         &["arrowflow", "help", "show"],
@@ -143,7 +223,7 @@ static OTHERS: [(&[&str], i32, &str); 38] = [
     (
         &["elsewhere/program", "schema", "-h"],
         0,
-        "Usage: arrowflow schema <FILE>",
+        "Usage: arrowflow schema [OPTIONS] <FILE>",
     ),
     (
         &["arrowflow", "help", "schema"],
@@ -198,6 +278,27 @@ static OTHERS: [(&[&str], i32, &str); 38] = [
         0,
         "Writes streams again over connections that break",
     ),
+    (&["arrowflow", "check", "a", "--quiet=true"], 2, ""),
+    (&["arrowflow", "check", "a", "--quiet", "b"], 2, ""),
+    (&["arrowflow", "show", "a", "--quiet"], 2, ""),
+    (
+        &["arrowflow", "check", "a", "--limit-metadata", "1073741825"],
+        2,
+        "is not in 0..=1073741824",
+    ),
+    (
+        &["arrowflow", "schema", "a", "--limit-body", "1099511627777"],
+        2,
+        "is not in 0..=1099511627776",
+    ),
+    (
+        &["arrowflow", "drill", "a", "--limit-rows=2147483648"],
+        2,
+        "is not in 0..=2147483647",
+    ),
+    (&["arrowflow", "copy", "a", "b", "--limit-rows=-1"], 2, ""),
+    (&["arrowflow", "show", "a", "--limit-body"], 2, ""),
+    (&["arrowflow", "show", "a", "--limit-rows", "1k"], 2, ""),
 ];
 
 fn assert_other(rt: &impl Abort, alloc: Global, words: &[&str], status: i32, part: &str) {

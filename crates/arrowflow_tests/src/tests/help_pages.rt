@@ -27,13 +27,16 @@ Example:
 const SCHEMA: &str = "\
 Prints the columns of a stream, one line a field, children below their parent
 
-Usage: arrowflow schema <FILE>
+Usage: arrowflow schema [OPTIONS] <FILE>
 
 Arguments:
   <FILE>  A file with an Arrow IPC stream; - is standard input
 
 Options:
-  -h, --help  Print help
+      --limit-metadata <BYTES>  The most bytes of one message's metadata [default: 67108864]
+      --limit-body <BYTES>      The most bytes of one message's body [default: 68719476736]
+      --limit-rows <ROWS>       The most rows of a batch, slots of a column, and values of a dictionary [default: 2147483647]
+  -h, --help                    Print help
 
 Only the stream's first message is read. The exit status is 0, 1 where the stream is refused, and 2 where
 the file cannot be read or memory is wanting.
@@ -45,13 +48,17 @@ Example:
 const CHECK: &str = "\
 Reads a whole stream and prints one line for each of its messages
 
-Usage: arrowflow check <FILE>
+Usage: arrowflow check [OPTIONS] <FILE>
 
 Arguments:
   <FILE>  A file with an Arrow IPC stream; - is standard input
 
 Options:
-  -h, --help  Print help
+      --quiet                   Print no lines: the exit status tells, and the line of a fault
+      --limit-metadata <BYTES>  The most bytes of one message's metadata [default: 67108864]
+      --limit-body <BYTES>      The most bytes of one message's body [default: 68719476736]
+      --limit-rows <ROWS>       The most rows of a batch, slots of a column, and values of a dictionary [default: 2147483647]
+  -h, --help                    Print help
 
 A line has the message's place in bytes, what it is, and its columns, values or rows. The exit status is 0, 1
 where the stream is refused or ends too early, and 2 where the file cannot be read, the output cannot be
@@ -64,13 +71,16 @@ Example:
 const SHOW: &str = "\
 Prints the rows of a stream as comma-separated values
 
-Usage: arrowflow show <FILE>
+Usage: arrowflow show [OPTIONS] <FILE>
 
 Arguments:
   <FILE>  A file with an Arrow IPC stream; - is standard input
 
 Options:
-  -h, --help  Print help
+      --limit-metadata <BYTES>  The most bytes of one message's metadata [default: 67108864]
+      --limit-body <BYTES>      The most bytes of one message's body [default: 68719476736]
+      --limit-rows <ROWS>       The most rows of a batch, slots of a column, and values of a dictionary [default: 2147483647]
+  -h, --help                    Print help
 
 The first record has the names of the columns, and each row begins with the number of its batch, counted from
 0. The exit status is 0, 1 where the stream is refused or ends too early, and 2 where the file cannot be
@@ -90,9 +100,12 @@ Arguments:
   <OUT>  Where the new stream goes; - is standard output
 
 Options:
-      --updates <updates>  What is sent of a dictionary that grew: the new values, or all [default: delta] [possible values: delta, resend]
-      --align <align>      To how many bytes each buffer is padded [default: 64] [possible values: 8, 64]
-  -h, --help               Print help
+      --updates <updates>       What is sent of a dictionary that grew: the new values, or all [default: delta] [possible values: delta, resend]
+      --align <align>           To how many bytes each buffer is padded [default: 64] [possible values: 8, 64]
+      --limit-metadata <BYTES>  The most bytes of one message's metadata [default: 67108864]
+      --limit-body <BYTES>      The most bytes of one message's body [default: 68719476736]
+      --limit-rows <ROWS>       The most rows of a batch, slots of a column, and values of a dictionary [default: 2147483647]
+  -h, --help                    Print help
 
 The rows stay what they are; the new stream has an end marker. OUT is created, and emptied first where it is
 there: a stream is never copied into its own file, whatever name that has. The exit status is 0, 1 where the
@@ -112,11 +125,14 @@ Arguments:
   <FILE>...  Files with an Arrow IPC stream each; - is standard input
 
 Options:
-      --bytes <bytes>      How many bytes of each connection are delivered [default: 4611686018427387904]
-      --piece <piece>      How many bytes are delivered at once [default: 65536]
-      --updates <updates>  What is sent of a dictionary that grew: the new values, or all [default: delta] [possible values: delta, resend]
-      --align <align>      To how many bytes each buffer is padded [default: 64] [possible values: 8, 64]
-  -h, --help               Print help
+      --bytes <bytes>           How many bytes of each connection are delivered [default: 4611686018427387904]
+      --piece <piece>           How many bytes are delivered at once [default: 65536]
+      --updates <updates>       What is sent of a dictionary that grew: the new values, or all [default: delta] [possible values: delta, resend]
+      --align <align>           To how many bytes each buffer is padded [default: 64] [possible values: 8, 64]
+      --limit-metadata <BYTES>  The most bytes of one message's metadata [default: 67108864]
+      --limit-body <BYTES>      The most bytes of one message's body [default: 68719476736]
+      --limit-rows <ROWS>       The most rows of a batch, slots of a column, and values of a dictionary [default: 2147483647]
+  -h, --help                    Print help
 
 Each FILE is one connection, of which the first N bytes are delivered in pieces of M. The exit status is 0
 however the connections end, 1 where a FILE is refused or ends too early, and 2 where one cannot be read, the
@@ -148,7 +164,7 @@ fn assert_page(rt: &impl Abort, alloc: Global, words: &[&str], page: &str) {
 }
 
 // Lines that are refused: an option that stands twice, one with a letter, and one with no value.
-static REFUSED: [&[&str]; 8] = [
+static REFUSED: [&[&str]; 10] = [
     &["arrowflow", "drill", "a", "--bytes", "1", "--bytes", "1"],
     &["arrowflow", "drill", "a", "--piece=1", "--piece=2"],
     &["arrowflow", "copy", "a", "b", "--align=8", "--align=8"],
@@ -164,6 +180,8 @@ static REFUSED: [&[&str]; 8] = [
     &["arrowflow", "copy", "a", "b", "-u", "delta"],
     &["arrowflow", "copy", "a", "b", "--align"],
     &["arrowflow", "drill", "--updates", "delta"],
+    &["arrowflow", "check", "--quiet", "a", "--quiet"],
+    &["arrowflow", "show", "a", "--limit-body=1", "--limit-body=1"],
 ];
 
 fn assert_refused(rt: &impl Abort, alloc: Global, words: &[&str]) {

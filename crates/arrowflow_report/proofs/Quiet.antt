@@ -1,0 +1,29 @@
+-- What a report of messages into an output that keeps nothing says of its input.
+use Rattle.std.proofs.Common.{ℕ, List, Option, None, Result, Ok, Err, arith}
+use Rattle.arrow_types.specs.Limits.{LimitNumbers}
+use Rattle.arrowflow_report.specs.Quiet.{Checks, ChecksInput}
+use Rattle.arrowflow_report.specs.Reports.{Reports, ReportsInput}
+use Rattle.arrowflow_report.specs.declared.report.Report.TheVariants.{Messages}
+use Rattle.arrowflow_report.specs.declared.tool_fault.ToolFault.{ToolFault}
+use Rattle.arrowflow_report.specs.declared.tool_fault.ToolFault.TheVariants.{Input, Output, Stream, Refused, Memory}
+
+-- what was told says how the stream ends; an output that never failed is not answered
+checks : (limits : LimitNumbers) (bytes : List ℕ) (left : Option (List ℕ)) (answer : Result (Unit {0}) ToolFault) → Reports Messages limits bytes left None 0 answer None 0 → Checks limits bytes left answer
+checks limits bytes left (Ok done) h = (h.0, (h.1.entries, h.1.front), h.2)
+checks limits bytes left (Err (Stream fault)) h = (h.0, (h.1.entries, h.1.front), h.2)
+checks limits bytes left (Err (Input number)) h = (
+  h.0,
+  record {
+    entries = h.1.2.entries;
+    standing = h.1.0;
+    front = h.1.2.front;
+    goes_on = h.1.1;
+  },
+)
+checks limits bytes left (Err Memory) h = tt
+checks limits bytes left (Err Output) h = absurd (omega (arith, h.1))
+checks limits bytes left (Err (Refused what kind)) h = absurd h
+
+-- the same of an input
+pub checked : (limits : LimitNumbers) (had left : Option (List ℕ)) (answer : Result (Unit {0}) ToolFault) → ReportsInput Messages limits had left None 0 answer None 0 → ChecksInput limits had left answer
+checked limits had left answer h = (h.0, h.1, h.2, checks limits h.0 left answer h.3)
