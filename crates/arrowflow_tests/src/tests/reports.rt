@@ -203,6 +203,26 @@ fn streams_cut_off(rt: HostRuntime) {
     }
 }
 
+/// The fault of one batch whose bytes go no further than to this place: all that a check that
+/// writes nothing tells.
+fn fault_before(place: usize) -> &'static str {
+    match place {
+        0..152 => "1 fault at byte 0: NoSchema",
+        152 | 328 | 336 => "",
+        153..328 => "1 fault at byte 152: Truncated",
+        _ => "1 fault at byte 328: Truncated",
+    }
+}
+
+#[test]
+fn quiet_checks_of_streams_cut_off(rt: HostRuntime) {
+    let stream = ONE_BATCH.as_slice();
+    for place in [0, 1, 151, 152, 153, 327, 328, 329, 335, 336] {
+        let bytes = &stream[..place.min(stream.len())];
+        assert_told(&rt, rt.alloc(), Call::Quiet, bytes, fault_before(place));
+    }
+}
+
 // Other bytes in the stream of one batch, and what is shown of it then.
 static CHANGES: [(&[Edit], &str); 19] = [
     (&[(152, &[0])], "batch,n\n1 fault at byte 152: Continuation"),

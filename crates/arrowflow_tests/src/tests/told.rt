@@ -4,7 +4,7 @@
 use arrow_sink::Counted;
 use arrow_sink::probe::Trickle;
 use arrow_types::Limits;
-use arrowflow_report::{ToolFault, check, schema_text, show};
+use arrowflow_report::{ToolFault, check, check_quietly, schema_text, show};
 use std::alloc::{AllocError, Global};
 use std::io::{ErrorKind, Read};
 use std::process::Abort;
@@ -14,6 +14,7 @@ use std::process::Abort;
 pub(super) enum Call {
     Schema,
     Check,
+    Quiet,
     Show,
 }
 
@@ -74,6 +75,7 @@ pub(super) fn told<R: Read>(
             let (output, answer) = check(alloc, input, Counted::new(Vec::new(alloc)), limits);
             (output.into_inner(), answer)
         }
+        Call::Quiet => (Vec::new(alloc), check_quietly(alloc, input, limits)),
         Call::Show => {
             let (output, answer) = show(alloc, input, Counted::new(Vec::new(alloc)), limits);
             (output.into_inner(), answer)
