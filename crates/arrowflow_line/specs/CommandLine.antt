@@ -1,5 +1,5 @@
 -- What the words of a command line ask for, in the terms of clap: what it reads of a command, and what it finds in words.
-use Rattle.std.specs.Prelude.{◌≡◌, ◌≤◌, ◌^◌, ◌⊎◌, ℕ, List, [], ◌∷◌, Bool, true, false, codes, map, if◌then◌else◌, Option, Some, Result, Ok, Err, ⊤, string_bytes, unwrap_or}
+use Rattle.std.specs.Prelude.{◌≡◌, ◌≤◌, ◌-◌, ◌^◌, ◌⊎◌, ℕ, List, [], ◌∷◌, Bool, true, false, codes, map, if◌then◌else◌, Option, None, Some, Result, Ok, Err, ⊤, string_bytes, unwrap_or}
 use Rattle.std.specs.Str.{bytes_eq}
 use Rattle.std.specs.Str.Parse.{digits_value, without_leading_plus}
 use Rattle.std.specs.Borrow.{Bor}
@@ -43,13 +43,22 @@ needed id = record (new_rule id) { required = true }
 abbrev pub needed_some : Text → Rule
 needed_some id = record (needed id) { range = Some (record { start_inclusive = 1; end_inclusive = usize_max }) }
 
+-- an option of this name
+abbrev pub named : Text → Rule
+named name = record (new_rule name) { long = Some name }
+
 -- an option of this name with a value that passes this parser, and what stands for it where it is not given
 abbrev pub option : Text → ValueParser → Text → Rule
-option name parser default = record (new_rule name) { long = Some name; parser = Some parser; defaults = default ∷ [] }
+option name parser default = record (named name) { parser = Some parser; defaults = default ∷ [] }
 
 -- an option of this name without a value
 abbrev pub flag : Text → Rule
-flag name = record (new_rule name) { long = Some name; action = Some SetTrue }
+flag name = record (named name) { action = Some SetTrue }
+
+-- an option of this name with a number of 64 bits, for which nothing stands where it is not given; help has one word for
+-- the number
+abbrev pub number : Text → Rule
+number name = record (named name) { parser = Some (parsers.Unsigned 0 (2 ^ 64 - 1)); value_names = 1 }
 
 -- an option of this name with a number up to this ceiling, and what stands for it where it is not given; help has one word
 -- for the number
@@ -88,7 +97,7 @@ check_app = with_limits (with_rule (file_app (codes "check")) (flag (codes "quie
 
 -- the command that shows rows
 abbrev pub show_app : App
-show_app = with_limits (file_app (codes "show"))
+show_app = with_limits (with_rule (file_app (codes "show")) (number (codes "rows")))
 
 -- the command that copies
 abbrev pub copy_app : Choices → Choices → App
@@ -159,6 +168,11 @@ updates_by word = if bytes_eq word (codes "resend") then Resend else Delta
 abbrev pub align_by : Text → Align
 align_by word = if bytes_eq word (codes "8") then Eight else SixtyFour
 
+-- The number that a text says, of 64 bits; none where there is no text. (clap refuses a text that says no such number.)
+abbrev pub IsNumberIfAny : Option Text → Option ℕ → Type 0
+IsNumberIfAny None n = n ≡ None
+IsNumberIfAny (Some t) n = IsUnsignedIn 0 (2 ^ 64 - 1) t → n ≡ Some (digits_value 10 (without_leading_plus t))
+
 -- whether an option without a value was given: clap finds `true` of it then, else `false`
 abbrev pub is_given : Text → List Row → Bool
 is_given id rows = bytes_eq (name_in id rows) (codes "true")
@@ -181,7 +195,8 @@ pub record AreLimitsIn (rows : List Row) (limits : LimitNumbers) : Type 0 where
 abbrev pub IsTask : Text → List Row → Task → Type 0
 IsTask name rows (Schema file) = (name ≡ codes "schema") × (string_bytes file ≡ name_in (codes "FILE") rows)
 IsTask name rows (Check file quiet) = (name ≡ codes "check") × (string_bytes file ≡ name_in (codes "FILE") rows) × (quiet ≡ is_given (codes "quiet") rows)
-IsTask name rows (Show file) = (name ≡ codes "show") × (string_bytes file ≡ name_in (codes "FILE") rows)
+IsTask name rows (Show file first) =
+    (name ≡ codes "show") × (string_bytes file ≡ name_in (codes "FILE") rows) × IsNumberIfAny (number_text (codes "rows") rows) first
 IsTask name rows (Copy input output options) =
     (name ≡ codes "copy") × (string_bytes input ≡ name_in (codes "IN") rows) × (string_bytes output ≡ name_in (codes "OUT") rows) × (options ≡ options_in rows)
 IsTask name rows (Drill files options bytes piece) =

@@ -6,7 +6,7 @@ ghost use Rattle.clap.specs.Words.{app_of};
 ghost use Rattle.arrowflow_line.specs.CommandLine.{AnswersLine, HasNoGlobals, IsProgram};
 ghost use Rattle.arrowflow_line.specs.CommandLine.{NeedsSubcommand, Offers, check_app, copy_app};
 ghost use Rattle.arrowflow_line.specs.CommandLine.{drill_app, file_app, flag, limit, needed};
-ghost use Rattle.arrowflow_line.specs.CommandLine.{needed_some, option, schema_app, show_app};
+ghost use Rattle.arrowflow_line.specs.CommandLine.{named, needed_some, number, option, schema_app, show_app};
 ghost use Rattle.arrowflow_line.specs.CommandLine.{with_delivery, with_limits, with_options};
 
 use crate::fault::ArgFault;
@@ -95,6 +95,14 @@ fn needed_some<'a>(alloc: Global, id: &'a str, help: &'a str) -> Arg<'a>
     needed(alloc, id, help).num_args(1..)
 }
 
+/// An option of this name.
+fn named<'a>(alloc: Global, name: &'a str, help: &'a str) -> Arg<'a>
+    ensures rule { rule_of result ≡ named name.now }
+    ensures local { result.global ≡ false }
+{
+    Arg::new(alloc, name).long(name).help(help)
+}
+
 /// An option with a value, and what stands for it where it is not given.
 fn option<'a>(
     alloc: Global,
@@ -106,11 +114,9 @@ fn option<'a>(
     ensures rule { rule_of result ≡ option name.now parser.entry default.now }
     ensures local { result.global ≡ false }
 {
-    Arg::new(alloc, name)
-        .long(name)
+    named(alloc, name, help)
         .value_parser(parser)
         .default_value(default)
-        .help(help)
 }
 
 /// An option without a value.
@@ -118,10 +124,17 @@ fn flag<'a>(alloc: Global, name: &'a str, help: &'a str) -> Arg<'a>
     ensures rule { rule_of result ≡ flag name.now }
     ensures local { result.global ≡ false }
 {
-    Arg::new(alloc, name)
-        .long(name)
-        .action(ArgAction::SetTrue)
-        .help(help)
+    named(alloc, name, help).action(ArgAction::SetTrue)
+}
+
+/// An option with a number, for which nothing stands where it is not given.
+fn number<'a>(alloc: Global, name: &'a str, unit: &'a str, help: &'a str) -> Arg<'a>
+    ensures rule { rule_of result ≡ number name.now }
+    ensures local { result.global ≡ false }
+{
+    named(alloc, name, help)
+        .value_parser(ValueParser::unsigned(0, u64::MAX))
+        .value_name(unit)
 }
 
 /// A limit of this name, with its ceiling, what stands for it where it is not given, and the words
@@ -220,7 +233,8 @@ fn show_command<'a>(alloc: Global) -> Result<Command<'a>, AllocError>
     ensures globals { IfOk result HasNoGlobals }
     ensures app { IfOk result (λ c. app_of c ≡ show_app) }
 {
-    let command = file_command(alloc, "show", SHOW_ABOUT, SHOW_EXAMPLE)?;
+    let rows = number(alloc, "rows", "N", "Print the first N rows alone");
+    let command = file_command(alloc, "show", SHOW_ABOUT, SHOW_EXAMPLE)?.arg(rows)?;
     with_limits(alloc, command)
 }
 

@@ -3,8 +3,8 @@
 ghost use Rattle.std.specs.Prelude.{◌≡◌, ◌≤◌, IfOk, MatchOption, codes, map};
 ghost use Rattle.std.specs.Prelude.{string_bytes};
 ghost use Rattle.clap.specs.Words.{found_of, rows_of};
-ghost use Rattle.arrowflow_line.specs.CommandLine.{AreLimitsIn, IsCommand, IsNumberOf, IsPlan};
-ghost use Rattle.arrowflow_line.specs.CommandLine.{IsTask, align_by, is_given, name_in, names_in};
+ghost use Rattle.arrowflow_line.specs.CommandLine.{AreLimitsIn, IsCommand, IsNumberIfAny, IsNumberOf};
+ghost use Rattle.arrowflow_line.specs.CommandLine.{IsPlan, IsTask, align_by, is_given, name_in, names_in};
 ghost use Rattle.arrowflow_line.specs.CommandLine.{number_text, options_in, updates_by};
 
 use crate::plans::{Plan, Task};
@@ -67,6 +67,13 @@ fn number_of(matches: &ArgMatches<'_>, argument: &str, least: u64, most: u64) ->
         Some(number) => number.max(least).min(most),
         None => most,
     }
+}
+
+/// The number that an argument was given, None where it was given none.
+fn number_if_any(matches: &ArgMatches<'_>, argument: &str) -> Option<u64>
+    ensures { IsNumberIfAny (number_text argument.now (rows_of (found_of matches.now))) result }
+{
+    matches.get_one::<u64>(argument)
 }
 
 /// Whether an option without a value was given.
@@ -148,7 +155,7 @@ fn task_of(alloc: Global, command: &str, given: &ArgMatches<'_>) -> Result<Optio
     Ok(Some(match command {
         "schema" => Task::Schema(name_of(alloc, given, "FILE")?),
         "check" => Task::Check(name_of(alloc, given, "FILE")?, is_given(given, "quiet")),
-        "show" => Task::Show(name_of(alloc, given, "FILE")?),
+        "show" => Task::Show(name_of(alloc, given, "FILE")?, number_if_any(given, "rows")),
         "copy" => copy_of(alloc, given)?,
         "drill" => drill_of(alloc, given)?,
         // a text that names no command

@@ -14,7 +14,7 @@ use crate::ends::{create, input_name, is_same_file, open, output_name};
 use crate::pipe::Pipe;
 use arrowflow::{
     ArgFault, Counted, Limits, Options, Plan, Task, ToolFault, check, check_quietly, copy, plan,
-    schema_text, show,
+    schema_text, show, show_first,
 };
 use std::alloc::Global;
 use std::io::{ErrorKind, Input, Write};
@@ -73,7 +73,7 @@ where
         Task::Schema(name) => print_schema(rt, alloc, name, limits),
         Task::Check(name, false) => print_messages(rt, alloc, name, limits),
         Task::Check(name, true) => check_file(rt, alloc, name, limits),
-        Task::Show(name) => print_rows(rt, alloc, name, limits),
+        Task::Show(name, rows) => print_rows(rt, alloc, name, *rows, limits),
         Task::Copy(input, output, options) => {
             copy_file(rt, alloc, (input, output), *options, limits)
         }
@@ -157,11 +157,12 @@ where
     }
 }
 
-/// Prints the rows of the stream in the file of this name.
+/// Prints the rows of the stream in the file of this name: the first so many, or all.
 fn print_rows<R: Files + Input + Print + Eprint>(
     rt: &R,
     alloc: Global,
     name: &str,
+    rows: Option<u64>,
     limits: &Limits,
 ) -> u8
 where
@@ -172,7 +173,10 @@ where
         Err(fault) => return tell(rt, alloc, &fault, name, "-"),
     };
     let output = Counted::new(Pipe::new(io::writer(rt)));
-    let (output, answer) = show(alloc, &mut file, output, limits);
+    let (output, answer) = match rows {
+        Some(rows) => show_first(alloc, &mut file, output, rows, limits),
+        None => show(alloc, &mut file, output, limits),
+    };
     status_of(rt, alloc, answer, (name, "-"), &output.into_inner())
 }
 

@@ -1,5 +1,8 @@
 mod Chars
 pub mod First
+mod FirstRows
+mod FirstTold
+mod FirstReported
 pub mod Found
 mod Indented
 pub mod Feeding

@@ -130,7 +130,7 @@ module _ (report : Report) (first held : Option (List ℕ)) (number : ℕ) (now 
   abbrev pub entry : Entry
   entry = record { given = given item; end = length u + n }
 
-  new_text : IsTextOf report new.at.state.schema (es ++ entry ∷ []) (x.text ++ added)
+  pub new_text : IsTextOf report new.at.state.schema (es ++ entry ∷ []) (x.text ++ added)
   new_text =
       let standing : Standing = record { state = new.at.state; place = new.at.place; rest = gives.stands.rest; verdict = new.at.verdict } in
       text_more report (take n rest) entry number x.text added x.stands.front is_open (subst (λ l. FrontOf l (u ++ take n rest) (es ++ entry ∷ []) standing) limits gives.stands.front) x.counted x.is is_added
@@ -166,11 +166,11 @@ told_still report first held number now new u c es limits x at =
     record { text = x.text; stands = at; is = subst (λ (s : StreamState). IsTextOf report s.schema es x.text) (sym same) x.is; wrote = x.wrote; counted = x.counted }
 
 -- behind an end more bytes change nothing
-told_ended : (report : Report) (first held : Option (List ℕ)) (number : ℕ) (r : ReaderView) (u c : List ℕ) (es : List Entry) → r.at.verdict ≡ Done → IsTold report first held number r u es → IsTold report first held number r (u ++ c) es
+pub told_ended : (report : Report) (first held : Option (List ℕ)) (number : ℕ) (r : ReaderView) (u c : List ℕ) (es : List Entry) → r.at.verdict ≡ Done → IsTold report first held number r u es → IsTold report first held number r (u ++ c) es
 told_ended report first held number r u c es d x =
     told_still report first held number r r u c es refl x (ended_stands r u es c (λ q. let z : Done ≡ Open = sym d ∙ q in cc) x.stands)
 
-told_at : (report : Report) (first held : Option (List ℕ)) (number : ℕ) (r : ReaderView) (u v : List ℕ) (es : List Entry) → u ≡ v → IsTold report first held number r u es → IsTold report first held number r v es
+pub told_at : (report : Report) (first held : Option (List ℕ)) (number : ℕ) (r : ReaderView) (u v : List ℕ) (es : List Entry) → u ≡ v → IsTold report first held number r u es → IsTold report first held number r v es
 told_at report first held number r u v es e x = subst (λ y. IsTold report first held number r y es) e x
 
 -- ---- the loop over a piece
@@ -183,7 +183,7 @@ pub record IsTelling (report : Report) (old : ReaderView) (before : Option (List
   pub limits : now.limits ≡ old.limits
 
 -- before the first message nothing of a piece was given
-pub telling_nothing : (report : Report) (old : ReaderView) (before : Option (List ℕ)) (number : ℕ) (piece : List ℕ) → IsTelling report old before number piece old before number piece
+abbrev pub telling_nothing : (report : Report) (old : ReaderView) (before : Option (List ℕ)) (number : ℕ) (piece : List ℕ) → IsTelling report old before number piece old before number piece
 telling_nothing report old before number piece = record {
   taken = [];
   whole = refl;
@@ -195,14 +195,14 @@ module _ (report : Report) (old : ReaderView) (before : Option (List ℕ)) (numb
     (i : IsTelling report old before number piece now held number' rest) (new : ReaderView) (limits : new.limits ≡ now.limits) where
   module _ (n : ℕ) (item : Item) (is_open : now.at.verdict ≡ Open) (gives : (t : List ℕ) (es : List Entry) → ReaderStands now t es → GivesNext rest n item new t es) (place : ℕ) (here : place ≡ now.at.place) where
     -- what was sent is the text of the message at the place where it began
-    at_place : (text : List ℕ) → IsAdded report new.at.state.schema place number' (given item) text → IsAdded report new.at.state.schema now.at.place number' (given item) text
+    pub at_place : (text : List ℕ) → IsAdded report new.at.state.schema place number' (given item) text → IsAdded report new.at.state.schema now.at.place number' (given item) text
     at_place text h = subst (λ p. IsAdded report new.at.state.schema p number' (given item) text) here h
 
-    whole_next : i.taken ++ take n rest ++ drop n rest ≡ piece
+    pub whole_next : i.taken ++ take n rest ++ drop n rest ≡ piece
     whole_next = append_assoc i.taken (take n rest) (drop n rest) ∙ ap (λ y. i.taken ++ y) (take-append-drop n rest) ∙ i.whole
 
     -- an item was told
-    pub telling_next : (held' : Option (List ℕ)) (number'' failed failed' : ℕ) → SendsSome (IsAdded report new.at.state.schema place number' (given item)) held failed (Ok tt) held' failed'
+    abbrev pub telling_next : (held' : Option (List ℕ)) (number'' failed failed' : ℕ) → SendsSome (IsAdded report new.at.state.schema place number' (given item)) held failed (Ok tt) held' failed'
         → number'' ≡ number' + length (table_in (given item)) → IsTelling report old before number piece new held' number'' (drop n rest)
     telling_next held' number'' failed failed' sent count = record {
       taken = i.taken ++ take n rest;

@@ -1,4 +1,5 @@
 pub mod Escapes
+pub mod FirstRows
 pub mod Faults
 pub mod SchemaCall
 pub mod SchemaText

@@ -12,10 +12,12 @@
 //! `AnswersInput` (`specs/SchemaCall.antt`), in the words of the layer that reads streams; what is
 //! said of a fault by `specs/Faults.antt`. [`show`] writes the rows of a stream and [`check`] a
 //! line for each of its messages, as they come: what is written, and how that ends, is said by
-//! `ReportsInput` (`specs/Reports.antt`). What the answer of [`check_quietly`], which writes nothing,
-//! says of its input, is said by `ChecksInput` (`specs/Quiet.antt`). How far they read their input is
-//! said by `specs/Reads.antt`. What each message adds to the text of a stream's rows is said by
-//! `specs/Shown.antt`, and that the text grows so by [`laws`].
+//! `ReportsInput` (`specs/Reports.antt`); [`show_first`] writes the first rows alone, and
+//! `ShowsFirstOf` (`specs/FirstRows.antt`) says the same of it. What the answer of
+//! [`check_quietly`], which writes nothing, says of its input, is said by `ChecksInput`
+//! (`specs/Quiet.antt`). How far they read their input is said by `specs/Reads.antt`. What each
+//! message adds to the text of a stream's rows is said by `specs/Shown.antt`, and that the text
+//! grows so by [`laws`].
 //!
 //! | Notion | Definition |
 //! |---|---|
@@ -24,13 +26,16 @@
 //! | what an input answers with it | `specs/SchemaCall.antt`: `AnswersInput` |
 //! | what is written of a stream | `specs/Reports.antt`: `ReportsInput`; `specs/OfFront.antt`: `IsBegunOf`; `specs/Shown.antt`: `text_at` |
 //! | what a check that writes nothing says of an input | `specs/Quiet.antt`: `ChecksInput` |
+//! | the first rows of a stream | `specs/FirstRows.antt`: `ShowsFirstOf`, `first_text` |
 //! | the lines of messages | `specs/Lines.antt`: `message_line`, `AreLines` |
 //! | how far an input is read | `specs/Reads.antt`: `IsReadWhile` |
 //! | what is said of a fault | `specs/Faults.antt`: `fault_line`, `status_of` |
 //!
 //! Of the proofs, `Feeding` says what comes of pieces, `Growing` shows the law, `Told` and `Lined`
 //! how a text grows, `Sent` what of it was sent, `Reporting` how that ends, `OfFront` that it is so
-//! by the front of all bytes, and `Reading` that the loops over an input end.
+//! by the front of all bytes, and `Reading` that the loops over an input end. `FirstRows`,
+//! `FirstTold` and `FirstReported` go beside `Growing`, `Told` and `Reporting` where the first rows
+//! alone are wanted.
 #![tactic(auto)]
 
 mod escapes;
@@ -38,6 +43,7 @@ pub mod laws;
 mod lines;
 mod nowhere;
 pub mod pieces;
+mod progress;
 mod report;
 mod reports;
 mod schema_call;
@@ -49,7 +55,7 @@ mod tool_fault;
 mod type_names;
 mod what;
 
-pub use reports::{check, check_quietly, show};
+pub use reports::{check, check_quietly, show, show_first};
 pub use schema_call::schema_text;
 pub use schema_lines::schema_lines_of;
 pub use tool_fault::ToolFault;

@@ -1,8 +1,9 @@
 //! Streams told as they come: their messages, or their rows.
 
-ghost use Rattle.std.specs.Prelude.{◌≡◌, ◌<◌, ◌-◌, ◌^◌, [], IfOk, OnOk, length};
+ghost use Rattle.std.specs.Prelude.{◌≡◌, ◌<◌, ◌-◌, ◌^◌, ◌⊎◌, ℕ, [], IfOk, OnOk, length};
 ghost use Rattle.arrow_stream_reader.specs.declared.reader.Verdict.TheVariants.{Open};
 ghost use Rattle.arrow_stream_reader.specs.Stream.{ReaderStands};
+ghost use Rattle.arrowflow_report.specs.FirstRows.{ShowsFirstOf};
 ghost use Rattle.arrowflow_report.specs.Quiet.{ChecksInput};
 ghost use Rattle.arrowflow_report.specs.Reads.{BlamesNoInput, answer_by};
 ghost use Rattle.arrowflow_report.specs.Reports.{ReportsInput};
@@ -10,6 +11,7 @@ ghost use Rattle.arrowflow_report.specs.declared.report.Report.TheVariants.{Mess
 
 use crate::nowhere::Nowhere;
 use crate::pieces::{ReadFailed, answer_of, read_piece, room_for_a_piece};
+use crate::progress::Progress;
 use crate::report::Report;
 use crate::sending::flush;
 use crate::telling::{Teller, tell_end, tell_piece};
@@ -43,7 +45,7 @@ pub fn check<R: Read, S: Sink>(
     ensures passed { OnOk result.1 (S.is_passed_on result.0) }
 {
     let mut output = output;
-    let answer = report(alloc, Report::Messages, input, &mut output, limits);
+    let answer = report(alloc, Report::Messages, None, input, &mut output, limits);
     (output, answer)
 }
 
@@ -61,7 +63,7 @@ pub fn check_quietly<R: Read>(
 ) -> Result<(), ToolFault>
     ensures { ChecksInput limits.now (R.remaining input.old) (R.remaining input.new) result }
 {
-    report(alloc, Report::Messages, input, &mut Nowhere, limits)
+    report(alloc, Report::Messages, None, input, &mut Nowhere, limits)
 }
 
 /// Writes the rows of a stream as records of comma-separated values, and hands the output back.
@@ -89,26 +91,56 @@ pub fn show<R: Read, S: Sink>(
     ensures passed { OnOk result.1 (S.is_passed_on result.0) }
 {
     let mut output = output;
-    let answer = report(alloc, Report::Rows, input, &mut output, limits);
+    let answer = report(alloc, Report::Rows, None, input, &mut output, limits);
     (output, answer)
 }
 
-/// Tells a stream from its beginning.
+/// Writes the first rows of a stream, so many of them, as [`show`] does, and hands the output back.
+///
+/// The record of the names comes first, then those of the first `rows` rows that [`show`] would
+/// write; all of them where there are fewer. Once they are written the call ends well: what stands
+/// behind the message that has the last of them is not looked at, and of the input no piece is read
+/// behind that in which its last byte stands. Of a stream that ends or is refused before, the call
+/// ends as [`show`] does.
+pub fn show_first<R: Read, S: Sink>(
+    alloc: Global,
+    input: &mut R,
+    output: S,
+    rows: u64,
+    limits: &Limits,
+) -> (S, Result<(), ToolFault>)
+    requires { S.failed output < 2 ^ 64 - 1 }
+    ensures written { ShowsFirstOf rows limits.now (R.remaining input.old)
+        (R.remaining input.new) (S.contents output) (S.failed output) result.1
+        (S.contents result.0) (S.failed result.0) }
+    ensures passed { OnOk result.1 (S.is_passed_on result.0) }
+{
+    let mut output = output;
+    let answer = report(alloc, Report::Rows, Some(rows), input, &mut output, limits);
+    (output, answer)
+}
+
+/// Tells a stream from its beginning, so many of its rows, or all.
 fn report<R: Read, S: Sink>(
     alloc: Global,
     report: Report,
+    rows: Option<u64>,
     input: &mut R,
     output: &mut S,
     limits: &Limits,
 ) -> Result<(), ToolFault>
-    requires { S.failed output.old < 2 ^ 64 - 1 }
-    ensures written { ReportsInput report limits.now (R.remaining input.old)
+    requires failed { S.failed output.old < 2 ^ 64 - 1 }
+    requires limited { (rows ≡ None) ⊎ (report ≡ Rows) }
+    ensures written { rows ≡ None → ReportsInput report limits.now (R.remaining input.old)
         (R.remaining input.new) (S.contents output.old) (S.failed output.old) result
         (S.contents output.new) (S.failed output.new) }
+    ensures first { report ≡ Rows → (n : ℕ) → rows ≡ Some n → ShowsFirstOf n limits.now
+        (R.remaining input.old) (R.remaining input.new) (S.contents output.old)
+        (S.failed output.old) result (S.contents output.new) (S.failed output.new) }
     ensures passed { OnOk result (S.is_passed_on output.new) }
 {
     let mut reader = StreamReader::new(alloc, *limits);
-    let mut teller = Teller::new(alloc);
+    let mut teller = Teller::new(alloc, rows);
     match room_for_a_piece(alloc) {
         Ok(mut room) => {
             answer_of(report_pieces(report, &mut reader, &mut teller, input, output, &mut room))
@@ -131,10 +163,15 @@ fn report_pieces<R: Read, S: Sink>(
     requires start { ReaderStands reader.old [] [] }
     requires open { reader.old.at.verdict ≡ Open }
     requires none { teller.old.number ≡ 0 }
+    requires limited { (teller.old.left ≡ None) ⊎ (report ≡ Rows) }
     requires room { length room.old ≡ 65536 }
-    ensures written { ReportsInput report reader.old.limits (R.remaining input.old)
-        (R.remaining input.new) (S.contents output.old) (S.failed output.old) (answer_by result)
-        (S.contents output.new) (S.failed output.new) }
+    ensures written { teller.old.left ≡ None → ReportsInput report reader.old.limits
+        (R.remaining input.old) (R.remaining input.new) (S.contents output.old)
+        (S.failed output.old) (answer_by result) (S.contents output.new) (S.failed output.new) }
+    ensures first { report ≡ Rows → (n : ℕ) → teller.old.left ≡ Some n
+        → ShowsFirstOf n reader.old.limits (R.remaining input.old) (R.remaining input.new)
+        (S.contents output.old) (S.failed output.old) (answer_by result) (S.contents output.new)
+        (S.failed output.new) }
     ensures blameless { IfOk result BlamesNoInput }
     ensures passed { OnOk (answer_by result) (S.is_passed_on output.new) }
 {
@@ -147,8 +184,9 @@ fn report_pieces<R: Read, S: Sink>(
             });
         }
         match tell_piece(report, reader, teller, output, &room[..count]) {
-            Ok(true) => return Ok(flush(output)),
-            Ok(false) => {}
+            Ok(Progress::GoesOn) => {}
+            Ok(Progress::Marker) => return Ok(flush(output)),
+            Ok(Progress::Enough) => return Ok(flush(output)),
             Err(fault) => return Ok(Err(fault)),
         }
     }

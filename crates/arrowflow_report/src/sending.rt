@@ -1,6 +1,6 @@
 //! Texts on their way to an output.
 
-ghost use Rattle.std.specs.Prelude.{◌<◌, ◌-◌, ◌^◌, [], OnOk};
+ghost use Rattle.std.specs.Prelude.{◌<◌, ◌≤◌, ◌-◌, ◌^◌, [], OnOk};
 ghost use Rattle.arrow_csv.specs.Records.{batch_rows};
 ghost use Rattle.arrowflow_report.specs.Reports.{SendsText};
 
@@ -25,32 +25,33 @@ pub(crate) fn send_text<S: Sink>(output: &mut S, text: &[u8]) -> Result<(), Tool
     }
 }
 
-/// Sends the records of the rows of the batch that has this number, some of them at a time, which
-/// are made in the room of a text.
+/// Sends the records of the rows up to `end` of the batch that has this number, some of them at a
+/// time, which are made in the room of a text.
 pub(crate) fn send_rows<S: Sink>(
     alloc: Global,
     text: &mut Vec<u8>,
     number: u64,
     batch: &Batch,
+    end: usize,
     output: &mut S,
 ) -> Result<(), ToolFault>
-    requires { S.failed output.old < 2 ^ 64 - 1 }
+    requires failed { S.failed output.old < 2 ^ 64 - 1 }
+    requires within { end ≤ batch.now.rows }
     ensures { SendsText (S.contents output.old) (S.failed output.old)
-        (batch_rows number batch.now 0 batch.now.rows) result (S.contents output.new)
-        (S.failed output.new) }
+        (batch_rows number batch.now 0 end) result (S.contents output.new) (S.failed output.new) }
 {
     let Ok(rows) = BatchRows::new(alloc, number, batch) else {
         return Err(ToolFault::Memory);
     };
     let mut start = 0;
-    while start < batch.rows() {
-        let end = start + ROWS.min(batch.rows() - start);
+    while start < end {
+        let next = start + ROWS.min(end - start);
         text.clear();
-        let Ok(()) = rows.push(alloc, text, start, end) else {
+        let Ok(()) = rows.push(alloc, text, start, next) else {
             return Err(ToolFault::Memory);
         };
         match send_text(output, text) {
-            Ok(()) => start = end,
+            Ok(()) => start = next,
             Err(fault) => return Err(fault),
         }
     }

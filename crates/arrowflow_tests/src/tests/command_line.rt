@@ -6,7 +6,7 @@ use std::alloc::Global;
 use std::process::Abort;
 
 // The words of a line, and what they ask for, within the limits that stand where none is given.
-static TASKS: [(&[&str], &str); 16] = [
+static TASKS: [(&[&str], &str); 20] = [
     (&["arrowflow", "schema", "a.arrows"], "Schema(\"a.arrows\")"),
     (
         &["any name", "schema", "/dev/stdin"],
@@ -16,9 +16,9 @@ static TASKS: [(&[&str], &str); 16] = [
         &["arrowflow", "check", "two words é"],
         "Check(\"two words é\", false)",
     ),
-    (&["arrowflow", "show", ""], "Show(\"\")"),
-    (&["arrowflow", "show", "--", "-x"], "Show(\"-x\")"),
-    (&["arrowflow", "show", "-"], "Show(\"-\")"),
+    (&["arrowflow", "show", ""], "Show(\"\", None)"),
+    (&["arrowflow", "show", "--", "-x"], "Show(\"-x\", None)"),
+    (&["arrowflow", "show", "-"], "Show(\"-\", None)"),
     (
         &["arrowflow", "copy", "a", "b"],
         "Copy(\"a\", \"b\", Options { updates: Delta, align: SixtyFour })",
@@ -99,6 +99,22 @@ static TASKS: [(&[&str], &str); 16] = [
     (
         &["arrowflow", "check", "--", "--quiet"],
         "Check(\"--quiet\", false)",
+    ),
+    (
+        &["arrowflow", "show", "a", "--rows", "0"],
+        "Show(\"a\", Some(0))",
+    ),
+    (
+        &["arrowflow", "show", "--rows=10", "a"],
+        "Show(\"a\", Some(10))",
+    ),
+    (
+        &["arrowflow", "show", "--rows", "18446744073709551615", "a"],
+        "Show(\"a\", Some(18446744073709551615))",
+    ),
+    (
+        &["arrowflow", "show", "--", "--rows"],
+        "Show(\"--rows\", None)",
     ),
 ];
 
@@ -183,7 +199,7 @@ fn limits_are_those_of_the_line(rt: HostRuntime) {
 }
 
 // The words of a line without a plan, the exit status, and a part of what is printed.
-static OTHERS: [(&[&str], i32, &str); 47] = [
+static OTHERS: [(&[&str], i32, &str); 51] = [
     (&["arrowflow"], 2, ""),
     (&["arrowflow", "schema"], 2, ""),
     (&["arrowflow", "schema", "a", "b"], 2, ""),
@@ -299,6 +315,14 @@ static OTHERS: [(&[&str], i32, &str); 47] = [
     (&["arrowflow", "copy", "a", "b", "--limit-rows=-1"], 2, ""),
     (&["arrowflow", "show", "a", "--limit-body"], 2, ""),
     (&["arrowflow", "show", "a", "--limit-rows", "1k"], 2, ""),
+    (
+        &["arrowflow", "show", "a", "--rows", "18446744073709551616"],
+        2,
+        "",
+    ),
+    (&["arrowflow", "show", "a", "--rows", "-1"], 2, ""),
+    (&["arrowflow", "show", "a", "--rows"], 2, ""),
+    (&["arrowflow", "check", "a", "--rows", "1"], 2, ""),
 ];
 
 fn assert_other(rt: &impl Abort, alloc: Global, words: &[&str], status: i32, part: &str) {

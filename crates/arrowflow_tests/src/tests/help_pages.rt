@@ -77,6 +77,7 @@ Arguments:
   <FILE>  A file with an Arrow IPC stream; - is standard input
 
 Options:
+      --rows <N>                Print the first N rows alone
       --limit-metadata <BYTES>  The most bytes of one message's metadata [default: 67108864]
       --limit-body <BYTES>      The most bytes of one message's body [default: 68719476736]
       --limit-rows <ROWS>       The most rows of a batch, slots of a column, and values of a dictionary [default: 2147483647]

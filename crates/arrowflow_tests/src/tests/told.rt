@@ -4,7 +4,7 @@
 use arrow_sink::Counted;
 use arrow_sink::probe::Trickle;
 use arrow_types::Limits;
-use arrowflow_report::{ToolFault, check, check_quietly, schema_text, show};
+use arrowflow_report::{ToolFault, check, check_quietly, schema_text, show, show_first};
 use std::alloc::{AllocError, Global};
 use std::io::{ErrorKind, Read};
 use std::process::Abort;
@@ -16,6 +16,8 @@ pub(super) enum Call {
     Check,
     Quiet,
     Show,
+    /// The first rows, so many.
+    First(u64),
 }
 
 /// The error by which an input fails at this place: each is told alike.
@@ -78,6 +80,11 @@ pub(super) fn told<R: Read>(
         Call::Quiet => (Vec::new(alloc), check_quietly(alloc, input, limits)),
         Call::Show => {
             let (output, answer) = show(alloc, input, Counted::new(Vec::new(alloc)), limits);
+            (output.into_inner(), answer)
+        }
+        Call::First(rows) => {
+            let output = Counted::new(Vec::new(alloc));
+            let (output, answer) = show_first(alloc, input, output, rows, limits);
             (output.into_inner(), answer)
         }
     };

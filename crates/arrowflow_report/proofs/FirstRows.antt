@@ -1,0 +1,236 @@
+-- The text of a stream's first rows, message by message.
+use Rattle.std.proofs.Common.{◌≡◌, ◌≤◌, ◌<◌, ◌+◌, ◌-◌, min, ℕ, suc, Bool, true, false, List, [], ◌∷◌, ◌++◌, length, Option, None, Some, Result, Ok, Err, ◌⊎◌, inl, inr, refl, sym, ap, ◌∙◌, subst, arith, append_assoc, append-nil, is_some}
+use Rattle.std.proofs.lemmas.Bool.{false≢true}
+use Rattle.arrow_types.specs.Limits.{LimitNumbers}
+use Rattle.arrow_types.specs.Notes.{SchemaShape}
+use Rattle.arrow_data.specs.Batch.{Table}
+use Rattle.arrow_csv.specs.Records.{batch_rows, batches_text, header_record, stream_text}
+use Rattle.arrow_sink.specs.Sinks.{AcceptsBeginning}
+use Rattle.arrow_stream_reader.specs.declared.reader.Verdict.TheVariants.{Open}
+use Rattle.arrow_stream_reader.specs.Front.{Entry, Standing, FrontOf}
+use Rattle.arrow_stream_reader.specs.State.{Given, schema_given, dictionary_given, batch_given, ended}
+use Rattle.arrow_stream_reader.specs.Tables.{table_in, tables_of}
+use Rattle.arrowflow_report.specs.FirstRows.{AreLeft, AreRowsIn, HasLast, HasMore, HaveFirst, ToldSo, first_rows, first_text, last_in, left_behind, rows_of}
+use Rattle.arrowflow_report.specs.Reports.{IsAdded, IsTextOf, SendsText}
+use Rattle.arrowflow_report.specs.Shown.{text_in}
+use Rattle.arrowflow_report.specs.declared.progress.Progress.{Progress}
+use Rattle.arrowflow_report.specs.declared.progress.Progress.TheVariants.{GoesOn, Marker, Enough}
+use Rattle.arrowflow_report.specs.declared.report.Report.{Report}
+use Rattle.arrowflow_report.specs.declared.report.Report.TheVariants.{Messages, Rows}
+use Rattle.arrowflow_report.specs.declared.tool_fault.ToolFault.{ToolFault}
+use Rattle.arrowflow_report.specs.declared.tool_fault.ToolFault.TheVariants.{Input, Output, Stream, Refused, Memory}
+use Rattle.arrowflow_report.proofs.First.{state_stays}
+use Rattle.arrowflow_report.proofs.Growing.{one_table, text_grows}
+use Rattle.arrowflow_report.proofs.Schemas.{front_begins, front_behind, front_keeps}
+use Rattle.arrowflow_report.proofs.Sent.{begun_longer, rows_join}
+
+-- ---- rows and their records
+
+rows_of-append : (ts us : List Table) → rows_of (ts ++ us) ≡ rows_of ts + rows_of us
+rows_of-append [] us = omega arith
+rows_of-append (t ∷ ts) us = omega (arith, rows_of-append ts us)
+
+-- one message more adds its rows
+rows_more : (es : List Entry) (x : Entry) → rows_of (tables_of (es ++ x ∷ [])) ≡ rows_of (tables_of es) + rows_of (table_in x.given)
+rows_more es x = ap rows_of (one_table es x) ∙ rows_of-append (tables_of es) (table_in x.given)
+
+-- where no more rows are there than are asked for, the first are all
+first_all : (n number : ℕ) (ts : List Table) → rows_of ts ≤ n → first_rows n number ts ≡ batches_text number ts
+first_all n number [] h = refl
+first_all n number (t ∷ ts) h =
+    let least : min n t.rows ≡ t.rows = omega (arith, h) in
+    let rest : rows_of ts ≤ n - t.rows = omega (arith, h) in
+    ap (λ k. batch_rows number t 0 k ++ first_rows (n - t.rows) (number + 1) ts) least
+    ∙ ap (λ x. batch_rows number t 0 t.rows ++ x) (first_all (n - t.rows) (number + 1) ts rest)
+
+pub first_text_all : (n : ℕ) (schema : Option SchemaShape) (ts : List Table) → rows_of ts ≤ n → first_text n schema ts ≡ stream_text schema ts
+first_text_all n None ts h = refl
+first_text_all n (Some shape) ts h = ap (λ x. header_record shape.fields ++ x) (first_all n 0 ts h)
+
+-- the batch with the last row
+first_then : (n number : ℕ) (ts : List Table) (b : Table) (left : ℕ) → n ≡ rows_of ts + left → left ≤ b.rows
+    → first_rows n number (ts ++ b ∷ []) ≡ batches_text number ts ++ batch_rows (number + length ts) b 0 left
+first_then n number [] b left e h =
+    let least : min n b.rows ≡ left = omega (arith, e, h) in
+    let here : number ≡ number + 0 = omega arith in
+    append-nil (batch_rows number b 0 (min n b.rows)) ∙ ap (λ k. batch_rows number b 0 k) least ∙ ap (λ m. batch_rows m b 0 left) here
+first_then n number (t ∷ ts) b left e h =
+    let least : min n t.rows ≡ t.rows = omega (arith, e) in
+    let rest : n - t.rows ≡ rows_of ts + left = omega (arith, e) in
+    let here : number + 1 + length ts ≡ number + suc (length ts) = omega arith in
+    let own = batch_rows number t 0 t.rows in
+    let later = batch_rows (number + suc (length ts)) b 0 left in
+    ap (λ k. batch_rows number t 0 k ++ first_rows (n - t.rows) (number + 1) (ts ++ b ∷ [])) least
+    ∙ ap (λ x. own ++ x) (first_then (n - t.rows) (number + 1) ts b left rest h ∙ ap (λ m. batches_text (number + 1) ts ++ batch_rows m b 0 left) here)
+    ∙ sym (append_assoc own (batches_text (number + 1) ts) later)
+
+-- ---- how many are left
+
+pub left_rows : (n : ℕ) (left : Option ℕ) (es : List Entry) → AreLeft n left es → rows_of (tables_of es) ≤ n
+left_rows n None es a = absurd a
+left_rows n (Some k) es a = omega (arith, a.0)
+
+never_empty : (es : List Entry) (x : Entry) → es ++ x ∷ [] ≡ [] → ⊥
+never_empty [] x q = absurd (cc)
+never_empty (y ∷ es) x q = absurd (cc)
+
+-- the first message is the schema
+first_is_schema : {l : LimitNumbers} {b : List ℕ} (es : List Entry) (x : Entry) {f : Standing} → FrontOf l b (es ++ x ∷ []) f → es ≡ [] → x.given ≡ schema_given
+first_is_schema [] x new q =
+    let w = front_begins new refl (λ q. cc) in
+    let first : w.first ≡ x = let q = w.joined in cc in
+    ap (λ (y : Entry). y.given) (sym first) ∙ w.given
+first_is_schema (y ∷ es) x new q = absurd (cc)
+
+-- a stream with a message has a schema
+schema_there : {l : LimitNumbers} {b : List ℕ} (es : List Entry) (x : Entry) {f : Standing} → FrontOf l b (es ++ x ∷ []) f → is_some f.state.schema ≡ true
+schema_there es x new = let w = front_begins new refl (never_empty es x) in ap is_some w.schema
+
+-- while rows are left, not all are there
+pub not_there : (n : ℕ) (left : Option ℕ) {l : LimitNumbers} {b : List ℕ} {es : List Entry} {e : Standing} → FrontOf l b es e → AreLeft n left es → HaveFirst n e.state.schema es → ⊥
+not_there n None front a h = absurd a
+not_there n (Some k) {es = es} {e = e} front a h =
+    let none : k ≡ 0 = omega (arith, a.0, h.1) in
+    let same = state_stays front (a.1 none) in
+    absurd (false≢true (sym (ap (λ s. is_some s.schema) same) ∙ h.0))
+
+-- a message that does not have the last row leaves some
+pub left_next : (n : ℕ) (left : Option ℕ) {l : LimitNumbers} {b : List ℕ} (es : List Entry) (x : Entry) {f : Standing} → FrontOf l b (es ++ x ∷ []) f → AreLeft n left es → HasMore left x.given
+    → AreLeft n (left_behind left (rows_of (table_in x.given))) (es ++ x ∷ [])
+left_next n None es x new a more = absurd a
+left_next n (Some k) es x new a more =
+    let some = by x.given refl more in
+    let total = rows_more es x in
+    (omega (arith, a.0, total, some.0), λ q. absurd (some.1 q))
+  where
+    by : (g : Given) → x.given ≡ g → HasMore (Some k) g → (rows_of (table_in g) ≤ k) × (k - rows_of (table_in g) ≡ 0 → ⊥)
+    by schema_given is more = (omega arith, λ q. more (omega (arith, q)))
+    by (dictionary_given id) is more = (omega arith, λ q. let z : dictionary_given id ≡ schema_given = sym is ∙ first_is_schema es x new (a.1 (omega (arith, q))) in absurd (cc))
+    by (batch_given b) is more = (omega (arith, more), λ q. absurd (omega (arith, more, q)))
+    by ended is more = (omega arith, λ q. let z : ended ≡ schema_given = sym is ∙ first_is_schema es x new (a.1 (omega (arith, q))) in absurd (cc))
+
+-- ---- the message with the last row
+
+-- so many of its rows may be told
+pub rows_in : (left : Option ℕ) (g : Given) (rows : ℕ) → HasLast left g rows → AreRowsIn g rows
+rows_in None g rows h = absurd h
+rows_in (Some k) schema_given rows h = tt
+rows_in (Some k) (dictionary_given id) rows h = tt
+rows_in (Some k) (batch_given b) rows h = omega (arith, h.0, h.1)
+rows_in (Some k) ended rows h = tt
+
+-- of what the whole message adds it is a beginning
+last_longer : (rows : ℕ) (schema : Option SchemaShape) (number : ℕ) (g : Given) → AreRowsIn g rows → (later : List ℕ) × (last_in rows schema number g ++ later ≡ text_in schema number g)
+last_longer rows schema number schema_given h = ([], append-nil _)
+last_longer rows schema number (dictionary_given id) h = ([], refl)
+last_longer rows schema number (batch_given b) h = (batch_rows number b rows b.rows, rows_join number b rows b.rows 0 (omega arith) h)
+last_longer rows schema number ended h = ([], refl)
+
+-- what was not sent to its end of a beginning, was not of the whole
+cut_longer : (f : ToolFault) (a c : Option (List ℕ)) (n k : ℕ) (s t : List ℕ) → SendsText a n s (Err f) c k → SendsText a n (s ++ t) (Err f) c k
+cut_longer (Input x) a c n k s t sent = absurd sent
+cut_longer (Refused what kind) a c n k s t sent = absurd sent
+cut_longer (Stream x) a c n k s t sent = absurd sent
+cut_longer Output a c n k s t sent = (begun_longer a c s t sent.0, sent.1)
+cut_longer Memory a c n k s t sent = (begun_longer a c s t sent.0, sent.1)
+
+pub last_cut : (f : ToolFault) (a c : Option (List ℕ)) (n k rows : ℕ) (schema : Option SchemaShape) (number : ℕ) (g : Given) → AreRowsIn g rows → SendsText a n (last_in rows schema number g) (Err f) c k
+    → SendsText a n (text_in schema number g) (Err f) c k
+last_cut f a c n k rows schema number g within sent =
+    let longer = last_longer rows schema number g within in
+    subst (λ t. SendsText a n t (Err f) c k) longer.1 (cut_longer f a c n k (last_in rows schema number g) longer.0 sent)
+
+-- with it all are there
+pub last_there : (n : ℕ) (left : Option ℕ) (rows : ℕ) {l : LimitNumbers} {b : List ℕ} (es : List Entry) (x : Entry) {f : Standing} → FrontOf l b (es ++ x ∷ []) f → AreLeft n left es → HasLast left x.given rows
+    → HaveFirst n f.state.schema (es ++ x ∷ [])
+last_there n None rows es x new a last = absurd a
+last_there n (Some k) rows es x new a last =
+    let some = by x.given last in
+    let total = rows_more es x in
+    (schema_there es x new, omega (arith, a.0, total, some))
+  where
+    by : (g : Given) → HasLast (Some k) g rows → k ≤ rows_of (table_in g)
+    by schema_given h = omega (arith, h.0)
+    by (dictionary_given id) h = absurd h
+    by (batch_given b) h = omega (arith, h.1)
+    by ended h = absurd h
+
+-- the text with so many of the last message's rows
+abbrev IsLastText : ℕ → ℕ → List Entry → Entry → Standing → Standing → Type 0
+IsLastText n rows es x e f = first_text n f.state.schema (tables_of (es ++ x ∷ [])) ≡ stream_text e.state.schema (tables_of es) ++ last_in rows f.state.schema (length (tables_of es)) x.given
+
+-- the first rows are those before it, and as many of its own as are left
+pub last_text : (n : ℕ) (left : Option ℕ) (rows : ℕ) {l : LimitNumbers} {b : List ℕ} (c : List ℕ) (es : List Entry) {e f : Standing} (x : Entry) → FrontOf l b es e → e.verdict ≡ Open → FrontOf l (b ++ c) (es ++ x ∷ []) f
+    → AreLeft n left es → HasLast left x.given rows → first_text n f.state.schema (tables_of (es ++ x ∷ [])) ≡ stream_text e.state.schema (tables_of es) ++ last_in rows f.state.schema (length (tables_of es)) x.given
+last_text n None rows c es x old o new a last = absurd a
+last_text n (Some k) rows {l} {b} c es {e} {f} x old o new a last = by x.given refl last
+  where
+    behind : (t : Table) → x.given ≡ batch_given t → rows ≡ k → k ≤ t.rows → (shape : SchemaShape) → e.state.schema ≡ Some shape → IsLastText n rows es x e f
+    behind t is r h shape s =
+        let keep = front_keeps (front_behind c old o new).behind shape s in
+        let ts = tables_of es in
+        let head = header_record shape.fields in
+        let own = batch_rows (length ts) t 0 k in
+        let zero_plus : 0 + length ts ≡ length ts = omega arith in
+        let texts : first_rows n 0 (tables_of (es ++ x ∷ [])) ≡ batches_text 0 ts ++ own =
+        ap (first_rows n 0) (one_table es x ∙ ap (λ g. ts ++ table_in g) is) ∙ first_then n 0 ts t k a.0 h ∙ ap (λ m. batches_text 0 ts ++ batch_rows m t 0 k) zero_plus in
+        ap (λ s. first_text n s (tables_of (es ++ x ∷ []))) keep.schema ∙ ap (λ y. head ++ y) texts ∙ sym (append_assoc head (batches_text 0 ts) own)
+        ∙ ap (λ s. stream_text s ts ++ own) (sym s) ∙ ap (λ m. stream_text e.state.schema ts ++ batch_rows (length ts) t 0 m) (sym r)
+        ∙ ap (λ g. stream_text e.state.schema ts ++ last_in rows f.state.schema (length ts) g) (sym is)
+
+    schema_before : (t : Table) → x.given ≡ batch_given t → (s : Option SchemaShape) → e.state.schema ≡ s → (fs : List Entry) → es ≡ fs → (shape : SchemaShape) × (e.state.schema ≡ Some shape)
+    schema_before t is (Some shape) s fs q = (shape, s)
+    schema_before t is None s [] q = let z : batch_given t ≡ schema_given = sym is ∙ first_is_schema es x new q in absurd (cc)
+    schema_before t is None s (y ∷ ys) q = let w = front_begins old refl (λ z. let p : y ∷ ys ≡ [] = sym q ∙ z in cc) in let z : Some w.shape ≡ None = sym w.schema ∙ s in absurd (cc)
+
+    by : (g : Given) → x.given ≡ g → HasLast (Some k) g rows → IsLastText n rows es x e f
+    by schema_given is h =
+        let total = rows_more es x ∙ ap (λ g. rows_of (tables_of es) + rows_of (table_in g)) is in
+        let within : rows_of (tables_of (es ++ x ∷ [])) ≤ n = omega (arith, total, a.0) in
+        first_text_all n f.state.schema (tables_of (es ++ x ∷ [])) within ∙ text_grows c x old o new
+        ∙ ap (λ g. stream_text e.state.schema (tables_of es) ++ text_in f.state.schema (length (tables_of es)) g) is
+        ∙ ap (λ g. stream_text e.state.schema (tables_of es) ++ last_in rows f.state.schema (length (tables_of es)) g) (sym is)
+    by (dictionary_given id) is h = absurd h
+    by (batch_given t) is h = let w = schema_before t is e.state.schema refl es refl in behind t is h.0 h.1 w.0 w.1
+    by ended is h = absurd h
+
+-- ---- of reports of rows alone
+
+pub rows_text : (report : Report) → report ≡ Rows → (schema : Option SchemaShape) (es : List Entry) (text : List ℕ) → IsTextOf report schema es text → text ≡ stream_text schema (tables_of es)
+rows_text Rows e schema es text is = is
+rows_text Messages e schema es text is = absurd (cc)
+
+pub rows_added : (report : Report) → report ≡ Rows → (schema : Option SchemaShape) (place number : ℕ) (g : Given) → IsAdded report schema place number g (text_in schema number g)
+rows_added Rows e schema place number g = refl
+rows_added Messages e schema place number g = absurd (cc)
+
+-- a number of rows is wanted of them alone
+pub rows_alone : {P : Type 0} (left : Option ℕ) (g : Given) (rows : ℕ) → HasLast left g rows → (left ≡ None) ⊎ P → P
+rows_alone left g rows h (inl none) = absurd (subst (λ l. HasLast l g rows) none h)
+rows_alone left g rows h (inr p) = p
+
+pub none_last : (left : Option ℕ) (g : Given) (rows : ℕ) → HasLast left g rows → left ≡ None → ⊥
+none_last left g rows h none = absurd (subst (λ l. HasLast l g rows) none h)
+
+pub stays_all : (left left' : Option ℕ) (k : ℕ) → left' ≡ left_behind left k → left ≡ None → left' ≡ None
+stays_all left left' k is none = is ∙ ap (λ l. left_behind l k) none
+
+pub stays_limited : {P : Type 0} (left left' : Option ℕ) (k : ℕ) → left' ≡ left_behind left k → (left ≡ None) ⊎ P → (left' ≡ None) ⊎ P
+stays_limited left left' k is (inl none) = inl (stays_all left left' k is none)
+stays_limited left left' k is (inr p) = inr p
+
+pub keeps_limited : {P : Type 0} (left left' : Option ℕ) → (left ≡ None → left' ≡ None) → (left ≡ None) ⊎ P → (left' ≡ None) ⊎ P
+keeps_limited left left' keeps (inl none) = inl (keeps none)
+keeps_limited left left' keeps (inr p) = inr p
+
+-- ---- what came of a piece
+
+pub told_marker : (P : Result Bool ToolFault → Type 0) (a : Progress) → a ≡ Marker → ToldSo P (Ok a) → P (Ok true)
+told_marker P Marker e h = h
+told_marker P GoesOn e h = absurd (cc)
+told_marker P Enough e h = absurd (cc)
+
+pub told_goes_on : (P : Result Bool ToolFault → Type 0) (a : Progress) → a ≡ GoesOn → ToldSo P (Ok a) → P (Ok false)
+told_goes_on P GoesOn e h = h
+told_goes_on P Marker e h = absurd (cc)
+told_goes_on P Enough e h = absurd (cc)
