@@ -1,17 +1,16 @@
 -- How a call ends that shows the first rows of a stream.
-use Rattle.std.proofs.Common.{◌≡◌, ℕ, ◌+◌, List, [], ◌++◌, Option, Some, Result, Ok, Err, ◌⊎◌, inl, inr, refl, sym, ap, ◌∙◌, subst, append_assoc, append-nil, is_some, arith}
+use Rattle.std.proofs.Common.{◌≡◌, ℕ, ◌+◌, List, [], ◌++◌, Option, Some, Result, Ok, Err, inl, inr, refl, sym, ap, ◌∙◌, subst, append_assoc, append-nil, is_some, arith}
 use Rattle.std.specs.Io.KnownBytes.{Appends, IsAtEnd}
 use Rattle.std.proofs.KnownBytes.{Appends-kept, Appends-trans}
 use Rattle.arrow_types.specs.Limits.{LimitNumbers}
 use Rattle.arrow_sink.specs.Sinks.{AcceptsBeginning}
-use Rattle.arrow_stream_reader.specs.Front.{Entry, Standing, FrontOf}
+use Rattle.arrow_stream_reader.specs.Front.{Standing, FrontOf}
 use Rattle.arrow_stream_reader.specs.Stream.{ReaderView, ReaderStands, ended_by, ended_so}
 use Rattle.arrow_stream_reader.specs.Tables.{tables_of}
 use Rattle.arrow_stream_reader.specs.declared.fault.Fault.{Fault}
 use Rattle.arrow_stream_reader.specs.declared.reader.Verdict.TheVariants.{Open, Done}
-use Rattle.arrowflow_report.specs.FirstRows.{FirstTold, HaveFirst, IsEnoughTold, IsFirstBegun, IsFirstCut, IsFirstTold, IsFirstWritten, IsShortAt, IsShortOf, ShowsFirst, AreLeft, first_text}
+use Rattle.arrowflow_report.specs.FirstRows.{FirstTold, HaveFirst, IsEnoughTold, IsFirstBegun, IsFirstCut, IsFirstTold, IsShortAt, IsShortOf, ShowsFirst, AreLeft, first_text}
 use Rattle.arrowflow_report.specs.Reports.{EndTold, EndsWell, IsBadBy, IsEnding, IsTold, SendsText}
-use Rattle.arrowflow_report.specs.declared.progress.Progress.TheVariants.{Enough}
 use Rattle.arrowflow_report.specs.declared.report.Report.{Report}
 use Rattle.arrowflow_report.specs.declared.report.Report.TheVariants.{Messages, Rows}
 use Rattle.arrowflow_report.specs.declared.tool_fault.ToolFault.{ToolFault}

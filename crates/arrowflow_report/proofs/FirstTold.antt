@@ -1,12 +1,12 @@
 -- The first rows of a stream that is told message by message.
-use Rattle.std.proofs.Common.{◌≡◌, ℕ, ◌+◌, List, [], ◌∷◌, ◌++◌, length, take, drop, Option, Result, Ok, Err, ◌⊎◌, inl, inr, refl, sym, ap, ◌∙◌, subst, append_assoc, append-nil, take-append-drop}
+use Rattle.std.proofs.Common.{◌≡◌, ℕ, ◌+◌, List, [], ◌∷◌, ◌++◌, length, take, drop, Option, Ok, Err, ◌⊎◌, inl, inr, refl, sym, ap, ◌∙◌, subst, append_assoc, append-nil, take-append-drop}
 use Rattle.std.specs.Io.KnownBytes.{Appends}
 use Rattle.std.proofs.KnownBytes.{Appends-trans}
 use Rattle.arrow_csv.specs.Records.{stream_text}
 use Rattle.arrow_sink.specs.Sinks.{AcceptsBeginning}
 use Rattle.arrow_stream_reader.specs.declared.fault.Fault.{Fault}
 use Rattle.arrow_stream_reader.specs.declared.item.Item.{Item}
-use Rattle.arrow_stream_reader.specs.declared.reader.Verdict.TheVariants.{Open, Done}
+use Rattle.arrow_stream_reader.specs.declared.reader.Verdict.TheVariants.{Open}
 use Rattle.arrow_stream_reader.specs.Front.{Entry, Standing, FrontOf}
 use Rattle.arrow_stream_reader.specs.Kind.{kind_of}
 use Rattle.arrow_stream_reader.specs.State.{ended}
@@ -14,7 +14,7 @@ use Rattle.arrow_stream_reader.specs.Stream.{ReaderView, ReaderStands, GivesNext
 use Rattle.arrow_stream_reader.specs.Tables.{table_in, tables_of}
 use Rattle.arrow_stream_reader.specs.Views.{given}
 use Rattle.arrowflow_report.specs.Faults.{told}
-use Rattle.arrowflow_report.specs.FirstRows.{AreLeft, AreRowsIn, FirstTold, HasLast, HasMore, IsEnoughTold, IsFirstCut, IsFirstTold, first_text, last_in, left_behind, rows_of}
+use Rattle.arrowflow_report.specs.FirstRows.{AreLeft, FirstTold, HasLast, HasMore, IsEnoughTold, IsFirstCut, IsFirstTold, first_text, last_in, left_behind, rows_of}
 use Rattle.arrowflow_report.specs.Reports.{IsAdded, IsTold, SendsSome, SendsText}
 use Rattle.arrowflow_report.specs.declared.progress.Progress.TheVariants.{GoesOn, Marker}
 use Rattle.arrowflow_report.specs.declared.report.Report.{Report}

@@ -10,7 +10,7 @@ use Rattle.arrow_stream_reader.specs.declared.reader.Verdict.TheVariants.{Done, 
 use Rattle.arrow_stream_reader.specs.Front.{Entry, Standing, FrontOf}
 use Rattle.arrow_stream_reader.specs.State.{Given, schema_given, dictionary_given, batch_given, ended}
 use Rattle.arrow_stream_reader.specs.Stream.{ReaderView, ReaderStands}
-use Rattle.arrow_stream_reader.specs.Tables.{table_in, tables_of}
+use Rattle.arrow_stream_reader.specs.Tables.{tables_of}
 use Rattle.arrowflow_report.specs.Reads.{IsReadWhile}
 use Rattle.arrowflow_report.specs.Reports.{EndsBadly, EndsWell, IsBadBy, IsOpenAt, IsTold}
 use Rattle.arrowflow_report.specs.Shown.{header_in}
