@@ -44,7 +44,7 @@ use Rattle.arrowflow_report.proofs.Reporting.{standing_of}
 use Rattle.arrowflow_report.proofs.Schemas.{front_begins, front_behind, front_keeps}
 use Rattle.arrowflow_report.proofs.Sent.{begun_all}
 use Rattle.arrowflow_report.proofs.Told.{end_is_done, state_same}
-use Rattle.arrowflow_copy.specs.Copy.{Copies, IsBegun, IsClosed, IsCopied, IsSent, IsSentOf, IsSentInPart, IsSentInPartOf, RefusesBatch, RefusesEnd, RefusesSchema}
+use Rattle.arrowflow_copy.specs.Copy.{Copies, IsBegun, IsClosed, IsClosedInPart, IsCopied, IsSent, IsSentOf, IsSentInPart, IsSentInPartOf, RefusesBatch, RefusesEnd, RefusesSchema}
 use Rattle.arrowflow_copy.specs.Copying.{AddsBatch, At, BeginsCopy, Closes, HasWritten, IsCopying, IsWriting, IsWritingOn, PieceCopied, TakesItem, TakesFirst, TakesOne, fault_of, failures_at, held_at, waiting, writing}
 
 -- ---- what was written
@@ -85,7 +85,6 @@ part_of : (limits : LimitNumbers) (o : Options) (schema : Option SchemaShape) (b
     → IsSentInPartOf limits o schema all before after
 part_of limits o None batches later all before after whole s = s
 part_of limits o (Some shape) batches later all before after whole s = inr (record {
-  closed = false;
   first = batches;
   later = later;
   all = whole;
@@ -225,8 +224,7 @@ module _ (limits : LimitNumbers) (o : Options) (first : Option (List ℕ)) (star
         by kinds.Sink held failed s = (
           tt,
           λ left. (
-            begun held (subst (λ z. IsSentInPartOf limits o z (tables_of entries) first held) (sym schema) (inr (record {
-              closed = false;
+            inl (begun held (subst (λ z. IsSentInPartOf limits o z (tables_of entries) first held) (sym schema) (inr (record {
               first = [];
               later = tables_of entries;
               all = refl;
@@ -234,7 +232,7 @@ module _ (limits : LimitNumbers) (o : Options) (first : Option (List ℕ)) (star
               frames = schema_frame shape s.part ∷ [];
               text = unfinished (s.part ∷ []) [] (schema_frame shape s.part ∷ []) (begins s.part known s.admitted s.is_frame);
               wrote = subst (AcceptsBeginning first held) (sym (append-nil s.part)) s.accepted;
-            }))),
+            })))),
             s.failed,
           ),
         )
@@ -301,7 +299,6 @@ module _ (limits : LimitNumbers) (o : Options) (first : Option (List ℕ)) (star
 
       breaks : (w' : writers.WriterView) → writers.Fails w t w' → IsSentInPartOf limits o new.at.state.schema (tables_of entries) first w'.contents
       breaks w' f = subst (λ z. IsSentInPartOf limits o z (tables_of entries) first w'.contents) (sym stays_open) (inr (record {
-        closed = false;
         first = tables_of es ++ t ∷ [];
         later = [];
         all = append-nil (tables_of es ++ t ∷ []) ∙ sym with_batch;
@@ -316,7 +313,7 @@ module _ (limits : LimitNumbers) (o : Options) (first : Option (List ℕ)) (star
       stops kinds.SchemaDiffers w' number' r = (tt, λ left. refuses kinds.SchemaDiffers w' r)
       stops kinds.TooLarge w' number' r = (tt, λ left. refuses kinds.TooLarge w' r)
       stops kinds.DictionariesDiffer w' number' r = (tt, λ left. refuses kinds.DictionariesDiffer w' r)
-      stops kinds.Sink w' number' f = (tt, λ left. (begun w'.contents (breaks w' f), ap (λ (v : writers.WriterView). v.failures) f.new_is ∙ ap (λ m. m + 1) y.failures_are))
+      stops kinds.Sink w' number' f = (tt, λ left. (inl (begun w'.contents (breaks w' f)), ap (λ (v : writers.WriterView). v.failures) f.new_is ∙ ap (λ m. m + 1) y.failures_are))
       stops kinds.Broken w' number' s = let q = sym s.before ∙ y.stands.status_is in absurd (cc)
       stops kinds.Finished w' number' s = let q = sym s.before ∙ y.stands.status_is in absurd (cc)
       stops kinds.Memory w' number' s =
@@ -427,24 +424,18 @@ module _ (limits : LimitNumbers) (o : Options) (first : Option (List ℕ)) (star
           };
         }
 
-    fails_at_end : (w' : writers.WriterView) → writers.FailsAtEnd w w' → IsBegun limits o t first w'.contents
+    fails_at_end : (w' : writers.WriterView) → writers.FailsAtEnd w w' → IsClosedInPart limits o t left first w'.contents
     fails_at_end w' f = record {
-      taken = t;
-      rest = [];
-      whole = append-nil t;
       standing = standing_of r x.stands.rest;
       entries = es;
       front = front;
-      sent = subst (λ z. IsSentInPartOf limits o z (tables_of es) first w'.contents) (sym y.shape_is) (inr (record {
-        closed = true;
-        first = tables_of es;
-        later = [];
-        all = append-nil (tables_of es);
-        parts = y.parts ++ f.marker ∷ [];
-        frames = y.stands.frames ++ marker_frame (left_by nothing_yet y.stands.frames) f.marker ∷ [];
-        text = finished y.parts (tables_of es) y.stands.frames f.marker (open_text (writing_text limits o first start r.at.state.schema (tables_of es) w y) refl) (sym (ap marker_fits y.stands.place_is) ∙ f.fits_in) f.is_marker;
-        wrote = f.in_all first y.parts (tables_of es) y.stands;
-      }));
+      well = well;
+      shape = w.shape;
+      schema = y.shape_is;
+      parts = y.parts ++ f.marker ∷ [];
+      frames = y.stands.frames ++ marker_frame (left_by nothing_yet y.stands.frames) f.marker ∷ [];
+      text = finished y.parts (tables_of es) y.stands.frames f.marker (open_text (writing_text limits o first start r.at.state.schema (tables_of es) w y) refl) (sym (ap marker_fits y.stands.place_is) ∙ f.fits_in) f.is_marker;
+      wrote = f.in_all first y.parts (tables_of es) y.stands;
     }
 
     no_end : (kind : WriteFault) (w' : writers.WriterView) → writers.Finishes w (Err kind) w' → Copies limits o t left first start (Err (fault_of Finish kind)) w'.contents w'.failures
@@ -465,7 +456,7 @@ module _ (limits : LimitNumbers) (o : Options) (first : Option (List ℕ)) (star
           ),
           y.failures_are,
         )
-    no_end kinds.Sink w' f = (fails_at_end w' f, ap (λ (v : writers.WriterView). v.failures) f.new_is ∙ ap (λ m. m + 1) y.failures_are)
+    no_end kinds.Sink w' f = (inr (fails_at_end w' f), ap (λ (v : writers.WriterView). v.failures) f.new_is ∙ ap (λ m. m + 1) y.failures_are)
     no_end kinds.Broken w' s = let q = sym s.before ∙ y.stands.status_is in absurd (cc)
     no_end kinds.Finished w' s = let q = sym s.before ∙ y.stands.status_is in absurd (cc)
     no_end kinds.Memory w' s = absurd s

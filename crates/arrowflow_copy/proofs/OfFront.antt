@@ -28,7 +28,6 @@ in_part : (limits : LimitNumbers) (o : Options) (schema : Option SchemaShape) (t
 in_part limits o None ts more us before after whole s = s
 in_part limits o (Some shape) ts more us before after whole (inl none) = inl none
 in_part limits o (Some shape) ts more us before after whole (inr s) = inr (record {
-  closed = s.closed;
   first = s.first;
   later = s.later ++ more;
   all = sym (append_assoc s.first s.later more) ∙ ap (λ t. t ++ more) s.all ∙ whole;

@@ -95,15 +95,14 @@ IsRefusedFor limits o bytes left parts.Start kind before after = RefusesSchema l
 IsRefusedFor limits o bytes left (parts.Batch number) kind before after = RefusesBatch limits o bytes number kind before after
 IsRefusedFor limits o bytes left parts.Finish kind before after = (e : Standing) × RefusesEnd limits o bytes e kind before after × EndsWell left e
 
--- a beginning was written of the text of a connection with the first of these batches, closed or not
+-- a beginning was written of the text of a connection with the first of these batches, without end marker
 pub record IsSentInPart (limits : LimitNumbers) (o : Options) (shape : SchemaShape) (batches : List Table) (before after : Option (List ℕ)) : Type 0 where
-  pub closed : Bool
   pub first : List Table
   pub later : List Table
   pub all : first ++ later ≡ batches
   pub parts : List (List ℕ)
   pub frames : List Frame
-  pub text : Written limits o shape closed parts first frames
+  pub text : Written limits o shape false parts first frames
   pub wrote : AcceptsBeginning before after (joined parts)
 
 -- nothing was written, or such a beginning for a stream that has this schema
@@ -111,7 +110,7 @@ abbrev pub IsSentInPartOf : LimitNumbers → Options → Option SchemaShape → 
 IsSentInPartOf limits o None batches before after = Appends before after []
 IsSentInPartOf limits o (Some shape) batches before after = Appends before after [] ⊎ IsSentInPart limits o shape batches before after
 
--- a beginning was written of what the messages at the front of a beginning of these bytes are copied as
+-- a beginning was written, without end marker, of what the messages at the front of a beginning of these bytes are copied as
 pub record IsBegun (limits : LimitNumbers) (o : Options) (bytes : List ℕ) (before after : Option (List ℕ)) : Type 0 where
   pub taken : List ℕ
   pub rest : List ℕ
@@ -120,6 +119,19 @@ pub record IsBegun (limits : LimitNumbers) (o : Options) (bytes : List ℕ) (bef
   pub entries : List Entry
   pub front : FrontOf limits taken entries standing
   pub sent : IsSentInPartOf limits o standing.state.schema (tables_of entries) before after
+
+-- The stream ended well, and a beginning was written of the text of all its batches with the end marker.
+pub record IsClosedInPart (limits : LimitNumbers) (o : Options) (bytes : List ℕ) (left before after : Option (List ℕ)) : Type 0 where
+  pub standing : Standing
+  pub entries : List Entry
+  pub front : FrontOf limits bytes entries standing
+  pub well : EndsWell left standing
+  pub shape : SchemaShape
+  pub schema : standing.state.schema ≡ Some shape
+  pub parts : List (List ℕ)
+  pub frames : List Frame
+  pub text : Written limits o shape true parts (tables_of entries) frames
+  pub wrote : AcceptsBeginning before after (joined parts)
 
 -- What was written, and why the call ended, when these bytes were read of an input of which this is left. `Output` is
 -- answered exactly where the output failed, and then once.
@@ -132,7 +144,8 @@ Copies limits o bytes left before failed (Err (Input number)) after failed' =
     (number ≡ 0) × ((e : Standing) × (e.verdict ≡ Open) × IsCopied limits o bytes e before after) × (failed' ≡ failed)
 Copies limits o bytes left before failed (Err (Refused what kind)) after failed' =
     IsRefusedFor limits o bytes left what kind before after × (failed' ≡ failed)
-Copies limits o bytes left before failed (Err Output) after failed' = IsBegun limits o bytes before after × (failed' ≡ failed + 1)
+Copies limits o bytes left before failed (Err Output) after failed' =
+    (IsBegun limits o bytes before after ⊎ IsClosedInPart limits o bytes left before after) × (failed' ≡ failed + 1)
 Copies limits o bytes left before failed (Err Memory) after failed' = IsBegun limits o bytes before after × (failed' ≡ failed)
 
 -- The same of an input that had these bytes before the call and has these behind it, and that no piece was read behind the

@@ -35,7 +35,8 @@ use std::io::Read;
 /// next batch or the end marker cannot be written within the limits: then the batches of the whole
 /// messages before stand there, without end marker. `Output` where the output failed, and `Memory`
 /// where a growth was refused: then a beginning of them does, perhaps with a beginning of the next
-/// one or of the end marker.
+/// one. Of the end marker something stands there only after `Output`, and then behind all batches
+/// of an input that ended as for `Ok`.
 pub fn copy<R: Read, S: Sink>(
     alloc: Global,
     input: &mut R,

@@ -5,10 +5,10 @@ ghost use Rattle.arrowflow_copy.specs.OfFront.{BatchOfFront, PartOfFront, Schema
 
 /// What [`copy`](crate::copy) writes before `Output` and `Memory`, and what it refuses before its
 /// input ends, is said of a beginning of the bytes that it read. It is so by the messages at the
-/// front of all of these bytes too: what was written is a beginning of a text of the first of their
-/// batches, a schema that is refused is the first of them, and a batch that is refused is the one of
-/// its number. No bytes have two fronts, and none are without one (`one_front` and `a_front` of
-/// `arrow_stream_reader`).
+/// front of all of these bytes too: what was written without end marker is a beginning of a text of
+/// the first of their batches, a schema that is refused is the first of them, and a batch that is
+/// refused is the one of its number. No bytes have two fronts, and none are without one
+/// (`one_front` and `a_front` of `arrow_stream_reader`).
 pub fn copy_of_front()
     ensures part { PartOfFront }
     ensures schema { SchemaOfFront }
