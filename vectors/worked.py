@@ -76,8 +76,8 @@ EXAMPLES = {
     "bad headers": ([], {
         "negative_size_at_the_start": refused("MetadataSize", 0), "no_continuation_at_the_start": refused("Continuation", 0),
         "end_marker_before_the_schema": refused("NoSchema", 0)}),
-    "lists and CSV": (["arrowflow_tests/reports"], {"lists_and_texts": rows('[1, 2], "a,b"', "null, null", '[], ""')}),
-    "struct column": (["arrowflow_tests/reports"], {"struct_column": rows('{"m": 5}', "null")}),
+    "lists and CSV": ([], {"lists_and_texts": rows('[1, 2], "a,b"', "null, null", '[], ""')}),
+    "struct column": ([], {"struct_column": rows('{"m": 5}', "null")}),
     "shared fields": (["arrow_meta_reader_tests/visits"], {
         "shared_fields_17_deep": refused("Metadata", 0),
             "fields_at_the_limit.changes": ["schema.header.fields.0 at * -> batches 0 rows 0 end clean"]}),

@@ -1,0 +1,162 @@
+//! Changes of a stream, and what a reader answers to each, in numbers.
+
+use crate::findings::Findings;
+use arrow_stream_reader::{Item, StreamReader};
+use arrow_types::Limits;
+use std::alloc::{AllocError, Global};
+
+/// Compares what a reader answers to each change of a stream that a file tells of.
+pub(crate) fn walk(
+    alloc: Global,
+    found: &mut Findings,
+    text: &str,
+    base: &[u8],
+) -> Result<(), AllocError> {
+    let mut reader = StreamReader::new(alloc, Limits::standard());
+    for (number, line) in text.split('\n').enumerate().skip(2) {
+        if let Some((change, wanted)) = line.split_once(" -> ") {
+            let mut tried = Tried {
+                alloc,
+                reader: &mut reader,
+                found,
+                line: number.saturating_add(1),
+                wanted,
+            };
+            tried.change(base, change)?;
+        }
+    }
+    Ok(())
+}
+
+/// The name of the stream that a file changes, which stands in its second line.
+pub(crate) fn base_of(text: &str) -> Option<&str> {
+    text.split('\n').nth(1)?.strip_prefix("base ")
+}
+
+/// How many streams a file tells of.
+pub(crate) fn count(text: &str) -> usize {
+    let mut count = 0usize;
+    for line in text.split('\n').skip(2) {
+        if let Some((change, _)) = line.split_once(" -> ") {
+            count = count.saturating_add(count_of(change));
+        }
+    }
+    count
+}
+
+/// How many streams a change stands for.
+fn count_of(change: &str) -> usize {
+    let (first, last) = match length_of(change) {
+        Some(lengths) => lengths,
+        None => bytes_of(change).unwrap_or((1, 1)),
+    };
+    last.saturating_sub(first).saturating_add(1)
+}
+
+/// The first and the last length of the beginnings that a change stands for.
+fn length_of(change: &str) -> Option<(usize, usize)> {
+    let lengths = change.strip_prefix("length ")?;
+    let (first, last) = lengths.split_once("..").unwrap_or((lengths, lengths));
+    Some((first.parse::<usize>().ok()?, last.parse::<usize>().ok()?))
+}
+
+/// The first and the last value of the byte that a change sets one by one.
+fn bytes_of(change: &str) -> Option<(usize, usize)> {
+    let (_, values) = change.split_once(" := ")?;
+    let (first, last) = values.split_once("..")?;
+    let (first, last) = (
+        u8::from_str_radix(first, 16).ok()?,
+        u8::from_str_radix(last, 16).ok()?,
+    );
+    Some((first as usize, last as usize))
+}
+
+/// The place that a change sets from.
+fn place_of(setting: &str) -> Option<usize> {
+    let (place, _) = setting.split_once(" := ")?;
+    place.rsplit_once(" at ")?.1.parse::<usize>().ok()
+}
+
+/// A change that is tried.
+#[derive(Drop)]
+struct Tried<'a> {
+    alloc: Global,
+    reader: &'a mut StreamReader,
+    found: &'a mut Findings,
+    line: usize,
+    wanted: &'a str,
+}
+
+impl Tried<'_> {
+    /// Tries the streams that a change stands for.
+    fn change(&mut self, base: &[u8], change: &str) -> Result<(), AllocError> {
+        if let Some((first, last)) = length_of(change) {
+            for length in first..last.saturating_add(1) {
+                self.stream(base.get(..length).unwrap_or(base))?;
+            }
+            return Ok(());
+        }
+        let mut stream = base.to_vec(self.alloc)?;
+        if let (Some((first, last)), Some(place)) = (bytes_of(change), place_of(change)) {
+            for value in first..last.saturating_add(1) {
+                set(&mut stream, place, value as u8);
+                self.stream(&stream)?;
+            }
+            return Ok(());
+        }
+        for setting in change.split(", ") {
+            set_all(&mut stream, setting);
+        }
+        self.stream(&stream)
+    }
+
+    /// Compares what the reader, which begins anew, answers to one stream.
+    fn stream(&mut self, stream: &[u8]) -> Result<(), AllocError> {
+        self.reader.restart();
+        let (batches, rows) = read_all(self.reader, stream);
+        let mut text = format!(in self.alloc; "batches {batches} rows {rows} end ")?;
+        match self.reader.end() {
+            Ok(()) => text.push_str("clean")?,
+            Err(fault) => write!(text, "{} at {}", fault.kind, fault.place)?,
+        }
+        self.found
+            .compare(("change in line", self.line), &text, self.wanted)
+    }
+}
+
+fn set(stream: &mut [u8], place: usize, value: u8) {
+    if let Some(byte) = stream.get_mut(place) {
+        *byte = value;
+    }
+}
+
+/// Sets the bytes of a setting, which stand in hexadecimal.
+fn set_all(stream: &mut [u8], setting: &str) {
+    let (Some(place), Some((_, digits))) = (place_of(setting), setting.split_once(" := ")) else {
+        return;
+    };
+    for (number, pair) in digits.as_bytes().chunks(2).enumerate() {
+        let value = str::from_utf8(pair).map_or(
+            0,
+            |pair| u8::from_str_radix(pair, 16).unwrap_or(0),
+        );
+        set(stream, place.saturating_add(number), value);
+    }
+}
+
+/// How many batches and rows a reader hands out of a stream.
+fn read_all(reader: &mut StreamReader, stream: &[u8]) -> (u64, u64) {
+    let (mut batches, mut rows) = (0u64, 0u64);
+    let mut rest = stream;
+    for _ in 0..stream.len().saturating_add(1) {
+        let Ok((count, Some(item))) = reader.read(rest) else {
+            break;
+        };
+        rest = &rest[count..];
+        if let Item::Batch(batch) = item {
+            batches = batches.saturating_add(1);
+            rows = rows.saturating_add(batch.rows() as u64);
+        }
+    }
+    (batches, rows)
+}

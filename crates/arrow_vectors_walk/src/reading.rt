@@ -1,0 +1,213 @@
+//! What a reader answers, call by call.
+
+use crate::columns::push_schema;
+use crate::findings::Findings;
+use crate::pack::Vector;
+use crate::told::Told;
+use crate::values::{push_batch, push_dictionary};
+use arrow_data::Batch;
+use arrow_stream_reader::{Fault, Item, StreamReader};
+use arrow_types::Limits;
+use std::alloc::{AllocError, Global};
+
+/// A stream of up to so many bytes is cut at each place.
+const SMALL: u64 = 400;
+
+/// Compares what a reader answers to the stream in one piece.
+pub(crate) fn walk_whole(
+    alloc: Global,
+    found: &mut Findings,
+    vector: &Vector<'_>,
+) -> Result<(), AllocError> {
+    let answers = answers_to(alloc, vector.stream)?;
+    found.compare(("read in pieces:", 1), &answers, vector.lines())
+}
+
+/// Compares what a reader answers to the stream byte by byte, and cut in two at each place that is
+/// chosen.
+pub(crate) fn walk_in_pieces(
+    alloc: Global,
+    found: &mut Findings,
+    vector: &Vector<'_>,
+    told: &Told<'_>,
+) -> Result<(), AllocError> {
+    let (wanted, stream) = (vector.lines(), vector.stream);
+    let mut reader = StreamReader::new(alloc, Limits::standard());
+    let mut answers = Answers::new(alloc);
+    for byte in stream.chunks(1) {
+        answers.give(&mut reader, byte)?;
+    }
+    answers.finish(&reader)?;
+    found.compare(("read in pieces:", stream.len()), &answers.text, wanted)?;
+    for cut in 0..stream.len().saturating_add(1) {
+        if stream.len() as u64 <= SMALL || told.is_chosen(cut as u64, stream.len() as u64) {
+            let answers = answers_when_cut(alloc, &mut reader, stream, cut)?;
+            found.compare(("read, cut at", cut), &answers, wanted)?;
+        }
+    }
+    Ok(())
+}
+
+/// What a reader answers to a stream in one piece, as a text tells it.
+pub(crate) fn answers_to(alloc: Global, stream: &[u8]) -> Result<String, AllocError> {
+    let mut reader = StreamReader::new(alloc, Limits::standard());
+    let mut answers = Answers::new(alloc);
+    answers.give(&mut reader, stream)?;
+    answers.finish(&reader)?;
+    Ok(answers.text)
+}
+
+/// What a reader that begins anew answers to a stream in two pieces.
+fn answers_when_cut(
+    alloc: Global,
+    reader: &mut StreamReader,
+    stream: &[u8],
+    cut: usize,
+) -> Result<String, AllocError> {
+    reader.restart();
+    let (front, back) = stream.split_at(cut.min(stream.len()));
+    let mut answers = Answers::new(alloc);
+    answers.give(reader, front)?;
+    answers.give(reader, back)?;
+    answers.finish(reader)?;
+    Ok(answers.text)
+}
+
+/// What a reader has answered so far.
+#[derive(Drop)]
+struct Answers {
+    alloc: Global,
+    text: String,
+    /// The batches, and their rows when they were handed out.
+    batches: Vec<Batch>,
+    rows: String,
+    /// How many bytes were taken since the last item, and before it.
+    taken: u64,
+    before: u64,
+    refused: Option<Fault>,
+    is_done: bool,
+}
+
+impl Answers {
+    fn new(alloc: Global) -> Answers {
+        Answers {
+            alloc,
+            text: String::new(alloc),
+            batches: Vec::new(alloc),
+            rows: String::new(alloc),
+            taken: 0,
+            before: 0,
+            refused: None,
+            is_done: false,
+        }
+    }
+
+    /// Gives a reader a piece, and what it leaves of it again.
+    fn give(&mut self, reader: &mut StreamReader, piece: &[u8]) -> Result<(), AllocError> {
+        let mut rest = piece;
+        for _ in 0..piece.len().saturating_add(1) {
+            match reader.read(rest) {
+                Ok((count, Some(item))) => {
+                    self.take(count);
+                    self.push_item(reader, item)?;
+                    rest = &rest[count..];
+                }
+                Ok((count, None)) => {
+                    self.take(count);
+                    return self.check_rest(rest.len(), count);
+                }
+                Err(fault) => return self.push_fault(fault),
+            }
+        }
+        self.text.push_str("items without bytes\n")
+    }
+
+    fn take(&mut self, count: usize) {
+        self.taken = self.taken.saturating_add(count as u64);
+    }
+
+    /// Where no item comes the whole rest is taken, and nothing of it behind an end marker.
+    fn check_rest(&mut self, len: usize, count: usize) -> Result<(), AllocError> {
+        if self.is_done && count > 0 || !self.is_done && count != len {
+            return write!(self.text, "{count} of {len} bytes taken\n");
+        }
+        Ok(())
+    }
+
+    fn push_item(&mut self, reader: &StreamReader, item: Item) -> Result<(), AllocError> {
+        write!(self.text, "take {} ", self.taken)?;
+        self.before = self.before.saturating_add(self.taken);
+        self.taken = 0;
+        match item {
+            Item::Schema => self.push_schema(reader)?,
+            Item::Dictionary(id) => match reader.dictionaries().get(id) {
+                Some(dictionary) => push_dictionary(&mut self.text, id, dictionary)?,
+                None => write!(self.text, "dictionary {id}, which is not there\n")?,
+            },
+            Item::Batch(batch) => {
+                push_batch(&mut self.text, &batch)?;
+                push_batch(&mut self.rows, &batch)?;
+                self.batches.push(batch)?;
+            }
+            Item::End => {
+                self.is_done = true;
+                self.text.push_str("end\n")?;
+            }
+        }
+        self.check_place(reader)
+    }
+
+    fn push_schema(&mut self, reader: &StreamReader) -> Result<(), AllocError> {
+        match reader.schema() {
+            Some(schema) => push_schema(self.alloc, &mut self.text, schema),
+            None => self.text.push_str("a schema that is not there\n"),
+        }
+    }
+
+    /// Behind an item the reader stands behind the bytes that it took, and holds none.
+    fn check_place(&mut self, reader: &StreamReader) -> Result<(), AllocError> {
+        let (place, held) = (reader.place(), reader.held());
+        if place != self.before || held != 0 {
+            return write!(self.text, "at {place}, where {held} bytes are held\n");
+        }
+        Ok(())
+    }
+
+    /// A refusal is the same each time.
+    fn push_fault(&mut self, fault: Fault) -> Result<(), AllocError> {
+        if self.refused == Some(fault) {
+            return Ok(());
+        }
+        self.refused = Some(fault);
+        write!(self.text, "refuse {} at {}\n", fault.kind, fault.place)
+    }
+
+    /// Looks at the reader where nothing more comes, and at the batches again.
+    fn finish(&mut self, reader: &StreamReader) -> Result<(), AllocError> {
+        if self.refused.is_none() {
+            write!(self.text, "take {} nothing\n", self.taken)?;
+        }
+        let held = reader.held();
+        let is_open = self.refused.is_none() && !self.is_done;
+        if is_open || held > 0 {
+            write!(self.text, "hold {held}\n")?;
+        }
+        match reader.end() {
+            Ok(()) => self.text.push_str("end clean\n")?,
+            Err(fault) => write!(self.text, "end {} at {}\n", fault.kind, fault.place)?,
+        }
+        self.look_again()
+    }
+
+    /// The batches have the rows that they had when they were handed out.
+    fn look_again(&mut self) -> Result<(), AllocError> {
+        let mut rows = String::new(self.alloc);
+        for batch in &self.batches {
+            push_batch(&mut rows, batch)?;
+        }
+        if rows != self.rows {
+            return write!(self.text, "later the batches are\n{rows}");
+        }
+        Ok(())
+    }
+}

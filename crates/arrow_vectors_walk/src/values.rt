@@ -1,0 +1,145 @@
+//! Values as a text tells them.
+
+use arrow_data::{Array, Batch, Dictionary, SlotValue};
+use arrow_types::Field;
+use std::alloc::AllocError;
+
+/// More levels than a type has.
+const LEVELS: u32 = 40;
+
+/// Appends `batch of K`, and a line for each row.
+pub(crate) fn push_batch(text: &mut String, batch: &Batch) -> Result<(), AllocError> {
+    write!(text, "batch of {}\n", batch.rows())?;
+    for at in 0..batch.rows() {
+        text.push_str("  row")?;
+        push_row(text, batch.columns(), at)?;
+        text.push('\n')?;
+    }
+    Ok(())
+}
+
+fn push_row(text: &mut String, columns: &[Array], at: usize) -> Result<(), AllocError> {
+    for (number, column) in columns.iter().enumerate() {
+        text.push_str(if number == 0 { " " } else { ", " })?;
+        push_value(text, column, at, LEVELS)?;
+    }
+    Ok(())
+}
+
+/// Appends `dictionary ID of K`, and a line for each value.
+pub(crate) fn push_dictionary(
+    text: &mut String,
+    id: i64,
+    dictionary: &Dictionary,
+) -> Result<(), AllocError> {
+    write!(text, "dictionary {id} of {}\n", dictionary.len())?;
+    for at in 0..dictionary.len() {
+        let (values, place) = dictionary.value(at);
+        text.push_str("  value ")?;
+        push_value(text, values, place, LEVELS)?;
+        text.push('\n')?;
+    }
+    Ok(())
+}
+
+/// Appends the value of a slot: of an encoded column the index, and the value to which it refers.
+#[cycle(value)]
+fn push_value(text: &mut String, column: &Array, at: usize, levels: u32) -> Result<(), AllocError> {
+    if levels == 0 || at >= column.len() {
+        return text.push_str("no value");
+    }
+    match (column.int_at(at), column.resolved(at)) {
+        (Some(index), Some((values, place))) => {
+            write!(text, "{index} -> ")?;
+            push_value(text, values, place, levels - 1)
+        }
+        _ => push_plain(text, column, at, levels - 1),
+    }
+}
+
+/// Appends the value of a slot that has no index.
+#[cycle(value)]
+fn push_plain(text: &mut String, column: &Array, at: usize, levels: u32) -> Result<(), AllocError> {
+    if at >= column.len() {
+        return text.push_str("no value");
+    }
+    match column.slot(at) {
+        SlotValue::Null => text.push_str("null"),
+        SlotValue::Bool(truth) => write!(text, "{truth}"),
+        SlotValue::Int(number) => write!(text, "{number}"),
+        SlotValue::Bytes(bytes) => push_bytes(text, bytes),
+        SlotValue::Text(words) => push_text(text, words),
+        SlotValue::List(start, end, items) => push_list(text, items, (start, end), levels),
+        SlotValue::Struct(parts, place) => {
+            push_struct(text, column.data_type().children(), parts, (place, levels))
+        }
+    }
+}
+
+#[cycle(value)]
+fn push_list(
+    text: &mut String,
+    items: &Array,
+    span: (usize, usize),
+    levels: u32,
+) -> Result<(), AllocError> {
+    text.push('[')?;
+    for at in span.0..span.1 {
+        if at > span.0 {
+            text.push_str(", ")?;
+        }
+        push_value(text, items, at, levels)?;
+    }
+    text.push(']')
+}
+
+#[cycle(value)]
+fn push_struct(
+    text: &mut String,
+    fields: &[Field],
+    parts: &[Array],
+    slot: (usize, u32),
+) -> Result<(), AllocError> {
+    text.push('{')?;
+    for (number, (field, part)) in fields.iter().zip(parts.iter()).enumerate() {
+        if number > 0 {
+            text.push_str(", ")?;
+        }
+        push_text(text, &field.name)?;
+        text.push_str(": ")?;
+        push_value(text, part, slot.0, slot.1)?;
+    }
+    text.push('}')
+}
+
+/// Appends bytes in hexadecimal.
+pub(crate) fn push_bytes(text: &mut String, bytes: &[u8]) -> Result<(), AllocError> {
+    text.push_str("x\"")?;
+    for byte in bytes {
+        write!(text, "{byte:02x}")?;
+    }
+    text.push('"')
+}
+
+/// Appends a text in JSON's quotes.
+fn push_text(text: &mut String, words: &str) -> Result<(), AllocError> {
+    text.push('"')?;
+    for ch in words.chars() {
+        push_char(text, ch)?;
+    }
+    text.push('"')
+}
+
+fn push_char(text: &mut String, ch: char) -> Result<(), AllocError> {
+    match ch {
+        '"' => text.push_str("\\\""),
+        '\\' => text.push_str("\\\\"),
+        '\n' => text.push_str("\\n"),
+        '\r' => text.push_str("\\r"),
+        '\t' => text.push_str("\\t"),
+        '\u{8}' => text.push_str("\\b"),
+        '\u{c}' => text.push_str("\\f"),
+        _ if ch < ' ' => write!(text, "\\u{:04x}", ch as u32),
+        _ => text.push(ch),
+    }
+}
