@@ -67,5 +67,4 @@ ARRAYS = {
         "MANY": batch(numbers([at % 103 for at in range(1030)], "b"))[:152],
         "ONE": batch(numbers([0], "b"))[:152],
     },
-    "crates/arrowflow_tests/src/tests/schema_call.rt": {"ONE_COLUMN": NUMBERS},
 }

@@ -167,6 +167,12 @@ TESTED = {
 }
 
 
+def of_these(name, words):
+    """What a module of TESTED is about, and those of its frames that are named."""
+    about, held = TESTED[name]
+    return about, {word: held[word] for word in words.split()}
+
+
 def joined(held, names):
     """The frames of these names, one behind the other."""
     return b"".join(END_MARKER if name == "END" else held[name][1] for name in names.split())

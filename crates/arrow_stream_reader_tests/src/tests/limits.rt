@@ -3,6 +3,7 @@
 use super::telling::Ending::{Refused, Whole};
 use super::telling::{A_TO_C, LETTERS, NOTHING, NUMBERS, Streams, Told, are_told_within};
 use crate::frames::letters::{ABC, ACDE, DE, FIRST, SECOND, THIRD};
+use crate::frames::noted::AT_SCHEMA;
 use crate::frames::{BATCH, END_MARKER, SCHEMA, letters};
 use arrow_stream_reader::Kind;
 use arrow_types::Limits;
@@ -32,7 +33,20 @@ const FOUR_VALUES: Told<'static> = Told {
 };
 
 // The most bytes of metadata and of body and the most rows, and streams under these limits.
-static LIMITED: [([u64; 3], &[Streams]); 10] = [
+static LIMITED: [([u64; 3], &[Streams]); 11] = [
+    // A key is as long as the metadata allow, which is less than the limit; with the name and the
+    // value these are 18 bytes.
+    (
+        [200, 0, 0],
+        &[Streams {
+            frames: &[&AT_SCHEMA],
+            read: Told {
+                place: 208,
+                ..NUMBERS
+            },
+            rows: &[("a key up to the end", &[(188, &[16])], Whole)],
+        }],
+    ),
     (
         [144, 0, 0],
         &[Streams {

@@ -35,8 +35,6 @@ pub(super) enum Ending {
     Whole,
     // With a message that is refused.
     Refused(Kind),
-    // With so many bytes of a message, the rest of which is cut off.
-    CutOff(u64),
 }
 
 // Streams of the same frames, whose bytes are changed in ways that leave what is read the same.
@@ -76,14 +74,6 @@ pub(super) const NUMBERS: Told<'static> = Told {
     ..READ
 };
 
-// The schema of texts was read.
-pub(super) const TEXT: Told<'static> = Told {
-    items: "schema",
-    schema: "t: utf8",
-    place: 136,
-    ..READ
-};
-
 // The schema of letters was read, which are texts by their indices.
 pub(super) const LETTERS: Told<'static> = Told {
     items: "schema",
@@ -109,19 +99,6 @@ pub(super) fn refused(kind: Kind, before: Told<'_>) -> Told<'_> {
     Told {
         refused: Some(fault),
         end: Err(fault),
-        ..before
-    }
-}
-
-// The stream, which ends so many bytes behind the beginning of its next message.
-pub(super) fn cut_off(held: u64, before: Told<'_>) -> Told<'_> {
-    let truncated = Fault {
-        kind: Kind::Truncated,
-        place: before.place,
-    };
-    Told {
-        end: before.end.and(Err(truncated)),
-        held,
         ..before
     }
 }
@@ -191,15 +168,6 @@ fn ended(read: Told<'_>, ending: Ending) -> Told<'_> {
     match ending {
         Ending::Whole => read,
         Ending::Refused(kind) => refused(kind, read),
-        Ending::CutOff(held) => cut_off(held, read),
-    }
-}
-
-// How many of a stream's bytes come.
-fn len_of(len: usize, place: u64, ending: Ending) -> usize {
-    match ending {
-        Ending::Whole | Ending::Refused(_) => len,
-        Ending::CutOff(held) => place.saturating_add(held) as usize,
     }
 }
 
@@ -207,9 +175,14 @@ fn len_of(len: usize, place: u64, ending: Ending) -> usize {
 fn each_is_told(rt: &impl Abort, alloc: Global, limits: Limits, streams: &Streams) {
     for (what, edits, ending) in streams.rows {
         let bytes = stream(rt, alloc, streams.frames, edits);
-        let len = len_of(bytes.len(), streams.read.place, *ending);
-        let front = bytes.get(..len).expect(rt, "the stream is longer");
-        is_told(rt, alloc, what, limits, front, ended(streams.read, *ending));
+        is_told(
+            rt,
+            alloc,
+            what,
+            limits,
+            &bytes,
+            ended(streams.read, *ending),
+        );
     }
 }
 
@@ -217,34 +190,6 @@ fn each_is_told(rt: &impl Abort, alloc: Global, limits: Limits, streams: &Stream
 pub(super) fn are_told_within(rt: &impl Abort, alloc: Global, limits: Limits, table: &[Streams]) {
     for streams in table {
         each_is_told(rt, alloc, limits, streams);
-    }
-}
-
-// That the streams of a table are answered so.
-pub(super) fn are_told(rt: &impl Abort, alloc: Global, table: &[Streams]) {
-    are_told_within(rt, alloc, Limits::standard(), table);
-}
-
-// That a stream of frames is answered so that is cut off anywhere: what stands before each place
-// between two frames, and behind the last one.
-pub(super) fn are_beginnings_told(
-    rt: &impl Abort,
-    alloc: Global,
-    bytes: &[u8],
-    places: &[Told<'_>],
-) {
-    let mut reader = StreamReader::new(alloc, Limits::standard());
-    let mut want = NOTHING;
-    for count in 0..bytes.len() {
-        for before in places {
-            if before.place == count as u64 {
-                want = *before;
-            }
-        }
-        let held = (count as u64).saturating_sub(want.place);
-        let want = if held == 0 { want } else { cut_off(held, want) };
-        let front = &bytes[..count];
-        is_told_anew(rt, alloc, "a beginning", &mut reader, front, &[], want);
     }
 }
 

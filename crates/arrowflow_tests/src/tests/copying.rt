@@ -3,9 +3,8 @@
 
 use super::edits::{Edit, edited};
 use super::growing::GROWING;
-use super::reports::{LETTERS, NUMBERS};
 use super::streams::{NOTED, NOTED_64, ONE_BATCH};
-use super::told::{Call, assert_told, error_at};
+use super::told::{Call, LETTERS, NUMBERS, assert_told, error_at};
 use arrow_body_writer::Align;
 use arrow_dict::Updates;
 use arrow_sink::probe::{Failing, Narrow, Trickle};

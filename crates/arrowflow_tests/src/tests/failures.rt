@@ -1,10 +1,8 @@
-//! How `schema` and `show` end where the input or the output fails.
+//! How `schema` and `show` end where the input or the output fails, or a limit is passed.
 
 use super::growing::GROWING;
-use super::reports::{LETTERS, NUMBERS};
-use super::schema_call::ONE_COLUMN;
 use super::streams::ONE_BATCH;
-use super::told::{Call, assert_told_of, error_at, written};
+use super::told::{Call, LETTERS, NUMBERS, assert_told_of, error_at, told, written};
 use arrow_sink::Sink;
 use arrow_sink::probe::{Failing, Narrow, Trickle};
 use arrow_types::Limits;
@@ -14,7 +12,7 @@ use std::process::Abort;
 
 #[test]
 fn schema_where_the_input_fails(rt: HostRuntime) {
-    let stream = ONE_COLUMN.as_slice();
+    let stream = &ONE_BATCH[..152];
     for place in 0..160 {
         let mut input = Trickle::new(stream, 1, Some((place, error_at(place))));
         let expected = if place < stream.len() {
@@ -24,6 +22,21 @@ fn schema_where_the_input_fails(rt: HostRuntime) {
         };
         assert_told_of(&rt, rt.alloc(), Call::Schema, &mut input, expected);
         assert_eq!(rt; input.given(), place.min(stream.len()));
+    }
+}
+
+#[test]
+fn metadata_over_the_limit(rt: HostRuntime) {
+    let alloc = rt.alloc();
+    let lines = [
+        (144, "n: int32\n"),
+        (143, "1 fault at byte 0: MetadataSize"),
+    ];
+    for (max_metadata, expected) in lines {
+        let limits = Limits::new(max_metadata, 0, 0).expect(&rt, "limits");
+        let mut input = &ONE_BATCH[..152];
+        let text = told(&rt, alloc, Call::Schema, &mut input, &limits);
+        assert_eq!(&rt; text.as_str(), expected);
     }
 }
 

@@ -9,6 +9,12 @@ use std::alloc::{AllocError, Global};
 use std::io::{ErrorKind, Read};
 use std::process::Abort;
 
+/// The rows of the growing dictionary.
+pub(super) const LETTERS: &str = "batch,k\n0,a\n0,b\n0,c\n1,e\n1,a\n2,c\n2,e\n";
+
+/// The rows of one batch.
+pub(super) const NUMBERS: &str = "batch,n\n0,1\n0,\n0,3\n";
+
 /// Which of the calls.
 #[derive(Clone, Copy)]
 pub(super) enum Call {
