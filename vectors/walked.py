@@ -3,11 +3,23 @@ a link, and a line for each, whose numbers are counted here."""
 import re
 
 import rows
+import streams
 
 CRATE = "crates/arrow_vectors_walk"
 
+# What is written of a vector: by the way, as the program numbers them (deltas and 8 bytes, all values and 8 bytes, deltas and 64, all
+# values and 64), the name of the stream in examples/streams.py.
+COPIES = {
+    "growing_dictionary": {0: "GROWING", 1: "RESENT", 2: "GROWING_64"}, "resent_dictionary": {0: "GROWING", 1: "RESENT", 2: "GROWING_64"},
+    "growing_dictionary_64": {0: "GROWING", 2: "GROWING_64"}, "dictionary_of_no_values": {0: "FROM_NO_VALUES"},
+    "hidden_bytes": {0: "TIDY", 1: "TIDY"}, "no_columns": {0: "NO_COLUMNS"}, "int32_column": {0: "NUMBERS", 2: "NUMBERS_64"},
+    "int32_column_64": {1: "NUMBERS"}, "one_dictionary_of_two_columns": {0: "TWICE_X"}, "list_after_a_gap": {0: "CLOSED_GAP"},
+    "list_without_its_gap": {0: "CLOSED_GAP"}, "two_dictionaries": {0: "SHARED"}, "dictionary_below": {0: "NESTED", 1: "NESTED"},
+    "many_types": {0: "MANY_TYPES"}, "custom_metadata": {0: "NOTED", 1: "NOTED", 2: "NOTED_64"},
+}
 
-def streams(line):
+
+def count(line):
     """How many streams a line of changes tells of."""
     lengths, values = re.match(r"length (\d+)\.\.(\d+) -> ", line), re.search(r" := (\w\w)\.\.(\w\w) -> ", line)
     first, last = map(int, lengths.groups()) if lengths else [int(it, 16) for it in values.groups()] if values else (1, 1)
@@ -22,6 +34,12 @@ def listed(vectors):
     return found | rows.texts()
 
 
+def copies():
+    """What is written of the vectors, by names NAME.copyWAY."""
+    held = streams.written()
+    return {f"{name}.copy{way}": held[word][1] for name, ways in COPIES.items() for way, word in ways.items()}
+
+
 def files(vectors):
     """The program's file of the vectors, of which each has a line NAME SIZE SIZE, its text and its bytes; and what it prints."""
     packed, changes, whole = b"", [], []
@@ -31,9 +49,11 @@ def files(vectors):
         packed += f"{name} {len(text)} {len(held)}\n".encode() + text + held
         lines = text.decode().split("\n")[2:]
         if is_changes:
-            changes.append(f"{name}: {sum(map(streams, lines))} streams, as told\n")
+            changes.append(f"{name}: {sum(map(count, lines))} streams, as told\n")
         else:
             messages = sum(it.startswith("take ") and not it.endswith(" nothing") for it in lines)
             whole.append(f"{name}: {len(held)} bytes, {messages} messages, as told\n")
-    printed = "".join([*changes, *whole, f"{len(held_by)} vectors\n"])
+    for name, held in copies().items():
+        packed += f"{name} 0 {len(held)}\n".encode() + held
+    printed = "".join([*changes, *whole, f"{len(held_by) + len(copies())} entries\n"])
     return {f"{CRATE}/data/vectors": packed, f"{CRATE}/stdout": printed.encode()}

@@ -5,12 +5,14 @@ use arrow_stream_reader::{Item, StreamReader};
 use arrow_types::Limits;
 use std::alloc::{AllocError, Global};
 
-/// Compares what a reader answers to each change of a stream that a file tells of.
+/// Compares what a reader answers to each change of a stream that a file tells of; of the values of
+/// one byte to the first and the last alone, where few are to be tried.
 pub(crate) fn walk(
     alloc: Global,
     found: &mut Findings,
     text: &str,
     base: &[u8],
+    are_few: bool,
 ) -> Result<(), AllocError> {
     let mut reader = StreamReader::new(alloc, Limits::standard());
     for (number, line) in text.split('\n').enumerate().skip(2) {
@@ -20,6 +22,7 @@ pub(crate) fn walk(
                 reader: &mut reader,
                 found,
                 line: number.saturating_add(1),
+                are_few,
                 wanted,
             };
             tried.change(base, change)?;
@@ -84,6 +87,7 @@ struct Tried<'a> {
     reader: &'a mut StreamReader,
     found: &'a mut Findings,
     line: usize,
+    are_few: bool,
     wanted: &'a str,
 }
 
@@ -99,8 +103,10 @@ impl Tried<'_> {
         let mut stream = base.to_vec(self.alloc)?;
         if let (Some((first, last)), Some(place)) = (bytes_of(change), place_of(change)) {
             for value in first..last.saturating_add(1) {
-                set(&mut stream, place, value as u8);
-                self.stream(&stream)?;
+                if !self.are_few || value == first || value == last {
+                    set(&mut stream, place, u8::try_from(value).unwrap_or(u8::MAX));
+                    self.stream(&stream)?;
+                }
             }
             return Ok(());
         }

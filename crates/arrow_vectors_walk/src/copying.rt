@@ -1,7 +1,7 @@
 //! Streams written again.
 
 use crate::findings::Findings;
-use crate::pack::Vector;
+use crate::pack::{Vector, stream_of};
 use crate::reading::answers_to;
 use crate::reports::written;
 use crate::told::{Form, Told};
@@ -34,10 +34,12 @@ pub(crate) const WAYS: [Options; 4] = [
 ];
 
 /// Compares what a reader answers to a copy, written in each way: the schema and the rows up to
-/// where the stream ends, and how it ends. Where it ends well a copy of the copy is the copy.
+/// where the stream ends, and how it ends. Where it ends well a copy of the copy is the copy, and
+/// where the file of vectors has what is to be written, these are its bytes.
 pub(crate) fn walk(
     alloc: Global,
     found: &mut Findings,
+    vectors: &[Vector<'_>],
     vector: &Vector<'_>,
     told: &Told<'_>,
 ) -> Result<(), AllocError> {
@@ -53,15 +55,29 @@ pub(crate) fn walk(
         found.compare(("rows copied in way", way), &rows, &wanted)?;
         if told.is_clean() {
             let (again, _) = copy_of(alloc, &bytes, *options)?;
-            let is_same = if again == bytes {
-                "the same"
-            } else {
-                "another"
-            };
-            found.compare(("copied twice in way", way), is_same, "the same")?;
+            compare_bytes(found, ("copied twice in way", way), &again, &bytes)?;
+        }
+        let name = format!(in alloc; "{}.copy{way}", vector.name)?;
+        if let Some(wanted) = stream_of(vectors, &name) {
+            compare_bytes(found, ("bytes copied in way", way), &bytes, wanted)?;
         }
     }
     Ok(())
+}
+
+/// Compares bytes with what they should be.
+fn compare_bytes(
+    found: &mut Findings,
+    call: (&str, usize),
+    bytes: &[u8],
+    wanted: &[u8],
+) -> Result<(), AllocError> {
+    let is_same = if bytes == wanted {
+        "the same\n"
+    } else {
+        "others\n"
+    };
+    found.compare(call, is_same, "the same\n")
 }
 
 /// What is written of a stream, and behind it the fault.

@@ -13,7 +13,8 @@
 //! Nothing of an answer is written down here: each is made of the lines of the text (`told`), which
 //! come from a model in another language. The program prints a line for each vector, and the first
 //! answers that are not as told. It ends with status 1 where there is one. With the word `whole`
-//! behind its name no stream is given in pieces, and no connection breaks.
+//! behind its name no stream is given in pieces, no connection breaks, and a byte is set to few
+//! values.
 #![tactic(auto)]
 
 mod changes;
@@ -60,17 +61,18 @@ where
 {
     let bytes = fs::read(rt, FILE)?;
     let vectors = vectors_in(rt.alloc(), &bytes)?;
+    let are_whole = env::args(rt)?.any(|word| word.as_str() == WHOLE);
     let mut wrong = 0u64;
     for vector in &vectors {
-        wrong = wrong.saturating_add(walk_whole(rt, &vectors, vector)?);
+        wrong = wrong.saturating_add(walk_whole(rt, &vectors, vector, are_whole)?);
     }
-    if wrong == 0 && !env::args(rt)?.any(|word| word.as_str() == WHOLE) {
+    if wrong == 0 && !are_whole {
         for vector in &vectors {
             wrong = wrong.saturating_add(walk_in_pieces(rt, vector)?);
         }
     }
     let count = vectors.len();
-    println!(rt; "{count} vectors")?;
+    println!(rt; "{count} entries")?;
     Ok(wrong == 0 && count > 0)
 }
 
@@ -80,21 +82,25 @@ fn walk_whole<R: AllocGlobal + Print>(
     rt: &R,
     vectors: &[Vector<'_>],
     vector: &Vector<'_>,
+    are_few: bool,
 ) -> io::Result<u64> {
     let alloc = rt.alloc();
     let mut found = Findings::new(alloc);
+    if vector.is_a_copy() {
+        return Ok(0);
+    }
     if vector.is_of_changes() {
         let name = base_of(vector.text).unwrap_or("");
         let base = stream_of(vectors, name).unwrap_or(&[]);
-        changes::walk(alloc, &mut found, vector.text, base)?;
+        changes::walk(alloc, &mut found, vector.text, base, are_few)?;
         print_line(rt, vector, changes::count(vector.text), &found)?;
         return Ok(found.wrong());
     }
     let told = Told::of(alloc, vector.lines())?;
     reading::walk_whole(alloc, &mut found, vector)?;
     receiving::walk_whole(alloc, &mut found, vector, &told)?;
-    reports::walk(alloc, &mut found, vector, &told)?;
-    copying::walk(alloc, &mut found, vector, &told)?;
+    reports::walk(alloc, &mut found, vector, &told, usize::MAX)?;
+    copying::walk(alloc, &mut found, vectors, vector, &told)?;
     if found.wrong() > 0 {
         print_line(rt, vector, told.messages.len(), &found)?;
     }
@@ -103,7 +109,7 @@ fn walk_whole<R: AllocGlobal + Print>(
 
 /// Walks one vector in pieces, and prints it; how many answers are not as told.
 fn walk_in_pieces<R: AllocGlobal + Print>(rt: &R, vector: &Vector<'_>) -> io::Result<u64> {
-    if vector.is_of_changes() {
+    if vector.is_of_changes() || vector.is_a_copy() {
         return Ok(0);
     }
     let alloc = rt.alloc();
@@ -111,6 +117,7 @@ fn walk_in_pieces<R: AllocGlobal + Print>(rt: &R, vector: &Vector<'_>) -> io::Re
     let mut found = Findings::new(alloc);
     reading::walk_in_pieces(alloc, &mut found, vector, &told)?;
     receiving::walk_in_pieces(alloc, &mut found, vector, &told)?;
+    reports::walk(alloc, &mut found, vector, &told, 1)?;
     drilling::walk(alloc, &mut found, vector, &told)?;
     print_line(rt, vector, told.messages.len(), &found)?;
     Ok(found.wrong())

@@ -1,5 +1,6 @@
 //! The file of vectors: of each a line `NAME SIZE SIZE`, then its text and its stream, which have
-//! these sizes. A file of changes stands there like a vector without a stream.
+//! these sizes. A file of changes stands there like a vector without a stream, and what is written
+//! of a vector in one of the ways like one without a text, by the name `NAME.copyWAY`.
 
 use std::alloc::{AllocError, Global};
 
@@ -15,6 +16,11 @@ pub(crate) struct Vector<'a> {
 }
 
 impl<'a> Vector<'a> {
+    /// Whether it is what is written of a vector.
+    pub(crate) fn is_a_copy(&self) -> bool {
+        self.text.is_empty()
+    }
+
     /// Whether it is a file of changes.
     pub(crate) fn is_of_changes(&self) -> bool {
         self.name.ends_with(".changes")

@@ -5,33 +5,43 @@ use crate::pack::Vector;
 use crate::records::{push_header, push_record};
 use crate::told::{Form, Message, Told, column_in};
 use arrow_sink::Counted;
+use arrow_sink::probe::Trickle;
 use arrow_types::Limits;
 use arrowflow_report::{ToolFault, check, schema_text, show};
 use std::alloc::{AllocError, Global};
 
-/// Compares what the three calls write of the stream, and their faults.
+/// Compares what the three calls write of the stream, and their faults. So many bytes come at once.
 pub(crate) fn walk(
     alloc: Global,
     found: &mut Findings,
     vector: &Vector<'_>,
     told: &Told<'_>,
+    at_once: usize,
 ) -> Result<(), AllocError> {
     let limits = Limits::standard();
-    let mut input = vector.stream;
+    let mut input = Trickle::new(vector.stream, at_once, None);
     let (text, answer) = match schema_text(alloc, &mut input, &limits) {
         Ok(text) => (text.into_bytes(), Ok(())),
         Err(fault) => (Vec::new(alloc), Err(fault)),
     };
     let text = written(alloc, &text, &answer)?;
-    found.compare(("schema", 1), &text, &schema_of(alloc, told)?)?;
-    let mut input = vector.stream;
+    found.compare(
+        ("schema by reads of", at_once),
+        &text,
+        &schema_of(alloc, told)?,
+    )?;
+    let mut input = Trickle::new(vector.stream, at_once, None);
     let (output, answer) = check(alloc, &mut input, Counted::new(Vec::new(alloc)), &limits);
     let text = written(alloc, &output.into_inner(), &answer)?;
-    found.compare(("check", 1), &text, &messages_of(alloc, told)?)?;
-    let mut input = vector.stream;
+    found.compare(
+        ("check by reads of", at_once),
+        &text,
+        &messages_of(alloc, told)?,
+    )?;
+    let mut input = Trickle::new(vector.stream, at_once, None);
     let (output, answer) = show(alloc, &mut input, Counted::new(Vec::new(alloc)), &limits);
     let text = written(alloc, &output.into_inner(), &answer)?;
-    found.compare(("show", 1), &text, &rows_of(alloc, told)?)
+    found.compare(("show by reads of", at_once), &text, &rows_of(alloc, told)?)
 }
 
 /// What was written, and behind it the status and the line of the fault.

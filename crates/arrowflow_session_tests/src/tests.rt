@@ -7,7 +7,6 @@ mod beginnings;
 mod broken;
 mod building;
 mod calls;
-mod copies;
 mod long_lists;
 mod one_id;
 mod other_schemas;

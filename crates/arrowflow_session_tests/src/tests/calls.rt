@@ -407,3 +407,8 @@ fn schemas_that_are_refused(rt: HostRuntime) {
     assert_schema(&rt, Numbers, DELTA_64, 183);
     assert_schema(&rt, NoColumns, DELTA, 63);
 }
+
+#[test]
+fn deltas_and_64_bytes_by_default(rt: HostRuntime) {
+    assert!(rt; Options::default() == DELTA_64);
+}

@@ -1,4 +1,5 @@
-//! The streams that tests read, and those that are to be written of their batches.
+//! The streams that tests read, and those that are to be written of their batches. More of them are
+//! written by the program that walks the vectors.
 
 use crate::written;
 
@@ -6,7 +7,6 @@ use crate::written;
 #[derive(Clone, Copy, Debug)]
 pub(super) enum Stream {
     Growing,
-    Growing64,
     Resent,
     SecondLeftOut,
     FromNoValues,
@@ -23,11 +23,8 @@ pub(super) enum Stream {
     Gap,
     ClosedGap,
     Shared,
-    Nested,
-    ManyTypes,
     LongLists,
     Noted,
-    Noted64,
 }
 
 impl Stream {
@@ -35,7 +32,6 @@ impl Stream {
     pub(super) fn bytes(self) -> &'static [u8] {
         match self {
             Stream::Growing => &written::GROWING,
-            Stream::Growing64 => &written::GROWING_64,
             Stream::Resent => &written::RESENT,
             Stream::SecondLeftOut => &written::SECOND_LEFT_OUT,
             Stream::FromNoValues => &written::FROM_NO_VALUES,
@@ -52,11 +48,8 @@ impl Stream {
             Stream::Gap => &written::GAP,
             Stream::ClosedGap => &written::CLOSED_GAP,
             Stream::Shared => &written::SHARED,
-            Stream::Nested => &written::NESTED,
-            Stream::ManyTypes => &written::MANY_TYPES,
             Stream::LongLists => &written::LONG_LISTS,
             Stream::Noted => &written::NOTED,
-            Stream::Noted64 => &written::NOTED_64,
         }
     }
 }
