@@ -11,7 +11,7 @@ use arrow_types::Limits;
 use std::alloc::{AllocError, Global};
 
 /// A stream of up to so many bytes is cut at each place.
-const SMALL: u64 = 400;
+const SMALL: u64 = 200;
 
 /// Compares what a reader answers to the stream in one piece.
 pub(crate) fn walk_whole(

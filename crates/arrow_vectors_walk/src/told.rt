@@ -106,11 +106,11 @@ impl<'a> Told<'a> {
     }
 
     /// Whether pieces or a connection are to end at a place of a stream of this size: from one byte
-    /// before the end of a message to eight behind it, at every sixteenth place, and at 64 places of
+    /// before the end of a message to eight behind it, at every 32nd place, and at 16 places of
     /// a larger stream.
     pub(crate) fn is_chosen(&self, place: u64, size: u64) -> bool {
         let mut ends = self.messages.iter().map(|message| message.end());
-        place % (size / 64).max(16) == 0
+        place % (size / 16).max(32) == 0
             || ends.any(|end| place <= end.saturating_add(8) && end <= place.saturating_add(1))
     }
 
