@@ -33,7 +33,8 @@ def changed(held, changes):
             held = held[int(it.removeprefix("from ")):]
         else:
             place, words = it.split(" := ")
-            held = streams.changed(held, int(place), bytes.fromhex(words))
+            at, put = int(place), bytes.fromhex(words)
+            held = held[:at] + put + held[at + len(put):]
     return held
 
 

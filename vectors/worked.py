@@ -36,26 +36,26 @@ CUT = ["length 200 -> batches 0 rows 0 end clean", "length 592 -> batches 1 rows
 # By the name of an example: the tests that have what is no stream, and of each vector the lines that stand in its text, in this
 # order, * being any words.
 EXAMPLES = {
-    "no schema": (["arrowflow_tests/schema_call"], {
+    "no schema": ([], {
         "nothing": ["take 0 nothing", "hold 0", "end NoSchema at 0"], "cut_off_in_the_schema": ["take 100 nothing", "hold 100",
             "end NoSchema at 0"]}),
     "first frame": ([], {
         "one_column": ["take 152 schema", *column("n: int32"), *CLEAN], "end_marker_behind_the_schema": ["take 152 schema",
             "take 8 end", "take 0 nothing", *CLEAN]}),
-    "int32 column": (["arrowflow_tests/reports"], {
+    "int32 column": ([], {
         "int32_column": ["take 152 schema", "take 176 batch of 3", *THREE[:3], "take 8 end", *CLEAN],
         "int32_column_64": ["take 192 schema", "take 320 batch of 3", *THREE[:3], "take 8 end", *CLEAN]}),
     "text and bits": ([], {"texts": rows('"a"', "null", '"bc"'), "truths": rows("true", "false", "null", "true")}),
     "empty offsets": ([], {
         "no_offsets": ["take * batch of 0", *CLEAN], "one_offset": ["take * batch of 0", *CLEAN],
             "two_bytes_of_offsets": refused("Layout", "*")}),
-    "no columns": (["arrowflow_tests/reports"], {"no_columns": ["take * batch of 3", "  row", "  row", "  row", *CLEAN]}),
+    "no columns": ([], {"no_columns": ["take * batch of 3", "  row", "  row", "  row", *CLEAN]}),
     "growing dictionary": (["arrowflow_session_tests/calls"], {
         "growing_dictionary": ["take 200 schema", "take 224 dictionary 0 of 3", "take 168 batch of 3", *LETTERS_SHOWN[:3],
             "take 224 dictionary 0 of 5", "take 160 batch of 2", *LETTERS_SHOWN[3:5], "take 232 dictionary 0 of 4",
             "take 160 batch of 2", *LETTERS_SHOWN[5:], "take 8 end"],
         "resent_dictionary": [*LETTERS_SHOWN, "take 8 end"]}),
-    "hidden bytes": (["arrowflow_session_tests/copies"], {
+    "hidden bytes": ([], {
         "hidden_bytes": ['  value "a"', "  value null", '  row 0 -> "a"', "  row 1 -> null", '  value "a"', "  value null",
             '  row 0 -> "a"', "  row 1 -> null", *CLEAN],
         "no_hidden_bytes": ["take * dictionary 0 of 2", "take * batch of 2", "take * batch of 2", "take 8 end"]}),
@@ -71,7 +71,7 @@ EXAMPLES = {
     "two lists": (["arrowflow_session_tests/one_id"], {
         "one_dictionary_of_two_columns": ["take * dictionary 0 of 1", '  value "x"', "take * batch of 1",
             '  row 0 -> "x", 0 -> "x"', "take 8 end"]}),
-    "delta without base": (["arrow_stream_reader_tests/updates"], {"delta_without_base": refused("NoBase", 200),
+    "delta without base": ([], {"delta_without_base": refused("NoBase", 200),
         "unknown_id": refused("UnknownId", 200)}),
     "bad headers": ([], {
         "negative_size_at_the_start": refused("MetadataSize", 0), "no_continuation_at_the_start": refused("Continuation", 0),
@@ -89,14 +89,14 @@ EXAMPLES = {
         "null_count_wrong": refused("Layout", 152), "negative_body_length": refused("BodyLength", 152),
             "second_schema": refused("Order", 152),
         "date_without_a_unit": column("d: date[ms]")}),
-    "a schema's text, byte by byte": (["arrowflow_tests/schema_call"], {
+    "a schema's text, byte by byte": ([], {
         "not_nullable": column("n: int32 not null"), "unsigned": column("n: uint32"),
             "vtable_without_the_sign": column("n: uint32"),
         "one_vtable_for_two_tables": column("n: int32"), "nulls_for_integers": column("n: null"),
             "texts_for_integers": column("n: utf8"),
         "truths_for_integers": column("n: bool"), "name_of_a_line_feed": column("\\x0a: int32"),
             "body_of_the_schema": ["take 160 schema", *column("n: int32")]}),
-    "a schema's faults, byte by byte": (["arrowflow_tests/schema_call"], {
+    "a schema's faults, byte by byte": ([], {
         "name_not_utf8": refused("Metadata", 0), "version_3": refused("Version", 0),
             "version_3_and_floating_point": refused("Version", 0),
         "tensor_for_a_schema": refused("Header", 0), "negative_body_length_of_the_schema": refused("BodyLength", 0),
@@ -121,7 +121,7 @@ EXAMPLES = {
         "text_under_a_null_struct": refused("Text", "*"), "bad_text_beside_a_short_buffer": refused("Layout", "*"),
             "index_below": refused("Index", "*"),
         "negative_index_under_a_null": CLEAN}),
-    "a reader, call by call": (["arrow_stream_reader_tests/growing", "arrow_stream_reader_tests/limits",
+    "a reader, call by call": (["arrow_stream_reader_tests/limits",
         "arrow_stream_reader_tests/deciding"], {
         "cut_off_in_the_delta": ["take 224 dictionary 0 of 3", "take 168 batch of 3", "take 223 nothing", "hold 223",
             "end Truncated at 592"],
@@ -131,7 +131,7 @@ EXAMPLES = {
             "take 232 dictionary 0 of 4", "take 160 batch of 2", "take 8 end"],
         "dictionary_of_no_values": ["take 200 schema", "take 208 dictionary 0 of 0", "take 168 batch of 2", "take 168 batch of 2",
             "take 216 dictionary 0 of 1", "take 160 batch of 1", "take 8 end"]}),
-    "a stream checked, copied, drilled": (["arrowflow_tests/reports", "arrowflow_tests/copying", "arrowflow_tests/drilling",
+    "a stream checked, copied, drilled": (["arrowflow_tests/copying", "arrowflow_tests/drilling",
         "arrowflow_session_tests/session"], {
         "growing_dictionary": ["take 224 dictionary 0 of 5", "take 8 end"], "resent_dictionary": ["take 8 end"],
         "list_after_a_gap": rows("[8]"), "list_without_its_gap": rows("[8]")}),
@@ -157,7 +157,7 @@ EXAMPLES = {
             "length 336 -> batches 1 rows 3 end clean",
         "length 0..151 -> batches 0 rows 0 end NoSchema at 0", "length 153..327 -> batches 0 rows 0 end Truncated at 152",
         "length 329..335 -> batches 1 rows 3 end Truncated at 328"]}),
-    "one batch, each byte set": (["arrowflow_tests/single_bytes"], {
+    "one batch, each byte set": ([], {
         "int32_column_bytes.changes": ["schema.version[0] at 28 := 00..02 -> batches 0 rows 0 end Version at 0",
             f"{FIELD}.name.bytes at 120 := 00..6d -> batches 1 rows 3 end clean"]}),
     "a batch's metadata, byte by byte": (["arrow_stream_reader_tests/declared"], {

@@ -8,6 +8,7 @@ mod drilling_ends;
 mod edits;
 mod failures;
 mod fault_lines;
+mod first_rows;
 mod growing;
 mod help_pages;
 mod numbers;

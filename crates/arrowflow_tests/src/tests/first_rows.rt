@@ -1,0 +1,85 @@
+//! What `show_first` writes of streams, and what a check that writes nothing tells.
+
+use super::growing::GROWING;
+use super::streams::{EMPTY_BATCHES, ONE_BATCH};
+use super::told::{Call, LETTERS, NUMBERS, assert_told};
+
+/// The fault of one batch whose bytes go no further than to this place: all that a check that
+/// writes nothing tells.
+fn fault_before(place: usize) -> &'static str {
+    match place {
+        0..152 => "1 fault at byte 0: NoSchema",
+        152 | 328 | 336 => "",
+        153..328 => "1 fault at byte 152: Truncated",
+        _ => "1 fault at byte 328: Truncated",
+    }
+}
+
+#[test]
+fn quiet_checks_of_streams_cut_off(rt: HostRuntime) {
+    let stream = ONE_BATCH.as_slice();
+    for place in [0, 1, 151, 152, 153, 327, 328, 329, 335, 336] {
+        let bytes = &stream[..place.min(stream.len())];
+        assert_told(&rt, rt.alloc(), Call::Quiet, bytes, fault_before(place));
+    }
+}
+
+// How many rows are asked for, and what is shown of the growing dictionary then.
+static FIRST_LETTERS: [(u64, &str); 8] = [
+    (0, "batch,k\n"),
+    (1, "batch,k\n0,a\n"),
+    (3, "batch,k\n0,a\n0,b\n0,c\n"),
+    (4, "batch,k\n0,a\n0,b\n0,c\n1,e\n"),
+    (6, "batch,k\n0,a\n0,b\n0,c\n1,e\n1,a\n2,c\n"),
+    (7, LETTERS),
+    (8, LETTERS),
+    (u64::MAX, LETTERS),
+];
+
+#[test]
+fn first_rows_of_a_stream(rt: HostRuntime) {
+    for (rows, text) in &FIRST_LETTERS {
+        assert_told(&rt, rt.alloc(), Call::First(*rows), &GROWING, text);
+    }
+}
+
+// How many rows of empty batches and others are asked for, and what is shown of them then.
+static FIRST_TEXTS: [(u64, &str); 4] = [
+    (0, "batch,t\n"),
+    (3, "batch,t\n1,a\n1,\n1,bc\n"),
+    (4, "batch,t\n1,a\n1,\n1,bc\n3,a\n"),
+    (6, "batch,t\n1,a\n1,\n1,bc\n3,a\n3,\n3,bc\n"),
+];
+
+#[test]
+fn first_rows_behind_empty_batches(rt: HostRuntime) {
+    for (rows, text) in &FIRST_TEXTS {
+        assert_told(&rt, rt.alloc(), Call::First(*rows), &EMPTY_BATCHES, text);
+    }
+}
+
+// How many rows of one batch are asked for, how far its bytes go, and what is shown of it then: what
+// stands behind the last row that is asked for is not looked at.
+static FIRST_NUMBERS: [(u64, usize, &str); 8] = [
+    (0, 151, "1 fault at byte 0: NoSchema"),
+    (0, 152, "batch,n\n"),
+    (0, 153, "batch,n\n"),
+    (1, 327, "batch,n\n1 fault at byte 152: Truncated"),
+    (1, 328, "batch,n\n0,1\n"),
+    (3, 329, NUMBERS),
+    (4, 328, NUMBERS),
+    (
+        4,
+        329,
+        "batch,n\n0,1\n0,\n0,3\n1 fault at byte 328: Truncated",
+    ),
+];
+
+#[test]
+fn first_rows_of_a_stream_cut_off(rt: HostRuntime) {
+    let stream = ONE_BATCH.as_slice();
+    for (rows, place, text) in &FIRST_NUMBERS {
+        let bytes = &stream[..(*place).min(stream.len())];
+        assert_told(&rt, rt.alloc(), Call::First(*rows), bytes, text);
+    }
+}
