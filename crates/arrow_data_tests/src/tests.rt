@@ -1,6 +1,7 @@
 //! Columns, dictionaries and batches against answers that are written out.
 
 mod batches;
+mod buffers;
 mod columns;
 mod dictionaries;
 mod forms;
