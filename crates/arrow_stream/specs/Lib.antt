@@ -11,7 +11,7 @@ pub use Rattle.arrow_stream_reader.specs.Front
 pub use Rattle.arrow_stream_reader.specs.Laws
 pub use Rattle.arrow_stream_reader.specs.Held
 pub use Rattle.arrow_stream_reader.specs.Views
-pub use Rattle.arrow_stream_reader.specs.Work
+pub use Rattle.arrow_stream_reader.specs.Decoder
 pub use Rattle.arrow_stream_reader.specs.Stream
 pub use Rattle.arrow_stream_reader.specs.Stored
 pub use Rattle.arrow_stream_reader.specs.Inside

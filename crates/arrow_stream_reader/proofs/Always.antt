@@ -18,7 +18,7 @@ use Rattle.arrow_meta_reader.specs.declared.fault.MetaFault.TheVariants as fault
 use Rattle.arrow_stream_reader.specs.declared.kind.Refusal.{Refusal}
 use Rattle.arrow_stream_reader.specs.declared.prefix.Prefix.{Prefix}
 use Rattle.arrow_stream_reader.specs.declared.prefix.Prefix.TheVariants as prefixes
-use Rattle.arrow_stream_reader.specs.Batch.{IsLayout, Holds, columns, bad_layout, bad_text, bad_index, value_fields, dictionary_left, batch_left}
+use Rattle.arrow_stream_reader.specs.Batch.{IsLayout, Loads, columns, bad_layout, bad_text, bad_index, value_fields, dictionary_left, batch_left}
 use Rattle.arrow_stream_reader.specs.Frame.{prefix_says, judged, MetadataSays, BodySays, schema_comes, dictionary_comes, batch_comes, HasPrefix, HasMetadata, HasBody, Outcome, whole, marker, refused, waits, First, short_prefix, short_metadata, short_body, bad_prefix, bad_metadata, bad_body, end_marker, message_comes}
 use Rattle.arrow_stream_reader.specs.Front.{Entry, Standing, Front, rests, fails, closes, goes_on}
 use Rattle.arrow_stream_reader.specs.Laws.{NoneWithoutFront}
@@ -75,7 +75,7 @@ some_metadata l s p b n =
 -- BODIES
 
 -- a body holds columns, or is refused
-some_holding : (b : List ℕ) (ds : List (ℤ × ValueList)) (f : Fields) (w : PlainBatch) → Surely ((r : Result (List Column) Refusal) × Holds b ds f w r)
+some_holding : (b : List ℕ) (ds : List (ℤ × ValueList)) (f : Fields) (w : PlainBatch) → Surely ((r : Result (List Column) Refusal) × Loads b ds f w r)
 some_holding b ds f w =
     apart (IsLayout b f w)
     (λ x. apart (AreText b f w.nodes w.buffers)

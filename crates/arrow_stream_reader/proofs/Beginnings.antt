@@ -8,7 +8,7 @@ use Rattle.arrow_stream_reader.specs.declared.kind.Refusal.{Refusal}
 use Rattle.arrow_stream_reader.specs.Frame.{is_out_of_order, BodySays, schema_comes, dictionary_comes, batch_comes, Outcome, First, whole}
 use Rattle.arrow_stream_reader.specs.State.{StreamState, Given, nothing_yet, schema_given}
 use Rattle.arrow_stream_reader.proofs.Firsts.{whole_says}
-use Rattle.arrow_stream_reader.proofs.Works.{message_in_order}
+use Rattle.arrow_stream_reader.proofs.Decoding.{message_in_order}
 
 -- what leaves this schema and no dictionaries, as a schema does
 pub record IsBegun (s : StreamState) (g : Given) : Type 0 where

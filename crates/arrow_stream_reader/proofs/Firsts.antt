@@ -11,7 +11,7 @@ use Rattle.arrow_stream_reader.specs.Message.{Message}
 use Rattle.arrow_types.specs.Field.{Fields}
 use Rattle.arrow_data.specs.Column.{Column, ValueList}
 use Rattle.arrow_meta_reader.specs.Means.{PlainBatch, PlainHeader}
-use Rattle.arrow_stream_reader.specs.Batch.{Holds, columns, bad_layout, bad_text, bad_index, dictionary_left, batch_left}
+use Rattle.arrow_stream_reader.specs.Batch.{Loads, columns, bad_layout, bad_text, bad_index, dictionary_left, batch_left}
 use Rattle.arrow_stream_reader.specs.State.{StreamState, Given}
 use Rattle.arrow_stream_reader.specs.Frame.{prefix_says, judged, MetadataSays, BodySays, schema_comes, dictionary_comes, batch_comes, HasPrefix, HasMetadata, HasBody, Outcome, whole, marker, refused, waits, First, short_prefix, short_metadata, short_body, bad_prefix, bad_metadata, bad_body, end_marker, message_comes}
 use Rattle.arrow_stream_reader.proofs.Meanings.{one_meaning}
@@ -28,7 +28,7 @@ one_metadata {l} {s} {p} {b} x y = x.says ∙ ap (judged l.max_rows s (p + lengt
 
 -- a body holds the same columns, or is refused by the same kind
 one_holding : {b : List ℕ} {ds : List (ℤ × ValueList)} {f : Fields} {w : PlainBatch} {r q : Result (List Column) Refusal} →
-    Holds b ds f w r → Holds b ds f w q → r ≡ q
+    Loads b ds f w r → Loads b ds f w q → r ≡ q
 one_holding (columns x y z) (columns x' y' z') = refl
 one_holding (columns x y z) (bad_layout n) = absurd (n x)
 one_holding (columns x y z) (bad_text x' n) = absurd (n y)
@@ -50,7 +50,7 @@ one_body : {s : StreamState} {m : PlainHeader} {b : List ℕ} {r q : Result (Str
     BodySays s m b r → BodySays s m b q → r ≡ q
 one_body schema_comes schema_comes = refl
 one_body {s} (dictionary_comes {id = id} {delta = delta} h e) (dictionary_comes g f) = e ∙ ap (dictionary_left s id delta) (one_holding h g) ∙ sym f
-one_body {s} (batch_comes {outline = outline} h e) (batch_comes g f) = e ∙ ap (batch_left s outline) (one_holding h g) ∙ sym f
+one_body {s} (batch_comes {record_batch = record_batch} h e) (batch_comes g f) = e ∙ ap (batch_left s record_batch) (one_holding h g) ∙ sym f
 
 -- THE PARTS OF A FRAME
 

@@ -11,22 +11,22 @@ use Rattle.arrow_types.specs.declared.node.FieldNode.{FieldNode}
 use Rattle.arrow_types.specs.declared.node.Buffer.{Buffer}
 use Rattle.arrow_meta_reader.specs.Means.{PlainBatch}
 use Rattle.arrow_stream_reader.specs.declared.kind.Refusal.TheVariants.{Layout, Text, Index}
-use Rattle.arrow_stream_reader.specs.Batch.{AreLong, Holds, columns, bad_layout, bad_text, bad_index}
-use Rattle.arrow_stream_reader.specs.Views.{HoldsSome}
+use Rattle.arrow_stream_reader.specs.Batch.{AreLong, Loads, columns, bad_layout, bad_text, bad_index}
+use Rattle.arrow_stream_reader.specs.Views.{LoadsSome}
 
 -- the columns have the length of the batch, of which these are the nodes and this is the count
-pub are_long : (fields : Fields) (outline : PlainBatch) (ns : List FieldNode) (n : ℕ) → ns ≡ outline.nodes → n ≡ count_of outline.length →
-    AllByRecursion (λ (k : ℕ). k ≡ n) (lengths_of fields ns) ↔ AreLong fields outline
-are_long fields outline ns n e f = (
-  λ h. subst (λ x. AllByRecursion (λ (k : ℕ). k ≡ x) (lengths_of fields outline.nodes)) f (subst (λ x. AllByRecursion (λ (k : ℕ). k ≡ n) (lengths_of fields x)) e h),
-  λ h. subst (λ x. AllByRecursion (λ (k : ℕ). k ≡ n) (lengths_of fields x)) (sym e) (subst (λ x. AllByRecursion (λ (k : ℕ). k ≡ x) (lengths_of fields outline.nodes)) (sym f) h),
+pub are_long : (fields : Fields) (record_batch : PlainBatch) (ns : List FieldNode) (n : ℕ) → ns ≡ record_batch.nodes → n ≡ count_of record_batch.length →
+    AllByRecursion (λ (k : ℕ). k ≡ n) (lengths_of fields ns) ↔ AreLong fields record_batch
+are_long fields record_batch ns n e f = (
+  λ h. subst (λ x. AllByRecursion (λ (k : ℕ). k ≡ x) (lengths_of fields record_batch.nodes)) f (subst (λ x. AllByRecursion (λ (k : ℕ). k ≡ n) (lengths_of fields x)) e h),
+  λ h. subst (λ x. AllByRecursion (λ (k : ℕ). k ≡ n) (lengths_of fields x)) (sym e) (subst (λ x. AllByRecursion (λ (k : ℕ). k ≡ x) (lengths_of fields record_batch.nodes)) (sym f) h),
 )
 
 -- what explains a fault of these nodes and these buffers
-pub explains_of : (k : BodyFault) (body body' : List ℕ) (ds : List (ℤ × ValueList)) (fields : Fields) (outline : PlainBatch) (ns : List FieldNode) (bs : List Buffer) →
-    body ≡ body' → ns ≡ outline.nodes → bs ≡ outline.buffers → Explains k body ds fields ns bs → Explains k body' ds fields outline.nodes outline.buffers
-explains_of k body body' ds fields outline ns bs b e f h =
-    subst (λ x. Explains k x ds fields outline.nodes outline.buffers) b (subst (λ x. Explains k body ds fields outline.nodes x) f (subst (λ x. Explains k body ds fields x bs) e h))
+pub explains_of : (k : BodyFault) (body body' : List ℕ) (ds : List (ℤ × ValueList)) (fields : Fields) (record_batch : PlainBatch) (ns : List FieldNode) (bs : List Buffer) →
+    body ≡ body' → ns ≡ record_batch.nodes → bs ≡ record_batch.buffers → Explains k body ds fields ns bs → Explains k body' ds fields record_batch.nodes record_batch.buffers
+explains_of k body body' ds fields record_batch ns bs b e f h =
+    subst (λ x. Explains k x ds fields record_batch.nodes record_batch.buffers) b (subst (λ x. Explains k body ds fields record_batch.nodes x) f (subst (λ x. Explains k body ds fields x bs) e h))
 
 -- what is sound is so of an equal body, equal nodes and equal buffers
 pub sound_of : (body body' : List ℕ) (ds : List (ℤ × ValueList)) (fields : Fields) (ns ns' : List FieldNode) (bs bs' : List Buffer) →
@@ -44,30 +44,30 @@ pub told_of : {R : Type 0} (items : R → List Column) (r : Result R BodyFault) 
 told_of items r body body' ds fields ns ns' bs bs' b e f h =
     subst (λ x. Told items r x ds fields ns' bs') b (subst (λ x. Told items r body ds fields ns' x) f (subst (λ x. Told items r body ds fields x bs) e h))
 
-module _ {body : List ℕ} {ds : List (ℤ × ValueList)} {fields : Fields} {outline : PlainBatch} where
+module _ {body : List ℕ} {ds : List (ℤ × ValueList)} {fields : Fields} {record_batch : PlainBatch} where
   -- columns of another length are no layout
-  pub not_long : (AreLong fields outline → ⊥) → Holds body ds fields outline (Err Layout)
+  pub not_long : (AreLong fields record_batch → ⊥) → Loads body ds fields record_batch (Err Layout)
   not_long n = bad_layout (λ h. n h.long)
 
   -- a sound body holds its columns
-  pub sound_holds : (cs : List Column) → AreLong fields outline → IsSound body ds fields outline.nodes outline.buffers → cs ≡ columns_of body ds fields outline.nodes outline.buffers →
-      Holds body ds fields outline (Ok cs)
+  pub sound_holds : (cs : List Column) → AreLong fields record_batch → IsSound body ds fields record_batch.nodes record_batch.buffers → cs ≡ columns_of body ds fields record_batch.nodes record_batch.buffers →
+      Loads body ds fields record_batch (Ok cs)
   sound_holds cs long s e =
-      subst (λ x. Holds body ds fields outline (Ok x)) (sym e)
+      subst (λ x. Loads body ds fields record_batch (Ok x)) (sym e)
       (columns (record { there = s.there; laid = s.laid; long = long }) s.text s.indexed)
 
   -- a sound body is not refused
-  pub sound_holds_some : AreLong fields outline → IsSound body ds fields outline.nodes outline.buffers → HoldsSome body ds fields outline
-  sound_holds_some long s = (columns_of body ds fields outline.nodes outline.buffers, sound_holds (columns_of body ds fields outline.nodes outline.buffers) long s refl)
+  pub sound_holds_some : AreLong fields record_batch → IsSound body ds fields record_batch.nodes record_batch.buffers → LoadsSome body ds fields record_batch
+  sound_holds_some long s = (columns_of body ds fields record_batch.nodes record_batch.buffers, sound_holds (columns_of body ds fields record_batch.nodes record_batch.buffers) long s refl)
 
   -- what the layer below tells first of a body is what refuses it: its layout
-  pub layout_holds : Explains bodies.Layout body ds fields outline.nodes outline.buffers → Holds body ds fields outline (Err Layout)
+  pub layout_holds : Explains bodies.Layout body ds fields record_batch.nodes record_batch.buffers → Loads body ds fields record_batch (Err Layout)
   layout_holds n = bad_layout (λ h. n (h.there, h.laid))
 
   -- its texts
-  pub text_holds : AreLong fields outline → Explains bodies.Text body ds fields outline.nodes outline.buffers → Holds body ds fields outline (Err Text)
+  pub text_holds : AreLong fields record_batch → Explains bodies.Text body ds fields record_batch.nodes record_batch.buffers → Loads body ds fields record_batch (Err Text)
   text_holds long e = bad_text (record { there = e.0; laid = e.1; long = long }) e.2
 
   -- its indices
-  pub index_holds : AreLong fields outline → Explains bodies.Index body ds fields outline.nodes outline.buffers → Holds body ds fields outline (Err Index)
+  pub index_holds : AreLong fields record_batch → Explains bodies.Index body ds fields record_batch.nodes record_batch.buffers → Loads body ds fields record_batch (Err Index)
   index_holds long e = bad_index (record { there = e.0; laid = e.1; long = long }) e.2 e.3

@@ -5,7 +5,7 @@ pub mod Always
 pub mod Fitness
 pub mod States
 pub mod Holdings
-pub mod Works
+pub mod Decoding
 pub mod Beginnings
 pub mod Streams
 pub mod Whole

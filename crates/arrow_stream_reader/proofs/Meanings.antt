@@ -12,7 +12,7 @@ use Rattle.arrow_stream_reader.specs.Message.{Message}
 use Rattle.arrow_stream_reader.specs.declared.message.Message.{Message as Held}
 use Rattle.arrow_stream_reader.specs.declared.message.Stop.{Stop}
 use Rattle.arrow_stream_reader.specs.declared.message.Stop.TheVariants.{Refused, Memory}
-use Rattle.arrow_stream_reader.specs.Views.{Placed, StopsBy, Understood}
+use Rattle.arrow_stream_reader.specs.Views.{Placed, StopsBy, MessageRead}
 use Rattle.arrow_stream_reader.specs.Meaning.{Means, announced}
 use Rattle.arrow_stream_reader.specs.State.{StreamState}
 
@@ -45,14 +45,14 @@ decoded_fault l b (faults.Compressed j k) n h = h
 decoded_fault l b faults.Memory n h = absurd (n refl)
 
 -- what is understood of a metadata with a fault
-pub fault_understood : (l : LimitNumbers) (s : StreamState) (start : ℕ) (b : List ℕ) (f : MetaFault) (stop : Stop) →
-    Decodes (Err f) l b → StopsBy stop (is_some s.schema) (start + length b) f → Understood l s start b (Err stop)
-fault_understood l s start b f Memory d h = inl (subst (λ x. Decodes (Err x) l b) h d)
-fault_understood l s start b f (Refused k) d h = record { meant = Err f; means = decoded_fault l b f h.0 d; says = ap Err h.1 }
+pub fault_is_read : (l : LimitNumbers) (s : StreamState) (start : ℕ) (b : List ℕ) (f : MetaFault) (stop : Stop) →
+    Decodes (Err f) l b → StopsBy stop (is_some s.schema) (start + length b) f → MessageRead l s start b (Err stop)
+fault_is_read l s start b f Memory d h = inl (subst (λ x. Decodes (Err x) l b) h d)
+fault_is_read l s start b f (Refused k) d h = record { meant = Err f; means = decoded_fault l b f h.0 d; says = ap Err h.1 }
 
 -- what is understood of a metadata that means a message
-pub message_understood : (l : LimitNumbers) (s : StreamState) (start : ℕ) (b : List ℕ) (m : PlainMessage) (r : Result Held Stop) →
-    MetadataMeans l b m → Placed l.max_rows s (start + length b) m r → Understood l s start b r
-message_understood l s start b m (Ok t) h p = record { meant = Ok (announced m); means = decoded_means l b m h; says = p }
-message_understood l s start b m (Err (Refused k)) h p = record { meant = Ok (announced m); means = decoded_means l b m h; says = p }
-message_understood l s start b m (Err Memory) h p = inr (announced m, record { meant = Ok (announced m); means = decoded_means l b m h; says = sym p })
+pub message_is_read : (l : LimitNumbers) (s : StreamState) (start : ℕ) (b : List ℕ) (m : PlainMessage) (r : Result Held Stop) →
+    MetadataMeans l b m → Placed l.max_rows s (start + length b) m r → MessageRead l s start b r
+message_is_read l s start b m (Ok t) h p = record { meant = Ok (announced m); means = decoded_means l b m h; says = p }
+message_is_read l s start b m (Err (Refused k)) h p = record { meant = Ok (announced m); means = decoded_means l b m h; says = p }
+message_is_read l s start b m (Err Memory) h p = inr (announced m, record { meant = Ok (announced m); means = decoded_means l b m h; says = sym p })

@@ -19,7 +19,7 @@ use Rattle.arrow_stream_reader.specs.declared.kind.Refusal.TheVariants.{NoBase, 
 use Rattle.arrow_stream_reader.specs.declared.message.Stop.{Stop}
 use Rattle.arrow_stream_reader.specs.declared.message.Stop.TheVariants.{Refused, Memory}
 use Rattle.arrow_stream_reader.specs.State.{StreamState, dictionary_given, batch_given, fields_in, schema_in}
-use Rattle.arrow_stream_reader.specs.Batch.{Holds, columns, base_of, field_of_type, has_bad_length, value_fields}
+use Rattle.arrow_stream_reader.specs.Batch.{Loads, columns, base_of, field_of_type, has_bad_length, value_fields}
 use Rattle.arrow_stream_reader.specs.Frame.{BodySays, dictionary_comes, batch_comes}
 use Rattle.arrow_stream_reader.specs.Views.{AreValues, Gives, HasNoColumns, HeldValues, IsApplicable, IsFit, Ready, Updates}
 use Rattle.arrow_stream_reader.proofs.Fitness.{placed_fit}
@@ -27,11 +27,11 @@ use Rattle.arrow_stream_reader.proofs.Fitness.{placed_fit}
 -- THE COLUMNS OF A BODY
 
 -- the columns that a body holds are of the fields
-held_typed : {body : List ℕ} {ds : List (ℤ × ValueList)} {f : Fields} {w : PlainBatch} {cs : List Column} → Holds body ds f w (Ok cs) → AreOf f cs
+held_typed : {body : List ℕ} {ds : List (ℤ × ValueList)} {f : Fields} {w : PlainBatch} {cs : List Column} → Loads body ds f w (Ok cs) → AreOf f cs
 held_typed {body} {ds} {f} {w} (columns layout text indexed) = columns_typed body ds f w.nodes w.buffers
 
 -- and have as many slots as the batch has rows
-held_long : {body : List ℕ} {ds : List (ℤ × ValueList)} {f : Fields} {w : PlainBatch} {cs : List Column} → Holds body ds f w (Ok cs) →
+held_long : {body : List ℕ} {ds : List (ℤ × ValueList)} {f : Fields} {w : PlainBatch} {cs : List Column} → Loads body ds f w (Ok cs) →
     AllByRecursion (λ (k : ℕ). k ≡ count_of w.length) (counts_of cs)
 held_long {body} {ds} {f} {w} (columns layout text indexed) =
     subst (AllByRecursion (λ (k : ℕ). k ≡ count_of w.length)) (sym (columns_long body ds f w.nodes w.buffers)) layout.long
@@ -41,7 +41,7 @@ have_rows n [] h = tt
 have_rows n (c ∷ cs) h = (h.0, have_rows n cs h.1)
 
 -- the columns that a body holds are those of a batch
-pub held_fits : {body : List ℕ} {ds : List (ℤ × ValueList)} {f : Fields} {w : PlainBatch} {cs : List Column} → Holds body ds f w (Ok cs) → AreOf f cs × HaveRows (count_of w.length) cs
+pub held_fits : {body : List ℕ} {ds : List (ℤ × ValueList)} {f : Fields} {w : PlainBatch} {cs : List Column} → Loads body ds f w (Ok cs) → AreOf f cs × HaveRows (count_of w.length) cs
 held_fits {w = w} {cs = cs} h = (held_typed h, have_rows (count_of w.length) cs (held_long h))
 
 -- WHAT STANDS AGAINST A DICTIONARY BATCH
@@ -75,79 +75,79 @@ only_one h children (x ∷ []) [] c a e =
 only_one h children (x ∷ []) (r ∷ rs) c a e = let behind : [] ≡ rs ++ c ∷ [] = cc in absurd (never_empty rs c behind)
 
 -- the columns that a body holds are those of its nodes and buffers
-held_columns : {body : List ℕ} {ds : List (ℤ × ValueList)} {f : Fields} {w : PlainBatch} {cs : List Column} → Holds body ds f w (Ok cs) →
+held_columns : {body : List ℕ} {ds : List (ℤ × ValueList)} {f : Fields} {w : PlainBatch} {cs : List Column} → Loads body ds f w (Ok cs) →
     cs ≡ columns_of body ds f w.nodes w.buffers
 held_columns (columns layout text indexed) = refl
 
-module _ (s : StreamState) (outline : PlainBatch) (body : List ℕ) where
+module _ (s : StreamState) (record_batch : PlainBatch) (body : List ℕ) where
   -- what refuses the body of a record batch refuses the batch
-  pub batch_refused : (stop : Stop) → HasNoColumns body s.dictionaries (fields_in s.schema) outline stop → Gives s outline body (Err stop)
+  pub batch_refused : (stop : Stop) → HasNoColumns body s.dictionaries (fields_in s.schema) record_batch stop → Gives s record_batch body (Err stop)
   batch_refused (Refused k) h = batch_comes h refl
   batch_refused Memory h = (_, batch_comes h.1 refl)
 
   -- a record batch whose body holds columns is not refused
-  pub batch_applicable : (cs : List Column) → Holds body s.dictionaries (fields_in s.schema) outline (Ok cs) → IsApplicable s (batch outline) body
+  pub batch_applicable : (cs : List Column) → Loads body s.dictionaries (fields_in s.schema) record_batch (Ok cs) → IsApplicable s (batch record_batch) body
   batch_applicable cs h = (_, batch_comes h refl)
 
   -- a record batch gives the columns of its body
-  pub batch_read : (cs : List Column) (b : Table) → Holds body s.dictionaries (fields_in s.schema) outline (Ok cs) →
-      b ≡ record { schema = schema_in s.schema; columns = cs; rows = count_of outline.length } →
-      BodySays s (batch outline) body (Ok (s, batch_given b))
+  pub batch_read : (cs : List Column) (b : Table) → Loads body s.dictionaries (fields_in s.schema) record_batch (Ok cs) →
+      b ≡ record { schema = schema_in s.schema; columns = cs; rows = count_of record_batch.length } →
+      BodySays s (batch record_batch) body (Ok (s, batch_given b))
   batch_read cs b h e = batch_comes h (ap (λ x. Ok (s, batch_given x)) e)
 
   -- a dictionary batch has the one column of its values
   pub values_read : (id : ℤ) (t : TypeShape) (cs rest : List Column) (c : Column) →
       value_type_of (dictionary_fields (fields_in s.schema)) id ≡ Some t → has_encoding t.children ≡ false →
-      Holds body [] (value_fields s.schema id) outline (Ok cs) → cs ≡ rest ++ c ∷ [] → AreValues s id outline body c
+      Loads body [] (value_fields s.schema id) record_batch (Ok cs) → cs ≡ rest ++ c ∷ [] → AreValues s id record_batch body c
   values_read id t cs rest c named flat h e =
       let field = value_field t in
       let fields : value_fields s.schema id ≡ fields_of (field ∷ []) = ap field_of_type named in
-      let is = held_columns (subst (λ f. Holds body [] f outline (Ok cs)) fields h) in
-      let typed = subst (AreOf (fields_of (field ∷ []))) (sym is) (columns_typed body [] (fields_of (field ∷ [])) outline.nodes outline.buffers) in
+      let is = held_columns (subst (λ f. Loads body [] f record_batch (Ok cs)) fields h) in
+      let typed = subst (AreOf (fields_of (field ∷ []))) (sym is) (columns_typed body [] (fields_of (field ∷ [])) record_batch.nodes record_batch.buffers) in
       let one = only_one field.head field.children cs rest c typed e in
       record {
-        holds = subst (λ x. Holds body [] (value_fields s.schema id) outline (Ok x)) one.alone h;
+        holds = subst (λ x. Loads body [] (value_fields s.schema id) record_batch (Ok x)) one.alone h;
         typed = named ∙ ap Some (sym one.typed);
         plain = one.encoded;
         flat = ap (λ (x : TypeShape). has_encoding x.children) one.typed ∙ flat;
       }
 
   -- refuses the batch
-  pub update_refused : (id : ℤ) (delta : Bool) (stop : Stop) → HeldValues s id outline body (Err stop) → Updates s id delta outline body (Err stop) s
+  pub update_refused : (id : ℤ) (delta : Bool) (stop : Stop) → HeldValues s id record_batch body (Err stop) → Updates s id delta record_batch body (Err stop) s
   update_refused id delta (Refused k) h = (dictionary_comes h refl, refl)
   update_refused id delta Memory h = ((_, dictionary_comes h.1 refl), refl)
 
   -- a dictionary batch leaves its values, in place of those of its id or behind them
-  pub updated : (id : ℤ) (delta : Bool) (c : Column) (ds : List (ℤ × ValueList)) → AreValues s id outline body c →
+  pub updated : (id : ℤ) (delta : Bool) (c : Column) (ds : List (ℤ × ValueList)) → AreValues s id record_batch body c →
       ds ≡ placed id (record { data_type = c.data_type; values = base_of delta (listed s.dictionaries id) ++ c.raw }) s.dictionaries →
-      BodySays s (dictionary id delta outline) body (Ok (record { schema = s.schema; dictionaries = ds }, dictionary_given id))
+      BodySays s (dictionary id delta record_batch) body (Ok (record { schema = s.schema; dictionaries = ds }, dictionary_given id))
   updated id delta c ds h e = dictionary_comes h.holds (ap (λ x. Ok (record { schema = s.schema; dictionaries = x }, dictionary_given id)) e)
 
   -- one for each row
-  values_long : (id : ℤ) (c : Column) → AreValues s id outline body c → length c.raw ≡ count_of outline.length
+  values_long : (id : ℤ) (c : Column) → AreValues s id record_batch body c → length c.raw ≡ count_of record_batch.length
   values_long id c v = (held_long v.holds).0
 
   -- a delta against which nothing stands finds its dictionary
-  pub base_found : (id : ℤ) → Ready s (dictionary id true outline) → listed s.dictionaries id ≡ None → ⊥
+  pub base_found : (id : ℤ) → Ready s (dictionary id true record_batch) → listed s.dictionaries id ≡ None → ⊥
   base_found id r e =
       let w = against_cases (not (is_some (value_type_of (dictionary_fields (fields_in s.schema)) id))) (true && not (is_some (listed s.dictionaries id)))
-      (has_bad_length r.max_rows (value_fields s.schema id) outline)
-      (nat_lt r.max_rows (length (base_of true (listed s.dictionaries id)) + count_of outline.length)) r.none in
+      (has_bad_length r.max_rows (value_fields s.schema id) record_batch)
+      (nat_lt r.max_rows (length (base_of true (listed s.dictionaries id)) + count_of record_batch.length)) r.none in
       let none = subst (λ o. not (is_some o) ≡ false) e w.0 in
       cc
 
   -- and does not make it too long
-  pub base_fits : (id : ℤ) (c : Column) (new : List (ℤ × ValueList)) → Ready s (dictionary id true outline) → AreValues s id outline body c → IsTooLong s.dictionaries id c new → ⊥
+  pub base_fits : (id : ℤ) (c : Column) (new : List (ℤ × ValueList)) → Ready s (dictionary id true record_batch) → AreValues s id record_batch body c → IsTooLong s.dictionaries id c new → ⊥
   base_fits id c new r v long =
       let w = against_cases (not (is_some (value_type_of (dictionary_fields (fields_in s.schema)) id))) (true && not (is_some (listed s.dictionaries id)))
-      (has_bad_length r.max_rows (value_fields s.schema id) outline)
-      (nat_lt r.max_rows (length (base_of true (listed s.dictionaries id)) + count_of outline.length)) r.none in
-      let few = ltb-false r.max_rows (length (base_of true (listed s.dictionaries id)) + count_of outline.length) w.1 in
+      (has_bad_length r.max_rows (value_fields s.schema id) record_batch)
+      (nat_lt r.max_rows (length (base_of true (listed s.dictionaries id)) + count_of record_batch.length)) r.none in
+      let few = ltb-false r.max_rows (length (base_of true (listed s.dictionaries id)) + count_of record_batch.length) w.1 in
       let base : length (base_of true (listed s.dictionaries id)) ≡ length long.base.values = ap (λ o. length (base_of true o)) long.there in
       omega (arith, values_long id c v, r.ceiling, long.many)
 
   -- so the batch is not refused
-  pub values_applicable : (id : ℤ) (delta : Bool) (c : Column) → AreValues s id outline body c → IsApplicable s (dictionary id delta outline) body
+  pub values_applicable : (id : ℤ) (delta : Bool) (c : Column) → AreValues s id record_batch body c → IsApplicable s (dictionary id delta record_batch) body
   values_applicable id delta c h = (_, dictionary_comes h.holds refl)
 
   -- behind a dictionary of this type
@@ -159,20 +159,20 @@ module _ (s : StreamState) (outline : PlainBatch) (body : List ℕ) where
       ∙ ap (λ o. placed id (record { data_type = c.data_type; values = base_of true o ++ c.raw }) s.dictionaries) (sym there)
 
   -- values that were appended are those of a delta
-  pub append_updates : (id : ℤ) (c : Column) (new : List (ℤ × ValueList)) → IsFit s → AreValues s id outline body c → IsAppended s.dictionaries id c new →
-      BodySays s (dictionary id true outline) body (Ok (record { schema = s.schema; dictionaries = new }, dictionary_given id))
+  pub append_updates : (id : ℤ) (c : Column) (new : List (ℤ × ValueList)) → IsFit s → AreValues s id record_batch body c → IsAppended s.dictionaries id c new →
+      BodySays s (dictionary id true record_batch) body (Ok (record { schema = s.schema; dictionaries = new }, dictionary_given id))
   append_updates id c new fit v a =
       updated id true c new v (appended id c a.base new a.there (fit.typed id c.data_type a.base v.typed a.there) a.grown)
 
-  pub append_fits : (id : ℤ) (c : Column) (new : List (ℤ × ValueList)) → IsFit s → AreValues s id outline body c → IsAppended s.dictionaries id c new →
+  pub append_fits : (id : ℤ) (c : Column) (new : List (ℤ × ValueList)) → IsFit s → AreValues s id record_batch body c → IsAppended s.dictionaries id c new →
       IsFit (record { schema = s.schema; dictionaries = new })
   append_fits id c new fit v a = placed_fit s id c.data_type (grown_with a.base c) new fit v.typed (fit.typed id c.data_type a.base v.typed a.there) a.grown
 
   -- values that were placed are those of no delta
-  pub replace_updates : (id : ℤ) (c : Column) (d : ValueList) (new : List (ℤ × ValueList)) → AreValues s id outline body c → d ≡ record { data_type = c.data_type; values = c.raw } →
-      new ≡ placed id d s.dictionaries → BodySays s (dictionary id false outline) body (Ok (record { schema = s.schema; dictionaries = new }, dictionary_given id))
+  pub replace_updates : (id : ℤ) (c : Column) (d : ValueList) (new : List (ℤ × ValueList)) → AreValues s id record_batch body c → d ≡ record { data_type = c.data_type; values = c.raw } →
+      new ≡ placed id d s.dictionaries → BodySays s (dictionary id false record_batch) body (Ok (record { schema = s.schema; dictionaries = new }, dictionary_given id))
   replace_updates id c d new v is e = updated id false c new v (e ∙ ap (λ x. placed id x s.dictionaries) is)
 
-  pub replace_fits : (id : ℤ) (c : Column) (d : ValueList) (new : List (ℤ × ValueList)) → IsFit s → AreValues s id outline body c → d ≡ record { data_type = c.data_type; values = c.raw } →
+  pub replace_fits : (id : ℤ) (c : Column) (d : ValueList) (new : List (ℤ × ValueList)) → IsFit s → AreValues s id record_batch body c → d ≡ record { data_type = c.data_type; values = c.raw } →
       new ≡ placed id d s.dictionaries → IsFit (record { schema = s.schema; dictionaries = new })
   replace_fits id c d new fit v is e = placed_fit s id c.data_type d new fit v.typed (ap (λ (x : ValueList). x.data_type) is) e

@@ -1,4 +1,4 @@
--- How a step of the work moves a reader along its stream.
+-- How a step of the decoder moves a reader along its stream.
 use Rattle.std.proofs.Common.{◌≡◌, ℕ, ◌+◌, ◌-◌, ◌<◌, ◌≤◌, List, [], ◌∷◌, ◌++◌, length, take, drop, refl, sym, ap, ◌∙◌, subst, arith, length-append, length-take, inl, inr}
 use Rattle.std.proofs.Math.Seq.{take-append-add, take-append_seam}
 use Rattle.std.proofs.lemmas.Bool.{cases_lt}
@@ -10,18 +10,18 @@ use Rattle.arrow_stream_reader.specs.declared.item.Item.{Item}
 use Rattle.arrow_stream_reader.specs.declared.item.Item.TheVariants.{End}
 use Rattle.arrow_stream_reader.specs.declared.reader.Verdict.{Verdict}
 use Rattle.arrow_stream_reader.specs.declared.reader.Verdict.TheVariants.{Open, Done, Bad}
-use Rattle.arrow_stream_reader.specs.declared.work.Work.{Work}
+use Rattle.arrow_stream_reader.specs.declared.decoder.Decoder.{Decoder}
 use Rattle.arrow_stream_reader.specs.State.{StreamState, ended, nothing_yet}
 use Rattle.arrow_stream_reader.specs.Frame.{Outcome, First, whole, marker, refused, waits, short_prefix}
 use Rattle.arrow_stream_reader.specs.Front.{Entry, Standing, FrontOf, rests, fails, closes, goes_on}
 use Rattle.arrow_stream_reader.specs.Views.{plain, given}
-use Rattle.arrow_stream_reader.specs.Work.{Waited, Gave, Marked, FirstAt}
+use Rattle.arrow_stream_reader.specs.Decoder.{Waited, Gave, Marked, FirstAt}
 use Rattle.arrow_stream_reader.specs.Stream.{ReaderView, ReaderStands, fresh}
 use Rattle.arrow_stream_reader.proofs.Firsts.{First-take, marker-take, First-within, marker-within, one_first}
 use Rattle.arrow_stream_reader.proofs.Fronts.{front_then, front_ended, front_place, at_bytes}
 
--- what a reader shows, by its work and its verdict
-abbrev pub shown_by : Work → Verdict → ReaderView
+-- what a reader shows, by its decoder and its verdict
+abbrev pub shown_by : Decoder → Verdict → ReaderView
 shown_by w o = record { limits = w.limits; at = record { state = plain w.state; place = w.place; rest = w.held.items; verdict = o } }
 
 abbrev pub standing : StreamState → ℕ → List ℕ → Verdict → Standing
@@ -35,8 +35,8 @@ moved {l} {b} {es} {s} {p} {r} {o} l' s' p' o' a c d e x =
     (subst (λ y. FrontOf l b es (standing s y r o')) (sym d)
     (subst (λ y. FrontOf l b es (standing s p r y)) (sym e) x)))
 
--- the same outcome where the work changed nothing of what it is of
-pub first_moved : {o : Outcome} (w v : Work) (b c : List ℕ) → v.limits ≡ w.limits → plain v.state ≡ plain w.state →
+-- the same outcome where the decoder changed nothing of what it is of
+pub first_moved : {o : Outcome} (w v : Decoder) (b c : List ℕ) → v.limits ≡ w.limits → plain v.state ≡ plain w.state →
     v.place ≡ w.place → c ≡ b → FirstAt w b o → FirstAt v c o
 first_moved {o} w v b c l s p e x =
     subst (λ y. First y (plain v.state) v.place c o) (sym l)
@@ -45,10 +45,10 @@ first_moved {o} w v b c l s p e x =
     (subst (λ y. First w.limits (plain w.state) w.place y o) (sym e) x)))
 
 -- where nothing is held, less than a message is
-pub waits_at_nothing : (w : Work) → w.held.items ≡ [] → FirstAt w w.held.items waits
+pub waits_at_nothing : (w : Decoder) → w.held.items ≡ [] → FirstAt w w.held.items waits
 waits_at_nothing w e = short_prefix (let n = ap length e in omega arith)
 
-module _ (w : Work) (waiting : FirstAt w w.held.items waits) (piece : List ℕ) where
+module _ (w : Decoder) (waiting : FirstAt w w.held.items waits) (piece : List ℕ) where
   -- the bytes of a message of this size, which are those held and the first of the piece
   own_bytes : (size : ℕ) → length w.held.items ≤ size →
       take size (w.held.items ++ piece) ≡ w.held.items ++ take (size - length w.held.items) piece
@@ -73,25 +73,25 @@ module _ (w : Work) (waiting : FirstAt w w.held.items waits) (piece : List ℕ) 
       ]
 
   -- a whole message stands at the front of its own bytes
-  whole_first : (item : Item) (v : Work) (x : Gave w (w.held.items ++ piece) item v) →
+  whole_first : (item : Item) (v : Decoder) (x : Gave w (w.held.items ++ piece) item v) →
       FirstAt w (w.held.items ++ take (x.size - length w.held.items) piece) (whole x.size (plain v.state) (given item))
   whole_first item v x =
       subst (λ y. FirstAt w y (whole x.size (plain v.state) (given item))) (own_bytes x.size x.covers)
       (First-take x.size (omega arith) (First-within x.first) x.first)
 
   -- a whole message takes a byte of the piece at least
-  pub whole_some : (item : Item) (v : Work) (x : Gave w (w.held.items ++ piece) item v) →
+  pub whole_some : (item : Item) (v : Decoder) (x : Gave w (w.held.items ++ piece) item v) →
       0 < x.size - length w.held.items
   whole_some item v x = takes_some x.size (λ q. cc) (whole_first item v x)
 
-  marker_first : (m : Work) → Marked w (w.held.items ++ piece) m →
+  marker_first : (m : Decoder) → Marked w (w.held.items ++ piece) m →
       FirstAt w (w.held.items ++ take (8 - length w.held.items) piece) marker
   marker_first m x =
       subst (λ y. FirstAt w y marker) (own_bytes 8 x.covers)
       (marker-take 8 (omega arith) (marker-within x.first) x.first)
 
   -- so does an end marker
-  pub marker_some : (m : Work) → Marked w (w.held.items ++ piece) m → 0 < 8 - length w.held.items
+  pub marker_some : (m : Decoder) → Marked w (w.held.items ++ piece) m → 0 < 8 - length w.held.items
   marker_some m x = takes_some 8 (λ q. cc) (marker_first m x)
 
   -- no more is taken than there is
@@ -109,7 +109,7 @@ module _ (w : Work) (waiting : FirstAt w w.held.items waits) (piece : List ℕ) 
     place_at = front_place open_front ∙ omega arith
 
     -- with less than a message the reader stands behind the piece
-    pub short_stands : (v : Work) → Waited w (w.held.items ++ piece) v → ReaderStands (shown_by v o) (t ++ piece) es
+    pub short_stands : (v : Decoder) → Waited w (w.held.items ++ piece) v → ReaderStands (shown_by v o) (t ++ piece) es
     short_stands v x = record {
       rest = w.held.items ++ piece;
       front =
@@ -120,7 +120,7 @@ module _ (w : Work) (waiting : FirstAt w w.held.items waits) (piece : List ℕ) 
     }
 
     -- with a whole message it stands behind its last byte, and the message is the newest entry
-    pub whole_stands : (item : Item) (v : Work) (x : Gave w (w.held.items ++ piece) item v) →
+    pub whole_stands : (item : Item) (v : Decoder) (x : Gave w (w.held.items ++ piece) item v) →
         ReaderStands (shown_by v o) (t ++ take (x.size - length w.held.items) piece) (es ++ record { given = given item; end = length t + (x.size - length w.held.items) } ∷ [])
     whole_stands item v x =
         let n = x.size - length w.held.items in
@@ -139,7 +139,7 @@ module _ (w : Work) (waiting : FirstAt w w.held.items waits) (piece : List ℕ) 
         }
 
     -- so with the end marker
-    pub marker_stands : (m v : Work) → Marked w (w.held.items ++ piece) m → v.limits ≡ m.limits →
+    pub marker_stands : (m v : Decoder) → Marked w (w.held.items ++ piece) m → v.limits ≡ m.limits →
         plain v.state ≡ plain m.state → v.place ≡ m.place + 8 →
         ReaderStands (shown_by v Done) (t ++ take (8 - length w.held.items) piece) (es ++ record { given = given End; end = length t + (8 - length w.held.items) } ∷ [])
     marker_stands m v x limits state place =
@@ -156,7 +156,7 @@ module _ (w : Work) (waiting : FirstAt w w.held.items waits) (piece : List ℕ) 
         }
 
     -- with a refusal it stands behind the piece
-    pub refusal_stands : (k : Refusal) (v : Work) → FirstAt w (w.held.items ++ piece) (refused k) →
+    pub refusal_stands : (k : Refusal) (v : Decoder) → FirstAt w (w.held.items ++ piece) (refused k) →
         v.limits ≡ w.limits → plain v.state ≡ plain w.state → v.place ≡ w.place →
         ReaderStands (shown_by v (Bad k)) (t ++ piece) es
     refusal_stands k v x limits state place =
@@ -178,7 +178,7 @@ pub fresh_stands : (l : LimitNumbers) → ReaderStands (fresh l) [] []
 fresh_stands l = record { rest = []; front = rests (short_prefix (omega arith)); held = λ _. refl }
 
 -- what a reader shows is told by its parts
-pub same_shows : (w : Work) (o : Verdict) (l : LimitNumbers) (s : StreamState) (p : ℕ) (h : List ℕ) (q : Verdict) →
+pub same_shows : (w : Decoder) (o : Verdict) (l : LimitNumbers) (s : StreamState) (p : ℕ) (h : List ℕ) (q : Verdict) →
     w.limits ≡ l → plain w.state ≡ s → w.place ≡ p → w.held.items ≡ h → o ≡ q →
     shown_by w o ≡ record { limits = l; at = standing s p h q }
 same_shows w o l s p h q a b c d e =

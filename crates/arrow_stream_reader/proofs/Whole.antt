@@ -11,7 +11,7 @@ use Rattle.arrow_stream_reader.specs.declared.prefix.Prefix.TheVariants as prefi
 use Rattle.arrow_stream_reader.specs.Meaning.{Means}
 use Rattle.arrow_stream_reader.specs.Message.{Message}
 use Rattle.arrow_stream_reader.specs.State.{StreamState, Given}
-use Rattle.arrow_stream_reader.specs.Frame.{prefix_says, has_continuation, number_at, misplaced, is_out_of_order, against, refused_first, judged, MetadataSays, BodySays, First, whole, message_comes, marker, end_marker}
+use Rattle.arrow_stream_reader.specs.Frame.{prefix_says, has_continuation, number_at, misplaced, is_out_of_order, state_refusal, refused_first, judged, MetadataSays, BodySays, First, whole, message_comes, marker, end_marker}
 
 prefix_ok : (c a b z has : Bool) (n : ℕ) → c ≡ true → a ≡ false → b ≡ false → z ≡ false
     → cond (not c) (Err Continuation) (cond a (Err MetadataSize) (cond b (Err MetadataSize) (cond (not z) (Ok (prefixes.Metadata n)) (cond (not has) (Err NoSchema) (Ok prefixes.EndMarker))))) ≡ Ok (prefixes.Metadata n)
@@ -40,7 +40,7 @@ placed_ok true o e f = absurd (cc)
 pub frame_whole : (l : LimitNumbers) (s : StreamState) (p size : ℕ) (content : PlainHeader) (prefix metadata body b : List ℕ) (s' : StreamState) (g : Given)
     → length prefix ≡ 8 → has_continuation prefix ≡ true → number_at prefix 4 ≡ size → length metadata ≡ size → 0 < size → b ≡ prefix ++ metadata ++ body
     → Means l metadata (Ok (record { content = content; body_len = length body })) → size ≤ l.max_metadata → p + length b ≤ 2 ^ 62
-    → is_out_of_order (is_some s.schema) content ≡ false → against l.max_rows s content ≡ None → BodySays s content body (Ok (s', g)) → First l s p b (whole (length b) s' g)
+    → is_out_of_order (is_some s.schema) content ≡ false → state_refusal l.max_rows s content ≡ None → BodySays s content body (Ok (s', g)) → First l s p b (whole (length b) s' g)
 frame_whole l s p size content prefix metadata body b s' g eight continued number sized some bytes means small near order none says =
     let m : Message = record { content = content; body_len = length body } in
     let front : length (prefix ++ metadata) ≡ 8 + size = length-append prefix metadata ∙ omega (arith, eight, sized) in
@@ -61,7 +61,7 @@ frame_whole l s p size content prefix metadata body b s' g eight continued numbe
     let place_ok : misplaced end (length body) (is_out_of_order (is_some s.schema) content) ≡ None =
     placed_ok (ltb (2 ^ 62) (end + length body)) (is_out_of_order (is_some s.schema) content) (le-ltb (2 ^ 62) (end + length body) (omega arith)) order in
     let judge : judged l.max_rows s end (Ok m) ≡ Ok m =
-    ap (λ k. refused_first k (refused_first (against l.max_rows s content) (Ok m))) place_ok ∙ ap (λ k. refused_first k (Ok m)) none in
+    ap (λ k. refused_first k (refused_first (state_refusal l.max_rows s content) (Ok m))) place_ok ∙ ap (λ k. refused_first k (Ok m)) none in
     let says_it : MetadataSays l s (p + 8) metadata (Ok m) = record { meant = Ok m; means = means; says = sym judge } in
     subst (λ k. First l s p b (whole k s' g)) (sym len)
     (message_comes {m = size} {message = m} (record {

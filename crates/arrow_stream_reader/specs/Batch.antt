@@ -1,4 +1,4 @@
--- What a batch and its body say (Message.fbs, tables "RecordBatch" and "DictionaryBatch"). The outline of a batch is
+-- What a batch and its body say (Message.fbs, tables "RecordBatch" and "DictionaryBatch"). The record batch is
 -- what its metadata tell of the body: the number of rows, the nodes and the buffers.
 use Rattle.std.specs.Prelude.{◌≡◌, ℕ, ℤ, pos, negsuc, Bool, true, false, ◌||◌, nat_lt, List, [], ◌∷◌, ◌++◌, take, Option, None, Some, Result, Ok, Err}
 use Rattle.std.specs.List.{AllByRecursion, list_any}
@@ -35,9 +35,9 @@ is_bad_length max (negsuc n) = true
 
 -- the length of the batch, or that of a node which the fields take, is
 abbrev pub has_bad_length : ℕ → Fields → PlainBatch → Bool
-has_bad_length max fields outline =
-    is_bad_length max outline.length
-    || list_any (λ (n : FieldNode). is_bad_length max n.length) (take (taken_nodes fields) outline.nodes)
+has_bad_length max fields record_batch =
+    is_bad_length max record_batch.length
+    || list_any (λ (n : FieldNode). is_bad_length max n.length) (take (taken_nodes fields) record_batch.nodes)
 
 -- the values that a delta finds, none where the batch is no delta or there is no dictionary
 abbrev pub base_of : Bool → Option ValueList → List PlainValue
@@ -47,22 +47,22 @@ base_of false d = []
 
 -- the columns have as many slots as the batch has rows
 abbrev pub AreLong : Fields → PlainBatch → Type 0
-AreLong fields outline = AllByRecursion (λ (n : ℕ). n ≡ count_of outline.length) (lengths_of fields outline.nodes)
+AreLong fields record_batch = AllByRecursion (λ (n : ℕ). n ≡ count_of record_batch.length) (lengths_of fields record_batch.nodes)
 
 -- nodes and buffers are there, lie in the body as the fields ask for, and the columns have the batch's length
-pub record IsLayout (body : List ℕ) (fields : Fields) (outline : PlainBatch) : Type 0 where
-  pub there : AreThere fields outline.nodes outline.buffers
-  pub laid : AreLaid body fields outline.nodes outline.buffers
-  pub long : AreLong fields outline
+pub record IsLayout (body : List ℕ) (fields : Fields) (record_batch : PlainBatch) : Type 0 where
+  pub there : AreThere fields record_batch.nodes record_batch.buffers
+  pub laid : AreLaid body fields record_batch.nodes record_batch.buffers
+  pub long : AreLong fields record_batch
 
 -- What a body says that holds these columns: them, or the first of Layout, Text and Index that applies to any of them.
-pub data Holds (body : List ℕ) (ds : List (ℤ × ValueList)) (fields : Fields) (outline : PlainBatch) : Result (List Column) Refusal → Type 0 where
-  columns : IsLayout body fields outline → AreText body fields outline.nodes outline.buffers → AreIndexed body ds fields outline.nodes outline.buffers →
-      Holds body ds fields outline (Ok (columns_of body ds fields outline.nodes outline.buffers))
-  bad_layout : (IsLayout body fields outline → ⊥) → Holds body ds fields outline (Err Layout)
-  bad_text : IsLayout body fields outline → (AreText body fields outline.nodes outline.buffers → ⊥) → Holds body ds fields outline (Err Text)
-  bad_index : IsLayout body fields outline → AreText body fields outline.nodes outline.buffers →
-      (AreIndexed body ds fields outline.nodes outline.buffers → ⊥) → Holds body ds fields outline (Err Index)
+pub data Loads (body : List ℕ) (ds : List (ℤ × ValueList)) (fields : Fields) (record_batch : PlainBatch) : Result (List Column) Refusal → Type 0 where
+  columns : IsLayout body fields record_batch → AreText body fields record_batch.nodes record_batch.buffers → AreIndexed body ds fields record_batch.nodes record_batch.buffers →
+      Loads body ds fields record_batch (Ok (columns_of body ds fields record_batch.nodes record_batch.buffers))
+  bad_layout : (IsLayout body fields record_batch → ⊥) → Loads body ds fields record_batch (Err Layout)
+  bad_text : IsLayout body fields record_batch → (AreText body fields record_batch.nodes record_batch.buffers → ⊥) → Loads body ds fields record_batch (Err Text)
+  bad_index : IsLayout body fields record_batch → AreText body fields record_batch.nodes record_batch.buffers →
+      (AreIndexed body ds fields record_batch.nodes record_batch.buffers → ⊥) → Loads body ds fields record_batch (Err Index)
 
 -- The state behind a dictionary batch of this one column: its values stand in place of those of its id, or, where the
 -- batch is a delta, behind them.
@@ -79,5 +79,5 @@ dictionary_left s id delta (Err k) = Err k
 
 -- what a record batch leaves and gives
 abbrev pub batch_left : StreamState → PlainBatch → Result (List Column) Refusal → Result (StreamState × Given) Refusal
-batch_left s outline (Ok cs) = Ok (s, batch_given (record { schema = schema_in s.schema; columns = cs; rows = count_of outline.length }))
-batch_left s outline (Err k) = Err k
+batch_left s record_batch (Ok cs) = Ok (s, batch_given (record { schema = schema_in s.schema; columns = cs; rows = count_of record_batch.length }))
+batch_left s record_batch (Err k) = Err k

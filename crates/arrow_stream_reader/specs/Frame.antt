@@ -18,7 +18,7 @@ use Rattle.arrow_meta_reader.specs.Means.{PlainBatch, PlainHeader, schema, dicti
 use Rattle.arrow_stream_reader.specs.State.{StreamState, Given, schema_given, fields_in}
 use Rattle.arrow_stream_reader.specs.Message.{Message}
 use Rattle.arrow_stream_reader.specs.Meaning.{Means}
-use Rattle.arrow_stream_reader.specs.Batch.{Holds, base_of, batch_left, dictionary_left, has_bad_length, value_fields}
+use Rattle.arrow_stream_reader.specs.Batch.{Loads, base_of, batch_left, dictionary_left, has_bad_length, value_fields}
 
 -- the number of the four bytes from place p on, the least first
 abbrev pub number_at : List ℕ → ℕ → ℕ
@@ -44,8 +44,8 @@ prefix_says limits has_schema place b =
 -- whether a message may not stand here: a schema behind a schema, a batch before it
 abbrev pub is_out_of_order : Bool → PlainHeader → Bool
 is_out_of_order has_schema (schema fields) = has_schema
-is_out_of_order has_schema (dictionary id delta outline) = not has_schema
-is_out_of_order has_schema (batch outline) = not has_schema
+is_out_of_order has_schema (dictionary id delta record_batch) = not has_schema
+is_out_of_order has_schema (batch record_batch) = not has_schema
 
 -- The kind that a message's place decides, if one does: its body would end past 2^62, or it is out of order.
 abbrev pub misplaced : ℕ → ℕ → Bool → Option Refusal
@@ -54,19 +54,19 @@ misplaced end body_len out_of_order =
 
 -- The kind that stands against a dictionary batch, if one does: no field gives its id, a delta finds no dictionary, or
 -- there are too many rows, in the batch or in the dictionary behind it.
-abbrev pub against_dictionary : ℕ → StreamState → ℤ → Bool → PlainBatch → Option Refusal
-against_dictionary max_rows s id delta outline =
+abbrev pub dictionary_refusal : ℕ → StreamState → ℤ → Bool → PlainBatch → Option Refusal
+dictionary_refusal max_rows s id delta record_batch =
     if not (is_some (value_type_of (dictionary_fields (fields_in s.schema)) id)) then Some UnknownId else
     (if delta && not (is_some (listed s.dictionaries id)) then Some NoBase else
-    (if has_bad_length max_rows (value_fields s.schema id) outline then Some Rows else
-    (if nat_lt max_rows (length (base_of delta (listed s.dictionaries id)) + count_of outline.length) then Some Rows else
+    (if has_bad_length max_rows (value_fields s.schema id) record_batch then Some Rows else
+    (if nat_lt max_rows (length (base_of delta (listed s.dictionaries id)) + count_of record_batch.length) then Some Rows else
     None)))
 
 -- The kind that stands against a message by what was read before it, if one does.
-abbrev pub against : ℕ → StreamState → PlainHeader → Option Refusal
-against max_rows s (schema fields) = None
-against max_rows s (dictionary id delta outline) = against_dictionary max_rows s id delta outline
-against max_rows s (batch outline) = if has_bad_length max_rows (fields_in s.schema) outline then Some Rows else None
+abbrev pub state_refusal : ℕ → StreamState → PlainHeader → Option Refusal
+state_refusal max_rows s (schema fields) = None
+state_refusal max_rows s (dictionary id delta record_batch) = dictionary_refusal max_rows s id delta record_batch
+state_refusal max_rows s (batch record_batch) = if has_bad_length max_rows (fields_in s.schema) record_batch then Some Rows else None
 
 -- that kind, or else one with a greater number
 abbrev pub least_kind : Option Refusal → Refusal → Refusal
@@ -97,7 +97,7 @@ abbrev pub judged : ℕ → StreamState → ℕ → Result Message MetaFault →
 judged max_rows s end (Err fault) = Err (kind_of_fault (is_some s.schema) end fault)
 judged max_rows s end (Ok m) =
     refused_first (misplaced end m.body_len (is_out_of_order (is_some s.schema) m.content))
-    (refused_first (against max_rows s m.content) (Ok m))
+    (refused_first (state_refusal max_rows s m.content) (Ok m))
 
 -- what a metadata says that begins at this place
 pub record MetadataSays (limits : LimitNumbers) (s : StreamState) (start : ℕ) (metadata : List ℕ)
@@ -112,12 +112,12 @@ pub record MetadataSays (limits : LimitNumbers) (s : StreamState) (start : ℕ) 
 pub data BodySays (s : StreamState) : PlainHeader → List ℕ → Result (StreamState × Given) Refusal → Type 0 where
   schema_comes : {shape : SchemaShape} {body : List ℕ} →
       BodySays s (schema shape) body (Ok (record { schema = Some shape; dictionaries = [] }, schema_given))
-  dictionary_comes : {id : ℤ} {delta : Bool} {outline : PlainBatch} {body : List ℕ} {cs : Result (List Column) Refusal}
-      {r : Result (StreamState × Given) Refusal} → Holds body [] (value_fields s.schema id) outline cs →
-      r ≡ dictionary_left s id delta cs → BodySays s (dictionary id delta outline) body r
-  batch_comes : {outline : PlainBatch} {body : List ℕ} {cs : Result (List Column) Refusal}
-      {r : Result (StreamState × Given) Refusal} → Holds body s.dictionaries (fields_in s.schema) outline cs →
-      r ≡ batch_left s outline cs → BodySays s (batch outline) body r
+  dictionary_comes : {id : ℤ} {delta : Bool} {record_batch : PlainBatch} {body : List ℕ} {cs : Result (List Column) Refusal}
+      {r : Result (StreamState × Given) Refusal} → Loads body [] (value_fields s.schema id) record_batch cs →
+      r ≡ dictionary_left s id delta cs → BodySays s (dictionary id delta record_batch) body r
+  batch_comes : {record_batch : PlainBatch} {body : List ℕ} {cs : Result (List Column) Refusal}
+      {r : Result (StreamState × Given) Refusal} → Loads body s.dictionaries (fields_in s.schema) record_batch cs →
+      r ≡ batch_left s record_batch cs → BodySays s (batch record_batch) body r
 
 -- b begins with eight bytes that say r
 pub record HasPrefix (limits : LimitNumbers) (s : StreamState) (place : ℕ) (b : List ℕ)

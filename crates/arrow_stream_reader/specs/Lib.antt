@@ -8,7 +8,7 @@ pub mod Front
 pub mod Laws
 pub mod Held
 pub mod Views
-pub mod Work
+pub mod Decoder
 pub mod Stream
 pub mod Stored
 pub mod Inside

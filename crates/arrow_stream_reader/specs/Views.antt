@@ -19,11 +19,11 @@ use Rattle.arrow_stream_reader.specs.declared.message.Message.{Message as HeldMe
 use Rattle.arrow_stream_reader.specs.declared.message.Stop.{Stop}
 use Rattle.arrow_stream_reader.specs.declared.message.Stop.TheVariants.{Refused, Memory}
 use Rattle.arrow_stream_reader.specs.declared.state.State.{State}
-use Rattle.arrow_stream_reader.specs.Batch.{Holds, value_fields}
+use Rattle.arrow_stream_reader.specs.Batch.{Loads, value_fields}
 use Rattle.arrow_stream_reader.specs.State.{StreamState, Given, schema_given, dictionary_given, batch_given, ended, fields_in}
 use Rattle.arrow_stream_reader.specs.Meaning.{announced}
 use Rattle.arrow_stream_reader.specs.Message.{Message}
-use Rattle.arrow_stream_reader.specs.Frame.{BodySays, MetadataSays, against, is_out_of_order, judged, kind_of_fault}
+use Rattle.arrow_stream_reader.specs.Frame.{BodySays, MetadataSays, state_refusal, is_out_of_order, judged, kind_of_fault}
 
 -- the schema and the dictionaries that a state holds
 abbrev pub plain : State → StreamState
@@ -39,8 +39,8 @@ given items.End = ended
 -- what a message holds, as the layer below tells it
 abbrev pub content_of : HeldContent → PlainHeader
 content_of (held.Schema s) = schema s
-content_of (held.Dictionary id delta outline) = dictionary id delta (batch_view outline)
-content_of (held.Batch outline) = batch (batch_view outline)
+content_of (held.Dictionary id delta record_batch) = dictionary id delta (batch_view record_batch)
+content_of (held.Batch record_batch) = batch (batch_view record_batch)
 
 -- the message that is held
 abbrev pub message_of : HeldMessage → Message
@@ -59,10 +59,10 @@ Placed max_rows s end m (Err Memory) = judged max_rows s end (Ok (announced m)) 
 
 -- What a metadata says that begins at this place. Memory may be wanted while the metadata is read, or for a message against
 -- which nothing stands.
-abbrev pub Understood : LimitNumbers → StreamState → ℕ → List ℕ → Result HeldMessage Stop → Type 0
-Understood limits s start metadata (Ok m) = MetadataSays limits s start metadata (Ok (message_of m))
-Understood limits s start metadata (Err (Refused k)) = MetadataSays limits s start metadata (Err k)
-Understood limits s start metadata (Err Memory) =
+abbrev pub MessageRead : LimitNumbers → StreamState → ℕ → List ℕ → Result HeldMessage Stop → Type 0
+MessageRead limits s start metadata (Ok m) = MetadataSays limits s start metadata (Ok (message_of m))
+MessageRead limits s start metadata (Err (Refused k)) = MetadataSays limits s start metadata (Err k)
+MessageRead limits s start metadata (Err Memory) =
     GrowsAtRoot metadata limits.max_metadata ⊎ ((m : Message) × MetadataSays limits s start metadata (Ok m))
 
 -- Each dictionary has the type of the values of the fields that give its id.
@@ -75,29 +75,29 @@ pub record Ready (s : StreamState) (m : PlainHeader) : Type 0 where
   pub max_rows : ℕ
   pub ceiling : max_rows ≤ 2147483647
   pub in_order : is_out_of_order (is_some s.schema) m ≡ false
-  pub none : against max_rows s m ≡ None
+  pub none : state_refusal max_rows s m ≡ None
 
 -- the body is not refused: it holds columns
-abbrev pub HoldsSome : List ℕ → List (ℤ × ValueList) → Fields → PlainBatch → Type 0
-HoldsSome body ds fields outline = (columns : List Column) × Holds body ds fields outline (Ok columns)
+abbrev pub LoadsSome : List ℕ → List (ℤ × ValueList) → Fields → PlainBatch → Type 0
+LoadsSome body ds fields record_batch = (columns : List Column) × Loads body ds fields record_batch (Ok columns)
 
 -- why there are no columns of a body: its refusal, or want of memory for those that it holds
 abbrev pub HasNoColumns : List ℕ → List (ℤ × ValueList) → Fields → PlainBatch → Stop → Type 0
-HasNoColumns body ds fields outline (Refused k) = Holds body ds fields outline (Err k)
-HasNoColumns body ds fields outline Memory = HoldsSome body ds fields outline
+HasNoColumns body ds fields record_batch (Refused k) = Loads body ds fields record_batch (Err k)
+HasNoColumns body ds fields record_batch Memory = LoadsSome body ds fields record_batch
 
 -- The one column of a dictionary batch is of the type of the dictionary's values
-pub record AreValues (s : StreamState) (id : ℤ) (outline : PlainBatch) (body : List ℕ) (c : Column) : Type 0 where
-  pub holds : Holds body [] (value_fields s.schema id) outline (Ok (c ∷ []))
+pub record AreValues (s : StreamState) (id : ℤ) (record_batch : PlainBatch) (body : List ℕ) (c : Column) : Type 0 where
+  pub holds : Loads body [] (value_fields s.schema id) record_batch (Ok (c ∷ []))
   pub typed : value_type_of (dictionary_fields (fields_in s.schema)) id ≡ Some c.data_type
   pub plain : c.encoding ≡ None
   pub flat : has_encoding c.data_type.children ≡ false
 
 -- what a dictionary batch is answered with: its one column, or why there is none
 abbrev pub HeldValues : StreamState → ℤ → PlainBatch → List ℕ → Result Column Stop → Type 0
-HeldValues s id outline body (Ok c) = AreValues s id outline body c
-HeldValues s id outline body (Err (Refused k)) = Holds body [] (value_fields s.schema id) outline (Err k)
-HeldValues s id outline body (Err Memory) = HoldsSome body [] (value_fields s.schema id) outline
+HeldValues s id record_batch body (Ok c) = AreValues s id record_batch body c
+HeldValues s id record_batch body (Err (Refused k)) = Loads body [] (value_fields s.schema id) record_batch (Err k)
+HeldValues s id record_batch body (Err Memory) = LoadsSome body [] (value_fields s.schema id) record_batch
 
 -- the body is not refused: there is what the message leaves and gives
 abbrev pub IsApplicable : StreamState → PlainHeader → List ℕ → Type 0
@@ -105,15 +105,15 @@ IsApplicable s m body = (left : StreamState × Given) × BodySays s m body (Ok l
 
 -- what a dictionary batch leaves, or its refusal; where it is not taken nothing changes
 abbrev pub Updates : StreamState → ℤ → Bool → PlainBatch → List ℕ → Result (Unit {0}) Stop → StreamState → Type 0
-Updates s id delta outline body (Ok x) s' = BodySays s (dictionary id delta outline) body (Ok (s', dictionary_given id))
-Updates s id delta outline body (Err (Refused k)) s' = BodySays s (dictionary id delta outline) body (Err k) × (s' ≡ s)
-Updates s id delta outline body (Err Memory) s' = IsApplicable s (dictionary id delta outline) body × (s' ≡ s)
+Updates s id delta record_batch body (Ok x) s' = BodySays s (dictionary id delta record_batch) body (Ok (s', dictionary_given id))
+Updates s id delta record_batch body (Err (Refused k)) s' = BodySays s (dictionary id delta record_batch) body (Err k) × (s' ≡ s)
+Updates s id delta record_batch body (Err Memory) s' = IsApplicable s (dictionary id delta record_batch) body × (s' ≡ s)
 
 -- the rows that a record batch gives, or its refusal
 abbrev pub Gives : StreamState → PlainBatch → List ℕ → Result Table Stop → Type 0
-Gives s outline body (Ok b) = BodySays s (batch outline) body (Ok (s, batch_given b))
-Gives s outline body (Err (Refused k)) = BodySays s (batch outline) body (Err k)
-Gives s outline body (Err Memory) = IsApplicable s (batch outline) body
+Gives s record_batch body (Ok b) = BodySays s (batch record_batch) body (Ok (s, batch_given b))
+Gives s record_batch body (Err (Refused k)) = BodySays s (batch record_batch) body (Err k)
+Gives s record_batch body (Err Memory) = IsApplicable s (batch record_batch) body
 
 -- What a message with its whole body leaves and gives, or its refusal. Where it is not applied nothing changes, and the
 -- message is handed back.

@@ -6,7 +6,7 @@ ghost use Rattle.arrow_types.specs.View.{fields_view};
 ghost use Rattle.arrow_body_reader.specs.Held.{count_of};
 ghost use Rattle.arrow_body_reader.specs.Sound.{AreFit, Explains, IsSound, columns_of};
 ghost use Rattle.arrow_meta_reader.specs.Means.{batch_view};
-ghost use Rattle.arrow_stream_reader.specs.Batch.{Holds};
+ghost use Rattle.arrow_stream_reader.specs.Batch.{Loads};
 ghost use Rattle.arrow_stream_reader.specs.Views.{HasNoColumns};
 
 use crate::kind::Refusal;
@@ -88,40 +88,40 @@ impl<'a> Body<'a> {
 }
 
 /// How many rows a batch has whose length is not negative.
-pub(crate) fn row_count(outline: &RecordBatch) -> usize
-    requires sign { pos 0 ≤ℤ outline.now.length }
-    ensures count { result ≡ count_of outline.now.length }
+pub(crate) fn row_count(record_batch: &RecordBatch) -> usize
+    requires sign { pos 0 ≤ℤ record_batch.now.length }
+    ensures count { result ≡ count_of record_batch.now.length }
 {
-    outline.length as usize
+    record_batch.length as usize
 }
 
 /// The columns of the fields that a body holds, or the first of Layout, Text and Index that applies
 /// to any of them. They share one body, which is copied where it is lent, and shared itself where it
 /// is not. They also share the types of the nodes.
 ///
-/// The outline is what the metadata tell of the body: the number of its rows, its nodes and its
+/// The record batch is what the metadata tell of the body: the number of its rows, its nodes and its
 /// buffers.
-pub(crate) fn hold(
+pub(crate) fn load_columns(
     alloc: Global,
     fields: &[Field],
     types: &[SharedType],
-    outline: &RecordBatch,
+    record_batch: &RecordBatch,
     body: &Body,
     dictionaries: &[(i64, Dictionary)],
 ) -> Result<Vec<Array>, Stop>
-    requires sign { pos 0 ≤ℤ outline.now.length }
+    requires sign { pos 0 ≤ℤ record_batch.now.length }
     requires typed { types.now ≡ node_types (fields_view fields.now) }
     requires fit { AreFit dictionaries.now (fields_view fields.now) }
     ensures held { MatchResult result
-        (λ columns. Holds body.now dictionaries.now (fields_view fields.now)
-        (batch_view outline.now) (Ok columns.items))
+        (λ columns. Loads body.now dictionaries.now (fields_view fields.now)
+        (batch_view record_batch.now) (Ok columns.items))
         (λ stop. HasNoColumns body.now dictionaries.now (fields_view fields.now)
-        (batch_view outline.now) stop) }
+        (batch_view record_batch.now) stop) }
 {
-    if !have_length(fields, &outline.nodes, row_count(outline)) {
+    if !have_length(fields, &record_batch.nodes, row_count(record_batch)) {
         return Err(Stop::Refused(Refusal::Layout));
     }
-    match columns_in(alloc, fields, types, outline, body, dictionaries) {
+    match columns_in(alloc, fields, types, record_batch, body, dictionaries) {
         Ok(columns) => Ok(columns),
         Err(BodyFault::Layout) => Err(Stop::Refused(Refusal::Layout)),
         Err(BodyFault::Text) => Err(Stop::Refused(Refusal::Text)),
@@ -136,7 +136,7 @@ fn columns_in(
     alloc: Global,
     fields: &[Field],
     types: &[SharedType],
-    outline: &RecordBatch,
+    record_batch: &RecordBatch,
     body: &Body,
     dictionaries: &[(i64, Dictionary)],
 ) -> Result<Vec<Array>, BodyFault>
@@ -144,19 +144,19 @@ fn columns_in(
     requires fit { AreFit dictionaries.now (fields_view fields.now) }
     ensures { MatchResult result
         (λ columns. IsSound body.now dictionaries.now (fields_view fields.now)
-        (batch_view outline.now).nodes (batch_view outline.now).buffers
+        (batch_view record_batch.now).nodes (batch_view record_batch.now).buffers
         × (columns.items ≡ columns_of body.now dictionaries.now (fields_view fields.now)
-        (batch_view outline.now).nodes (batch_view outline.now).buffers))
+        (batch_view record_batch.now).nodes (batch_view record_batch.now).buffers))
         (λ fault. Explains fault body.now dictionaries.now (fields_view fields.now)
-        (batch_view outline.now).nodes (batch_view outline.now).buffers) }
+        (batch_view record_batch.now).nodes (batch_view record_batch.now).buffers) }
 {
     match body.own(alloc) {
         Ok(owned) => load_typed(
             alloc,
             fields,
             types,
-            &outline.nodes,
-            &outline.buffers,
+            &record_batch.nodes,
+            &record_batch.buffers,
             &owned,
             dictionaries,
         ),
@@ -164,8 +164,8 @@ fn columns_in(
             let bytes = body.as_slice();
             check(
                 fields,
-                &outline.nodes,
-                &outline.buffers,
+                &record_batch.nodes,
+                &record_batch.buffers,
                 bytes,
                 dictionaries,
             )?;

@@ -2,7 +2,7 @@
 
 ghost use Rattle.std.specs.Prelude.{◌≡◌, ◌≤◌, ◌<◌, ◌+◌, ◌^◌, ◌++◌, ◌⊎◌, [], length, take, drop};
 ghost use Rattle.std.specs.Prelude.{IfOk, OnErr};
-ghost use Rattle.arrow_stream_reader.specs.Work.{Filled};
+ghost use Rattle.arrow_stream_reader.specs.Decoder.{Filled};
 
 use crate::body::Body;
 use bytes::Bytes;

@@ -18,23 +18,24 @@
 //!
 //! | Notion | Definition |
 //! |---|---|
-//! | one message at the front of bytes | `specs/Frame.antt`: `First`, `judged`, `against` |
+//! | one message at the front of bytes | `specs/Frame.antt`: `First`, `judged`, `state_refusal` |
 //! | all messages, one behind the other | `specs/Front.antt`: `Front`, `Standing` |
 //! | what a metadata means and announces | `specs/Meaning.antt`: `Means`; `specs/Message.antt`: `Message` |
-//! | what a batch says by its body | `specs/Batch.antt`: `Holds`, `batch_left`, `dictionary_left` |
+//! | what a batch says by its body | `specs/Batch.antt`: `Loads`, `batch_left`, `dictionary_left` |
 //! | what a stream told so far | `specs/State.antt`: `StreamState`, `Given`; `specs/Tables.antt`: `tables_of` |
 //! | what a reader shows, what its calls answer | `specs/Stream.antt`: `ReaderView`, `ReaderStands`, `Answers` |
 //! | the kinds of faults | `specs/Kind.antt`: `kind_of`, `number_of` |
-//! | a reader's work, and the bytes that it holds | `specs/Work.antt`, `specs/Held.antt`, `specs/Views.antt`, `specs/Inside.antt` |
+//! | a reader's decoder, and the bytes that it holds | `specs/Decoder.antt`, `specs/Held.antt`, `specs/Views.antt`, `specs/Inside.antt` |
 //! | the laws | `specs/Laws.antt`: `OneFront`, `NoneWithoutFront`, `MoreBytes`, `SameStanding`, `LessWaits` |
 //!
 //! Of the proofs, `Firsts` is of one message and `Fronts` of all, `Always` says that no bytes are
 //! without a front, `Meanings` and `Holdings` go to them from the layers below, `States` and
-//! `Works` are the steps, and `Streams` carries these over to the bytes at which a reader stands.
+//! `Decoding` are the steps, and `Streams` carries these over to the bytes at which a reader stands.
 //! `Whole` serves the crates above.
 #![tactic(auto)]
 
 mod body;
+mod decoder;
 mod fault;
 mod held;
 mod item;
@@ -46,7 +47,6 @@ mod reader;
 mod refusals;
 mod state;
 mod stream_schema;
-mod work;
 
 pub use fault::Fault;
 pub use item::Item;

@@ -3,10 +3,10 @@
 ghost use Rattle.std.specs.Prelude.{◌≡◌, ◌^◌, ◌+◌, ◌≤◌, length, IfOk};
 ghost use Rattle.arrow_meta_reader.specs.Means.{header_view, message_view};
 ghost use Rattle.arrow_stream_reader.specs.Frame.{misplaced};
-ghost use Rattle.arrow_stream_reader.specs.Views.{Placed, StopsBy, Understood, content_of, plain};
+ghost use Rattle.arrow_stream_reader.specs.Views.{Placed, StopsBy, MessageRead, content_of, plain};
 
 use crate::kind::Refusal;
-use crate::refusals::{against, is_out_of_order, misplaced};
+use crate::refusals::{is_out_of_order, misplaced, state_refusal};
 use crate::state::State;
 use crate::stream_schema::StreamSchema;
 use arrow_meta_reader::{Header, Message as Judged, MetaFault, RecordBatch, decode};
@@ -44,7 +44,7 @@ pub(crate) enum Stop {
 
 /// What a metadata says that begins at the place `start` of a stream, behind what was read before.
 /// What the message needs to be applied is made here, but for what its body holds.
-pub(crate) fn understand(
+pub(crate) fn read_message(
     alloc: Global,
     limits: &Limits,
     state: &State,
@@ -52,7 +52,7 @@ pub(crate) fn understand(
     metadata: &[u8],
 ) -> Result<Message, Stop>
     requires near { start + length metadata.now ≤ 2 ^ 62 }
-    ensures says { Understood limits.now (plain state.now) start metadata.now result }
+    ensures says { MessageRead limits.now (plain state.now) start metadata.now result }
     ensures ceiling { limits.now.max_rows ≤ 2147483647 }
 {
     let end = start + metadata.len() as u64;
@@ -79,7 +79,7 @@ fn place(
     if let Some(refusal) = misplaced(end, message.body_len, out_of_order) {
         return Err(Stop::Refused(refusal));
     }
-    if let Some(refusal) = against(max_rows, state, &message.header) {
+    if let Some(refusal) = state_refusal(max_rows, state, &message.header) {
         return Err(Stop::Refused(refusal));
     }
     let body_len = message.body_len;
@@ -95,8 +95,12 @@ fn content_by(alloc: Global, header: Header) -> Result<Content, AllocError>
 {
     Ok(match header {
         Header::Schema(schema) => Content::Schema(StreamSchema::of(alloc, schema)?),
-        Header::Dictionary(id, is_delta, outline) => Content::Dictionary(id, is_delta, outline),
-        Header::Batch(outline) => Content::Batch(outline),
+        Header::Dictionary(id, is_delta, record_batch) => Content::Dictionary(
+            id,
+            is_delta,
+            record_batch,
+        ),
+        Header::Batch(record_batch) => Content::Batch(record_batch),
     })
 }
 

@@ -8,13 +8,13 @@ ghost use Rattle.arrow_stream_reader.specs.Kind.{kind_of};
 ghost use Rattle.arrow_stream_reader.specs.Stream.{FailsFor, GoesOn, ReadsOn, ReaderStands, TakesPiece};
 ghost use Rattle.arrow_stream_reader.specs.Stream.{MemoryAlone, ended_so, fresh};
 
+use crate::decoder::{Decoder, Phase, Step};
 use crate::fault::Fault;
 use crate::held::Held;
 use crate::item::Item;
 use crate::kind::{Kind, Refusal};
 use crate::message::Stop;
 use crate::state::State;
-use crate::work::{Phase, Step, Work};
 use arrow_dict::Store;
 use arrow_types::{Limits, Schema};
 use std::alloc::Global;
@@ -44,7 +44,7 @@ pub(crate) enum Verdict {
 /// refused nothing has changed and nothing was taken, and the same call may be made again.
 #[derive(Drop)]
 pub struct StreamReader {
-    work: Work,
+    decoder: Decoder,
     verdict: Verdict,
 }
 
@@ -70,7 +70,7 @@ impl StreamReader {
         ensures start { ReaderStands result [] [] }
     {
         StreamReader {
-            work: Work {
+            decoder: Decoder {
                 alloc,
                 limits,
                 state: State::new(alloc),
@@ -122,7 +122,7 @@ impl StreamReader {
             Verdict::Done => Ok((0, None)),
             Verdict::Bad(refusal) => Err(Fault {
                 kind: refusal.kind(),
-                place: self.work.place,
+                place: self.decoder.place,
             }),
         }
     }
@@ -138,21 +138,21 @@ impl StreamReader {
             (λ taken. GoesOn taken.1 self.old.at.verdict self.new.at.verdict) }
         ensures limits { self.new.limits ≡ self.old.limits }
     {
-        let before = self.work.held.len();
-        let place = self.work.place;
-        match self.work.step(piece) {
+        let before = self.decoder.held.len();
+        let place = self.decoder.place;
+        match self.decoder.step(piece) {
             Ok(Step::Short) => Ok((piece.len(), None)),
             Ok(Step::Whole(item)) => {
-                let taken = (self.work.place - place) as usize - before;
+                let taken = (self.decoder.place - place) as usize - before;
                 Ok((taken, Some(item)))
             }
             Ok(Step::EndMarker) => {
-                self.work.pass(8);
+                self.decoder.pass(8);
                 self.verdict = Verdict::Done;
                 Ok((8 - before, Some(Item::End)))
             }
             Err(Stop::Refused(refusal)) => {
-                self.work.pass(0);
+                self.decoder.pass(0);
                 self.verdict = Verdict::Bad(refusal);
                 Err(Fault {
                     kind: refusal.kind(),
@@ -160,7 +160,7 @@ impl StreamReader {
                 })
             }
             Err(Stop::Memory) => {
-                self.work.rewind(before);
+                self.decoder.rewind(before);
                 Err(Fault {
                     kind: Kind::Memory,
                     place,
@@ -181,8 +181,8 @@ impl StreamReader {
         let kind = match self.verdict {
             Verdict::Bad(refusal) => refusal.kind(),
             Verdict::Done => return Ok(()),
-            Verdict::Open if self.work.state.schema.is_none() => Kind::NoSchema,
-            Verdict::Open if self.work.held.len() == 0 => return Ok(()),
+            Verdict::Open if self.decoder.state.schema.is_none() => Kind::NoSchema,
+            Verdict::Open if self.decoder.held.len() == 0 => return Ok(()),
             Verdict::Open => Kind::Truncated,
         };
         Err(Fault {
@@ -197,7 +197,7 @@ impl StreamReader {
         ensures fresh { self.new ≡ fresh self.old.limits }
         ensures start { ReaderStands self.new [] [] }
     {
-        self.work.restart();
+        self.decoder.restart();
         self.verdict = Verdict::Open;
     }
 
@@ -210,7 +210,7 @@ impl StreamReader {
         ensures closed { (self.now.at.verdict ≡ Open → ⊥) → result ≡ 0 }
         ensures bound { result ≤ 8 + self.now.limits.max_metadata + self.now.limits.max_body }
     {
-        self.work.held.len() as u64
+        self.decoder.held.len() as u64
     }
 
     /// The place of the first byte of the message in work, counted in bytes from 0 at the stream's
@@ -219,14 +219,14 @@ impl StreamReader {
     pub fn place(&self) -> u64
         ensures place { result ≡ self.now.at.place }
     {
-        self.work.place
+        self.decoder.place
     }
 
     /// The stream's schema, `None` before its message was whole. It takes no memory.
     pub fn schema(&self) -> Option<&Schema>
         ensures schema { option_map (λ s. s.now) result ≡ self.now.at.state.schema }
     {
-        match &self.work.state.schema {
+        match &self.decoder.state.schema {
             Some(schema) => Some(schema.shared()),
             None => None,
         }
@@ -236,6 +236,6 @@ impl StreamReader {
     pub fn dictionaries(&self) -> &Store
         ensures dictionaries { result.now ≡ self.now.at.state.dictionaries }
     {
-        &self.work.state.dictionaries
+        &self.decoder.state.dictionaries
     }
 }

@@ -5,7 +5,7 @@ ghost use Rattle.std.specs.List.{list_any};
 ghost use Rattle.arrow_types.specs.View.{fields_view};
 ghost use Rattle.arrow_meta_reader.specs.Means.{batch_view, header_view};
 ghost use Rattle.arrow_stream_reader.specs.Batch.{is_bad_length, has_bad_length};
-ghost use Rattle.arrow_stream_reader.specs.Frame.{against, against_dictionary, is_out_of_order, misplaced};
+ghost use Rattle.arrow_stream_reader.specs.Frame.{state_refusal, dictionary_refusal, is_out_of_order, misplaced};
 ghost use Rattle.arrow_stream_reader.specs.Views.{plain};
 
 use crate::body::row_count;
@@ -43,16 +43,16 @@ pub(crate) fn is_out_of_order(has_schema: bool, header: &Header) -> bool
 }
 
 /// The kind that stands against the message by what was read before it, if one does.
-pub(crate) fn against(max_rows: u64, state: &State, header: &Header) -> Option<Refusal>
-    ensures kind { result ≡ against max_rows (plain state.now) (header_view header.now) }
+pub(crate) fn state_refusal(max_rows: u64, state: &State, header: &Header) -> Option<Refusal>
+    ensures kind { result ≡ state_refusal max_rows (plain state.now) (header_view header.now) }
 {
     match header {
         Header::Schema(_) => None,
-        Header::Dictionary(id, is_delta, outline) => {
-            against_dictionary(max_rows, state, *id, *is_delta, outline)
+        Header::Dictionary(id, is_delta, record_batch) => {
+            dictionary_refusal(max_rows, state, *id, *is_delta, record_batch)
         }
-        Header::Batch(outline) => {
-            if has_bad_length(max_rows, state.fields(), outline) {
+        Header::Batch(record_batch) => {
+            if has_bad_length(max_rows, state.fields(), record_batch) {
                 Some(Refusal::Rows)
             } else {
                 None
@@ -62,15 +62,15 @@ pub(crate) fn against(max_rows: u64, state: &State, header: &Header) -> Option<R
 }
 
 /// The kind that stands against a dictionary batch, if one does.
-fn against_dictionary(
+fn dictionary_refusal(
     max_rows: u64,
     state: &State,
     id: i64,
     is_delta: bool,
-    outline: &RecordBatch,
+    record_batch: &RecordBatch,
 ) -> Option<Refusal>
     ensures kind { result
-        ≡ against_dictionary max_rows (plain state.now) id is_delta (batch_view outline.now) }
+        ≡ dictionary_refusal max_rows (plain state.now) id is_delta (batch_view record_batch.now) }
 {
     let Some(field) = state.value_field(id) else {
         return Some(Refusal::UnknownId);
@@ -79,11 +79,11 @@ fn against_dictionary(
     if is_delta && base.is_none() {
         return Some(Refusal::NoBase);
     }
-    if has_bad_length(max_rows, field.fields(), outline) {
+    if has_bad_length(max_rows, field.fields(), record_batch) {
         return Some(Refusal::Rows);
     }
     let found = if is_delta { base.unwrap_or(0) } else { 0 };
-    if grows_over(max_rows, found, row_count(outline)) {
+    if grows_over(max_rows, found, row_count(record_batch)) {
         return Some(Refusal::Rows);
     }
     None
@@ -98,10 +98,11 @@ fn grows_over(max_rows: u64, found: usize, more: usize) -> bool
 
 /// Whether the length of the batch, or that of a node which the fields take, is negative or over
 /// the limit.
-fn has_bad_length(max: u64, fields: &[Field], outline: &RecordBatch) -> bool
-    ensures bad { result ≡ has_bad_length max (fields_view fields.now) (batch_view outline.now) }
+fn has_bad_length(max: u64, fields: &[Field], record_batch: &RecordBatch) -> bool
+    ensures bad { result ≡ has_bad_length max (fields_view fields.now) (batch_view record_batch.now) }
 {
-    is_bad_length(max, outline.length) || have_bad_length(max, nodes_of(fields, &outline.nodes))
+    is_bad_length(max, record_batch.length)
+        || have_bad_length(max, nodes_of(fields, &record_batch.nodes))
 }
 
 /// Whether the length of a node is negative or over the limit.

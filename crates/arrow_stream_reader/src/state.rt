@@ -12,7 +12,7 @@ ghost use Rattle.arrow_stream_reader.specs.State.{fields_in, nothing_yet};
 ghost use Rattle.arrow_stream_reader.specs.Views.{Applies, Gives, HeldValues, IsFit, Ready, Updates};
 ghost use Rattle.arrow_stream_reader.specs.Views.{content_of, plain};
 
-use crate::body::{Body, hold, row_count};
+use crate::body::{Body, load_columns, row_count};
 use crate::item::Item;
 use crate::message::{Content, Stop};
 use crate::stream_schema::StreamSchema;
@@ -99,10 +99,10 @@ impl State {
     }
 
     /// The rows of a record batch with this body.
-    fn batch(&self, alloc: Global, outline: &RecordBatch, body: &Body) -> Result<Batch, Stop>
-        requires ready { Ready (plain self.now) (batch (batch_view outline.now)) }
+    fn batch(&self, alloc: Global, record_batch: &RecordBatch, body: &Body) -> Result<Batch, Stop>
+        requires ready { Ready (plain self.now) (batch (batch_view record_batch.now)) }
         requires fit { IsFit (plain self.now) }
-        ensures gives { Gives (plain self.now) (batch_view outline.now) body.now result }
+        ensures gives { Gives (plain self.now) (batch_view record_batch.now) body.now result }
     {
         let Some(schema) = &self.schema else {
             unreachable!();
@@ -110,14 +110,21 @@ impl State {
         let types = schema.types();
         let schema = schema.shared();
         let dictionaries = self.dictionaries.entries();
-        let arrays = match hold(alloc, schema.fields(), types, outline, body, dictionaries) {
+        let arrays = match load_columns(
+            alloc,
+            schema.fields(),
+            types,
+            record_batch,
+            body,
+            dictionaries,
+        ) {
             Ok(arrays) => arrays,
             Err(stop) => return Err(stop),
         };
         let Ok(schema) = schema.clone() else {
             return Err(Stop::Memory);
         };
-        Ok(Batch::new_unchecked(schema, arrays, row_count(outline)))
+        Ok(Batch::new_unchecked(schema, arrays, row_count(record_batch)))
     }
 
     /// The values of a dictionary batch with this body.
@@ -125,18 +132,25 @@ impl State {
         &self,
         alloc: Global,
         id: i64,
-        outline: &RecordBatch,
+        record_batch: &RecordBatch,
         body: &Body,
     ) -> Result<Array, Stop>
-        requires sign { pos 0 ≤ℤ outline.now.length }
+        requires sign { pos 0 ≤ℤ record_batch.now.length }
         requires named { IsTrue
             (is_some (value_type_of (dictionary_fields (fields_in (plain self.now).schema)) id)) }
-        ensures values { HeldValues (plain self.now) id (batch_view outline.now) body.now result }
+        ensures values { HeldValues (plain self.now) id (batch_view record_batch.now) body.now result }
     {
         let Some(field) = self.value_field(id) else {
             unreachable!();
         };
-        match hold(alloc, field.fields(), field.types(), outline, body, &[]) {
+        match load_columns(
+            alloc,
+            field.fields(),
+            field.types(),
+            record_batch,
+            body,
+            &[],
+        ) {
             Ok(mut arrays) => match arrays.pop() {
                 Some(values) => Ok(values),
                 None => unreachable!(),
@@ -152,16 +166,16 @@ impl State {
         alloc: Global,
         id: i64,
         is_delta: bool,
-        outline: &RecordBatch,
+        record_batch: &RecordBatch,
         body: &Body,
     ) -> Result<(), Stop>
-        requires ready { Ready (plain self.old) (dictionary id is_delta (batch_view outline.now)) }
+        requires ready { Ready (plain self.old) (dictionary id is_delta (batch_view record_batch.now)) }
         requires fit { IsFit (plain self.old) }
-        ensures updates { Updates (plain self.old) id is_delta (batch_view outline.now) body.now
+        ensures updates { Updates (plain self.old) id is_delta (batch_view record_batch.now) body.now
             result (plain self.new) }
         ensures fit { IsFit (plain self.new) }
     {
-        let values = match self.values(alloc, id, outline, body) {
+        let values = match self.values(alloc, id, record_batch, body) {
             Ok(values) => values,
             Err(stop) => return Err(stop),
         };
@@ -202,15 +216,15 @@ pub(crate) fn apply(
             state.begin(schema);
             Ok(Item::Schema)
         }
-        Content::Dictionary(id, is_delta, outline) => {
-            match state.update(alloc, id, is_delta, &outline, body) {
+        Content::Dictionary(id, is_delta, record_batch) => {
+            match state.update(alloc, id, is_delta, &record_batch, body) {
                 Ok(()) => Ok(Item::Dictionary(id)),
-                Err(stop) => Err((stop, Content::Dictionary(id, is_delta, outline))),
+                Err(stop) => Err((stop, Content::Dictionary(id, is_delta, record_batch))),
             }
         }
-        Content::Batch(outline) => match state.batch(alloc, &outline, body) {
+        Content::Batch(record_batch) => match state.batch(alloc, &record_batch, body) {
             Ok(batch) => Ok(Item::Batch(batch)),
-            Err(stop) => Err((stop, Content::Batch(outline))),
+            Err(stop) => Err((stop, Content::Batch(record_batch))),
         },
     }
 }

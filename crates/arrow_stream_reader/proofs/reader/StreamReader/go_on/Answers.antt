@@ -16,7 +16,7 @@ returns-in-Ok-Short-clause-reads c = λ t es at.
     let at' = subst (λ r. ReaderStands r t es) (sym c.self.view_is) at in
     let x = rw c.in-Ok-Short.field-0-is at c.in-Ok-Short.ensures.works in
     let piece = c.args.piece.now in
-    let w = c.self.inside.work in
+    let w = c.self.inside.decoder in
     record {
       stands = subst (λ y. ReaderStands (shown_by c.step.new.self c.self.inside.verdict) (t ++ y) es) (sym (take_all (length piece) piece (omega arith)))
           (short_stands w (c.self.invariant.waiting open_now) piece c.self.inside.verdict open_now t es at' c.step.new.self x);
@@ -30,7 +30,7 @@ returns-in-Ok-Whole-clause-takes c =
     let open_now : c.self.inside.verdict ≡ Open = ap (λ r. r.at.verdict) c.self.view_is ∙ c.requires.open in
     let x = rw c.in-Ok-Whole.field-0-is at c.in-Ok-Whole.ensures.works in
     let piece = c.args.piece.now in
-    let w = c.self.inside.work in
+    let w = c.self.inside.decoder in
     let waiting = c.self.invariant.waiting open_now in
     let taken : x.size - length w.held.items ≡ c.step.new.self.place - w.place - c.len-before.result = omega (arith, x.place, c.len-before.ensures.count) in
     (rw (← taken) (whole_some w waiting piece c.in-Ok-Whole.item c.step.new.self x), rw (← taken) (taken_within w waiting piece x.size (First-within x.first)))
@@ -41,7 +41,7 @@ returns-in-Ok-Whole-clause-reads c = λ t es at.
     let at' = subst (λ r. ReaderStands r t es) (sym c.self.view_is) at in
     let x = rw c.in-Ok-Whole.field-0-is at c.in-Ok-Whole.ensures.works in
     let piece = c.args.piece.now in
-    let w = c.self.inside.work in
+    let w = c.self.inside.decoder in
     let waiting = c.self.invariant.waiting open_now in
     let taken : x.size - length w.held.items ≡ c.step.new.self.place - w.place - c.len-before.result = omega (arith, x.place, c.len-before.ensures.count) in
     record {
@@ -66,7 +66,7 @@ returns-in-Ok-EndMarker-clause-takes c =
     let open_now : c.self.inside.verdict ≡ Open = ap (λ r. r.at.verdict) c.self.view_is ∙ c.requires.open in
     let x = rw c.in-Ok-EndMarker.field-0-is at c.in-Ok-EndMarker.ensures.works in
     let piece = c.args.piece.now in
-    let w = c.self.inside.work in
+    let w = c.self.inside.decoder in
     let waiting = c.self.invariant.waiting open_now in
     let taken : 8 - length w.held.items ≡ 8 - c.len-before.result = omega (arith, c.len-before.ensures.count) in
     (rw (← taken) (marker_some w waiting piece c.step.new.self x), rw (← taken) (taken_within w waiting piece 8 (marker-within x.first)))
@@ -77,7 +77,7 @@ returns-in-Ok-EndMarker-clause-reads c = λ t es at.
     let at' = subst (λ r. ReaderStands r t es) (sym c.self.view_is) at in
     let x = rw c.in-Ok-EndMarker.field-0-is at c.in-Ok-EndMarker.ensures.works in
     let piece = c.args.piece.now in
-    let w = c.self.inside.work in
+    let w = c.self.inside.decoder in
     let waiting = c.self.invariant.waiting open_now in
     let taken : 8 - length w.held.items ≡ 8 - c.len-before.result = omega (arith, c.len-before.ensures.count) in
     record {
@@ -93,7 +93,7 @@ returns-in-Err-Refused-clause-reads c = λ t es at.
     let at' = subst (λ r. ReaderStands r t es) (sym c.self.view_is) at in
     let x = rw c.in-Err-Refused.field-0-is at c.in-Err-Refused.ensures.works in
     let y = c.pass-in-Err-Refused.ensures in
-    let w = c.self.inside.work in
+    let w = c.self.inside.decoder in
     let place : c.pass-in-Err-Refused.new.self.place ≡ w.place = y.place ∙ add-zero _ ∙ x.stopped.same.place in
     inr (record {
       refusal = c.in-Err-Refused.refusal;
@@ -108,7 +108,7 @@ pub returns-in-Err-Memory-clause-reads : goal.returns-in-Err-Memory-clause-reads
 returns-in-Err-Memory-clause-reads c = λ t es at.
     let x = rw c.in-Err-Memory.field-0-is at c.in-Err-Memory.ensures.works in
     let y = c.rewind.ensures.rewound in
-    let w = c.self.inside.work in
+    let w = c.self.inside.decoder in
     let v = c.rewind.new.self in
     let held : v.held.items ≡ w.held.items = y.held ∙ beginning w.held.items c.args.piece.now c.step.new.self.held.items x.more c.len-before.result c.len-before.ensures.count x.held x.covers in
     let same = same_shows v c.self.inside.verdict w.limits (plain w.state) w.place w.held.items c.self.inside.verdict (y.same.limits ∙ x.same.limits) (y.same.state ∙ x.same.state) (y.same.place ∙ x.same.place) held refl in
@@ -121,7 +121,7 @@ pub returns-in-Err-Memory-clause-memory : goal.returns-in-Err-Memory-clause-memo
 returns-in-Err-Memory-clause-memory c = λ q.
     let x = rw c.in-Err-Memory.field-0-is at c.in-Err-Memory.ensures.works in
     let y = c.rewind.ensures.rewound in
-    let w = c.self.inside.work in
+    let w = c.self.inside.decoder in
     let v = c.rewind.new.self in
     let held : v.held.items ≡ w.held.items = y.held ∙ beginning w.held.items c.args.piece.now c.step.new.self.held.items x.more c.len-before.result c.len-before.ensures.count x.held x.covers in
     let same = same_shows v c.self.inside.verdict w.limits (plain w.state) w.place w.held.items c.self.inside.verdict (y.same.limits ∙ x.same.limits) (y.same.state ∙ x.same.state) (y.same.place ∙ x.same.place) held refl in
@@ -135,7 +135,7 @@ invariant_of-self-in-Err-Memory c =
     let open_now : c.self.inside.verdict ≡ Open = ap (λ r. r.at.verdict) c.self.view_is ∙ c.requires.open in
     let x = rw c.in-Err-Memory.field-0-is at c.in-Err-Memory.ensures.works in
     let y = c.rewind.ensures.rewound in
-    let w = c.self.inside.work in
+    let w = c.self.inside.decoder in
     let v = c.rewind.new.self in
     let held : v.held.items ≡ w.held.items = y.held ∙ beginning w.held.items c.args.piece.now c.step.new.self.held.items x.more c.len-before.result c.len-before.ensures.count x.held x.covers in
     record {
@@ -149,7 +149,7 @@ returns-in-Err-Refused-clause-fails c = λ _.
     let x = rw c.in-Err-Refused.field-0-is at c.in-Err-Refused.ensures.works in
     let y = c.pass-in-Err-Refused.ensures in
     let v = c.pass-in-Err-Refused.new.self in
-    let w = c.self.inside.work in
+    let w = c.self.inside.decoder in
     let old = c.args.self.now in
     let k = c.in-Err-Refused.refusal in
     let shown = c.self.view_is in

@@ -18,7 +18,7 @@ returns-in-Bad-clause-reads c = λ t es at.
 
 pub returns-in-Bad-clause-fails : goal.returns-in-Bad-clause-fails
 returns-in-Bad-clause-fails c = λ _.
-    let w = c.self.inside.work in
+    let w = c.self.inside.decoder in
     let old = c.args.self.now in
     let k = c.in-Bad.refusal in
     let shown = c.self.view_is in

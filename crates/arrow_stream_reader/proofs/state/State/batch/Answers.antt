@@ -6,15 +6,15 @@ use Rattle.arrow_data.specs.Batch.{HaveRows}
 use Rattle.arrow_data.specs.Column.{AreOf}
 use Rattle.arrow_body_reader.specs.Sound.{AreFit}
 use Rattle.arrow_meta_reader.specs.Means.{batch_view}
-use Rattle.arrow_stream_reader.specs.Batch.{Holds}
+use Rattle.arrow_stream_reader.specs.Batch.{Loads}
 use Rattle.arrow_stream_reader.specs.State.{fields_in, schema_in}
 use Rattle.arrow_stream_reader.specs.Views.{HasNoColumns, plain}
 use Rattle.arrow_stream_reader.proofs.Fitness.{state_fit}
 use Rattle.arrow_stream_reader.proofs.States.{batch_applicable, batch_read, batch_refused, held_fits}
 use Rattle.arrow_stream_reader.proofs.state.State.batch.Goals as goal
 
-pub hold-requires-clause-fit : goal.hold-requires-clause-fit
-hold-requires-clause-fit c =
+pub load_columns-requires-clause-fit : goal.load_columns-requires-clause-fit
+load_columns-requires-clause-fit c =
     let s = plain c.args.self.now in
     let held = ap (λ (x : SchemaShape). x.fields) (c.deref.ensures ∙ c.shared-schema.ensures.same) ∙ sym (ap fields_in c.in-Some.is) in
     let known = subst IsSchema held c.fields.ensures.limits in
@@ -25,27 +25,27 @@ hold-requires-clause-fit c =
 pub returns-in-Err : goal.returns-in-Err
 returns-in-Err c =
     let s = plain c.args.self.now in
-    let outline = batch_view c.args.outline.now in
+    let record_batch = batch_view c.args.record_batch.now in
     let body = c.args.body.now in
     let same : fields_view c.fields.result.now ≡ fields_in s.schema = c.fields.ensures.same ∙ ap (λ (x : SchemaShape). x.fields) (c.deref.ensures ∙ c.shared-schema.ensures.same) ∙ sym (ap fields_in c.in-Some.is) in
     record {
-      gives = batch_refused s outline body c.in-Err.stop
-          (subst (λ x. HasNoColumns body x (fields_in s.schema) outline c.in-Err.stop) c.entries-dictionaries.ensures.all
-          (subst (λ x. HasNoColumns body c.entries-dictionaries.result.now x outline c.in-Err.stop) same c.in-Err.ensures.held));
+      gives = batch_refused s record_batch body c.in-Err.stop
+          (subst (λ x. HasNoColumns body x (fields_in s.schema) record_batch c.in-Err.stop) c.entries-dictionaries.ensures.all
+          (subst (λ x. HasNoColumns body c.entries-dictionaries.result.now x record_batch c.in-Err.stop) same c.in-Err.ensures.held));
     }
 
 pub returns : goal.returns
 returns c =
     let s = plain c.args.self.now in
-    let outline = batch_view c.args.outline.now in
+    let record_batch = batch_view c.args.record_batch.now in
     let body = c.args.body.now in
     let cs = c.in-Ok.arrays.items in
     let held = ap (λ (x : SchemaShape). x.fields) c.shared-schema.ensures.same ∙ sym (ap fields_in c.in-Some.is) in
     let same : fields_view c.fields.result.now ≡ fields_in s.schema = c.fields.ensures.same ∙ ap (λ (x : SchemaShape). x.fields) c.deref.ensures ∙ held in
     record {
-      gives = batch_read s outline body cs c.new_unchecked.result
-          (subst (λ x. Holds body x (fields_in s.schema) outline (Ok cs)) c.entries-dictionaries.ensures.all
-          (subst (λ x. Holds body c.entries-dictionaries.result.now x outline (Ok cs)) same c.in-Ok.ensures.held))
+      gives = batch_read s record_batch body cs c.new_unchecked.result
+          (subst (λ x. Loads body x (fields_in s.schema) record_batch (Ok cs)) c.entries-dictionaries.ensures.all
+          (subst (λ x. Loads body c.entries-dictionaries.result.now x record_batch (Ok cs)) same c.in-Ok.ensures.held))
           (c.new_unchecked.ensures
           ∙ ap (λ x. record { schema = x; columns = cs; rows = c.row_count.result }) (c.in-Ok-clone.ensures.cases ∙ c.shared-schema.ensures.same ∙ sym (ap schema_in c.in-Some.is))
           ∙ ap (λ n. record { schema = schema_in s.schema; columns = cs; rows = n }) c.row_count.ensures.count);
@@ -54,26 +54,26 @@ returns c =
 pub returns-in_default-clone : goal.returns-in_default-clone
 returns-in_default-clone c =
     let s = plain c.args.self.now in
-    let outline = batch_view c.args.outline.now in
+    let record_batch = batch_view c.args.record_batch.now in
     let body = c.args.body.now in
     let cs = c.in-Ok.arrays.items in
     let held = ap (λ (x : SchemaShape). x.fields) c.shared-schema.ensures.same ∙ sym (ap fields_in c.in-Some.is) in
     let same : fields_view c.fields.result.now ≡ fields_in s.schema = c.fields.ensures.same ∙ ap (λ (x : SchemaShape). x.fields) c.deref.ensures ∙ held in
-    let holds : Holds body s.dictionaries (fields_in s.schema) outline (Ok cs) =
-    subst (λ x. Holds body x (fields_in s.schema) outline (Ok cs)) c.entries-dictionaries.ensures.all
-    (subst (λ x. Holds body c.entries-dictionaries.result.now x outline (Ok cs)) same c.in-Ok.ensures.held) in
-    record { gives = batch_applicable s outline body cs holds }
+    let holds : Loads body s.dictionaries (fields_in s.schema) record_batch (Ok cs) =
+    subst (λ x. Loads body x (fields_in s.schema) record_batch (Ok cs)) c.entries-dictionaries.ensures.all
+    (subst (λ x. Loads body c.entries-dictionaries.result.now x record_batch (Ok cs)) same c.in-Ok.ensures.held) in
+    record { gives = batch_applicable s record_batch body cs holds }
 
 pub new_unchecked-requires : goal.new_unchecked-requires
 new_unchecked-requires c =
     let s = plain c.args.self.now in
-    let outline = batch_view c.args.outline.now in
+    let record_batch = batch_view c.args.record_batch.now in
     let body = c.args.body.now in
     let cs = c.in-Ok.arrays.items in
     let held = ap (λ (x : SchemaShape). x.fields) c.shared-schema.ensures.same ∙ sym (ap fields_in c.in-Some.is) in
     let same : fields_view c.fields.result.now ≡ fields_in s.schema = c.fields.ensures.same ∙ ap (λ (x : SchemaShape). x.fields) c.deref.ensures ∙ held in
-    let holds : Holds body s.dictionaries (fields_in s.schema) outline (Ok cs) =
-    subst (λ x. Holds body x (fields_in s.schema) outline (Ok cs)) c.entries-dictionaries.ensures.all
-    (subst (λ x. Holds body c.entries-dictionaries.result.now x outline (Ok cs)) same c.in-Ok.ensures.held) in
+    let holds : Loads body s.dictionaries (fields_in s.schema) record_batch (Ok cs) =
+    subst (λ x. Loads body x (fields_in s.schema) record_batch (Ok cs)) c.entries-dictionaries.ensures.all
+    (subst (λ x. Loads body c.entries-dictionaries.result.now x record_batch (Ok cs)) same c.in-Ok.ensures.held) in
     let fits = held_fits holds in
     record { typed = subst (λ f. AreOf f cs) (sym (ap (λ (x : SchemaShape). x.fields) c.in-Ok-clone.ensures.cases ∙ held)) fits.0; long = subst (λ n. HaveRows n cs) (sym c.row_count.ensures.count) fits.1 }

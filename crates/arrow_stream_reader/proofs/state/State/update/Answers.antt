@@ -13,105 +13,105 @@ use Rattle.arrow_stream_reader.proofs.state.State.update.Goals as goal
 pub returns-in-Err-clause-updates : goal.returns-in-Err-clause-updates
 returns-in-Err-clause-updates c =
     let s = plain c.args.self.now in
-    let outline = batch_view c.args.outline.now in
+    let record_batch = batch_view c.args.record_batch.now in
     let body = c.args.body.now in
     let id = to_z-of_z w64 c.args.id c.ranges.id in
-    update_refused s outline body c.args.id c.args.is_delta c.in-Err.stop (subst (λ i. HeldValues s i outline body (Err c.in-Err.stop)) id c.in-Err.ensures.values)
+    update_refused s record_batch body c.args.id c.args.is_delta c.in-Err.stop (subst (λ i. HeldValues s i record_batch body (Err c.in-Err.stop)) id c.in-Err.ensures.values)
 
 pub returns-in-Ok-append-clause-updates : goal.returns-in-Ok-append-clause-updates
 returns-in-Ok-append-clause-updates c =
     let s = plain c.args.self.now in
-    let outline = batch_view c.args.outline.now in
+    let record_batch = batch_view c.args.record_batch.now in
     let body = c.args.body.now in
     let id = to_z-of_z w64 c.args.id c.ranges.id in
     let new = c.append.new.self in
-    let v = subst (λ i. AreValues s i outline body c.in-Ok.values) id c.in-Ok.ensures.values in
+    let v = subst (λ i. AreValues s i record_batch body c.in-Ok.values) id c.in-Ok.ensures.values in
     let a = subst (λ i. IsAppended s.dictionaries i c.in-Ok.values new) id c.in-Ok-append.ensures in
-    subst (λ b. BodySays s (dictionary c.args.id b outline) body (Ok (record { schema = s.schema; dictionaries = new }, dictionary_given c.args.id))) (sym c.if-is_delta.true)
-    (append_updates s outline body c.args.id c.in-Ok.values new c.requires.fit v a)
+    subst (λ b. BodySays s (dictionary c.args.id b record_batch) body (Ok (record { schema = s.schema; dictionaries = new }, dictionary_given c.args.id))) (sym c.if-is_delta.true)
+    (append_updates s record_batch body c.args.id c.in-Ok.values new c.requires.fit v a)
 
 pub returns-in-Ok-append-clause-fit : goal.returns-in-Ok-append-clause-fit
 returns-in-Ok-append-clause-fit c =
     let s = plain c.args.self.now in
-    let outline = batch_view c.args.outline.now in
+    let record_batch = batch_view c.args.record_batch.now in
     let body = c.args.body.now in
     let id = to_z-of_z w64 c.args.id c.ranges.id in
     let new = c.append.new.self in
-    append_fits s outline body c.args.id c.in-Ok.values new c.requires.fit
-    (subst (λ i. AreValues s i outline body c.in-Ok.values) id c.in-Ok.ensures.values)
+    append_fits s record_batch body c.args.id c.in-Ok.values new c.requires.fit
+    (subst (λ i. AreValues s i record_batch body c.in-Ok.values) id c.in-Ok.ensures.values)
     (subst (λ i. IsAppended s.dictionaries i c.in-Ok.values new) id c.in-Ok-append.ensures)
 
 pub returns-in-Ok-replace-clause-updates : goal.returns-in-Ok-replace-clause-updates
 returns-in-Ok-replace-clause-updates c =
     let s = plain c.args.self.now in
-    let outline = batch_view c.args.outline.now in
+    let record_batch = batch_view c.args.record_batch.now in
     let body = c.args.body.now in
     let id = to_z-of_z w64 c.args.id c.ranges.id in
     let new = c.replace.new.self in
     let d = c.in-Ok-from_array.dictionary in
-    let v = subst (λ i. AreValues s i outline body c.in-Ok.values) id c.in-Ok.ensures.values in
+    let v = subst (λ i. AreValues s i record_batch body c.in-Ok.values) id c.in-Ok.ensures.values in
     let e = subst (λ i. new ≡ placed i d s.dictionaries) id c.in-Ok-replace.ensures.ok in
-    subst (λ b. BodySays s (dictionary c.args.id b outline) body (Ok (record { schema = s.schema; dictionaries = new }, dictionary_given c.args.id))) (sym c.if-is_delta.false)
-    (replace_updates s outline body c.args.id c.in-Ok.values d new v c.in-Ok-from_array.ensures e)
+    subst (λ b. BodySays s (dictionary c.args.id b record_batch) body (Ok (record { schema = s.schema; dictionaries = new }, dictionary_given c.args.id))) (sym c.if-is_delta.false)
+    (replace_updates s record_batch body c.args.id c.in-Ok.values d new v c.in-Ok-from_array.ensures e)
 
 pub returns-in-Ok-replace-clause-fit : goal.returns-in-Ok-replace-clause-fit
 returns-in-Ok-replace-clause-fit c =
     let s = plain c.args.self.now in
-    let outline = batch_view c.args.outline.now in
+    let record_batch = batch_view c.args.record_batch.now in
     let body = c.args.body.now in
     let id = to_z-of_z w64 c.args.id c.ranges.id in
     let new = c.replace.new.self in
     let d = c.in-Ok-from_array.dictionary in
-    let v = subst (λ i. AreValues s i outline body c.in-Ok.values) id c.in-Ok.ensures.values in
+    let v = subst (λ i. AreValues s i record_batch body c.in-Ok.values) id c.in-Ok.ensures.values in
     let e = subst (λ i. new ≡ placed i d s.dictionaries) id c.in-Ok-replace.ensures.ok in
-    replace_fits s outline body c.args.id c.in-Ok.values d new c.requires.fit v c.in-Ok-from_array.ensures e
+    replace_fits s record_batch body c.args.id c.in-Ok.values d new c.requires.fit v c.in-Ok-from_array.ensures e
 
 pub unreachable-requires : goal.unreachable-requires
 unreachable-requires c =
     let s = plain c.args.self.now in
-    let outline = batch_view c.args.outline.now in
+    let record_batch = batch_view c.args.record_batch.now in
     let id = to_z-of_z w64 c.args.id c.ranges.id in
     let none = rw c.in-Err-NoBase.field-0-is at c.in-Err-NoBase.ensures in
-    base_found s outline c.args.body.now c.args.id (subst (λ d. Ready s (dictionary c.args.id d outline)) c.if-is_delta.true c.requires.ready)
+    base_found s record_batch c.args.body.now c.args.id (subst (λ d. Ready s (dictionary c.args.id d record_batch)) c.if-is_delta.true c.requires.ready)
     (subst (λ i. listed s.dictionaries i ≡ None) id none.0)
 
 pub unreachable-requires-in-Err-TooLong : goal.unreachable-requires-in-Err-TooLong
 unreachable-requires-in-Err-TooLong c =
     let s = plain c.args.self.now in
-    let outline = batch_view c.args.outline.now in
+    let record_batch = batch_view c.args.record_batch.now in
     let body = c.args.body.now in
     let id = to_z-of_z w64 c.args.id c.ranges.id in
     let new = c.append.new.self in
     let long = rw c.in-Err-TooLong.field-0-is at c.in-Err-TooLong.ensures in
-    base_fits s outline body c.args.id c.in-Ok.values new (subst (λ d. Ready s (dictionary c.args.id d outline)) c.if-is_delta.true c.requires.ready)
-    (subst (λ i. AreValues s i outline body c.in-Ok.values) id c.in-Ok.ensures.values)
+    base_fits s record_batch body c.args.id c.in-Ok.values new (subst (λ d. Ready s (dictionary c.args.id d record_batch)) c.if-is_delta.true c.requires.ready)
+    (subst (λ i. AreValues s i record_batch body c.in-Ok.values) id c.in-Ok.ensures.values)
     (subst (λ i. IsTooLong s.dictionaries i c.in-Ok.values new) id long)
 
 pub returns-in-Err-Memory-clause-updates : goal.returns-in-Err-Memory-clause-updates
 returns-in-Err-Memory-clause-updates c =
     let s = plain c.args.self.now in
-    let outline = batch_view c.args.outline.now in
+    let record_batch = batch_view c.args.record_batch.now in
     let body = c.args.body.now in
     let id = to_z-of_z w64 c.args.id c.ranges.id in
     let refused = rw c.in-Err-Memory.field-0-is at c.in-Err-Memory.ensures in (
-      values_applicable s outline body c.args.id c.args.is_delta c.in-Ok.values (subst (λ i. AreValues s i outline body c.in-Ok.values) id c.in-Ok.ensures.values),
+      values_applicable s record_batch body c.args.id c.args.is_delta c.in-Ok.values (subst (λ i. AreValues s i record_batch body c.in-Ok.values) id c.in-Ok.ensures.values),
       ap (λ ds. record { schema = s.schema; dictionaries = ds }) refused.same,
     )
 
 pub returns-in_default-clause-updates : goal.returns-in_default-clause-updates
 returns-in_default-clause-updates c =
     let s = plain c.args.self.now in
-    let outline = batch_view c.args.outline.now in
+    let record_batch = batch_view c.args.record_batch.now in
     let body = c.args.body.now in
     let id = to_z-of_z w64 c.args.id c.ranges.id in
-    (values_applicable s outline body c.args.id c.args.is_delta c.in-Ok.values (subst (λ i. AreValues s i outline body c.in-Ok.values) id c.in-Ok.ensures.values), refl)
+    (values_applicable s record_batch body c.args.id c.args.is_delta c.in-Ok.values (subst (λ i. AreValues s i record_batch body c.in-Ok.values) id c.in-Ok.ensures.values), refl)
 
 pub returns-in-Err-replace-clause-updates : goal.returns-in-Err-replace-clause-updates
 returns-in-Err-replace-clause-updates c =
     let s = plain c.args.self.now in
-    let outline = batch_view c.args.outline.now in
+    let record_batch = batch_view c.args.record_batch.now in
     let body = c.args.body.now in
     let id = to_z-of_z w64 c.args.id c.ranges.id in (
-      values_applicable s outline body c.args.id c.args.is_delta c.in-Ok.values (subst (λ i. AreValues s i outline body c.in-Ok.values) id c.in-Ok.ensures.values),
+      values_applicable s record_batch body c.args.id c.args.is_delta c.in-Ok.values (subst (λ i. AreValues s i record_batch body c.in-Ok.values) id c.in-Ok.ensures.values),
       ap (λ ds. record { schema = s.schema; dictionaries = ds }) c.in-Err-replace.ensures.err,
     )

@@ -7,15 +7,15 @@ use Rattle.arrow_types.specs.View.{fields_view}
 use Rattle.arrow_body_reader.specs.Sound.{AreFit}
 use Rattle.arrow_dict.specs.ValueTypes.{value_field, value_type_of}
 use Rattle.arrow_meta_reader.specs.Means.{batch_view}
-use Rattle.arrow_stream_reader.specs.Batch.{Holds, value_fields}
+use Rattle.arrow_stream_reader.specs.Batch.{Loads, value_fields}
 use Rattle.arrow_stream_reader.specs.State.{fields_in}
 use Rattle.arrow_stream_reader.specs.Views.{plain}
 use Rattle.arrow_stream_reader.proofs.Fitness.{found_field, found_fit, one_value_field}
 use Rattle.arrow_stream_reader.proofs.States.{values_read}
 use Rattle.arrow_stream_reader.proofs.state.State.values.Goals as goal
 
-pub hold-requires-clause-fit : goal.hold-requires-clause-fit
-hold-requires-clause-fit c =
+pub load_columns-requires-clause-fit : goal.load_columns-requires-clause-fit
+load_columns-requires-clause-fit c =
     let s = plain c.args.self.now in
     let id = to_z-of_z w64 c.args.id c.ranges.id in
     let o = value_type_of (dictionary_fields (fields_in s.schema)) in
@@ -26,7 +26,7 @@ hold-requires-clause-fit c =
 pub returns-in-Some-pop : goal.returns-in-Some-pop
 returns-in-Some-pop c =
     let s = plain c.args.self.now in
-    let outline = batch_view c.args.outline.now in
+    let record_batch = batch_view c.args.record_batch.now in
     let body = c.args.body.now in
     let id = to_z-of_z w64 c.args.id c.ranges.id in
     let o = value_type_of (dictionary_fields (fields_in s.schema)) in
@@ -34,6 +34,6 @@ returns-in-Some-pop c =
     let flat : (t : TypeShape) → o c.args.id ≡ Some t → has_encoding t.children ≡ false = λ t e. c.value_field.ensures.flat t (ap o id ∙ e) in
     let fields : fields_view c.fields.result.now ≡ value_fields s.schema c.args.id = c.fields.ensures ∙ one_value_field s.schema c.args.id c.in-Some.field.now found in
     record {
-      values = values_read s outline body c.args.id found.type c.in-Ok.arrays.items c.pop.new.self.items c.in-Some-pop.values found.named (flat found.type found.named)
-          (subst (λ x. Holds body [] x outline (Ok c.in-Ok.arrays.items)) fields c.in-Ok.ensures.held) c.in-Some-pop.ensures.items;
+      values = values_read s record_batch body c.args.id found.type c.in-Ok.arrays.items c.pop.new.self.items c.in-Some-pop.values found.named (flat found.type found.named)
+          (subst (λ x. Loads body [] x record_batch (Ok c.in-Ok.arrays.items)) fields c.in-Ok.ensures.held) c.in-Some-pop.ensures.items;
     }

@@ -1,15 +1,15 @@
-//! One message at a time, from bytes that come in pieces.
+//! A decoder of messages, one at a time, from bytes that come in pieces.
 
 ghost use Rattle.std.specs.Prelude.{◌≡◌, ◌+◌, ◌^◌, ◌<◌, ◌≤◌, ◌⊎◌, [], ◌++◌, length, Ok};
 ghost use Rattle.arrow_stream_reader.specs.declared.prefix.Prefix.TheVariants as prefixes;
 ghost use Rattle.arrow_stream_reader.specs.Frame.{HasPrefix, HasMetadata};
 ghost use Rattle.arrow_stream_reader.specs.State.{nothing_yet};
 ghost use Rattle.arrow_stream_reader.specs.Views.{IsFit, plain, message_of};
-ghost use Rattle.arrow_stream_reader.specs.Work.{Finishes, IsAt, Works, Rewound};
+ghost use Rattle.arrow_stream_reader.specs.Decoder.{Finishes, IsAt, Works, Rewound};
 
 use crate::held::Held;
 use crate::item::Item;
-use crate::message::{Message, Stop, understand};
+use crate::message::{Message, Stop, read_message};
 use crate::prefix::{Prefix, read_prefix};
 use crate::state::{State, apply};
 use arrow_types::Limits;
@@ -40,7 +40,7 @@ pub(crate) enum Step {
 
 /// The message in work, and what the messages before it left.
 #[derive(Drop)]
-pub(crate) struct Work {
+pub(crate) struct Decoder {
     pub(crate) alloc: Global,
     pub(crate) limits: Limits,
     pub(crate) state: State,
@@ -51,7 +51,7 @@ pub(crate) struct Work {
     pub(crate) phase: Phase,
 }
 
-impl Work {
+impl Decoder {
     /// Goes on with a piece, up to the end of one message.
     pub(crate) fn step(&mut self, piece: &[u8]) -> Result<Step, Stop>
         requires at { IsAt self.old }
@@ -103,7 +103,7 @@ impl Work {
             return Ok(Step::Short);
         }
         let start = self.place + 8;
-        match understand(
+        match read_message(
             self.alloc,
             &self.limits,
             &self.state,

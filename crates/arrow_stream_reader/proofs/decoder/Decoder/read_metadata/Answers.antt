@@ -1,8 +1,8 @@
 use Rattle.std.proofs.Common.{◌≡◌, ◌+◌, ◌<◌, length, drop, refl, sym, arith}
 use Rattle.arrow_stream_reader.specs.Frame.{short_metadata}
 use Rattle.arrow_stream_reader.proofs.Firsts.{HasPrefix-append, prefix_held}
-use Rattle.arrow_stream_reader.proofs.Works.{size_small, metadata_read, metadata_stops, all_taken, filled}
-use Rattle.arrow_stream_reader.proofs.work.Work.read_metadata.Goals as goal
+use Rattle.arrow_stream_reader.proofs.Decoding.{size_small, metadata_read, metadata_stops, all_taken, filled}
+use Rattle.arrow_stream_reader.proofs.decoder.Decoder.read_metadata.Goals as goal
 
 pub returns-then-len-whole : goal.returns-then-len-whole
 returns-then-len-whole c =
@@ -21,7 +21,7 @@ pub read_body-requires-clause-known : goal.read_body-requires-clause-known
 read_body-requires-clause-known c =
     let whole : length c.fill.new.self.items ≡ 8 + c.args.size = filled c.in-Ok.ensures.filled (omega (arith, c.len.ensures.count)) in
     let known = prefix_held _ _ c.in-Ok.ensures.filled.took c.requires.known in
-    metadata_read c.as_slice.result.now c.as_slice.ensures.same known whole c.in-Ok-understand.ensures.says
+    metadata_read c.as_slice.result.now c.as_slice.ensures.same known whole c.in-Ok-read_message.ensures.says
 
 pub returns-in-Err : goal.returns-in-Err
 returns-in-Err c =

@@ -1,9 +1,9 @@
 use Rattle.std.proofs.Common.{◌+◌, ◌≤◌, length, take, refl, sym, subst, arith, length-take}
 use Rattle.arrow_stream_reader.specs.Views.{plain}
-use Rattle.arrow_stream_reader.specs.Work.{Shown}
+use Rattle.arrow_stream_reader.specs.Decoder.{Shown}
 use Rattle.arrow_stream_reader.proofs.Firsts.{HasPrefix-take, HasMetadata-take}
-use Rattle.arrow_stream_reader.proofs.Works.{size_small}
-use Rattle.arrow_stream_reader.proofs.work.Work.rewind.Goals as goal
+use Rattle.arrow_stream_reader.proofs.Decoding.{size_small}
+use Rattle.arrow_stream_reader.proofs.decoder.Decoder.rewind.Goals as goal
 
 pub returns-else-count-size : goal.returns-else-count-size
 returns-else-count-size c =

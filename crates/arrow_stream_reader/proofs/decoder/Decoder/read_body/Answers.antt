@@ -2,8 +2,8 @@ use Rattle.std.proofs.Common.{◌≡◌, ◌+◌, ◌<◌, ◌++◌, [], length,
 use Rattle.arrow_stream_reader.specs.Frame.{short_body}
 use Rattle.arrow_stream_reader.specs.Views.{message_of}
 use Rattle.arrow_stream_reader.proofs.Firsts.{HasMetadata-append, metadata_held}
-use Rattle.arrow_stream_reader.proofs.Works.{frame_small, finish_works, all_taken, filled}
-use Rattle.arrow_stream_reader.proofs.work.Work.read_body.Goals as goal
+use Rattle.arrow_stream_reader.proofs.Decoding.{frame_small, finish_works, all_taken, filled}
+use Rattle.arrow_stream_reader.proofs.decoder.Decoder.read_body.Goals as goal
 
 pub returns-then-body_len-piece : goal.returns-then-body_len-piece
 returns-then-body_len-piece c =

@@ -1,7 +1,7 @@
 use Rattle.std.proofs.Common.{◌≡◌, ◌+◌, ◌++◌, length, refl, ap, ◌∙◌, arith, length-append}
 use Rattle.arrow_stream_reader.proofs.Firsts.{HasMetadata-append}
-use Rattle.arrow_stream_reader.proofs.Works.{frame_small, is_ready, body_said, not_finished}
-use Rattle.arrow_stream_reader.proofs.work.Work.finish.Goals as goal
+use Rattle.arrow_stream_reader.proofs.Decoding.{frame_small, is_ready, body_said, not_finished}
+use Rattle.arrow_stream_reader.proofs.decoder.Decoder.finish.Goals as goal
 
 pub apply-requires-clause-ready : goal.apply-requires-clause-ready
 apply-requires-clause-ready c = is_ready c.requires.ceiling c.requires.known

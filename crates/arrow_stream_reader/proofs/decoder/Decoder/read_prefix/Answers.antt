@@ -1,8 +1,8 @@
 use Rattle.std.proofs.Common.{◌≡◌, ◌<◌, length, drop, refl, sym, ap, ◌∙◌, arith, Ok}
 use Rattle.arrow_stream_reader.specs.Frame.{short_prefix, bad_prefix, end_marker}
 use Rattle.arrow_stream_reader.proofs.Firsts.{prefix_held}
-use Rattle.arrow_stream_reader.proofs.Works.{prefix_read, marker_small, all_taken, filled}
-use Rattle.arrow_stream_reader.proofs.work.Work.read_prefix.Goals as goal
+use Rattle.arrow_stream_reader.proofs.Decoding.{prefix_read, marker_small, all_taken, filled}
+use Rattle.arrow_stream_reader.proofs.decoder.Decoder.read_prefix.Goals as goal
 
 pub returns-then-len-lt8 : goal.returns-then-len-lt8
 returns-then-len-lt8 c =

@@ -12,20 +12,20 @@ use Rattle.arrow_stream_reader.specs.declared.prefix.Prefix.TheVariants as prefi
 use Rattle.arrow_stream_reader.specs.Message.{Message}
 use Rattle.arrow_stream_reader.specs.State.{StreamState, Given}
 use Rattle.arrow_stream_reader.specs.Meaning.{Means}
-use Rattle.arrow_stream_reader.specs.Frame.{prefix_says, judged, against, refused_first, is_out_of_order, MetadataSays, number_at, has_continuation, BodySays, bad_metadata, bad_body, message_comes, HasPrefix, HasMetadata, HasBody}
+use Rattle.arrow_stream_reader.specs.Frame.{prefix_says, judged, state_refusal, refused_first, is_out_of_order, MetadataSays, number_at, has_continuation, BodySays, bad_metadata, bad_body, message_comes, HasPrefix, HasMetadata, HasBody}
 use Rattle.arrow_stream_reader.specs.declared.message.Content.{Content as HeldContent}
 use Rattle.arrow_stream_reader.specs.declared.message.Message.{Message as HeldMessage}
 use Rattle.arrow_stream_reader.specs.declared.state.State.{State}
-use Rattle.arrow_stream_reader.specs.Views.{Applies, IsFit, Ready, content_of, message_of, plain, Understood}
+use Rattle.arrow_stream_reader.specs.Views.{Applies, IsFit, Ready, content_of, message_of, plain, MessageRead}
 use Rattle.arrow_stream_reader.specs.declared.message.Stop.{Stop}
 use Rattle.arrow_stream_reader.specs.declared.message.Stop.TheVariants.{Refused, Memory}
-use Rattle.arrow_stream_reader.specs.declared.work.Work.{Work}
-use Rattle.arrow_stream_reader.specs.declared.work.Phase.{Phase}
-use Rattle.arrow_stream_reader.specs.declared.work.Phase.TheVariants as phases
-use Rattle.arrow_stream_reader.specs.declared.work.Step.{Step}
-use Rattle.arrow_stream_reader.specs.declared.work.Step.TheVariants as steps
+use Rattle.arrow_stream_reader.specs.declared.decoder.Decoder.{Decoder}
+use Rattle.arrow_stream_reader.specs.declared.decoder.Phase.{Phase}
+use Rattle.arrow_stream_reader.specs.declared.decoder.Phase.TheVariants as phases
+use Rattle.arrow_stream_reader.specs.declared.decoder.Step.{Step}
+use Rattle.arrow_stream_reader.specs.declared.decoder.Step.TheVariants as steps
 use Rattle.arrow_stream_reader.specs.Held.{HeldBytes}
-use Rattle.arrow_stream_reader.specs.Work.{Filled, Finishes, NotApplied, Shown, Stopped, Works}
+use Rattle.arrow_stream_reader.specs.Decoder.{Filled, Finishes, NotApplied, Shown, Stopped, Works}
 use Rattle.arrow_stream_reader.proofs.Firsts.{HasMetadata-append, metadata_held, body_held}
 use Rattle.arrow_stream_reader.proofs.Meanings.{meaning_small}
 
@@ -70,11 +70,11 @@ record IsJudged (n : ℕ) (s : StreamState) (p : ℕ) (d : Result Message MetaFa
   pub meant : d ≡ Ok t
   pub near : p + t.body_len ≤ 2 ^ 62
   pub in_order : is_out_of_order (is_some s.schema) t.content ≡ false
-  pub none : against n s t.content ≡ None
+  pub none : state_refusal n s t.content ≡ None
 
 is_judged : (n : ℕ) (s : StreamState) (p : ℕ) (d : Result Message MetaFault) (t : Message) → Ok t ≡ judged n s p d → IsJudged n s p d t
 is_judged n s p (Ok u) t e =
-    let w = placed_cases (ltb (2 ^ 62) (p + u.body_len)) (is_out_of_order (is_some s.schema) u.content) (against n s u.content) u t e in
+    let w = placed_cases (ltb (2 ^ 62) (p + u.body_len)) (is_out_of_order (is_some s.schema) u.content) (state_refusal n s u.content) u t e in
     let y = ltb-false (2 ^ 62) (p + u.body_len) w.0 in
     let len : u.body_len ≡ t.body_len = ap (λ (v : Message). v.body_len) w.3 in
     let same = ap (λ (v : Message). v.content) w.3 in
@@ -82,7 +82,7 @@ is_judged n s p (Ok u) t e =
       meant = ap Ok w.3;
       near = omega arith;
       in_order = ap (is_out_of_order (is_some s.schema)) (sym same) ∙ w.1;
-      none = ap (against n s) (sym same) ∙ w.2;
+      none = ap (state_refusal n s) (sym same) ∙ w.2;
     }
 is_judged n s p (Err f) t e = absurd (cc)
 
@@ -155,11 +155,11 @@ held_small l s p h phases.Prefix x = omega arith
 held_small l s p h (phases.Metadata m) x = let w = size_small x.0 in omega (arith, x.1)
 held_small l s p h (phases.Body m t) x = let w = frame_small x.0 in omega (arith, x.1)
 
--- what stops a metadata that was read from the bytes held stops the work
-pub metadata_stops : {old new : Work} {h b : List ℕ} {m : ℕ} (d c : List ℕ) (stop : Stop) → d ≡ h →
+-- what stops a metadata that was read from the bytes held stops the decoder
+pub metadata_stops : {old new : Decoder} {h b : List ℕ} {m : ℕ} (d c : List ℕ) (stop : Stop) → d ≡ h →
     HasPrefix old.limits (plain old.state) old.place h (Ok (prefixes.Metadata m)) →
     length h ≡ 8 + m → h ++ c ≡ b →
-    Understood old.limits (plain old.state) (old.place + 8) (take (length d - 8) (drop 8 d)) (Err stop) → Stopped old b new →
+    MessageRead old.limits (plain old.state) (old.place + 8) (take (length d - 8) (drop 8 d)) (Err stop) → Stopped old b new →
     Works old b (Err stop) new
 metadata_stops {b = b} d c (Refused k) e g n rest says x = record { stopped = x; first = bad_metadata (metadata_held b c (sym rest) (metadata_read d e g n says)) }
 metadata_stops d c Memory e g n rest says x = x
@@ -174,8 +174,8 @@ module _ {old piece : List ℕ} {want n : ℕ} {new : List ℕ} where
   pub filled : Filled old piece want n new → want ≤ length new → length new ≡ want
   filled f h = elim f.enough [ inl e ↦ e | inr w ↦ absurd (omega arith) ]
 
--- the work at a message of which all bytes are held, in a state and with a message handed back
-abbrev handed_back : Work → State → ℕ → HeldContent → ℕ → Work
+-- the decoder at a message of which all bytes are held, in a state and with a message handed back
+abbrev handed_back : Decoder → State → ℕ → HeldContent → ℕ → Decoder
 handed_back old st m c n = record {
   alloc = old.alloc;
   limits = old.limits;
@@ -185,7 +185,7 @@ handed_back old st m c n = record {
   phase = phases.Body m (record { content = c; body_len = n });
 }
 
-module _ (old : Work) (st : State) (m : ℕ) (t : HeldMessage) (c : HeldContent) (rest : List ℕ)
+module _ (old : Decoder) (st : State) (m : ℕ) (t : HeldMessage) (c : HeldContent) (rest : List ℕ)
     (known : HasMetadata old.limits (plain old.state) old.place old.held.items m (Ok (message_of t)))
     (whole : length old.held.items + length rest ≡ 8 + m + t.body_len) where
   not_applied : old.limits.max_rows ≤ 2147483647 → IsFit (plain st) → plain st ≡ plain old.state → content_of c ≡ content_of t.content →
@@ -205,7 +205,7 @@ module _ (old : Work) (st : State) (m : ℕ) (t : HeldMessage) (c : HeldContent)
     };
   }
 
-  -- a message that is not applied stops the work where it was
+  -- a message that is not applied stops the decoder where it was
   pub not_finished : (body : List ℕ) (stop : Stop) → body ≡ drop (8 + m) (old.held.items ++ rest) → old.limits.max_rows ≤ 2147483647 → IsFit (plain st) →
       Applies (plain old.state) (content_of t.content) body (Err (stop, c)) (plain st) →
       Finishes old (old.held.items ++ rest) m (message_of t) (Err stop) (handed_back old st m c t.body_len)
@@ -215,8 +215,8 @@ module _ (old : Work) (st : State) (m : ℕ) (t : HeldMessage) (c : HeldContent)
       (not_applied few fit a.1 a.2, (a.0.0, body_said body e (HasMetadata-append rest known) (length-append old.held.items rest ∙ whole) a.0.1))
 
 -- what becomes of the message is what the step to which it belongs does
-module _ (old : Work) (h : HeldBytes) (f : Phase) (new : Work) where
-  abbrev filled_up : Work
+module _ (old : Decoder) (h : HeldBytes) (f : Phase) (new : Decoder) where
+  abbrev filled_up : Decoder
   filled_up = record { alloc = old.alloc; limits = old.limits; state = old.state; place = old.place; held = h; phase = f }
 
   stopped_at : (b rest : List ℕ) → h.items ++ rest ≡ b → length old.held.items ≤ length h.items → NotApplied filled_up new → Stopped old b new
