@@ -1,9 +1,10 @@
-"""What the program in crates/arrow_vectors_walk reads and has to print: the vectors and the rows in one file, since no crate may hold
-a link, and a line for each, whose numbers are counted here."""
+"""What the program in crates/arrow_vectors_walk reads and has to print: the vectors and the rows as one stream of three columns, which
+any Arrow library reads, and a line for each, whose numbers are counted here."""
 import re
 
 import rows
 import streams
+from frames import BINARY, END_MARKER, UTF8, batch, field, schema, strings
 
 CRATE = "crates/arrow_vectors_walk"
 
@@ -41,19 +42,20 @@ def copies():
 
 
 def files(vectors):
-    """The program's file of the vectors, of which each has a line NAME SIZE SIZE, its text and its bytes; and what it prints."""
-    packed, changes, whole = b"", [], []
+    """The program's stream of the vectors, a row each, and what it prints."""
+    changes, whole = [], []
     held_by = listed(vectors)
     for name, (text, held) in held_by.items():
         is_changes = name.endswith(".changes")
-        packed += f"{name} {len(text)} {len(held)}\n".encode() + text + held
         lines = text.decode().split("\n")[2:]
         if is_changes:
             changes.append(f"{name}: {sum(map(count, lines))} streams, as told\n")
         else:
             messages = sum(it.startswith("take ") and not it.endswith(" nothing") for it in lines)
             whole.append(f"{name}: {len(held)} bytes, {messages} messages, as told\n")
-    for name, held in copies().items():
-        packed += f"{name} 0 {len(held)}\n".encode() + held
-    printed = "".join([*changes, *whole, f"{len(held_by) + len(copies())} entries\n"])
-    return {f"{CRATE}/data/vectors": packed, f"{CRATE}/stdout": printed.encode()}
+    all_of_them = [(name, text.decode(), held) for name, (text, held) in held_by.items()]
+    all_of_them += [(name, "", held) for name, held in copies().items()]
+    named = schema(field("name", UTF8, nullable=False), field("text", UTF8, nullable=False), field("stream", BINARY, nullable=False))
+    told = named + batch(*(strings(its) for its in zip(*all_of_them))) + END_MARKER
+    printed = "".join([*changes, *whole, f"{len(all_of_them)} entries\n"])
+    return {f"{CRATE}/data/vectors.arrows": told, f"{CRATE}/stdout": printed.encode()}

@@ -1,5 +1,5 @@
 //! Walks the vectors: each stream goes through each call that takes one, and what the calls answer
-//! is compared with the vector's text. The file `vectors` has all of them (`pack`).
+//! is compared with the vector's text. The file `vectors.arrows` has all of them (`pack`).
 //!
 //! | Module | What is compared |
 //! |---|---|
@@ -32,14 +32,14 @@ mod values;
 
 use crate::changes::base_of;
 use crate::findings::Findings;
-use crate::pack::{Vector, stream_of, vectors_in};
+use crate::pack::{Vector, batches_in, stream_of, vectors_in};
 use crate::told::Told;
 use std::process::ExitCode;
 use std::rt::{Env, Files};
 use std::{env, fs, io};
 
 /// The file that has the vectors.
-const FILE: &str = "vectors";
+const FILE: &str = "vectors.arrows";
 
 /// The word by which streams are given whole alone.
 const WHOLE: &str = "whole";
@@ -60,7 +60,8 @@ where
     R::File: Drop,
 {
     let bytes = fs::read(rt, FILE)?;
-    let vectors = vectors_in(rt.alloc(), &bytes)?;
+    let batches = batches_in(rt.alloc(), &bytes)?;
+    let vectors = vectors_in(rt.alloc(), &batches)?;
     let are_whole = env::args(rt)?.any(|word| word.as_str() == WHOLE);
     let mut wrong = 0u64;
     for vector in &vectors {

@@ -1,7 +1,11 @@
-//! The file of vectors: of each a line `NAME SIZE SIZE`, then its text and its stream, which have
-//! these sizes. A file of changes stands there like a vector without a stream, and what is written
-//! of a vector in one of the ways like one without a text, by the name `NAME.copyWAY`.
+//! The file of vectors: a stream of three columns, `name`, `text` and `stream`, with a row for each. A
+//! file of changes stands there like a vector without a stream, and what is written of a vector in
+//! one of the ways like one without a text, by the name `NAME.copyWAY`.
 
+use arrow_data::Batch;
+use arrow_stream_reader::StreamReader;
+use arrow_types::Limits;
+use arrowflow_report::session::{Received, receive};
 use std::alloc::{AllocError, Global};
 
 /// A vector.
@@ -43,35 +47,37 @@ pub(crate) fn stream_of<'a>(vectors: &[Vector<'a>], name: &str) -> Option<&'a [u
         .map(|it| it.stream)
 }
 
-/// The vectors that stand in these bytes, up to one that is not whole.
-pub(crate) fn vectors_in(alloc: Global, bytes: &[u8]) -> Result<Vec<Vector<'_>>, AllocError> {
+/// The batches of the file.
+pub(crate) fn batches_in(alloc: Global, bytes: &[u8]) -> Result<Vec<Batch>, AllocError> {
+    let mut reader = StreamReader::new(alloc, Limits::standard());
+    let Received { handed, .. } = receive(alloc, &mut reader, bytes, &[])?;
+    Ok(handed)
+}
+
+/// The vectors of the file, in its order.
+pub(crate) fn vectors_in(alloc: Global, batches: &[Batch]) -> Result<Vec<Vector<'_>>, AllocError> {
     let mut vectors = Vec::new(alloc);
-    let mut rest = bytes;
-    for _ in 0..bytes.len() {
-        let Some((vector, next)) = first_in(rest) else {
-            break;
-        };
-        vectors.push(vector)?;
-        rest = next;
+    for batch in batches {
+        for row in 0..batch.rows() {
+            if let Some(vector) = vector_at(batch, row) {
+                vectors.push(vector)?;
+            }
+        }
     }
     Ok(vectors)
 }
 
-/// The first vector, and what stands behind it.
-fn first_in(bytes: &[u8]) -> Option<(Vector<'_>, &[u8])> {
-    let end = bytes.iter().position(|byte| *byte == b'\n')?;
-    let head = str::from_utf8(bytes.get(..end)?).ok()?;
-    let body = bytes.get(end.saturating_add(1)..)?;
-    let (name, sizes) = head.split_once(' ')?;
-    let (of_text, of_stream) = sizes.split_once(' ')?;
-    let (text, rest) = parted(body, of_text)?;
-    let (stream, next) = parted(rest, of_stream)?;
-    let text = str::from_utf8(text).ok()?;
-    Some((Vector { name, text, stream }, next))
-}
-
-/// The bytes before and behind the place that this number names.
-fn parted<'a>(bytes: &'a [u8], place: &str) -> Option<(&'a [u8], &'a [u8])> {
-    let place = place.parse::<usize>().ok()?;
-    Some((bytes.get(..place)?, bytes.get(place..)?))
+/// The vector in a row, where there is one.
+fn vector_at(batch: &Batch, row: usize) -> Option<Vector<'_>> {
+    let [name, text, stream] = batch.columns() else {
+        return None;
+    };
+    if name.len() <= row || text.len() <= row || stream.len() <= row {
+        return None;
+    }
+    Some(Vector {
+        name: name.text_at(row)?,
+        text: text.text_at(row)?,
+        stream: stream.bytes_at(row)?,
+    })
 }
