@@ -24,3 +24,4 @@ pub use Rattle.arrow_body_writer.specs.Storing
 pub use Rattle.arrow_body_writer.specs.Source
 pub use Rattle.arrow_body_writer.specs.Runs
 pub use Rattle.arrow_body_writer.specs.Whole
+pub use Rattle.arrow_body_writer.specs.Marks

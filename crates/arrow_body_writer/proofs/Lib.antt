@@ -14,4 +14,7 @@ pub mod Levels
 pub mod Measures
 pub mod Chunks
 pub mod Rooms
+pub mod Marking
+pub mod Bytewise
+pub mod Numbering
 pub mod Wholes

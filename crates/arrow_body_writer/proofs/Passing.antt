@@ -10,7 +10,7 @@ use Rattle.arrow_types.specs.declared.field.Encoding.{Encoding}
 use Rattle.arrow_types.specs.declared.field.Field.{Field, the_lemmas}
 use Rattle.arrow_data.specs.Column.{AreOf, Column, column_size, HasField, HasFields, HasItems, IsList, struct_fields_of, type_of_field, values_from}
 use Rattle.arrow_data.specs.Form.{IsLists, node_form}
-use Rattle.arrow_data.specs.PlainValue.{PlainValue, null_value, bool_value, int_value, binary_value, utf8_value, list_value, struct_value, is_null_value, items_in, value_at}
+use Rattle.arrow_data.specs.PlainValue.{PlainValue, null_value, is_null_value, items_in, value_at}
 use Rattle.arrow_data.specs.declared.form.Form.{Form}
 use Rattle.arrow_data.specs.declared.form.Form.TheVariants as forms
 use Rattle.arrow_body_reader.specs.Taken.{flattened, taken_nodes}

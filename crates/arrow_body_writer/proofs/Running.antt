@@ -1,19 +1,18 @@
 -- Slots one after another of which none is null: what they are in the buffers, and what they send.
-use Rattle.std.proofs.Common.{◌≡◌, ◌≤◌, ◌<◌, ℕ, zero, suc, ◌+◌, ◌-◌, ℤ, Bool, true, false, List, [], ◌∷◌, ◌++◌, length, map, take, drop, get_or, refl, sym, ap, ◌∙◌, subst, arith, Option, None, Some, append_assoc, length-append}
+use Rattle.std.proofs.Common.{◌≡◌, ◌≤◌, ◌<◌, ℕ, suc, ◌+◌, ◌-◌, ℤ, Bool, true, false, List, [], ◌∷◌, ◌++◌, length, map, take, drop, get_or, refl, sym, ap, ◌∙◌, subst, arith, None, append_assoc, length-append}
 use Rattle.std.specs.Prelude.{cond}
-use Rattle.std.specs.List.{AllByRecursion, flat_map, sum_by}
+use Rattle.std.specs.List.{AllByRecursion, flat_map}
 use Rattle.std.proofs.lemmas.Grind.{flat_map-append}
 use Rattle.std.proofs.lemmas.List.{map-append}
-use Rattle.std.proofs.lemmas.List.Concat.{length-flat_map}
 use Rattle.std.proofs.lemmas.List.Sums.{sum_by-append, sum_by-cons}
 use Rattle.arrow_bits.specs.Numbers.{int_bytes}
 use Rattle.arrow_types.specs.Field.{Fields}
 use Rattle.arrow_types.specs.declared.data_type.BitWidth.{BitWidth}
-use Rattle.arrow_data.specs.Column.{AreOf, Column, HasChild, HasItems, IsColumn, IsList, values_from}
+use Rattle.arrow_data.specs.Column.{Column, HasChild, IsColumn, values_from}
 use Rattle.arrow_data.specs.Fits.{Fits}
 use Rattle.arrow_data.specs.Form.{IsLists, node_form, number_width}
 use Rattle.arrow_data.specs.FullSlots.{AreFull, value_bytes}
-use Rattle.arrow_data.specs.PlainValue.{PlainValue, PlainValues, null_value, bool_value, int_value, binary_value, utf8_value, list_value, struct_value, is_null_value, items_in, value_at}
+use Rattle.arrow_data.specs.PlainValue.{PlainValue, null_value, bool_value, int_value, binary_value, utf8_value, list_value, struct_value, is_null_value, items_in, value_at}
 use Rattle.arrow_data.specs.declared.form.Form.{Form}
 use Rattle.arrow_data.specs.declared.form.Form.TheVariants as forms
 use Rattle.arrow_data.proofs.FullSlots.{StandBetween, joined_range, places_rise}
@@ -24,7 +23,7 @@ use Rattle.arrow_body_laws.specs.Stored.{nulls_in, number_buffer}
 use Rattle.arrow_body_writer.proofs.Shown.{items_are}
 use Rattle.arrow_body_writer.specs.Part.{IsWritten}
 use Rattle.arrow_body_writer.specs.Runs.{ArePieces, HasRun, are_strings}
-use Rattle.arrow_body_writer.specs.Tally.{Counts, IsTally, capped}
+use Rattle.arrow_body_writer.specs.Tally.{Counts, capped}
 use Rattle.arrow_body_writer.specs.declared.part.Part.{Part}
 use Rattle.arrow_body_writer.specs.declared.part.Part.TheVariants.{Validity, Truths, Numbers, StringOffsets, ListOffsets, Strings, FixedBytes}
 use Rattle.arrow_body_writer.specs.declared.tally.Tally.{Tally}

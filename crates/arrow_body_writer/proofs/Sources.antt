@@ -1,5 +1,5 @@
 -- What the values of a dictionary from one on send, array by array.
-use Rattle.std.proofs.Common.{◌≡◌, ◌≤◌, ◌<◌, ℕ, zero, suc, ◌+◌, ◌-◌, List, [], ◌∷◌, ◌++◌, length, take, drop, refl, sym, ap, ◌∙◌, subst, arith, Option, None}
+use Rattle.std.proofs.Common.{◌≡◌, ◌≤◌, ℕ, zero, suc, ◌+◌, ◌-◌, List, [], ◌∷◌, ◌++◌, length, drop, sym, ap, ◌∙◌, subst, arith, Option, None}
 use Rattle.std.specs.List.{AllByRecursion}
 use Rattle.std.proofs.lemmas.List.{ext_get_or, length-drop, take_all}
 use Rattle.arrow_types.specs.Field.{TypeShape}
@@ -11,8 +11,7 @@ use Rattle.arrow_body_writer.proofs.Passing.{all_first, all_last, sent_empty, ta
 use Rattle.arrow_body_writer.proofs.Ranges.{from_both, rest_both}
 use Rattle.arrow_body_writer.proofs.Sending.{sent_more}
 use Rattle.arrow_body_writer.specs.Pass.{Takes}
-use Rattle.arrow_body_writer.specs.Sent.{sent_by, sent_to}
-use Rattle.arrow_body_writer.specs.Source.{rest_of}
+use Rattle.arrow_body_writer.specs.Sent.{sent_by}
 use Rattle.arrow_body_writer.specs.declared.pass.Pass.{Pass}
 
 -- what holds of all values holds of those from one on

@@ -9,3 +9,4 @@ pub mod Storing
 pub mod Source
 pub mod Runs
 pub mod Whole
+pub mod Marks

@@ -180,7 +180,7 @@ fn begun(room: Body, nodes: usize) -> Result<Body, AllocError>
 
 /// The body of the columns, laid out anew: each node with the slots that it is sent and no others,
 /// each buffer without a byte that no value needs, padded with zero bytes to the alignment. Nothing
-/// is copied that stood under a null. Nodes, buffers and bytes take one growth each, and the bytes
+/// is in it that stood under a null. Nodes, buffers and bytes take one growth each, and the bytes
 /// are as many as `body_size` says. The body is read as the raw values of the columns, and it is
 /// tidy. `AllocError` where a growth was refused.
 ///

@@ -7,11 +7,12 @@
 //! slots hold the values of a dictionary from one on. `store_in` and `store_rest_in` give the same
 //! bodies in the room of an earlier one, so that who stores one after another asks for memory once.
 //!
-//! A body is written front to back, by the public calls of `arrow_data` alone, so that no byte is
-//! copied that stood under a null. A node is known by its number in pre-order. One walk finds the
-//! slots that a node is sent, below lists and structs too, and either counts them or writes one of
-//! the node's buffers (`pass`); so each node is walked once to be counted and once for each buffer,
-//! and nothing is kept of the slots. Where a struct or a list is sent all slots of its children
+//! A body is written front to back, by the public calls of `arrow_data` alone. Numbers beside a
+//! validity bitmap are copied with the bytes under nulls, which are cleared in the copy (`masked`);
+//! of all other slots no byte is copied that stood under a null. A node is known by its number in
+//! pre-order. One walk finds the slots that a node is sent, below lists and structs too, and either
+//! counts them or writes one of the node's buffers (`pass`); so each node is walked once to be
+//! counted and once for each buffer, and nothing is kept of the slots. Where a struct or a list is sent all slots of its children
 //! (`whole`), these are laid out as columns by themselves after its own node, level by level: so
 //! the work grows with the nodes, and not with their square. A column with nulls above others, or
 //! with slots that it does not send, is walked from its own node to each one below it.
@@ -26,18 +27,22 @@
 //! | slots passed, and counted | `specs/Pass.antt`: `Takes`; `specs/Tally.antt`: `IsTally` |
 //! | children that are sent whole | `specs/Whole.antt`: `AreSentWhole` |
 //! | a buffer on its way | `specs/Part.antt`: `IsWritten`; `specs/Packing.antt`; `specs/Runs.antt` |
+//! | bitmaps and numbers as they lie | `specs/Marks.antt`: `AreMarked`, `HasNumbers` |
 //!
 //! Of the proofs, `Sending` says what nodes are sent, `Passing`, `RunPasses` and `Sources` what a
 //! pass takes of that, `Levels` goes from what is said level by level to the numbers of nodes,
-//! `Chunks` shows that a body to which all columns were added is the stored one, and `Wholes` when
-//! children are sent whole.
+//! `Chunks` shows that a body to which all columns were added is the stored one, `Wholes` when
+//! children are sent whole, `Marking` what a bitmap says of slots, `Bytewise` how its bytes are
+//! added to bits, and `Numbering` that numbers are cleared under nulls.
 #![tactic(auto)]
 
 pub(crate) mod align;
+pub(crate) mod bitmap;
 pub(crate) mod body;
 pub(crate) mod buffers;
 pub(crate) mod counts;
 pub(crate) mod forms;
+pub(crate) mod masked;
 pub(crate) mod measured;
 pub(crate) mod nodes;
 pub(crate) mod packing;

@@ -1,9 +1,11 @@
 //! Bits that are appended one by one, eight to a byte.
 
-ghost use Rattle.std.specs.Prelude.{◌≡◌, ℕ, Bool, List, [], ◌∷◌, ◌++◌, OnOk};
+ghost use Rattle.std.specs.Prelude.{◌≡◌, ◌≤◌, ℕ, ◌*◌, Bool, List, [], ◌∷◌, ◌++◌, length, OnOk};
+ghost use Rattle.arrow_body_writer.specs.Marks.{bits_from};
 ghost use Rattle.arrow_body_writer.specs.Packing.{IsPacking};
-ghost use Rattle.arrow_body_laws.specs.Packed.{packed};
+ghost use Rattle.arrow_body_laws.specs.Packed.{number_of_bits, packed};
 
+use arrow_bits::bit;
 use std::alloc::AllocError;
 
 // The bits of a byte that is not full yet, the first the least significant, and the weight of the
@@ -42,6 +44,85 @@ impl Pending {
             self.weight = self.weight.wrapping_mul(2);
         }
         Ok(())
+    }
+
+    // Adds eight bits, and appends the byte that is full by them.
+    fn push_byte(&mut self, out: &mut Vec<u8>, bits: u8) -> Result<(), AllocError>
+        ensures { OnOk result ((before : List ℕ) (was more : List Bool)
+            → length more ≡ 8 → number_of_bits more ≡ bits
+            → IsPacking before was self.old.byte self.old.weight out.old.items
+            → IsPacking before (was ++ more) self.new.byte self.new.weight out.new.items) }
+    {
+        let all = u16::from(self.byte) + u16::from(bits) * u16::from(self.weight);
+        out.push((all % 256) as u8)?;
+        self.byte = (all / 256) as u8;
+        Ok(())
+    }
+
+    // Adds the bits of whole bytes, from one up to another.
+    fn push_bytes(
+        &mut self,
+        out: &mut Vec<u8>,
+        bytes: &[u8],
+        first: usize,
+        last: usize,
+    ) -> Result<(), AllocError>
+        requires order { first ≤ last }
+        requires inside { last ≤ length bytes.now }
+        ensures { OnOk result ((before : List ℕ) (was : List Bool)
+            → IsPacking before was self.old.byte self.old.weight out.old.items
+            → IsPacking before (was ++ bits_from bytes.now (8 * first) (8 * last))
+            self.new.byte self.new.weight out.new.items) }
+    {
+        for i in first..last {
+            self.push_byte(out, bytes[i])?;
+        }
+        Ok(())
+    }
+
+    // Adds the bits of a range of bytes, one by one.
+    fn push_each(
+        &mut self,
+        out: &mut Vec<u8>,
+        bytes: &[u8],
+        start: usize,
+        stop: usize,
+    ) -> Result<(), AllocError>
+        requires order { start ≤ stop }
+        requires inside { stop ≤ 8 * length bytes.now }
+        ensures { OnOk result ((before : List ℕ) (was : List Bool)
+            → IsPacking before was self.old.byte self.old.weight out.old.items
+            → IsPacking before (was ++ bits_from bytes.now start stop)
+            self.new.byte self.new.weight out.new.items) }
+    {
+        for i in start..stop {
+            self.push(out, bit(bytes, i))?;
+        }
+        Ok(())
+    }
+
+    // Adds the bits of a range of bytes.
+    pub(crate) fn push_range(
+        &mut self,
+        out: &mut Vec<u8>,
+        bytes: &[u8],
+        start: usize,
+        stop: usize,
+    ) -> Result<(), AllocError>
+        requires order { start ≤ stop }
+        requires inside { stop ≤ 8 * length bytes.now }
+        ensures { OnOk result ((before : List ℕ) (was : List Bool)
+            → IsPacking before was self.old.byte self.old.weight out.old.items
+            → IsPacking before (was ++ bits_from bytes.now start stop)
+            self.new.byte self.new.weight out.new.items) }
+    {
+        let (first, last) = (start.div_ceil(8), stop / 8);
+        if last < first {
+            return self.push_each(out, bytes, start, stop);
+        }
+        self.push_each(out, bytes, start, 8 * first)?;
+        self.push_bytes(out, bytes, first, last)?;
+        self.push_each(out, bytes, 8 * last, stop)
     }
 
     // Appends the byte that is not full, if it has bits.

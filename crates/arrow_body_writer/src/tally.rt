@@ -1,11 +1,13 @@
 //! The slots that a node is sent, counted.
 
-ghost use Rattle.std.specs.Prelude.{◌≡◌, ◌≤◌, ◌<◌, length};
+ghost use Rattle.std.specs.Prelude.{◌≡◌, ◌≤◌, ◌<◌, ◌+◌, ◌-◌, ◌*◌, count_by, length, not};
 ghost use Rattle.arrow_data.specs.Column.{values_from};
 ghost use Rattle.arrow_data.specs.FullSlots.{AreFull};
 ghost use Rattle.arrow_body_laws.specs.Raws.{last_offset};
-ghost use Rattle.arrow_body_writer.specs.Tally.{Counts, CountsNull};
+ghost use Rattle.arrow_body_writer.specs.Marks.{bits_from, has_offsets};
+ghost use Rattle.arrow_body_writer.specs.Tally.{Counts, CountsNull, capped};
 
+use crate::bitmap::{bitmap, zeros};
 use crate::slots::{items, strings};
 use arrow_data::Array;
 use arrow_data::form::Form;
@@ -17,6 +19,18 @@ pub(crate) struct Tally {
     pub(crate) slots: u64,
     pub(crate) nulls: u64,
     pub(crate) end: u64,
+}
+
+// Whether a node of the form has a buffer of offsets.
+fn has_offsets(form: Form) -> bool
+    ensures { result ≡ has_offsets form }
+{
+    match form {
+        Form::Bytes(_) | Form::Texts(_) | Form::Lists(_) => true,
+        Form::Nulls | Form::Bits | Form::Numbers { .. } | Form::FixedBytes(_) | Form::Structs => {
+            false
+        }
+    }
 }
 
 // How far the offsets of a range of slots go on, of which none is null: 0 where the form has none.
@@ -89,8 +103,8 @@ impl Tally {
         }
     }
 
-    // Counts the slots of a range.
-    pub(crate) fn add_slots(&mut self, form: Form, array: &Array, start: usize, stop: usize)
+    // Counts the slots of a range, run by run.
+    fn add_runs(&mut self, form: Form, array: &Array, start: usize, stop: usize)
         requires order { start ≤ stop }
         requires inside { stop ≤ length array.now.raw }
         ensures { Counts form (values_from array.now.raw start stop) self.old self.new }
@@ -98,6 +112,31 @@ impl Tally {
         let mut i = start;
         while i < stop {
             i = self.add_run(form, array, i, stop);
+        }
+    }
+
+    // Counts slots whose bits these are, which have no offsets.
+    fn add_marked(&mut self, bits: &[u8], start: usize, stop: usize)
+        requires order { start ≤ stop }
+        requires inside { stop ≤ 8 * length bits.now }
+        ensures slots { self.new.slots ≡ capped (self.old.slots + (stop - start)) }
+        ensures nulls { self.new.nulls
+            ≡ capped (self.old.nulls + count_by not (bits_from bits.now start stop)) }
+        ensures end { self.new.end ≡ self.old.end }
+    {
+        self.slots = self.slots.saturating_add((stop - start) as u64);
+        self.nulls = self.nulls.saturating_add(zeros(bits, start, stop) as u64);
+    }
+
+    // Counts the slots of a range: where they have a bitmap and no offsets by its bits.
+    pub(crate) fn add_slots(&mut self, form: Form, array: &Array, start: usize, stop: usize)
+        requires order { start ≤ stop }
+        requires inside { stop ≤ length array.now.raw }
+        ensures { Counts form (values_from array.now.raw start stop) self.old self.new }
+    {
+        match bitmap(array) {
+            Some(bits) if !has_offsets(form) => self.add_marked(bits, start, stop),
+            Some(_) | None => self.add_runs(form, array, start, stop),
         }
     }
 }

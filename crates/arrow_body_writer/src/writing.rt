@@ -11,6 +11,8 @@ ghost use Rattle.arrow_body_laws.specs.Raws.{fixed_in, greatest_offset};
 ghost use Rattle.arrow_body_writer.specs.Part.{HasNextOffset, HasRoom, IsTold, IsWritten, part_bytes};
 ghost use Rattle.arrow_body_writer.specs.Runs.{ArePieces};
 
+use crate::bitmap::bitmap;
+use crate::masked::numbers_of;
 use crate::packing::Pending;
 use crate::part::{Part, greatest_offset, number_width, offset_bytes};
 use crate::slots::{fixed, numbers, put_number, put_string, span, string, strings, truth};
@@ -245,8 +247,8 @@ impl Writing {
         }
     }
 
-    // Adds what the slots of a range are in the buffer.
-    pub(crate) fn put_slots(
+    // Adds what the slots of a range are in the buffer, run by run.
+    fn put_runs(
         &mut self,
         part: Part,
         array: &Array,
@@ -265,5 +267,38 @@ impl Writing {
             i = self.put_run(part, array, i, stop)?;
         }
         Ok(())
+    }
+
+    // Adds what the slots of a range are in the buffer. Where they have a bitmap its bits are
+    // copied, and of numbers all bytes, in which those of nulls are cleared.
+    pub(crate) fn put_slots(
+        &mut self,
+        part: Part,
+        array: &Array,
+        start: usize,
+        stop: usize,
+    ) -> Result<(), AllocError>
+        requires order { start ≤ stop }
+        requires inside { stop ≤ length array.now.raw }
+        requires room { AllByRecursion (HasRoom part) (values_from array.now.raw start stop) }
+        ensures { OnOk result ((before : List ℕ) (vs : List PlainValue)
+            → IsWritten part before vs self.old
+            → IsWritten part before (vs ++ values_from array.now.raw start stop) self.new) }
+    {
+        match part {
+            Part::Validity => match bitmap(array) {
+                Some(bits) => self.pending.push_range(&mut self.out, bits, start, stop),
+                None => self.put_runs(part, array, start, stop),
+            },
+            Part::Numbers(width) => match numbers_of(array, number_width(width)) {
+                Some(numbers) => numbers.put(&mut self.out, start, stop),
+                None => self.put_runs(part, array, start, stop),
+            },
+            Part::Truths
+            | Part::StringOffsets(_)
+            | Part::ListOffsets(_)
+            | Part::Strings
+            | Part::FixedBytes(_) => self.put_runs(part, array, start, stop),
+        }
     }
 }

@@ -1,8 +1,8 @@
-use Rattle.std.proofs.Common.{◌≡◌, ◌≤◌, ◌<◌, ◌+◌, ◌-◌, get_or, length, sym, ap, ◌∙◌, arith}
+use Rattle.std.proofs.Common.{◌≡◌, ◌<◌, ◌+◌, ◌-◌, get_or, ap, ◌∙◌, arith}
 use Rattle.arrow_data.specs.Column.{values_from}
 use Rattle.arrow_data.specs.Form.{node_form}
 use Rattle.arrow_body_laws.specs.Raws.{items_in_value}
-use Rattle.arrow_body_writer.proofs.Running.{full_of, is_list, items_run, no_lists, no_slots}
+use Rattle.arrow_body_writer.proofs.Running.{full_of, items_run, no_lists, no_slots}
 use Rattle.arrow_body_writer.proofs.slots.items.Goals as goal
 
 -- no slots

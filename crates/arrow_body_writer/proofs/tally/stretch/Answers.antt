@@ -1,4 +1,4 @@
-use Rattle.std.proofs.Common.{◌≡◌, ◌-◌, length, ap, sym, ◌∙◌}
+use Rattle.std.proofs.Common.{length, ap, sym, ◌∙◌}
 use Rattle.std.proofs.lemmas.List.Concat.{length-flat_map}
 use Rattle.arrow_data.specs.Column.{values_from}
 use Rattle.arrow_data.proofs.Sameness.{length-values_from}

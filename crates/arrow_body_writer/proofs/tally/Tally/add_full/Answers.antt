@@ -1,4 +1,4 @@
-use Rattle.std.proofs.Common.{length, refl, arith}
+use Rattle.std.proofs.Common.{refl, arith}
 use Rattle.arrow_data.specs.Column.{values_from}
 use Rattle.arrow_data.proofs.Sameness.{length-values_from}
 use Rattle.arrow_body_writer.proofs.Running.{full_counted, none_of}

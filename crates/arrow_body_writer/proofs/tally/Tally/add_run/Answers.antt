@@ -1,4 +1,4 @@
-use Rattle.std.proofs.Common.{◌<◌, ◌+◌, [], ◌∷◌, length, subst, arith}
+use Rattle.std.proofs.Common.{◌<◌, [], ◌∷◌, length, subst, arith}
 use Rattle.arrow_data.specs.Column.{values_from}
 use Rattle.arrow_data.specs.PlainValue.{null_value}
 use Rattle.arrow_body_writer.proofs.Counting.{counts_more}

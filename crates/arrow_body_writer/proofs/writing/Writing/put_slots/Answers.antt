@@ -1,29 +1,22 @@
-use Rattle.std.proofs.Common.{◌≤◌, ◌++◌, ap, sym, ◌∙◌, subst, arith, append_assoc}
-use Rattle.std.specs.List.{AllByRecursion}
-use Rattle.arrow_data.specs.Column.{values_from}
-use Rattle.arrow_body_writer.proofs.Passing.{all_last}
-use Rattle.arrow_body_writer.proofs.Ranges.{from_both}
-use Rattle.arrow_body_writer.specs.Part.{HasRoom, IsWritten}
+use Rattle.std.proofs.Common.{◌∙◌}
+use Rattle.std.proofs.lemmas.Result.{on_ok_weaker}
+use Rattle.arrow_body_writer.proofs.Marking.{bits_written}
+use Rattle.arrow_body_writer.proofs.Numbering.{numbers_written}
 use Rattle.arrow_body_writer.proofs.writing.Writing.put_slots.Goals as goal
 
--- each number has room
-pub put_run-requires-clause-room : goal.put_run-requires-clause-room
-put_run-requires-clause-room c =
-    let raw = c.args.array.now.raw in
-    all_last (HasRoom c.args.part) (values_from raw c.args.start c.loop-i.i) (values_from raw c.loop-i.i c.args.stop)
-    (subst (AllByRecursion (HasRoom c.args.part)) (from_both raw c.args.start c.loop-i.i c.args.stop c.loop-i.invariant.0 c.loop-i.invariant.1) c.requires.room)
+-- the bits of the bitmap are added
+pub returns-in-Some : goal.returns-in-Some
+returns-in-Some c =
+    on_ok_weaker c.push_range.result
+    (λ step. bits_written c.args.part c.args.self.now (record c.args.self.now { out = c.push_range.new.out; pending = c.push_range.new.self }) c.args.array.now.raw c.in-Some.bits.now c.args.start c.args.stop
+    c.in-Validity.is c.in-Some.ensures c.requires.order c.requires.inside step)
+    c.push_range.ensures
 
--- the slots up to the next null more
-pub loop-i-preserved : goal.loop-i-preserved
-loop-i-preserved c =
+-- the numbers are added, cleared under nulls
+pub returns-in-Some-numbers_of : goal.returns-in-Some-numbers_of
+returns-in-Some-numbers_of c =
     let raw = c.args.array.now.raw in
-    let start = c.args.start in
-    let i = c.loop-i.i in
-    let next = c.in_ok-i.i in
-    let low : i ≤ next = omega (arith, c.in_ok-i.ensures.next.0) in (
-      omega (arith, c.loop-i.invariant.0, low),
-      c.in_ok-i.ensures.next.1,
-      λ before vs was. subst (λ values. IsWritten c.args.part before values c.put_run.new.self)
-          (append_assoc vs (values_from raw start i) (values_from raw i next) ∙ ap (λ values. vs ++ values) (sym (from_both raw start i next c.loop-i.invariant.0 low)))
-          (c.in_ok-i.ensures.written before (vs ++ values_from raw start i) (c.loop-i.invariant.2 before vs was)),
-    )
+    on_ok_weaker c.put.result
+    (λ added. numbers_written c.args.part c.in-Numbers.width c.args.self.now (record c.args.self.now { out = c.put.new.out }) c.in-Some-numbers_of.numbers raw c.args.start c.args.stop
+    c.in-Numbers.is (c.in-Some-numbers_of.ensures.width ∙ c.number_width.ensures.same) (added raw c.in-Some-numbers_of.ensures.held c.requires.inside))
+    c.put.ensures

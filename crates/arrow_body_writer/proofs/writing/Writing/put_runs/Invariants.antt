@@ -2,7 +2,7 @@ use Rattle.std.proofs.Common.{◌≤◌, ◌-◌, ◌++◌, ℕ, List}
 use Rattle.arrow_data.specs.Column.{values_from}
 use Rattle.arrow_data.specs.PlainValue.{PlainValue}
 use Rattle.arrow_body_writer.specs.Part.{IsWritten}
-use Rattle.arrow_body_writer.proofs.writing.Writing.put_slots.Given as goal
+use Rattle.arrow_body_writer.proofs.writing.Writing.put_runs.Given as goal
 
 -- the slots so far are added
 abbrev pub invariant-loop-i : goal.invariant-loop-i

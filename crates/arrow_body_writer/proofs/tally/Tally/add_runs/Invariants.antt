@@ -1,7 +1,7 @@
 use Rattle.std.proofs.Common.{◌≤◌, ◌-◌}
 use Rattle.arrow_data.specs.Column.{values_from}
 use Rattle.arrow_body_writer.specs.Tally.{Counts}
-use Rattle.arrow_body_writer.proofs.tally.Tally.add_slots.Given as goal
+use Rattle.arrow_body_writer.proofs.tally.Tally.add_runs.Given as goal
 
 -- the slots so far are counted
 abbrev pub invariant-loop-i : goal.invariant-loop-i

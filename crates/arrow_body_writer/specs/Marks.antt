@@ -1,0 +1,56 @@
+-- The validity bitmap of slots, and the bytes of their numbers, as they lie in an array.
+use Rattle.std.specs.Prelude.{◌≡◌, ◌≤◌, ◌<◌, ◌+◌, ◌-◌, ◌*◌, ℕ, Bool, false, true, not, List, length, map, slice_range, Option, None, Some}
+use Rattle.std.specs.List.{range_with_len}
+use Rattle.arrow_bits.specs.Bitmap.{bit_of}
+use Rattle.arrow_bits.specs.Numbers.{int_bytes}
+use Rattle.arrow_data.specs.PlainValue.{PlainValue, is_null_value, value_at}
+use Rattle.arrow_data.specs.declared.form.Form.{Form}
+use Rattle.arrow_data.specs.declared.form.Form.TheVariants as forms
+use Rattle.arrow_data.specs.declared.view.Buffers.{Buffers}
+use Rattle.arrow_data.specs.declared.view.Buffers.TheVariants as buffers
+use Rattle.arrow_body_laws.specs.Raws.{number_in}
+use Rattle.arrow_body_writer.specs.declared.masked.Masked.{Masked}
+
+-- the bits from one up to another
+abbrev pub bits_from : List ℕ → ℕ → ℕ → List Bool
+bits_from bytes start stop = map (bit_of bytes) (range_with_len start (stop - start))
+
+-- Each slot has its bit, which is set where the slot is not null (Columnar Format, "Validity bitmaps").
+pub record AreMarked (raw : List PlainValue) (bits : List ℕ) : Type 0 where
+  pub long : length raw ≤ 8 * length bits
+  pub same : (j : ℕ) → j < length raw → not (is_null_value (value_at raw j)) ≡ bit_of bits j
+
+-- Each slot has so many bytes, which are those of its number where it is not null (Columnar Format, "Fixed-size Primitive
+-- Layout").
+pub record AreNumbered (width : ℕ) (raw : List PlainValue) (values : List ℕ) : Type 0 where
+  pub long : width * length raw ≤ length values
+  pub same : (j : ℕ) → j < length raw → is_null_value (value_at raw j) ≡ false
+      → int_bytes width (number_in (value_at raw j)) ≡ slice_range values (width * j) (width * (j + 1))
+
+-- the numbers of the slots, with the bitmap
+pub record HasNumbers (n : Masked) (raw : List PlainValue) : Type 0 where
+  pub marks : AreMarked raw n.bits.now
+  pub numbers : AreNumbered n.width raw n.values.now
+
+-- the buffer of validity, none of a column in which all is null
+abbrev pub validity_of : Buffers → Option (List ℕ)
+validity_of buffers.Nulls = None
+validity_of (buffers.Bools validity values) = Some validity.now
+validity_of (buffers.Numbers of) = Some of.validity.now
+validity_of (buffers.Binaries of) = Some of.validity.now
+validity_of (buffers.Texts of) = Some of.validity.now
+validity_of (buffers.FixedBytes width validity values) = Some validity.now
+validity_of (buffers.Lists width validity offsets child) = Some validity.now
+validity_of (buffers.Structs validity children) = Some validity.now
+validity_of (buffers.Indices of dictionary) = Some of.validity.now
+
+-- a node of the form has a buffer of offsets
+abbrev pub has_offsets : Form → Bool
+has_offsets forms.Nulls = false
+has_offsets forms.Bits = false
+has_offsets (forms.Numbers bits signed) = false
+has_offsets (forms.Bytes width) = true
+has_offsets (forms.Texts width) = true
+has_offsets (forms.FixedBytes width) = false
+has_offsets (forms.Lists width) = true
+has_offsets forms.Structs = false

@@ -1,0 +1,105 @@
+//! Numbers beside a validity bitmap, copied all at once.
+
+ghost use Rattle.std.specs.Prelude.{◌≡◌, ◌≤◌, ◌<◌, ◌+◌, ◌-◌, ◌*◌, ◌++◌, List, ℕ, IfSome, OnOk};
+ghost use Rattle.std.specs.Prelude.{drop, length, replicate, slice_index, slice_range, take};
+ghost use Rattle.arrow_data.specs.Column.{values_from};
+ghost use Rattle.arrow_data.specs.PlainValue.{PlainValue};
+ghost use Rattle.arrow_body_laws.specs.Stored.{number_buffer};
+ghost use Rattle.arrow_body_writer.specs.Marks.{AreNumbered, HasNumbers};
+
+use crate::bitmap::bitmap;
+use arrow_bits::first_unset;
+use arrow_data::{Array, Buffers};
+use std::alloc::AllocError;
+
+// How many bytes each number takes, the bytes, and a bit for each slot, 0 of a null one.
+#[derive(Clone, Copy)]
+pub(crate) struct Masked<'a> {
+    pub(crate) width: usize,
+    pub(crate) values: &'a [u8],
+    pub(crate) bits: &'a [u8],
+}
+
+// The bytes of numbers, where these have this width.
+fn of_width(own: usize, values: &[u8], width: usize) -> Option<&[u8]>
+    ensures { IfSome result (λ found. (own ≡ width) × (found.now ≡ values.now)
+        × ((k : ℕ) → slice_index values.now k < 256)) }
+{
+    if own == width { Some(values) } else { None }
+}
+
+// The bytes of the array's numbers or indices, where these have this width.
+fn values_of(array: &Array, width: usize) -> Option<&[u8]>
+    ensures { IfSome result (λ values. AreNumbered width array.now.raw values.now) }
+{
+    match array.buffers() {
+        Buffers::Numbers(of) => of_width(of.width, of.values, width),
+        Buffers::Indices(of, _) => of_width(of.width, of.values, width),
+        Buffers::Nulls
+        | Buffers::Bools { .. }
+        | Buffers::Binaries(_)
+        | Buffers::Texts(_)
+        | Buffers::FixedBytes { .. }
+        | Buffers::Lists { .. }
+        | Buffers::Structs { .. } => None,
+    }
+}
+
+// The numbers or indices of the array, where they have this width and beside them is a bitmap.
+pub(crate) fn numbers_of(array: &Array, width: usize) -> Option<Masked<'_>>
+    ensures width { IfSome result (λ n. n.width ≡ width) }
+    ensures held { IfSome result (λ n. HasNumbers n array.now.raw) }
+{
+    let (bits, values) = (bitmap(array)?, values_of(array, width)?);
+    Some(Masked {
+        width,
+        values,
+        bits,
+    })
+}
+
+// Puts zero bytes in place of so many from a place on.
+fn clear(out: &mut Vec<u8>, at: usize, width: usize)
+    requires { at + width ≤ length out.old.items }
+    ensures { out.new.items ≡ take at out.old.items
+        ++ (replicate width 0 ++ drop (at + width) out.old.items) }
+{
+    out[at..at + width].fill(0);
+}
+
+impl<'a> Masked<'a> {
+    // Puts 0 in place of the number of each null slot of a range, whose numbers stand from a place
+    // on.
+    fn clear_nulls(self, out: &mut Vec<u8>, at: usize, start: usize, stop: usize)
+        requires order { start ≤ stop }
+        requires bits { stop ≤ 8 * length self.bits.now }
+        requires room { at + self.width * (stop - start) ≤ length out.old.items }
+        ensures { (before : List ℕ) (raw : List PlainValue) → HasNumbers self.entry raw
+            → stop ≤ length raw → length before ≡ at
+            → out.old.items ≡ before ++ slice_range self.entry.values.now
+            (self.entry.width * start) (self.entry.width * stop)
+            → out.new.items
+            ≡ before ++ number_buffer self.entry.width (values_from raw start stop) }
+    {
+        let mut i = first_unset(self.bits, start, stop);
+        while i < stop {
+            clear(out, at + self.width * (i - start), self.width);
+            i = first_unset(self.bits, i + 1, stop);
+        }
+    }
+
+    // Appends the numbers of a range of slots, 0 for a null one.
+    pub(crate) fn put(self, out: &mut Vec<u8>, start: usize, stop: usize) -> Result<(), AllocError>
+        requires order { start ≤ stop }
+        requires bits { stop ≤ 8 * length self.bits.now }
+        requires values { self.width * stop ≤ length self.values.now }
+        ensures { OnOk result ((raw : List PlainValue) → HasNumbers self.entry raw
+            → stop ≤ length raw → out.new.items ≡ out.old.items
+            ++ number_buffer self.entry.width (values_from raw start stop)) }
+    {
+        let at = out.len();
+        out.extend_from_slice(&self.values[self.width * start..self.width * stop])?;
+        self.clear_nulls(out, at, start, stop);
+        Ok(())
+    }
+}
