@@ -41,8 +41,6 @@ ARRAYS = {
         "LATER_BYTES 1": struct.pack("<4q", 1, 4, 4, 7) + bytes([5, 0, 1, 0xff, 9, 9, 9, 6]),
         "LISTS 1": struct.pack("<B4q5i", 0xfd, 1, 2, 4, 4, 0, 1, 2, 3, 4),
     },
-    "crates/arrow_body_tests/src/tests/columns.rt": {"SOUND 8 body": LISTS},
-    "crates/arrow_body_tests/src/tests/wide.rt": {"TEXTS": TEXTS},
     "crates/arrow_meta_reader_tests/src/vectors.rt": {
         "ONE_FIELD": metadata_in(NUMBERS),
         "ONE_BATCH": metadata_in(THREE),

@@ -3,8 +3,11 @@ import struct
 
 import bodies
 import frames
+import kinds
+import levels
 import noted
 import own
+import slots
 import streams
 from frames import END_MARKER, LARGE_UTF8, NULL, UTF8, batch, dictionary, dictionary_batch, field, integer, schema, strings
 from laying import NODE, ONE, column
@@ -172,7 +175,7 @@ def changes():
     """The files of changes by their names: what each is about, its base, and its lines."""
     its, rows = own.limits(), rows_at_the_limit()
     growing = b"".join(streams.growing_dictionary())
-    return {
+    return kinds.changes() | levels.changes(line) | slots.changes(line) | {
         "int32_column_cut": ("each length of one batch", "int32_column", cuts(ONE.held(), 3)),
         "growing_dictionary_cut": ("each length of a growing dictionary", "growing_dictionary", cuts(growing, 8)),
         "int32_column_bytes": ("each byte of one batch set to each other value", "int32_column", each_byte(ONE)),

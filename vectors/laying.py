@@ -16,6 +16,9 @@ ONE = Stream(schema=ONE_COLUMN, batch=ONE_BATCH, end=END_MARKER)
 FIELD, TYPE = "schema.header.fields.0", "schema.header.fields.0.type"
 NODE, VALIDITY, VALUES = "batch.header.nodes.0", "batch.header.buffers.0", "batch.header.buffers.1"
 
+# A place before all bytes.
+FAR_BEFORE = -2 ** 63
+
 INT32S = schema(field("n", INT32))
 TEXTS = schema(field("t", UTF8))
 WORDS = streams.letters_schema()

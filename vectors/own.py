@@ -3,6 +3,9 @@ import struct
 
 import bodies
 import frames
+import kinds
+import laid
+import levels
 import noted
 import schemas
 import streams
@@ -33,6 +36,8 @@ def counts():
         "null_count_of_a_struct_wrong": ("a null count of a struct that is not that of the bits",
             one_batch_of([STRUCT, [field("m", INT32)]], column([(1, 1), (1, 0)], b"\x01", b"", i32(5)))),
         "surplus_nodes_and_buffers": ("nodes and buffers that no field takes", stream(INT32S, batch(surplus, length=1))),
+        "surplus_below_0": ("a node and a buffer below 0 that no field takes", stream(INT32S,
+            raw_batch(3, [(3, 1), (-7, 0)], [(0, 1), (8, 12), (-1, -1)], b"\x05" + bytes(7) + i32(1, 0, 3)))),
         "surplus_of_a_dictionary": ("nodes and buffers of a dictionary that its values do not take",
             stream(WORDS, dictionary_batch(0, column([(1, 0), (9, 9)], b"", i32(0, 1), b"a", b"spare")), batch(numbers([0])))),
         "longer_child": ("a struct whose child has more slots", stream(schema(field("s", STRUCT, [field("m", INT32)])),
@@ -314,7 +319,7 @@ def foreign():
 def vectors():
     found = {}
     for group in (counts(), hidden(), profile(), versions(), one_id(), limits(), skipped(), places(), absent(), other_texts(),
-        foreign()):
+        foreign(), kinds.untold_vectors(), laid.own(), levels.own()):
         assert not found.keys() & group.keys()
         found.update(group)
     return found

@@ -2,6 +2,9 @@
 any Arrow library reads, and a line for each, whose numbers are counted here."""
 import re
 
+import copied
+import kinds
+import laid
 import rows
 import streams
 from frames import BINARY, END_MARKER, UTF8, batch, field, schema, strings
@@ -36,9 +39,12 @@ def listed(vectors):
 
 
 def copies():
-    """What is written of the vectors, by names NAME.copyWAY."""
-    held = streams.written()
-    return {f"{name}.copy{way}": held[word][1] for name, ways in COPIES.items() for way, word in ways.items()}
+    """What is written of the vectors, by names NAME.copyWAY: of those that hold more than their values in two ways, of each type in
+    one, as copied.py lays it out."""
+    held, more = streams.written(), laid.all_of()
+    found = {f"{name}.copy{way}": held[word][1] for name, ways in COPIES.items() for way, word in ways.items()}
+    found |= {f"{name}.copy{way}": copied.copy(its, way) for name, (_, its) in more.items() for way in (0, 3)}
+    return found | {f"{name}.copy{at % 4}": copied.copy(its, at % 4) for at, (name, (_, its)) in enumerate(kinds.vectors().items())}
 
 
 def files(vectors):

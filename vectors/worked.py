@@ -59,6 +59,26 @@ EXAMPLES = {
         "hidden_bytes": ['  value "a"', "  value null", '  row 0 -> "a"', "  row 1 -> null", '  value "a"', "  value null",
             '  row 0 -> "a"', "  row 1 -> null", *CLEAN],
         "no_hidden_bytes": ["take * dictionary 0 of 2", "take * batch of 2", "take * batch of 2", "take 8 end"]}),
+    "hidden bytes of each type": (["arrow_body_tests/stored"], {
+        "hidden_in_numbers": rows("1", "null", "3", "1", "null", "3", "1", "2"), "hidden_in_texts": rows('"a"', "null", '"bc"', '"a"',
+            "null", '"a"', "null"),
+        "hidden_in_lists": rows("[1, 2]", "null", "[]", "[1, 2]", "null", "[3]", "[1, 2]", "[3]", "[1, 2]", "[3]"),
+        "hidden_in_structs": rows('{"m": 5}', "null"), "hidden_in_structs_of_texts": rows('{"t": "a"}', "null"),
+        "hidden_list_in_a_struct": rows('{"l": [1]}', "null", '{"l": [4]}'), "hidden_in_lists_of_indices": rows(
+            "[2 -> [3], null, 1 -> [2]]", "null", "[2 -> [3], null, 1 -> [2]]"), "hidden_without_offsets": CLEAN}),
+    "nine slots of each type": ([], {
+        "utf8_alone": rows("null", '"b"', '"c"', '"d"', '"e"', '"f"', '"g"', '"h"', '"i"', '"a"', '"b"'),
+        "int8_alone.changes": ["nine.header.buffers.1.length at * := 0800000000000000 -> batches * end Layout at *",
+            "nine.header.nodes.0.null_count at * := ffffffffffffffff -> batches 6 rows 32 end clean"],
+        "utf8_alone.changes": ["nine.body.2[1] at * := ff -> batches * end Text at *"],
+        "utf8_by_a_dictionary.changes": ["nine.body.1[* := 09 -> batches * end Index at *"],
+        "each_type_untold": ["take * batch of 9", "take * batch of 9", "take * batch of 9", "take * batch of 0", "end clean"]}),
+    "columns below columns": (["arrow_body_tests/calls"], {
+        "lists_of_structs_of_lists": rows('[{"l": [1, 2], "t": "a"}, {"l": null, "t": "bc"}]', "null", '[{"l": [3], "t": null}]'),
+        "lists_of_structs_of_lists.changes": ["* -> batches 0 rows 0 end Layout at *", "* -> batches 0 rows 0 end Text at *"],
+        "structs_of_structs.changes": ["* -> batches 1 rows 0 end clean", "* -> batches 0 rows 0 end Layout at *"],
+        "index_beside_a_text.changes": [*(f"* -> batches 0 rows 0 end {it} at *" for it in ("Index", "Text", "Layout", "Text"))],
+        "index_among_200.changes": ["* := c7 -> batches 1 rows 1 end clean", "* := c8 -> batches 0 rows 0 end Index at *"]}),
     "broken inside a batch": (["arrowflow_tests/drilling", "arrowflow_session_tests/session"], {
         "cut_off_in_the_second_batch": ["take 224 dictionary 0 of 5", "take 159 nothing", "hold 159", "end Truncated at 816"],
         "growing_dictionary_cut.changes": [CUT[7]]}),
@@ -116,7 +136,7 @@ EXAMPLES = {
         "date_of_the_unit_32": refused("Schema", 0), "dates_for_integers": column("n: date[ms]"),
             "timestamp_in_an_unaligned_zone": column("n: timestamp[s, ]"),
         "four_fields": FOUR_FIELDS}),
-    "columns and bodies": (["arrow_body_tests/stored", "arrow_body_tests/rests"], {
+    "columns and bodies": (["arrow_body_tests/stored"], {
         "text_behind_two_bytes": rows('"a"'), "longer_child": rows('{"m": 5}', '{"m": 6}'), "shorter_child": refused("Layout", "*"),
         "text_under_a_null_struct": refused("Text", "*"), "bad_text_beside_a_short_buffer": refused("Layout", "*"),
             "index_below": refused("Index", "*"),
@@ -141,7 +161,7 @@ EXAMPLES = {
     "texts loaded, of which none is copied": (["growths/loading"], {}),
     "zeros of each number of bits": (["arrow_small_tests/bits"],
         {"null_counts.changes": ["* := 6400000000000000 -> batches 1 rows 200 end clean"]}),
-    "dictionaries of several segments": (["arrow_data_tests/dictionaries", "arrow_dict_tests/trackers", "arrow_body_tests/rests",
+    "dictionaries of several segments": (["arrow_data_tests/dictionaries", "arrow_dict_tests/trackers", "arrow_body_tests/stored",
         "arrow_body_tests/greatest"], {
         "growing_dictionary": LETTERS_SHOWN, "dictionary_in_other_pieces": ['  row 4 -> "e"', '  row 5 -> "f"', '  row 4 -> "e"',
             *CLEAN],
@@ -176,7 +196,7 @@ EXAMPLES = {
         "32_levels": CLEAN, "33_levels": refused("Metadata", 0), "shared_name_of_40_bytes": CLEAN,
             "shared_name_of_4000_bytes": CLEAN,
         "names_over_the_limit": refused("Metadata", 0), "names_at_the_limit.changes": ["* -> batches 0 rows 0 end clean"]}),
-    "large offsets, fixed widths, durations": (["arrow_body_tests/wide"], {
+    "large offsets, fixed widths, durations": ([], {
         "large_texts": rows('"a"', "null", '"bc"'), "fixed_bytes": rows('x"0001ff"', "null"),
             "fixed_bytes_for_integers": column("n: fixed_size_binary[32]"),
         "fixed_bytes_without_a_width": column("n: fixed_size_binary[0]"), "duration_of_the_unit_32": refused("Schema", 0),
@@ -212,7 +232,8 @@ RULES = {
     "a column's own node has as many slots as the batch": (["int32_column"], "Layout", [
         "rows_of_the_batch_and_of_its_node", "node_longer_than_the_batch", "rows_of_the_dictionary_and_of_its_node",
             "columns_of_unequal_lengths"]),
-    "a struct's child has as many slots as the struct, or more": (["struct_column", "longer_child"], "Layout", ["shorter_child"]),
+    "a struct's child has as many slots as the struct, or more": (["struct_column", "longer_child",
+        "structs_of_structs.changes"], "Layout", ["shorter_child"]),
     "a buffer's length is not negative": (["no_validity"], "Layout", ["negative_buffer_length"]),
     "a buffer that is not empty begins in the body": (["buffers_that_overlap", "buffers_not_aligned"], "Layout",
         ["negative_buffer_offset", "validity_outside"]),
@@ -236,12 +257,13 @@ RULES = {
         "Layout", [
         "null_count_wrong", "null_count_of_minus_2", "no_validity_and_a_null", "validity_of_no_nulls",
             "null_count_of_indices_wrong", "null_count_of_a_struct_wrong"]),
-    "each valid text is UTF-8, also where nothing reaches it": (["utf8_alone", "null_of_some_bytes"], "Text", [
+    "each valid text is UTF-8, also where nothing reaches it": (["utf8_alone", "null_of_some_bytes",
+        "letters_of_many_bytes.changes"], "Text", [
         "text_not_utf8", "text_of_a_surrogate", "text_longer_than_it_need_be", "text_cut_off", "large_text_not_utf8",
             "text_of_a_dictionary_not_utf8",
         "text_in_a_list_not_utf8", "text_under_a_null_struct", "text_that_no_list_reaches"]),
     "each valid index has a value, also where nothing reaches it": (["index_under_a_null", "negative_index_under_a_null",
-        "index_of_255", "null_indices_without_a_dictionary"], "Index", ["index_above", "index_below", "index_without_a_dictionary",
+        "index_of_255", "null_indices_without_a_dictionary", "index_among_200.changes"], "Index", ["index_above", "index_below", "index_without_a_dictionary",
         "index_of_an_emptied_dictionary", "index_above_a_shorter_dictionary", "index_before_its_delta", "index_of_2_64",
         "index_in_a_list_above", "index_under_a_null_struct", "index_that_no_list_reaches"]),
 }

@@ -1,17 +1,17 @@
 // How many nodes fields take, and how many slots they have.
 
-use super::fields::{INDEX, Kind, fields_of};
-use super::reading::{Pairs, nodes_of_pairs};
+use super::bodies::{Pairs, nodes_of_pairs};
+use super::fields::{INDEX, Kind, NUMBER, fields_of};
 use arrow_body_reader::{have_length, nodes_of};
 use std::process::Abort;
 
 // A list of numbers and indices: two nodes and one.
-const TWO: [Kind; 4] = [Kind::List, Kind::Number, INDEX, Kind::Text];
+const TWO: [Kind; 4] = [Kind::List, NUMBER, INDEX, Kind::Text];
 
 // The same, and a struct of a struct of a truth value: three nodes.
 const THREE: [Kind; 7] = [
     Kind::List,
-    Kind::Number,
+    NUMBER,
     INDEX,
     Kind::Text,
     Kind::Struct(1),
@@ -38,7 +38,7 @@ static TAKEN: [(&[Kind], Pairs<'static>, Pairs<'static>); 6] = [
         &NODES,
         &[(3, 0), (8, 0), (3, 0), (3, 0), (4, 0), (5, 0)],
     ),
-    (&[Kind::List, Kind::Number], &NODES, &[(3, 0), (8, 0)]),
+    (&[Kind::List, NUMBER], &NODES, &[(3, 0), (8, 0)]),
     (&[INDEX, Kind::Text], &NODES, &[(3, 0)]),
     (
         &THREE,

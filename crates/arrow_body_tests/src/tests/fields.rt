@@ -1,6 +1,6 @@
 // Fields, written as one type for each node that they take.
 
-use arrow_types::{BitWidth, DataType, Encoding, Field, IndexType, TimeUnit};
+use arrow_types::{BitWidth, DataType, Encoding, Field, IndexType};
 use std::process::Abort;
 
 // The type of a field; those of the fields below it come next.
@@ -8,28 +8,25 @@ use std::process::Abort;
 pub(super) enum Kind {
     Null,
     Truth,
-    // Signed numbers of 32 bits.
-    Number,
-    // Lengths of time in seconds.
-    Duration,
+    // Numbers of so many bits, with a sign or without one.
+    Int(BitWidth, bool),
     Text,
     // Texts behind offsets of 64 bits.
     LargeText,
     Bytes,
-    // Byte strings behind offsets of 64 bits.
-    LargeBytes,
     // Byte strings of so many bytes each.
     Fixed(u32),
     // Lists of one type.
     List,
-    // Lists of one type behind offsets of 64 bits.
-    LargeList,
     // Structs of so many types.
     Struct(usize),
     // Signed indices of so many bits into the dictionary of this id, whose values have the type
     // that comes next.
     Index(i64, BitWidth),
 }
+
+// Signed numbers of 32 bits.
+pub(super) const NUMBER: Kind = Kind::Int(BitWidth::ThirtyTwo, true);
 
 // Indices of 32 bits into dictionary 0.
 pub(super) const INDEX: Kind = Kind::Index(0, BitWidth::ThirtyTwo);
@@ -50,21 +47,12 @@ fn field_of(rt: &(impl Abort + AllocGlobal), kind: Kind, behind: &mut Vec<Field>
     match kind {
         Kind::Null => field(rt, DataType::Null),
         Kind::Truth => field(rt, DataType::Bool),
-        Kind::Number => field(
-            rt,
-            DataType::Int {
-                bits: BitWidth::ThirtyTwo,
-                signed: true,
-            },
-        ),
-        Kind::Duration => field(rt, DataType::Duration(TimeUnit::Second)),
+        Kind::Int(bits, signed) => field(rt, DataType::Int { bits, signed }),
         Kind::Text => field(rt, DataType::Utf8),
         Kind::LargeText => field(rt, DataType::LargeUtf8),
         Kind::Bytes => field(rt, DataType::Binary),
-        Kind::LargeBytes => field(rt, DataType::LargeBinary),
         Kind::Fixed(width) => field(rt, DataType::FixedSizeBinary(width)),
         Kind::List => field(rt, DataType::List(item(rt, behind))),
-        Kind::LargeList => field(rt, DataType::LargeList(item(rt, behind))),
         Kind::Struct(count) => structure(rt, count, behind),
         Kind::Index(id, bits) => encoded(id, bits, last(rt, behind)),
     }

@@ -1,9 +1,8 @@
-// Whether dictionaries have the types that fields ask for, and a dictionary of 200 values.
+// Whether dictionaries have the types that fields ask for.
 
-use super::fields::{Kind, fields_of};
-use super::forms::{self, Form};
-use super::reading::{loaded, told};
-use super::written::dictionary;
+use super::bodies::{Held, dictionary, listed, loaded};
+use super::fields::{Kind, NUMBER, fields_of};
+use super::told::holds;
 use arrow_body_reader::are_fit;
 use arrow_data::Dictionary;
 use arrow_types::BitWidth;
@@ -13,47 +12,76 @@ const TO_0: Kind = Kind::Index(0, BitWidth::Eight);
 
 const TO_1: Kind = Kind::Index(1, BitWidth::Eight);
 
-// The types of the fields, the type of the values of dictionary 0, which has none, and whether both
-// fit.
-static FITTING: [(&[Kind], Option<Form>, bool); 16] = [
-    (&[TO_0, Kind::Text], None, true),
-    (&[TO_0, Kind::Text], Some(Form::Utf8), true),
-    (&[TO_0, Kind::Text], Some(Form::LargeUtf8), false),
-    (&[TO_0, Kind::Text], Some(Form::Binary), false),
-    (&[TO_0, Kind::Text], Some(Form::Null), false),
-    (&[TO_1, Kind::Text], Some(Form::Binary), true),
+// Names, the types of the fields, the type of the values of dictionary 0, which has none, and
+// whether both fit.
+static FITTING: [(&str, &[Kind], Option<Kind>, bool); 16] = [
+    ("none", &[TO_0, Kind::Text], None, true),
+    ("texts", &[TO_0, Kind::Text], Some(Kind::Text), true),
     (
-        &[TO_0, Kind::Number],
-        Some(Form::Int(BitWidth::ThirtyTwo, true)),
+        "large texts",
+        &[TO_0, Kind::Text],
+        Some(Kind::LargeText),
+        false,
+    ),
+    ("bytes", &[TO_0, Kind::Text], Some(Kind::Bytes), false),
+    ("nulls", &[TO_0, Kind::Text], Some(Kind::Null), false),
+    (
+        "of another id",
+        &[TO_1, Kind::Text],
+        Some(Kind::Bytes),
+        true,
+    ),
+    ("numbers", &[TO_0, NUMBER], Some(NUMBER), true),
+    (
+        "no sign",
+        &[TO_0, NUMBER],
+        Some(Kind::Int(BitWidth::ThirtyTwo, false)),
+        false,
+    ),
+    (
+        "wider",
+        &[TO_0, NUMBER],
+        Some(Kind::Int(BitWidth::SixtyFour, true)),
+        false,
+    ),
+    (
+        "three bytes",
+        &[TO_0, Kind::Fixed(3)],
+        Some(Kind::Fixed(3)),
         true,
     ),
     (
-        &[TO_0, Kind::Number],
-        Some(Form::Int(BitWidth::ThirtyTwo, false)),
+        "four bytes",
+        &[TO_0, Kind::Fixed(3)],
+        Some(Kind::Fixed(4)),
         false,
     ),
     (
-        &[TO_0, Kind::Number],
-        Some(Form::Int(BitWidth::SixtyFour, true)),
+        "behind another field",
+        &[Kind::Text, TO_0, Kind::Text],
+        Some(Kind::Bytes),
         false,
     ),
-    (&[TO_0, Kind::Fixed(3)], Some(Form::Fixed(3)), true),
-    (&[TO_0, Kind::Fixed(3)], Some(Form::Fixed(4)), false),
-    // behind another field, and below a list of structs
-    (&[Kind::Text, TO_0, Kind::Text], Some(Form::Binary), false),
     (
+        "below a list of structs",
         &[Kind::List, Kind::Struct(2), Kind::Truth, TO_0, Kind::Text],
-        Some(Form::Utf8),
+        Some(Kind::Text),
         true,
     ),
     (
+        "others below a list of structs",
         &[Kind::List, Kind::Struct(2), Kind::Truth, TO_0, Kind::Text],
-        Some(Form::Binary),
+        Some(Kind::Bytes),
         false,
     ),
-    // a dictionary below a dictionary, without values for either
-    (&[TO_0, Kind::Struct(1), TO_1, Kind::Text], None, false),
     (
+        "a dictionary below a dictionary",
+        &[TO_0, Kind::Struct(1), TO_1, Kind::Text],
+        None,
+        false,
+    ),
+    (
+        "a dictionary below one of lists",
         &[TO_0, Kind::List, Kind::Struct(1), TO_1, Kind::Text],
         None,
         false,
@@ -61,69 +89,21 @@ static FITTING: [(&[Kind], Option<Form>, bool); 16] = [
 ];
 
 // Dictionary 0 without values, where a type is given.
-fn empty(rt: &(impl Abort + AllocGlobal), form: Option<Form>) -> Vec<(i64, Dictionary)> {
-    let mut listed = Vec::new(rt.alloc());
-    if let Some(form) = form {
-        let fields = forms::fields_of(rt, form, None);
-        let buffers = [(0, 0), (0, 0), (0, 0)];
-        let values = loaded(rt, &fields, &[(0, 0)], &buffers, &[], &[]);
-        let entry = (0, dictionary(rt, values));
-        listed.push(entry).expect(rt, "memory");
-    }
-    listed
+fn empty(rt: &(impl Abort + AllocGlobal), kind: Option<Kind>) -> Vec<(i64, Dictionary)> {
+    let Some(kind) = kind else {
+        return Vec::new(rt.alloc());
+    };
+    let values = loaded(rt, &[kind], (&[(0, 0)], &[Held::Bytes(&[]); 3]), &[]);
+    listed(rt, 0, dictionary(rt, values))
 }
 
-fn fit(rt: &(impl Abort + AllocGlobal), of: &[Kind], form: Option<Form>) -> bool {
-    are_fit(&fields_of(rt, of), &empty(rt, form))
+fn fit(rt: &(impl Abort + AllocGlobal), of: &[Kind], kind: Option<Kind>) -> bool {
+    are_fit(&fields_of(rt, of), &empty(rt, kind))
 }
 
 #[test]
 fn dictionaries_of_their_types(rt: HostRuntime) {
-    for (row, (of, form, want)) in FITTING.iter().enumerate() {
-        assert_eq!(rt; fit(&rt, of, *form), *want, "row {row}");
-    }
-}
-
-// An index of 8 bits into 200 numbers from 0 on, whether it is signed, and what it shows.
-static AMONG_200: [(u8, bool, &str); 6] = [
-    (199, false, "1: 199"),
-    (128, false, "1: 128"),
-    (200, false, "Index"),
-    (255, false, "Index"),
-    (127, true, "1: 127"),
-    (199, true, "Index"),
-];
-
-// Dictionary 0 of the numbers 0 to 199.
-fn two_hundred(rt: &(impl Abort + AllocGlobal)) -> Vec<(i64, Dictionary)> {
-    let mut numbers = Vec::new(rt.alloc());
-    for number in 0..200u8 {
-        numbers.push(number).expect(rt, "memory");
-    }
-    let fields = forms::fields_of(rt, Form::Int(BitWidth::Eight, false), None);
-    let values = loaded(rt, &fields, &[(200, 0)], &[(0, 0), (0, 200)], &numbers, &[]);
-    let mut listed = Vec::new(rt.alloc());
-    let entry = (0, dictionary(rt, values));
-    listed.push(entry).expect(rt, "memory");
-    listed
-}
-
-fn shows(
-    rt: &(impl Abort + AllocGlobal),
-    listed: &[(i64, Dictionary)],
-    (index, signed, want): (u8, bool, &str),
-) {
-    let by = Some((BitWidth::Eight, signed));
-    let fields = forms::fields_of(rt, Form::Int(BitWidth::Eight, false), by);
-    let column = loaded(rt, &fields, &[(1, 0)], &[(0, 0), (0, 1)], &[index], listed);
-    let got = told(rt, column);
-    assert_eq!(rt; got.as_str(), want, "{index} {signed}");
-}
-
-#[test]
-fn indices_of_8_bits_among_200_values(rt: HostRuntime) {
-    let listed = two_hundred(&rt);
-    for row in &AMONG_200 {
-        shows(&rt, &listed, *row);
+    for (name, of, kind, want) in &FITTING {
+        holds(&rt, name, fit(&rt, of, *kind) == *want);
     }
 }

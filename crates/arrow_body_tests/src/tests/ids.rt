@@ -1,8 +1,8 @@
 // Dictionaries in any order of their ids.
 
-use super::fields::Kind;
-use super::reading::told;
-use super::written::{Held, dictionary, written};
+use super::bodies::{Held, dictionary, loaded};
+use super::fields::{Kind, NUMBER};
+use super::told::{is_text, told};
 use arrow_data::Dictionary;
 use arrow_types::BitWidth;
 use std::process::Abort;
@@ -10,14 +10,14 @@ use std::process::Abort;
 // The dictionary of one value, this number.
 fn single(rt: &(impl Abort + AllocGlobal), value: u8) -> Dictionary {
     let held = [Held::Bytes(&[]), Held::Numbers(&[value])];
-    dictionary(rt, written(rt, &[Kind::Number], &[(1, 0)], &held, &[]))
+    dictionary(rt, loaded(rt, &[NUMBER], (&[(1, 0)], &held), &[]))
 }
 
 // What the column of index 0 into the dictionary of this id is.
 fn told_by(rt: &(impl Abort + AllocGlobal), listed: &[(i64, Dictionary)], id: i64) -> String {
-    let of = [Kind::Index(id, BitWidth::Eight), Kind::Number];
+    let of = [Kind::Index(id, BitWidth::Eight), NUMBER];
     let held = [Held::Bytes(&[]), Held::Bytes(&[0])];
-    told(rt, written(rt, &of, &[(1, 0)], &held, listed))
+    told(rt, &loaded(rt, &of, (&[(1, 0)], &held), listed))
 }
 
 // 200 ids, each with a value of its own, the first at -300, in steps of 3.
@@ -37,15 +37,15 @@ fn has_each(rt: &(impl Abort + AllocGlobal), listed: &[(i64, Dictionary)]) {
     for value in 0..200u8 {
         let id = (value as i64) * 3 - 300;
         let got = told_by(rt, listed, id);
-        let want = format!(in rt.alloc(); "1: {value}").expect(rt, "memory");
-        assert_eq!(rt; got, want, "id {id}");
+        let want = format!(in rt.alloc(); "1: 0 -> {value}").expect(rt, "memory");
+        is_text(rt, "an id that is there", &got, &want);
     }
 }
 
 fn has_no_other(rt: &(impl Abort + AllocGlobal), listed: &[(i64, Dictionary)]) {
     for id in [i64::MIN, -301, -299, 1, 296, 298, i64::MAX] {
         let got = told_by(rt, listed, id);
-        assert_eq!(rt; got.as_str(), "Index", "id {id}");
+        is_text(rt, "an id that is not there", &got, "Index");
     }
 }
 
@@ -75,9 +75,9 @@ fn listed(rt: &(impl Abort + AllocGlobal), entries: &[(i64, u8)]) -> Vec<(i64, D
 }
 
 fn has_the_first(rt: &(impl Abort + AllocGlobal), listed: &[(i64, Dictionary)]) {
-    for (id, want) in [(1, "1: 10"), (4, "1: 40"), (9, "1: 90")] {
+    for (id, want) in [(1, "1: 0 -> 10"), (4, "1: 0 -> 40"), (9, "1: 0 -> 90")] {
         let got = told_by(rt, listed, id);
-        assert_eq!(rt; got.as_str(), want, "id {id}");
+        is_text(rt, "an id that is there again", &got, want);
     }
 }
 

@@ -1,196 +1,446 @@
-// Columns that were read and are laid out again: what stood under a null is gone.
+// Columns, and the rest of dictionaries, laid out as a body: what stood under a null is gone.
 
-use super::fields::Kind;
-use super::reading::Pairs;
-use super::written::{Held, written};
-use arrow_body_writer::{Align, Body, body_size, store, store_in};
-use arrow_data::Array;
+use super::bodies::{Held, Pairs, Parts, append, dictionary, loaded};
+use super::fields::{Kind, NUMBER};
+use super::told::holds;
+use arrow_body_writer::{
+    Align, Body, body_size, rest_size, store, store_in, store_rest, store_rest_in,
+};
+use arrow_data::{Array, Dictionary};
 use std::alloc::Global;
 use std::process::Abort;
 
-// The types of the fields, the nodes and the buffers that are read, and the nodes, the buffers and
-// the bytes up to the last that is not 0 that are stored of them, with how many bytes there are.
-pub(super) struct Case {
-    pub(super) of: &'static [Kind],
-    pub(super) nodes: Pairs<'static>,
-    pub(super) held: &'static [Held<'static>],
-    pub(super) align: Align,
-    pub(super) stored_nodes: Pairs<'static>,
-    pub(super) stored_buffers: Pairs<'static>,
-    pub(super) bytes: &'static [u8],
-    pub(super) size: usize,
+// A body that is stored: its alignment, its nodes, its buffers and its bytes up to the last that is
+// not 0, with how many bytes there are.
+struct Stored {
+    align: Align,
+    nodes: Pairs<'static>,
+    buffers: Pairs<'static>,
+    bytes: &'static [u8],
+    size: usize,
 }
 
-static CASES: [Case; 7] = [
-    // 1, null, 3, with a 9 under the null.
-    Case {
-        of: &[Kind::Number],
-        nodes: &[(3, 1)],
-        held: &[Held::Bytes(&[5]), Held::Numbers(&[1, 9, 3])],
-        align: Align::Eight,
-        stored_nodes: &[(3, 1)],
-        stored_buffers: &[(0, 1), (8, 12)],
-        bytes: &[5, 0, 0, 0, 0, 0, 0, 0, 1, 0, 0, 0, 0, 0, 0, 0, 3],
-        size: 24,
+impl Stored {
+    // Whether the body is as it should be.
+    fn is(&self, body: &Body) -> bool {
+        let nodes = body.nodes.iter().map(|node| (node.length, node.null_count));
+        let buffers = body.buffers.iter().map(|it| (it.offset, it.length));
+        let Some(zeros) = body.bytes.strip_prefix(self.bytes) else {
+            return false;
+        };
+        nodes.eq(self.nodes.iter().copied())
+            && buffers.eq(self.buffers.iter().copied())
+            && zeros.iter().all(|byte| *byte == 0)
+            && body.bytes.len() == self.size
+    }
+}
+
+// Columns that are read, and what is stored of them.
+struct Columns {
+    name: &'static str,
+    of: &'static [Kind],
+    parts: Parts<'static>,
+    wanted: Stored,
+}
+
+static COLUMNS: [Columns; 4] = [
+    Columns {
+        name: "a number under a null",
+        of: &[NUMBER],
+        parts: (&[(3, 1)], &[Held::Bytes(&[5]), Held::Numbers(&[1, 9, 3])]),
+        wanted: Stored {
+            align: Align::Eight,
+            nodes: &[(3, 1)],
+            buffers: &[(0, 1), (8, 12)],
+            bytes: &[5, 0, 0, 0, 0, 0, 0, 0, 1, 0, 0, 0, 0, 0, 0, 0, 3],
+            size: 24,
+        },
     },
-    // No null, with a bitmap that says so.
-    Case {
-        of: &[Kind::Number],
-        nodes: &[(2, 0)],
-        held: &[Held::Bytes(&[255]), Held::Numbers(&[1, 2])],
-        align: Align::SixtyFour,
-        stored_nodes: &[(2, 0)],
-        stored_buffers: &[(0, 0), (0, 8)],
-        bytes: &[1, 0, 0, 0, 2],
-        size: 64,
+    Columns {
+        name: "a validity of no nulls, aligned to 64",
+        of: &[NUMBER],
+        parts: (&[(2, 0)], &[Held::Bytes(&[255]), Held::Numbers(&[1, 2])]),
+        wanted: Stored {
+            align: Align::SixtyFour,
+            nodes: &[(2, 0)],
+            buffers: &[(0, 0), (0, 8)],
+            bytes: &[1, 0, 0, 0, 2],
+            size: 64,
+        },
     },
-    // [1, 2], null, [3], with an item 7 under the null.
-    Case {
-        of: &[Kind::List, Kind::Number],
-        nodes: &[(3, 1), (4, 0)],
-        held: &[
-            Held::Bytes(&[5]),
-            Held::Numbers(&[0, 2, 3, 4]),
-            Held::Bytes(&[]),
-            Held::Numbers(&[1, 2, 7, 3]),
-        ],
-        align: Align::Eight,
-        stored_nodes: &[(3, 1), (3, 0)],
-        stored_buffers: &[(0, 1), (8, 16), (24, 0), (24, 12)],
-        bytes: &[
-            5, 0, 0, 0, 0, 0, 0, 0, 0, 0, 0, 0, 2, 0, 0, 0, 2, 0, 0, 0, 3, 0, 0, 0, 1, 0, 0, 0, 2,
-            0, 0, 0, 3,
-        ],
-        size: 40,
+    Columns {
+        name: "an item under a null",
+        of: &[Kind::List, NUMBER],
+        parts: (
+            &[(3, 1), (4, 0)],
+            &[
+                Held::Bytes(&[5]),
+                Held::Numbers(&[0, 2, 3, 4]),
+                Held::Bytes(&[]),
+                Held::Numbers(&[1, 2, 7, 3]),
+            ],
+        ),
+        wanted: Stored {
+            align: Align::Eight,
+            nodes: &[(3, 1), (3, 0)],
+            buffers: &[(0, 1), (8, 16), (24, 0), (24, 12)],
+            bytes: &[
+                5, 0, 0, 0, 0, 0, 0, 0, 0, 0, 0, 0, 2, 0, 0, 0, 2, 0, 0, 0, 3, 0, 0, 0, 1, 0, 0, 0,
+                2, 0, 0, 0, 3,
+            ],
+            size: 40,
+        },
     },
-    // No lists, without an offset.
-    Case {
-        of: &[Kind::List, Kind::Number],
-        nodes: &[(0, 0), (0, 0)],
-        held: &[
-            Held::Bytes(&[]),
-            Held::Bytes(&[]),
-            Held::Bytes(&[]),
-            Held::Bytes(&[]),
-        ],
-        align: Align::Eight,
-        stored_nodes: &[(0, 0), (0, 0)],
-        stored_buffers: &[(0, 0), (0, 4), (8, 0), (8, 0)],
-        bytes: &[],
-        size: 8,
-    },
-    // {"a"}, null, with a text "b" under the null.
-    Case {
+    Columns {
+        name: "a text under a null",
         of: &[Kind::Struct(1), Kind::Text],
-        nodes: &[(2, 1), (2, 0)],
-        held: &[
-            Held::Bytes(&[1]),
-            Held::Bytes(&[]),
-            Held::Numbers(&[0, 1, 2]),
-            Held::Bytes(&[0x61, 0x62]),
-        ],
-        align: Align::Eight,
-        stored_nodes: &[(2, 1), (2, 1)],
-        stored_buffers: &[(0, 1), (8, 1), (16, 12), (32, 1)],
-        bytes: &[
-            1, 0, 0, 0, 0, 0, 0, 0, 1, 0, 0, 0, 0, 0, 0, 0, 0, 0, 0, 0, 1, 0, 0, 0, 1, 0, 0, 0, 0,
-            0, 0, 0, 0x61,
-        ],
-        size: 40,
-    },
-    // The bytes ff 00, null, none, 80, with a byte 9 under the null.
-    Case {
-        of: &[Kind::Bytes],
-        nodes: &[(4, 1)],
-        held: &[
-            Held::Bytes(&[13]),
-            Held::Numbers(&[0, 2, 3, 3, 4]),
-            Held::Bytes(&[0xff, 0, 9, 0x80]),
-        ],
-        align: Align::Eight,
-        stored_nodes: &[(4, 1)],
-        stored_buffers: &[(0, 1), (8, 20), (32, 3)],
-        bytes: &[
-            13, 0, 0, 0, 0, 0, 0, 0, 0, 0, 0, 0, 2, 0, 0, 0, 2, 0, 0, 0, 2, 0, 0, 0, 3, 0, 0, 0, 0,
-            0, 0, 0, 0xff, 0, 0x80,
-        ],
-        size: 40,
-    },
-    // The bytes fe, null, behind offsets of 64 bits, with a byte 9 under the null.
-    Case {
-        of: &[Kind::LargeBytes],
-        nodes: &[(2, 1)],
-        held: &[
-            Held::Bytes(&[1]),
-            Held::Numbers(&[0, 0, 1, 0, 2, 0]),
-            Held::Bytes(&[0xfe, 9]),
-        ],
-        align: Align::Eight,
-        stored_nodes: &[(2, 1)],
-        stored_buffers: &[(0, 1), (8, 24), (32, 1)],
-        bytes: &[
-            1, 0, 0, 0, 0, 0, 0, 0, 0, 0, 0, 0, 0, 0, 0, 0, 1, 0, 0, 0, 0, 0, 0, 0, 1, 0, 0, 0, 0,
-            0, 0, 0, 0xfe,
-        ],
-        size: 40,
+        parts: (
+            &[(2, 1), (2, 0)],
+            &[
+                Held::Bytes(&[1]),
+                Held::Bytes(&[]),
+                Held::Numbers(&[0, 1, 2]),
+                Held::Bytes(&[0x61, 0x62]),
+            ],
+        ),
+        wanted: Stored {
+            align: Align::Eight,
+            nodes: &[(2, 1), (2, 1)],
+            buffers: &[(0, 1), (8, 1), (16, 12), (32, 1)],
+            bytes: &[
+                1, 0, 0, 0, 0, 0, 0, 0, 1, 0, 0, 0, 0, 0, 0, 0, 0, 0, 0, 0, 1, 0, 0, 0, 1, 0, 0, 0,
+                0, 0, 0, 0, 0x61,
+            ],
+            size: 40,
+        },
     },
 ];
 
-// Whether the columns are stored as the case says.
-pub(super) fn is_stored(alloc: Global, columns: &[Array], case: &Case) -> bool {
-    let Some(size) = body_size(columns, case.align) else {
-        return false;
-    };
-    let Ok(body) = store(alloc, columns, case.align) else {
-        return false;
-    };
-    size == case.size as u64 && is_as_said(&body, case)
+// The segments of a dictionary, from which value on it is stored, and what is stored.
+struct Rest {
+    name: &'static str,
+    of: &'static [Kind],
+    segments: &'static [Parts<'static>],
+    from: usize,
+    wanted: Stored,
 }
 
-// Whether the body is as the case says.
-fn is_as_said(body: &Body, case: &Case) -> bool {
-    let nodes = body.nodes.iter().map(|node| (node.length, node.null_count));
-    let buffers = body.buffers.iter().map(|it| (it.offset, it.length));
-    let Some(zeros) = body.bytes.strip_prefix(case.bytes) else {
+// The texts "a", "b", "c", "d" and "e", in one segment, and the first three and the others.
+const FIVE: &[Parts<'static>] = &[(
+    &[(5, 0)],
+    &[
+        Held::Bytes(&[]),
+        Held::Numbers(&[0, 1, 2, 3, 4, 5]),
+        Held::Bytes(b"abcde"),
+    ],
+)];
+
+const THREE_AND_TWO: &[Parts<'static>] = &[
+    (
+        &[(3, 0)],
+        &[
+            Held::Bytes(&[]),
+            Held::Numbers(&[0, 1, 2, 3]),
+            Held::Bytes(b"abc"),
+        ],
+    ),
+    (
+        &[(2, 0)],
+        &[
+            Held::Bytes(&[]),
+            Held::Numbers(&[1, 2, 3]),
+            Held::Bytes(b"xde"),
+        ],
+    ),
+];
+
+static RESTS: [Rest; 10] = [
+    Rest {
+        name: "behind the third",
+        of: &[Kind::Text],
+        segments: FIVE,
+        from: 3,
+        wanted: Stored {
+            align: Align::Eight,
+            nodes: &[(2, 0)],
+            buffers: &[(0, 0), (0, 12), (16, 2)],
+            bytes: &[0, 0, 0, 0, 1, 0, 0, 0, 2, 0, 0, 0, 0, 0, 0, 0, 0x64, 0x65],
+            size: 24,
+        },
+    },
+    Rest {
+        name: "all of one segment",
+        of: &[Kind::Text],
+        segments: FIVE,
+        from: 0,
+        wanted: Stored {
+            align: Align::Eight,
+            nodes: &[(5, 0)],
+            buffers: &[(0, 0), (0, 24), (24, 5)],
+            bytes: &[
+                0, 0, 0, 0, 1, 0, 0, 0, 2, 0, 0, 0, 3, 0, 0, 0, 4, 0, 0, 0, 5, 0, 0, 0, 0x61, 0x62,
+                0x63, 0x64, 0x65,
+            ],
+            size: 32,
+        },
+    },
+    // From its end on there is only the first offset.
+    Rest {
+        name: "behind the end",
+        of: &[Kind::Text],
+        segments: FIVE,
+        from: 5,
+        wanted: Stored {
+            align: Align::Eight,
+            nodes: &[(0, 0)],
+            buffers: &[(0, 0), (0, 4), (8, 0)],
+            bytes: &[],
+            size: 8,
+        },
+    },
+    // Out of both segments, the second whole, and all; the second has a byte before its first
+    // value.
+    Rest {
+        name: "out of both segments",
+        of: &[Kind::Text],
+        segments: THREE_AND_TWO,
+        from: 2,
+        wanted: Stored {
+            align: Align::Eight,
+            nodes: &[(3, 0)],
+            buffers: &[(0, 0), (0, 16), (16, 3)],
+            bytes: &[
+                0, 0, 0, 0, 1, 0, 0, 0, 2, 0, 0, 0, 3, 0, 0, 0, 0x63, 0x64, 0x65,
+            ],
+            size: 24,
+        },
+    },
+    Rest {
+        name: "the second segment, aligned to 64",
+        of: &[Kind::Text],
+        segments: THREE_AND_TWO,
+        from: 3,
+        wanted: Stored {
+            align: Align::SixtyFour,
+            nodes: &[(2, 0)],
+            buffers: &[(0, 0), (0, 12), (64, 2)],
+            bytes: &[
+                0, 0, 0, 0, 1, 0, 0, 0, 2, 0, 0, 0, 0, 0, 0, 0, 0, 0, 0, 0, 0, 0, 0, 0, 0, 0, 0, 0,
+                0, 0, 0, 0, 0, 0, 0, 0, 0, 0, 0, 0, 0, 0, 0, 0, 0, 0, 0, 0, 0, 0, 0, 0, 0, 0, 0, 0,
+                0, 0, 0, 0, 0, 0, 0, 0, 0x64, 0x65,
+            ],
+            size: 128,
+        },
+    },
+    Rest {
+        name: "all of both segments",
+        of: &[Kind::Text],
+        segments: THREE_AND_TWO,
+        from: 0,
+        wanted: Stored {
+            align: Align::Eight,
+            nodes: &[(5, 0)],
+            buffers: &[(0, 0), (0, 24), (24, 5)],
+            bytes: &[
+                0, 0, 0, 0, 1, 0, 0, 0, 2, 0, 0, 0, 3, 0, 0, 0, 4, 0, 0, 0, 5, 0, 0, 0, 0x61, 0x62,
+                0x63, 0x64, 0x65,
+            ],
+            size: 32,
+        },
+    },
+    // "a", none with "z" under it, and "bc": the rest from none on.
+    Rest {
+        name: "from a null on",
+        of: &[Kind::Text],
+        segments: &[
+            (
+                &[(2, 1)],
+                &[
+                    Held::Bytes(&[1]),
+                    Held::Numbers(&[0, 1, 2]),
+                    Held::Bytes(b"az"),
+                ],
+            ),
+            (
+                &[(1, 0)],
+                &[Held::Bytes(&[]), Held::Numbers(&[0, 2]), Held::Bytes(b"bc")],
+            ),
+        ],
+        from: 1,
+        wanted: Stored {
+            align: Align::Eight,
+            nodes: &[(2, 1)],
+            buffers: &[(0, 1), (8, 12), (24, 2)],
+            bytes: &[
+                2, 0, 0, 0, 0, 0, 0, 0, 0, 0, 0, 0, 0, 0, 0, 0, 2, 0, 0, 0, 0, 0, 0, 0, 0x62, 0x63,
+            ],
+            size: 32,
+        },
+    },
+    // The numbers 1 and 2, then 3, from 2 on.
+    Rest {
+        name: "numbers",
+        of: &[NUMBER],
+        segments: &[
+            (&[(2, 0)], &[Held::Bytes(&[]), Held::Numbers(&[1, 2])]),
+            (&[(1, 0)], &[Held::Bytes(&[]), Held::Numbers(&[3])]),
+        ],
+        from: 1,
+        wanted: Stored {
+            align: Align::Eight,
+            nodes: &[(2, 0)],
+            buffers: &[(0, 0), (0, 8)],
+            bytes: &[2, 0, 0, 0, 3],
+            size: 8,
+        },
+    },
+    // The lists [1, 2] and none, then [3], from none on.
+    Rest {
+        name: "lists",
+        of: &[Kind::List, NUMBER],
+        segments: &[
+            (
+                &[(2, 1), (3, 0)],
+                &[
+                    Held::Bytes(&[1]),
+                    Held::Numbers(&[0, 2, 3]),
+                    Held::Bytes(&[]),
+                    Held::Numbers(&[1, 2, 7]),
+                ],
+            ),
+            (
+                &[(1, 0), (1, 0)],
+                &[
+                    Held::Bytes(&[]),
+                    Held::Numbers(&[0, 1]),
+                    Held::Bytes(&[]),
+                    Held::Numbers(&[3]),
+                ],
+            ),
+        ],
+        from: 1,
+        wanted: Stored {
+            align: Align::Eight,
+            nodes: &[(2, 1), (1, 0)],
+            buffers: &[(0, 1), (8, 12), (24, 0), (24, 4)],
+            bytes: &[
+                2, 0, 0, 0, 0, 0, 0, 0, 0, 0, 0, 0, 0, 0, 0, 0, 1, 0, 0, 0, 0, 0, 0, 0, 3,
+            ],
+            size: 32,
+        },
+    },
+    // Nulls have no buffer.
+    Rest {
+        name: "nulls",
+        of: &[Kind::Null],
+        segments: &[(&[(3, 3)], &[]), (&[(4, 4)], &[])],
+        from: 2,
+        wanted: Stored {
+            align: Align::Eight,
+            nodes: &[(5, 5)],
+            buffers: &[],
+            bytes: &[],
+            size: 0,
+        },
+    },
+];
+
+// Whether the columns are stored as they should be.
+fn is_stored(alloc: Global, columns: &[Array], wanted: &Stored) -> bool {
+    let Some(size) = body_size(columns, wanted.align) else {
         return false;
     };
-    nodes.eq(case.stored_nodes.iter().copied())
-        && buffers.eq(case.stored_buffers.iter().copied())
-        && zeros.iter().all(|byte| *byte == 0)
-        && body.bytes.len() == case.size
+    let Ok(body) = store(alloc, columns, wanted.align) else {
+        return false;
+    };
+    size == wanted.size as u64 && wanted.is(&body)
 }
 
-// The body of the columns in this room, where it is as the case says.
-fn stored_in(room: Body, columns: &[Array], case: &Case) -> Option<Body> {
-    let size = body_size(columns, case.align)?;
+// The body of the columns in this room, where it is as it should be.
+fn stored_in(room: Body, columns: &[Array], wanted: &Stored) -> Option<Body> {
+    let size = body_size(columns, wanted.align)?;
     let mut room = room;
     room.make_room(size as usize).ok()?;
-    let body = store_in(room, columns, case.align).ok()?;
-    is_as_said(&body, case).then_some(body)
+    let body = store_in(room, columns, wanted.align).ok()?;
+    wanted.is(&body).then_some(body)
 }
 
-// Whether the columns that are read are stored as the case says.
-pub(super) fn lay_out(rt: &(impl Abort + AllocGlobal), case: &Case) -> bool {
-    let columns = written(rt, case.of, case.nodes, case.held, &[]);
-    let columns = columns.expect(rt, "a body that is sound");
-    is_stored(rt.alloc(), &columns, case)
+fn columns_of(rt: &(impl Abort + AllocGlobal), row: &Columns) -> Vec<Array> {
+    loaded(rt, row.of, row.parts, &[]).expect(rt, "a body that is sound")
 }
 
 #[test]
 fn columns_are_laid_out_again(rt: HostRuntime) {
-    for (k, case) in CASES.iter().enumerate() {
-        assert!(rt; lay_out(&rt, case), "case {k}");
+    for row in &COLUMNS {
+        let columns = columns_of(&rt, row);
+        holds(&rt, row.name, is_stored(rt.alloc(), &columns, &row.wanted));
     }
 }
 
 #[test]
 fn columns_are_laid_out_in_the_room_of_others(rt: HostRuntime) {
     let mut room = Body::new(rt.alloc());
-    for (k, case) in CASES.iter().enumerate() {
-        let columns = written(&rt, case.of, case.nodes, case.held, &[]);
-        let columns = columns.expect(&rt, "a body that is sound");
-        let body = stored_in(room, &columns, case);
-        assert!(rt; body.is_some(), "case {k}");
-        room = body.expect(&rt, "a body");
+    for row in &COLUMNS {
+        let body = stored_in(room, &columns_of(&rt, row), &row.wanted);
+        room = body.expect(&rt, row.name);
+    }
+}
+
+// The dictionary of these segments.
+fn of_segments(
+    rt: &(impl Abort + AllocGlobal),
+    of: &[Kind],
+    segments: &[Parts<'_>],
+) -> Option<Dictionary> {
+    let mut whole: Option<Dictionary> = None;
+    for parts in segments {
+        let columns = loaded(rt, of, *parts, &[]);
+        match &mut whole {
+            None => whole = Some(dictionary(rt, columns)),
+            Some(before) => append(rt, before, columns),
+        }
+    }
+    whole
+}
+
+fn whole_of(rt: &(impl Abort + AllocGlobal), row: &Rest) -> Dictionary {
+    of_segments(rt, row.of, row.segments).expect(rt, "a segment")
+}
+
+// Whether the rest is stored as it should be.
+fn is_rest_stored(alloc: Global, dictionary: &Dictionary, from: usize, wanted: &Stored) -> bool {
+    let Some(size) = rest_size(dictionary, from, wanted.align) else {
+        return false;
+    };
+    let Ok(body) = store_rest(alloc, dictionary, from, wanted.align) else {
+        return false;
+    };
+    size == wanted.size as u64 && wanted.is(&body)
+}
+
+// The body of the rest in this room, where it is as it should be.
+fn rest_in(room: Body, dictionary: &Dictionary, from: usize, wanted: &Stored) -> Option<Body> {
+    let size = rest_size(dictionary, from, wanted.align)?;
+    let mut room = room;
+    room.make_room(size as usize).ok()?;
+    let body = store_rest_in(room, dictionary, from, wanted.align).ok()?;
+    wanted.is(&body).then_some(body)
+}
+
+#[test]
+fn rests_are_laid_out(rt: HostRuntime) {
+    for row in &RESTS {
+        let whole = whole_of(&rt, row);
+        let is_stored = is_rest_stored(rt.alloc(), &whole, row.from, &row.wanted);
+        holds(&rt, row.name, is_stored);
+    }
+}
+
+#[test]
+fn rests_are_laid_out_in_the_room_of_others(rt: HostRuntime) {
+    let mut room = Body::new(rt.alloc());
+    for row in &RESTS {
+        let body = rest_in(room, &whole_of(&rt, row), row.from, &row.wanted);
+        room = body.expect(&rt, row.name);
     }
 }

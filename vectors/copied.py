@@ -1,0 +1,106 @@
+"""What is written of a stream in each way, laid out by examples/frames.py from the values that the model reads: by the chapters of
+docs/FORMAT.md on bodies as written and on dictionaries. The schema is taken as it stands, so it has to be one of frames.py."""
+import struct
+
+import bodies
+import frames
+import stream
+from bodies import fixed
+from frames import END_MARKER
+from model import FIXED_SIZE, LARGE_LIST, LIST, STRUCT
+from worked import split
+
+FORMS = {(width, signed): form if signed else form.upper() for width, form in ((1, "b"), (2, "h"), (4, "i"), (8, "q"))
+    for signed in (True, False)}
+# The ways as the program numbers them: whether deltas are sent, and the alignment.
+WAYS = [(True, 8), (False, 8), (True, 64), (False, 64)]
+
+
+def again(field, its):
+    """A column of slots, each a column and a place in it, or None for a null."""
+    its = [None if it is None or not it[0].is_valid(it[1]) else it for it in its]
+    code, children = field["code"], field["children"]
+    if field["encoding"]:
+        width, signed = field["encoding"][1]
+        return frames.numbers([it and it[0].index(it[1]) for it in its], FORMS[width // 8, signed])
+    if code == stream.NULL:
+        return frames.nulls(len(its))
+    if code == stream.BOOL:
+        return frames.bools([None if it is None else stream.bit(it[0].held[0], it[1]) for it in its])
+    if code == FIXED_SIZE:
+        width = field["type"][0]
+        return fixed([it and it[0].held[0][width * it[1]:width * (it[1] + 1)] for it in its], width)
+    if code == STRUCT:
+        return frames.structs([it and () for it in its], *(again(child, [it and (it[0].children[at], it[1]) for it in its])
+            for at, child in enumerate(children)))
+    if code in stream.OFFSETS:
+        return of_spans(field, its, [it and it[0].span(it[1]) for it in its])
+    width, signed = stream.number_of(field)
+    return frames.numbers([it and it[0].number(it[1], width, signed) for it in its], FORMS[width, signed])
+
+
+def of_spans(field, its, spans):
+    """A column whose values stand behind offsets."""
+    is_large = stream.OFFSETS[field["code"]] == 8
+    if field["code"] in (LIST, LARGE_LIST):
+        items = [None if span is None else [(it[0].children[0], at) for at in range(*span)] for it, span in zip(its, spans)]
+        return (bodies.large_lists if is_large else frames.lists)(items, lambda found: again(field["children"][0], found))
+    held = [None if span is None else it[0].held[1][span[0]:span[1]] for it, span in zip(its, spans)]
+    return (bodies.large_strings if is_large else frames.strings)(held)
+
+
+def aligned(frame, align):
+    """A frame without a body, whose metadata are filled up to the alignment."""
+    words = frames.metadata_in(frame)
+    words += bytes(-(len(words) + 8) % align)
+    return frame[:4] + struct.pack("<i", len(words)) + words
+
+
+def ids_in(fields):
+    """The fields of values by their ids, in pre-order."""
+    found = {}
+    for field in stream.model.all_fields(fields):
+        if field["encoding"]:
+            found.setdefault(field["encoding"][0], stream.plain(field))
+    return found
+
+
+def values_of(field, columns):
+    """The slots of a dictionary, and what tells each from others."""
+    its = [(column, at) for column in columns for at in range(column.length)]
+    return its, [(again(field, [it]).nodes, again(field, [it]).buffers) for it in its]
+
+
+class Copier(stream.Reader):
+    """A reader that writes what it reads."""
+
+    def __init__(self, held, way):
+        super().__init__(held)
+        self.has_deltas, self.align = WAYS[way]
+        self.written, self.sent = [aligned(next(split(held)), self.align)], {}
+
+    def take(self, message, batch, body):
+        super().take(message, batch, body)
+        if batch is not None and message.code == 3:
+            for number, field in ids_in(self.schema.fields).items():
+                self.send(number, field)
+            columns = [again(it.field, [(it, at) for at in range(it.length)]) for it in self.records[-1][2]]
+            self.written.append(frames.batch(*columns, length=batch.length, align=self.align))
+
+    def send(self, number, field):
+        """Sends a dictionary where it is not what was sent."""
+        its, values = values_of(field, self.dictionaries.get(number, []))
+        known = self.sent.get(number)
+        if values == known:
+            return
+        is_delta = self.has_deltas and known is not None and values[:len(known)] == known
+        column = again(field, its[len(known):] if is_delta else its)
+        self.written.append(frames.dictionary_batch(number, column, is_delta, align=self.align))
+        self.sent[number] = values
+
+
+def copy(held, way):
+    """What is written of a stream that ends well."""
+    copier = Copier(held, way)
+    assert copier.run() is None
+    return b"".join(copier.written) + (END_MARKER if copier.is_done else b"")
