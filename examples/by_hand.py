@@ -59,7 +59,6 @@ ARRAYS = {
         "SCHEMA": metadata_in(NUMBERS),
         "BATCH": metadata_in(THREE),
     },
-    "crates/arrow_stream_reader_tests/src/frames.rt": {"SCHEMA": NUMBERS, "BATCH": THREE},
     "crates/arrowflow_tests/src/tests/rooms.rt": {
         "SCHEMA": schema(field("n", integer(8, True))),
         "MANY": batch(numbers([at % 103 for at in range(1030)], "b"))[:152],

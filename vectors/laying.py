@@ -8,7 +8,7 @@ import frames
 import streams
 from frames import (END_MARKER, INT32, ONE_BATCH, ONE_COLUMN, UTF8, batch, field, frame, record_batch, scalar, schema, table,
                     text, vector)
-from places import Stream
+from places import Parts, Stream
 from told import TOP
 
 # One nullable column `n` of signed 32-bit integers, and a batch of 1, a null and 3: all changes by name are of these frames.
@@ -65,6 +65,27 @@ def of_another_writer(place):
     """Bytes that FlatBuffers' own builder laid out, which examples/foreign wrote into a module of tests."""
     held = constants.constants((TOP / "crates" / place).read_text(encoding="utf-8"))
     return {name: bytes(it) for name, it in held.items()}
+
+
+def written_by_another(name):
+    """A vector that FlatBuffers' own builder laid out, which examples/foreign wrote as it is."""
+    return (TOP / f"vectors/{name}.arrows").read_bytes()
+
+
+def frames_of_another():
+    """The frames of such a vector by what they are."""
+    names = ("SCHEMA", "DICTIONARY", "ROWS", "DELTA", "NO_ROWS", "ROWS", "END")
+    return dict(zip(names, split(written_by_another("defaults_left_out")), strict=True))
+
+
+def split(held):
+    """The frames of a stream."""
+    place = 0
+    while place < len(held):
+        size = struct.unpack_from("<i", held, place + 4)[0]
+        end = place + 8 + size + (Parts(held[place:]).number("body_length") if size else 0)
+        yield held[place:end]
+        place = end
 
 
 def raw_batch(length, nodes, places, body=b"", more=()):

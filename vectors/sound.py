@@ -9,10 +9,9 @@ from frames import (BOOL, END_MARKER, INT32, LARGE_BINARY, LARGE_LIST, LARGE_UTF
                     UTF8, batch, bools, date, dictionary, dictionary_batch, duration, field, fixed_size_binary, frame, integer,
                     lists, nulls, numbers, pairs, scalar, schema, strings, structs, table, time, timestamp, vector)
 from kinds import DAY_IN_MS, POINT
-from laying import (FIELD, INT32S, NODE, TEXTS, TYPE, VALIDITY, WORDS, column, i32, in_one, large_texts, letters,
-                    of_another_writer, one_batch_of, raw_batch, raw_field, raw_schema, schema_in_one, stream)
+from laying import (FIELD, INT32S, NODE, TEXTS, TYPE, VALIDITY, WORDS, column, frames_of_another, i32, in_one, large_texts, letters,
+                    one_batch_of, raw_batch, raw_field, raw_schema, schema_in_one, stream, written_by_another)
 from places import Stream
-from told import TOP
 
 ABC = WORDS + letters("abc")
 GROWING = b"".join(streams.growing_dictionary())
@@ -282,7 +281,7 @@ def pairs_on_every_level():
 
 def other_writers():
     """Batches and dictionaries as FlatBuffers' own builder lays them out, which leaves out what has its default."""
-    its = of_another_writer("arrow_stream_reader_tests/src/frames/foreign.rt")
+    its = frames_of_another()
     six = schema(field("u", integer(16, False)), field("d", date(1), nullable=False), field("t", time(1)), field("s", timestamp(0)),
         field("", duration(1)), field("k", UTF8, encoding=dictionary(0)))
     rows = [numbers([65_535, None], "H"), numbers([0, DAY_IN_MS], "q"), numbers([None, 1]), numbers([1, None], "q"),
@@ -290,7 +289,7 @@ def other_writers():
     return {
         "stream_of_another_writer": (
             "a stream of another writer, who leaves out numbers that have their defaults, and gives equal vtables one place",
-            (TOP / "vectors/stream_of_another_writer.arrows").read_bytes()),
+            written_by_another("stream_of_another_writer")),
         "dictionaries_of_another_writer": ("a dictionary and a delta of another writer, who leaves out what has its default",
             stream(WORDS, its["DICTIONARY"], batch(numbers([1, None])), its["DELTA"], batch(numbers([2, 0])))),
         "batch_of_another_writer": (

@@ -1,10 +1,9 @@
 """The worked examples and rows, each with what is stated of it, from outside the model: where the model answered otherwise, the
 vectors would not be written. docs/TESTING.md shows which vectors and which tests have each."""
 import re
-import struct
 
 import noted
-from laying import FIELD, ONE
+from laying import FIELD, ONE, split
 from places import Parts
 
 CLEAN = ["end clean"]
@@ -321,16 +320,6 @@ def wrong_texts(files):
                 if not any(stands(line, it) for line in lines):
                     yield f"{name}: {vector} lacks, or has before another: {it}"
                     break
-
-
-def split(held):
-    """The frames of a stream."""
-    place = 0
-    while place < len(held):
-        size = struct.unpack_from("<i", held, place + 4)[0]
-        end = place + 8 + size + (Parts(held[place:]).number("body_length") if size else 0)
-        yield held[place:end]
-        place = end
 
 
 def laid(frame):

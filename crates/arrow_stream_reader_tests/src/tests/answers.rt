@@ -1,212 +1,149 @@
-// What a reader answers, gathered as text.
+// What a reader answers, as text: each item with what it shows, and how the reader then stands.
 
-use super::telling::Told;
-use super::values::{MEMORY, push_dictionaries, push_rows};
-use arrow_data::Batch;
+use arrow_data::{Array, Batch, Dictionary};
 use arrow_stream_reader::{Fault, Item, StreamReader};
-use arrow_types::{BitWidth, DataType, Field};
-use std::alloc::Global;
-use std::process::Abort;
+use std::alloc::{AllocError, Global};
 
-// An item in a word.
-fn word_of(item: &Item) -> &'static str {
-    match item {
-        Item::Schema => "schema",
-        Item::Dictionary(_) => "dictionary",
-        Item::Batch(_) => "batch",
-        Item::End => "end",
-    }
-}
-
-// How many bytes a call takes, and what it gives.
-pub(super) fn taken(
-    reader: &mut StreamReader,
-    piece: &[u8],
-) -> Result<(usize, &'static str), Fault> {
-    match reader.read(piece) {
-        Ok((taken, Some(item))) => Ok((taken, word_of(&item))),
-        Ok((taken, None)) => Ok((taken, "nothing")),
-        Err(fault) => Err(fault),
-    }
-}
-
-// What a reader has answered so far, and what it shows at the end.
+// What a reader has answered so far, and the batches that it handed out.
 #[derive(Drop)]
 pub(super) struct Answers {
-    items: String,
-    // The rows of each batch when it was handed out.
-    rows: String,
+    pub(super) text: String,
     batches: Vec<Batch>,
-    // The rows of all batches when they were last looked at.
-    last_rows: String,
-    schema: String,
-    dictionaries: String,
     refused: Option<Fault>,
-    end: Result<(), Fault>,
-    place: u64,
-    held: u64,
 }
 
 impl Answers {
     pub(super) fn new(alloc: Global) -> Answers {
         Answers {
-            items: String::new(alloc),
-            rows: String::new(alloc),
+            text: String::new(alloc),
             batches: Vec::new(alloc),
-            last_rows: String::new(alloc),
-            schema: String::new(alloc),
-            dictionaries: String::new(alloc),
             refused: None,
-            end: Ok(()),
-            place: 0,
-            held: 0,
         }
     }
 
-    // What a reader answers to these bytes, one by one, where nothing more comes.
-    pub(super) fn to_each(
-        rt: &impl Abort,
-        alloc: Global,
+    // Gives a reader a piece, and what it leaves of it again and again.
+    pub(super) fn give(
+        &mut self,
         reader: &mut StreamReader,
-        bytes: &[u8],
-    ) -> Answers {
-        let mut answers = Answers::new(alloc);
-        for byte in bytes.chunks(1) {
-            answers.give(rt, reader, byte);
-        }
-        answers.finish(rt, reader);
-        answers
-    }
-
-    // What a reader answers to these two pieces, where nothing more comes.
-    pub(super) fn to(
-        rt: &impl Abort,
-        alloc: Global,
-        reader: &mut StreamReader,
-        front: &[u8],
-        back: &[u8],
-    ) -> Answers {
-        let mut answers = Answers::new(alloc);
-        answers.give(rt, reader, front);
-        answers.give(rt, reader, back);
-        answers.finish(rt, reader);
-        answers
-    }
-
-    // Gives a reader a piece, what it leaves of it again and again.
-    pub(super) fn give(&mut self, rt: &impl Abort, reader: &mut StreamReader, piece: &[u8]) {
+        piece: &[u8],
+    ) -> Result<(), AllocError> {
         let mut rest = piece;
         for _ in 0..16 {
             match reader.read(rest) {
                 Ok((taken, Some(item))) => {
-                    self.push_item(rt, item);
+                    self.push_item(reader, item)?;
                     rest = &rest[taken..];
                 }
-                Ok((_, None)) => return,
-                Err(fault) => return self.push_fault(rt, fault),
+                Ok((_, None)) => return Ok(()),
+                Err(fault) => return self.push_fault(fault),
             }
         }
+        self.text.push_str("items without bytes; ")
     }
 
-    fn push_item(&mut self, rt: &impl Abort, item: Item) {
-        self.push_word(rt, word_of(&item));
+    fn push_item(&mut self, reader: &StreamReader, item: Item) -> Result<(), AllocError> {
         match item {
-            Item::Schema | Item::End => {}
-            Item::Dictionary(id) => write!(self.items, ":{id}").expect(rt, MEMORY),
+            Item::Schema => push_schema(&mut self.text, reader)?,
+            Item::Dictionary(id) => push_values(&mut self.text, reader.dictionaries().get(id))?,
             Item::Batch(batch) => {
-                push_rows(rt, &mut self.rows, &batch);
-                self.batches.push(batch).expect(rt, MEMORY);
+                push_rows(&mut self.text, &batch)?;
+                self.batches.push(batch)?;
             }
+            Item::End => self.text.push_str("end")?,
         }
-    }
-
-    fn push_word(&mut self, rt: &impl Abort, word: &str) {
-        if !self.items.is_empty() {
-            self.items.push(' ').expect(rt, MEMORY);
-        }
-        self.items.push_str(word).expect(rt, MEMORY);
+        self.text.push_str("; ")
     }
 
     // A refusal is the same each time.
-    fn push_fault(&mut self, rt: &impl Abort, fault: Fault) {
-        let first = self.refused.unwrap_or(fault);
-        self.refused = Some(first);
-        if first != fault {
-            self.push_word(rt, "another-fault");
+    fn push_fault(&mut self, fault: Fault) -> Result<(), AllocError> {
+        if self.refused == Some(fault) {
+            return Ok(());
         }
+        self.refused = Some(fault);
+        write!(self.text, "refused {} at {}; ", fault.kind, fault.place)
     }
 
-    // Looks at the batches once more.
-    pub(super) fn look_again(&mut self, rt: &impl Abort) {
-        self.last_rows.clear();
+    // The batches as they are now.
+    pub(super) fn rows(&self, alloc: Global) -> Result<String, AllocError> {
+        let mut text = String::new(alloc);
         for batch in &self.batches {
-            push_rows(rt, &mut self.last_rows, batch);
+            push_rows(&mut text, batch)?;
         }
-        if self.last_rows != self.rows {
-            self.push_word(rt, "rows-changed");
-        }
-    }
-
-    // Looks at the reader where nothing more will come, and at the batches.
-    pub(super) fn finish(&mut self, rt: &impl Abort, reader: &StreamReader) {
-        self.look_again(rt);
-        if let Some(schema) = reader.schema() {
-            match schema.fields().first() {
-                Some(field) => push_column(rt, &mut self.schema, field),
-                None => self.schema.push_str("no columns").expect(rt, MEMORY),
-            }
-        }
-        let entries = reader.dictionaries().entries();
-        push_dictionaries(rt, &mut self.dictionaries, entries);
-        self.end = reader.end();
-        self.place = reader.place();
-        self.held = reader.held();
-    }
-
-    pub(super) fn told(&self) -> Told<'_> {
-        Told {
-            items: &self.items,
-            schema: &self.schema,
-            rows: &self.rows,
-            dictionaries: &self.dictionaries,
-            refused: self.refused,
-            end: self.end,
-            place: self.place,
-            held: self.held,
-        }
+        Ok(text)
     }
 }
 
-// The name and the type of a column, and whether nulls are forbidden.
-fn push_column(rt: &impl Abort, text: &mut String, field: &Field) {
-    let data_type = match field.data_type {
-        DataType::Null => "null",
-        DataType::Bool => "bool",
-        DataType::Utf8 => "utf8",
-        DataType::Int {
-            bits: BitWidth::ThirtyTwo,
-            signed: true,
-        } => "int32",
-        DataType::Int {
-            bits: BitWidth::ThirtyTwo,
-            signed: false,
-        } => "uint32",
-        DataType::Int {
-            bits: BitWidth::Eight | BitWidth::Sixteen | BitWidth::SixtyFour,
-            signed: _,
+// What a reader answers to these pieces, where nothing more comes.
+pub(super) fn answers_to(
+    alloc: Global,
+    reader: &mut StreamReader,
+    pieces: &[&[u8]],
+) -> Result<String, AllocError> {
+    let mut answers = Answers::new(alloc);
+    for piece in pieces {
+        answers.give(reader, piece)?;
+    }
+    push_standing(&mut answers.text, reader)?;
+    Ok(answers.text)
+}
+
+// Appends how a reader stands: what it holds, where, and how the stream would end there.
+pub(super) fn push_standing(text: &mut String, reader: &StreamReader) -> Result<(), AllocError> {
+    write!(text, "{} held at {}: ", reader.held(), reader.place())?;
+    match reader.end() {
+        Ok(()) => text.push_str("whole"),
+        Err(Fault { kind, place }) => write!(text, "{kind} at {place}"),
+    }
+}
+
+// Appends the name of the first column.
+fn push_schema(text: &mut String, reader: &StreamReader) -> Result<(), AllocError> {
+    let schema = reader.schema();
+    let first = schema.and_then(|schema| schema.fields().first());
+    match first {
+        Some(field) => write!(text, "schema {}", field.name),
+        None => text.push_str("no schema"),
+    }
+}
+
+fn push_values(text: &mut String, dictionary: Option<&Dictionary>) -> Result<(), AllocError> {
+    text.push_str("dictionary")?;
+    if let Some(dictionary) = dictionary {
+        for i in 0..dictionary.len() {
+            let (values, place) = dictionary.value(i);
+            push_value(text, values, place)?;
         }
-        | DataType::Date(_)
-        | DataType::Time(_)
-        | DataType::Timestamp(_, _)
-        | DataType::Duration(_)
-        | DataType::Binary
-        | DataType::LargeBinary
-        | DataType::LargeUtf8
-        | DataType::FixedSizeBinary(_)
-        | DataType::List(_)
-        | DataType::LargeList(_)
-        | DataType::Struct(_) => "another type",
-    };
-    let nulls = if field.nullable { "" } else { " not null" };
-    write!(text, "{}: {data_type}{nulls}", field.name).expect(rt, MEMORY);
+    }
+    Ok(())
+}
+
+fn push_rows(text: &mut String, batch: &Batch) -> Result<(), AllocError> {
+    text.push_str("batch")?;
+    for column in batch.columns() {
+        for i in 0..column.len() {
+            match column.resolved(i) {
+                Some((values, place)) => push_value(text, values, place)?,
+                None => push_value(text, column, i)?,
+            }
+        }
+    }
+    Ok(())
+}
+
+// Appends a text, bytes in hexadecimal, a number, or a null.
+fn push_value(text: &mut String, column: &Array, i: usize) -> Result<(), AllocError> {
+    text.push(' ')?;
+    if i >= column.len() {
+        return text.push_str("no-slot");
+    }
+    if let Some(words) = column.text_at(i) {
+        return text.push_str(words);
+    }
+    if let Some(number) = column.int_at(i) {
+        return write!(text, "{number}");
+    }
+    for byte in column.bytes_at(i).unwrap_or(b"") {
+        write!(text, "{byte:02x}")?;
+    }
+    text.push_str(if column.is_null(i) { "null" } else { "" })
 }

@@ -1,314 +1,215 @@
 // What each call answers, one after the other.
 
-use super::answers::{Answers, taken};
-use super::telling::{LETTERS, NOTHING, Told, are_answers, refused, stream};
-use super::values::MEMORY;
-use crate::frames::encoded::{SIZE_ROWS, SIZES, THREE_SIZES};
-use crate::frames::letters::{ABC, ACDE, DE, FIRST, SECOND, THIRD};
-use crate::frames::{BATCH, END_MARKER, SCHEMA, letters};
-use arrow_stream_reader::{Fault, Kind, StreamReader};
+use super::answers::{Answers, answers_to, push_standing};
+use arrow_stream_reader::{Item, StreamReader};
+use arrow_test_streams::parts::Source::{Bytes, Growing};
+use arrow_test_streams::parts::{ABC, DE, END, Edit, FIRST, LETTERS, NUMBERS, Part, THREE, joined};
 use arrow_types::Limits;
-use std::alloc::Global;
+use std::alloc::{AllocError, Global};
 use std::process::Abort;
 
-// What is done with a reader.
-enum Call {
-    // It is given the bytes of a stream from one place up to another.
-    Read(usize, usize),
-    Restart,
-}
-
-// Frames that are a stream, the calls, and how each is answered and the reader stands behind it.
-struct Script {
-    frames: &'static [&'static [u8]],
-    calls: &'static [(Call, &'static str)],
-}
-
-static SCRIPTS: [Script; 5] = [
-    Script {
-        frames: &[&SCHEMA, &END_MARKER, &[1, 2, 3]],
-        calls: &[
-            (Call::Read(0, 0), "0 nothing; 0 held at 0: NoSchema at 0"),
-            (
-                Call::Read(0, 100),
-                "100 nothing; 100 held at 0: NoSchema at 0",
-            ),
-            (Call::Restart, "0 held at 0: NoSchema at 0"),
-            (
-                Call::Read(0, 163),
-                "152 schema; 0 held at 152: whole with schema",
-            ),
-            (
-                Call::Read(152, 163),
-                "8 end; 0 held at 160: whole with schema",
-            ),
-            (
-                Call::Read(160, 163),
-                "0 nothing; 0 held at 160: whole with schema",
-            ),
-            (Call::Restart, "0 held at 0: NoSchema at 0"),
-        ],
-    },
+// Streams, and what is done with a reader: it begins anew, or is given the bytes of the stream from
+// one place up to another. Behind each call stands how it is answered, and how the reader is then.
+static SCRIPTS: [(&[Part], &str); 5] = [
+    (
+        &[NUMBERS, END, (Bytes(&[1, 2, 3]), 0, 3)],
+        "\
+0..0: 0 nothing; 0 held at 0: NoSchema at 0
+0..100: 100 nothing; 100 held at 0: NoSchema at 0
+restart: 0 held at 0: NoSchema at 0
+0..163: 152 schema; 0 held at 152: whole with schema
+152..163: 8 end; 0 held at 160: whole with schema
+160..163: 0 nothing; 0 held at 160: whole with schema
+restart: 0 held at 0: NoSchema at 0
+",
+    ),
     // A refusal lasts until the reader begins anew.
-    Script {
-        frames: &[&BATCH, &SCHEMA],
-        calls: &[
-            (Call::Read(0, 176), "Order at 0; 0 held at 0: Order at 0"),
-            (Call::Read(176, 328), "Order at 0; 0 held at 0: Order at 0"),
-            (Call::Read(0, 0), "Order at 0; 0 held at 0: Order at 0"),
-            (Call::Restart, "0 held at 0: NoSchema at 0"),
-            (
-                Call::Read(176, 328),
-                "152 schema; 0 held at 152: whole with schema",
-            ),
-        ],
-    },
+    (
+        &[THREE, NUMBERS],
+        "\
+0..176: Order at 0; 0 held at 0: Order at 0
+176..328: Order at 0; 0 held at 0: Order at 0
+0..0: Order at 0; 0 held at 0: Order at 0
+restart: 0 held at 0: NoSchema at 0
+176..328: 152 schema; 0 held at 152: whole with schema
+",
+    ),
     // So does that of an update. Behind it come a dictionary, a batch, the end marker, and nothing.
-    Script {
-        frames: &[&letters::SCHEMA, &DE, &ABC, &FIRST, &END_MARKER, &SCHEMA],
-        calls: &[
-            (
-                Call::Read(0, 200),
-                "200 schema; 0 held at 200: whole with schema",
-            ),
-            (
-                Call::Read(200, 424),
-                "NoBase at 200; 0 held at 200: NoBase at 200 with schema",
-            ),
-            (
-                Call::Read(424, 648),
-                "NoBase at 200; 0 held at 200: NoBase at 200 with schema",
-            ),
-            (
-                Call::Read(648, 816),
-                "NoBase at 200; 0 held at 200: NoBase at 200 with schema",
-            ),
-            (
-                Call::Read(816, 824),
-                "NoBase at 200; 0 held at 200: NoBase at 200 with schema",
-            ),
-            (
-                Call::Read(824, 824),
-                "NoBase at 200; 0 held at 200: NoBase at 200 with schema",
-            ),
-            (Call::Restart, "0 held at 0: NoSchema at 0"),
-            (
-                Call::Read(824, 976),
-                "152 schema; 0 held at 152: whole with schema",
-            ),
-        ],
-    },
+    (
+        &[LETTERS, DE, ABC, FIRST, END, NUMBERS],
+        "\
+0..200: 200 schema; 0 held at 200: whole with schema
+200..424: NoBase at 200; 0 held at 200: NoBase at 200 with schema
+424..648: NoBase at 200; 0 held at 200: NoBase at 200 with schema
+648..816: NoBase at 200; 0 held at 200: NoBase at 200 with schema
+816..824: NoBase at 200; 0 held at 200: NoBase at 200 with schema
+824..824: NoBase at 200; 0 held at 200: NoBase at 200 with schema
+restart: 0 held at 0: NoSchema at 0
+824..976: 152 schema; 0 held at 152: whole with schema
+",
+    ),
     // A dictionary is looked up by its id.
-    Script {
-        frames: &[&letters::SCHEMA, &ABC],
-        calls: &[
-            (Call::Read(0, 0), "0 nothing; 0 held at 0: NoSchema at 0"),
-            (
-                Call::Read(0, 200),
-                "200 schema; 0 held at 200: whole with schema",
-            ),
-            (
-                Call::Read(200, 423),
-                "223 nothing; 223 held at 200: Truncated at 200 with schema",
-            ),
-            (
-                Call::Read(423, 424),
-                "1 dictionary; 0 held at 424: whole with schema, 1, 0 of 3",
-            ),
-            (Call::Restart, "0 held at 0: NoSchema at 0"),
-        ],
-    },
+    (
+        &[LETTERS, ABC],
+        "\
+0..0: 0 nothing; 0 held at 0: NoSchema at 0
+0..200: 200 schema; 0 held at 200: whole with schema
+200..423: 223 nothing; 223 held at 200: Truncated at 200 with schema
+423..424: 1 dictionary; 0 held at 424: whole with schema, 1, 0 of 3
+restart: 0 held at 0: NoSchema at 0
+",
+    ),
     // Each call with all that is left of the stream.
-    Script {
-        frames: &[
-            &letters::SCHEMA,
-            &ABC,
-            &FIRST,
-            &DE,
-            &SECOND,
-            &ACDE,
-            &THIRD,
-            &END_MARKER,
-        ],
-        calls: &[
-            (
-                Call::Read(0, 1376),
-                "200 schema; 0 held at 200: whole with schema",
-            ),
-            (
-                Call::Read(200, 1376),
-                "224 dictionary; 0 held at 424: whole with schema, 1, 0 of 3",
-            ),
-            (
-                Call::Read(424, 1376),
-                "168 batch; 0 held at 592: whole with schema, 1, 0 of 3",
-            ),
-            (
-                Call::Read(592, 1376),
-                "224 dictionary; 0 held at 816: whole with schema, 1, 0 of 5",
-            ),
-            (
-                Call::Read(816, 1376),
-                "160 batch; 0 held at 976: whole with schema, 1, 0 of 5",
-            ),
-            (
-                Call::Read(976, 1376),
-                "232 dictionary; 0 held at 1208: whole with schema, 1, 0 of 4",
-            ),
-            (
-                Call::Read(1208, 1376),
-                "160 batch; 0 held at 1368: whole with schema, 1, 0 of 4",
-            ),
-            (
-                Call::Read(1368, 1376),
-                "8 end; 0 held at 1376: whole with schema, 1, 0 of 4",
-            ),
-            (
-                Call::Read(1376, 1376),
-                "0 nothing; 0 held at 1376: whole with schema, 1, 0 of 4",
-            ),
-        ],
-    },
+    (
+        &[(Growing, 0, 1_376)],
+        "\
+0..1376: 200 schema; 0 held at 200: whole with schema
+200..1376: 224 dictionary; 0 held at 424: whole with schema, 1, 0 of 3
+424..1376: 168 batch; 0 held at 592: whole with schema, 1, 0 of 3
+592..1376: 224 dictionary; 0 held at 816: whole with schema, 1, 0 of 5
+816..1376: 160 batch; 0 held at 976: whole with schema, 1, 0 of 5
+976..1376: 232 dictionary; 0 held at 1208: whole with schema, 1, 0 of 4
+1208..1376: 160 batch; 0 held at 1368: whole with schema, 1, 0 of 4
+1368..1376: 8 end; 0 held at 1376: whole with schema, 1, 0 of 4
+1376..1376: 0 nothing; 0 held at 1376: whole with schema, 1, 0 of 4
+",
+    ),
 ];
 
-fn push_fault(rt: &impl Abort, text: &mut String, fault: Fault) {
-    let Fault { kind, place } = fault;
-    write!(text, "{kind:?} at {place}").expect(rt, MEMORY);
-}
-
-// What a call answers.
+// Appends the call that this line names, and what is answered to it.
 fn push_call(
-    rt: &impl Abort,
     text: &mut String,
     reader: &mut StreamReader,
     bytes: &[u8],
-    call: &Call,
-) {
-    let Call::Read(start, end) = call else {
-        return reader.restart();
-    };
-    let piece = bytes.get(*start..*end).expect(rt, "the stream is longer");
-    match taken(reader, piece) {
-        Ok((count, word)) => write!(text, "{count} {word}").expect(rt, MEMORY),
-        Err(fault) => push_fault(rt, text, fault),
+    line: &str,
+) -> Result<(), AllocError> {
+    let call = line.split_once(": ").map_or(line, |parts| parts.0);
+    write!(text, "{call}: ")?;
+    match piece_in(call, bytes) {
+        Some(piece) => push_answer(text, reader, piece)?,
+        None => reader.restart(),
     }
-    text.push_str("; ").expect(rt, MEMORY);
+    push_standing(text, reader)?;
+    push_shown(text, reader)?;
+    text.push('\n')
 }
 
-// How many dictionaries there are, and how many values each has of those with these ids.
-fn push_lengths(rt: &impl Abort, text: &mut String, reader: &StreamReader) {
+// The bytes between the two places that a call names.
+fn piece_in<'a>(call: &str, bytes: &'a [u8]) -> Option<&'a [u8]> {
+    let (start, end) = call.split_once("..")?;
+    bytes.get(start.parse::<usize>().ok()?..end.parse::<usize>().ok()?)
+}
+
+// Appends how many bytes a call takes, and what it gives.
+fn push_answer(
+    text: &mut String,
+    reader: &mut StreamReader,
+    piece: &[u8],
+) -> Result<(), AllocError> {
+    match reader.read(piece) {
+        Ok((taken, item)) => {
+            let word = match item {
+                None => "nothing",
+                Some(Item::Schema) => "schema",
+                Some(Item::Dictionary(_)) => "dictionary",
+                Some(Item::Batch(_)) => "batch",
+                Some(Item::End) => "end",
+            };
+            write!(text, "{taken} {word}; ")
+        }
+        Err(fault) => write!(text, "{} at {}; ", fault.kind, fault.place),
+    }
+}
+
+// Appends whether there is a schema, how many dictionaries there are, and how many values each has
+// of those with these ids.
+fn push_shown(text: &mut String, reader: &StreamReader) -> Result<(), AllocError> {
+    if reader.schema().is_some() {
+        text.push_str(" with schema")?;
+    }
     let count = reader.dictionaries().entries().len();
     if count != 0 {
-        write!(text, ", {count}").expect(rt, MEMORY);
+        write!(text, ", {count}")?;
     }
     for id in [0, 1, -1] {
         if let Some(dictionary) = reader.dictionaries().get(id) {
-            write!(text, ", {id} of {}", dictionary.len()).expect(rt, MEMORY);
+            write!(text, ", {id} of {}", dictionary.len())?;
         }
     }
+    Ok(())
 }
 
-// How a reader stands.
-fn push_standing(rt: &impl Abort, text: &mut String, reader: &StreamReader) {
-    let (held, place) = (reader.held(), reader.place());
-    write!(text, "{held} held at {place}: ").expect(rt, MEMORY);
-    match reader.end() {
-        Ok(()) => text.push_str("whole").expect(rt, MEMORY),
-        Err(fault) => push_fault(rt, text, fault),
-    }
-    if reader.schema().is_some() {
-        text.push_str(" with schema").expect(rt, MEMORY);
-    }
-    push_lengths(rt, text, reader);
-}
-
-// That the calls of a script are answered so.
-fn is_played(rt: &impl Abort, alloc: Global, script: &Script) {
-    let bytes = stream(rt, alloc, script.frames, &[]);
+// What is answered to the calls of a script.
+fn played(alloc: Global, bytes: &[u8], script: &str) -> Result<String, AllocError> {
     let mut reader = StreamReader::new(alloc, Limits::standard());
-    for (call, want) in script.calls {
-        let mut text = String::new(alloc);
-        push_call(rt, &mut text, &mut reader, &bytes, call);
-        push_standing(rt, &mut text, &reader);
-        assert_eq!(rt; text.as_str(), *want);
+    let mut text = String::new(alloc);
+    for line in script.lines() {
+        push_call(&mut text, &mut reader, bytes, line)?;
     }
+    Ok(text)
 }
 
 #[test]
 fn each_call_answers(rt: HostRuntime) {
-    for script in &SCRIPTS {
-        is_played(&rt, rt.alloc(), script);
+    for (parts, script) in &SCRIPTS {
+        let bytes = joined(rt.alloc(), parts, &[]).expect(&rt, "a stream");
+        let text = played(rt.alloc(), &bytes, script).expect(&rt, "memory");
+        assert_eq!(rt; text.as_str(), *script);
     }
 }
 
-// That a reader answers one more stream so.
-fn is_answered(
-    rt: &impl Abort,
-    alloc: Global,
-    reader: &mut StreamReader,
-    frames: &[&[u8]],
-    want: Told<'_>,
-) {
-    let bytes = stream(rt, alloc, frames, &[]);
-    let answers = Answers::to(rt, alloc, reader, &bytes, &[]);
-    are_answers(rt, "of the second", &answers, want);
-}
-
-// Gives a reader a stream.
-fn give(
-    rt: &impl Abort,
-    alloc: Global,
-    reader: &mut StreamReader,
-    answers: &mut Answers,
-    frames: &[&[u8]],
-) {
-    let bytes = stream(rt, alloc, frames, &[]);
-    answers.give(rt, reader, &bytes);
-}
-
-// What the first connection gave.
-const FIRST_CONNECTION: Told<'static> = Told {
-    items: "schema dictionary:0 batch",
-    rows: "3: 'a' 'b' 'c'",
-    ..NOTHING
-};
-
-// What the second one gives, which has another schema and uses the id again.
-const SECOND_CONNECTION: Told<'static> = Told {
-    items: "schema dictionary:0 batch",
-    schema: "k: int32",
-    rows: "3: 900 null 7",
-    dictionaries: "0: 7 null 900",
-    place: 576,
-    ..LETTERS
-};
+// Streams that a reader is given one after the other, between which it begins anew, each with what
+// is answered to it. The second one has another schema and uses the id again; behind a restart
+// nothing of the old stream is left for a delta to stand on.
+static CONNECTIONS: [(&[Part], &[Edit], &str); 4] = [
+    (
+        &[(Growing, 0, 601)],
+        &[],
+        "schema k; dictionary a b c; batch a b c; 9 held at 592: Truncated at 592",
+    ),
+    (
+        &[LETTERS, (Growing, 976, 1_376)],
+        &[(105, &[4])],
+        "schema k; dictionary 61 63 64 65; batch 63 65; end; 0 held at 600: whole",
+    ),
+    (
+        &[LETTERS, ABC],
+        &[],
+        "schema k; dictionary a b c; 0 held at 424: whole",
+    ),
+    (
+        &[LETTERS, DE],
+        &[],
+        "schema k; refused NoBase at 200; 0 held at 200: NoBase at 200",
+    ),
+];
 
 #[test]
-fn a_second_connection(rt: HostRuntime) {
-    let alloc = rt.alloc();
-    let mut reader = StreamReader::new(alloc, Limits::standard());
-    let mut answers = Answers::new(alloc);
-    let first: [&[u8]; 4] = [&letters::SCHEMA, &ABC, &FIRST, &DE[..9]];
-    give(&rt, alloc, &mut reader, &mut answers, &first);
-    reader.restart();
-    answers.finish(&rt, &reader);
-    are_answers(&rt, "of the first", &answers, FIRST_CONNECTION);
-    let second: [&[u8]; 3] = [&SIZES, &THREE_SIZES, &SIZE_ROWS];
-    is_answered(&rt, alloc, &mut reader, &second, SECOND_CONNECTION);
-    answers.look_again(&rt);
-    are_answers(&rt, "of the first, again", &answers, FIRST_CONNECTION);
+fn one_connection_after_the_other(rt: HostRuntime) {
+    let mut reader = StreamReader::new(rt.alloc(), Limits::standard());
+    for (parts, edits, want) in &CONNECTIONS {
+        let bytes = joined(rt.alloc(), parts, edits).expect(&rt, "a stream");
+        reader.restart();
+        assert!(rt; reader.schema().is_none() && reader.dictionaries().entries().is_empty());
+        let text = answers_to(rt.alloc(), &mut reader, &[&bytes]).expect(&rt, "memory");
+        assert_eq!(rt; text.as_str(), *want);
+    }
 }
 
-// After a restart nothing of the old stream is left for the new one to stand on.
-#[test]
-fn a_delta_behind_a_restart(rt: HostRuntime) {
-    let alloc = rt.alloc();
+// The batches of one stream, once the reader has read another.
+fn rows_at_last(alloc: Global, first: &[u8], second: &[u8]) -> Result<String, AllocError> {
     let mut reader = StreamReader::new(alloc, Limits::standard());
     let mut answers = Answers::new(alloc);
-    let first: [&[u8]; 2] = [&letters::SCHEMA, &ABC];
-    give(&rt, alloc, &mut reader, &mut answers, &first);
+    answers.give(&mut reader, first)?;
     reader.restart();
-    let second: [&[u8]; 2] = [&letters::SCHEMA, &DE];
-    let want = refused(Kind::NoBase, LETTERS);
-    is_answered(&rt, alloc, &mut reader, &second, want);
+    answers_to(alloc, &mut reader, &[second])?;
+    answers.rows(alloc)
+}
+
+#[test]
+fn batches_outlast_their_connection(rt: HostRuntime) {
+    let letters = joined(rt.alloc(), &[(Growing, 0, 1_376)], &[]).expect(&rt, "a stream");
+    let numbers = joined(rt.alloc(), &[NUMBERS, THREE, END], &[]).expect(&rt, "a stream");
+    let rows = rows_at_last(rt.alloc(), &letters, &numbers).expect(&rt, "memory");
+    assert_eq!(rt; rows.as_str(), "batch a b cbatch e abatch c e");
 }

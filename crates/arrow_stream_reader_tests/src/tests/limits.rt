@@ -1,194 +1,136 @@
 // Streams under limits of their own.
 
-use super::telling::Ending::{Refused, Whole};
-use super::telling::{A_TO_C, LETTERS, NOTHING, NUMBERS, Streams, Told, are_told_within};
-use crate::frames::letters::{ABC, ACDE, DE, FIRST, SECOND, THIRD};
+use super::answers::answers_to;
 use crate::frames::noted::AT_SCHEMA;
-use crate::frames::{BATCH, END_MARKER, SCHEMA, letters};
-use arrow_stream_reader::Kind;
+use arrow_stream_reader::StreamReader;
+use arrow_test_streams::parts::Source::{Bytes, Growing};
+use arrow_test_streams::parts::{ABC, Edit, FIRST, LETTERS, NUMBERS, Part, THREE, joined};
 use arrow_types::Limits;
+use std::alloc::{AllocError, Global};
+use std::process::Abort;
 
-// A batch of three rows was read.
-const THREE_ROWS: Told<'static> = Told {
-    items: "schema batch",
-    rows: "3: 1 null 3",
-    place: 328,
-    ..NUMBERS
-};
+// The most bytes of metadata and of body and the most rows, a stream, and what is answered to it.
+type Limited = ([u64; 3], &'static [Part], &'static [Edit], &'static str);
 
-// A dictionary of three values and a batch were read.
-const THREE_VALUES: Told<'static> = Told {
-    items: "schema dictionary:0 batch",
-    rows: "3: 'a' 'b' 'c'",
-    place: 592,
-    ..A_TO_C
-};
+const BODY: Part = (Bytes(&[0; 8]), 0, 8);
 
-// Its values were replaced by four others.
-const FOUR_VALUES: Told<'static> = Told {
-    items: "schema dictionary:0 dictionary:0",
-    dictionaries: "0: 'a' 'c' 'd' 'e'",
-    place: 656,
-    ..A_TO_C
-};
+const AT_START: &str = "refused MetadataSize at 0; 0 held at 0: MetadataSize at 0";
 
-// The most bytes of metadata and of body and the most rows, and streams under these limits.
-static LIMITED: [([u64; 3], &[Streams]); 11] = [
+const THREE_ROWS: &str = "schema n; refused Rows at 152; 0 held at 152: Rows at 152";
+
+const THREE_VALUES: &str = "schema k; refused Rows at 200; 0 held at 200: Rows at 200";
+
+static LIMITED: [Limited; 18] = [
     // A key is as long as the metadata allow, which is less than the limit; with the name and the
     // value these are 18 bytes.
     (
         [200, 0, 0],
-        &[Streams {
-            frames: &[&AT_SCHEMA],
-            read: Told {
-                place: 208,
-                ..NUMBERS
-            },
-            rows: &[("a key up to the end", &[(188, &[16])], Whole)],
-        }],
+        &[(Bytes(&AT_SCHEMA), 0, 208)],
+        &[(188, &[16])],
+        "schema n; 0 held at 208: whole",
     ),
     (
         [144, 0, 0],
-        &[Streams {
-            frames: &[&SCHEMA],
-            read: NUMBERS,
-            rows: &[("metadata at the limit", &[], Whole)],
-        }],
+        &[NUMBERS],
+        &[],
+        "schema n; 0 held at 152: whole",
     ),
-    (
-        [143, 0, 0],
-        &[Streams {
-            frames: &[&SCHEMA],
-            read: NOTHING,
-            rows: &[("metadata over the limit", &[], Refused(Kind::MetadataSize))],
-        }],
-    ),
-    (
-        [399, 0, 0],
-        &[Streams {
-            frames: &[&SCHEMA],
-            read: NOTHING,
-            rows: &[
-                (
-                    "a second byte of the size",
-                    &[(5, &[1])],
-                    Refused(Kind::MetadataSize),
-                ),
-                (
-                    "a third byte of the size",
-                    &[(6, &[1])],
-                    Refused(Kind::MetadataSize),
-                ),
-                (
-                    "a fourth byte of the size",
-                    &[(7, &[1])],
-                    Refused(Kind::MetadataSize),
-                ),
-            ],
-        }],
-    ),
+    ([143, 0, 0], &[NUMBERS], &[], AT_START),
+    // The other bytes of the size.
+    ([399, 0, 0], &[NUMBERS], &[(5, &[1])], AT_START),
+    ([399, 0, 0], &[NUMBERS], &[(6, &[1])], AT_START),
+    ([399, 0, 0], &[NUMBERS], &[(7, &[1])], AT_START),
     (
         [144, 8, 0],
-        &[Streams {
-            frames: &[&SCHEMA, &[0; 8]],
-            read: Told {
-                place: 160,
-                ..NUMBERS
-            },
-            rows: &[("body at the limit", &[(40, &[8])], Whole)],
-        }],
+        &[NUMBERS, BODY],
+        &[(40, &[8])],
+        "schema n; 0 held at 160: whole",
     ),
     (
         [144, 7, 0],
-        &[Streams {
-            frames: &[&SCHEMA, &[0; 8]],
-            read: NOTHING,
-            rows: &[(
-                "body over the limit",
-                &[(40, &[8])],
-                Refused(Kind::BodyLength),
-            )],
-        }],
+        &[NUMBERS, BODY],
+        &[(40, &[8])],
+        "refused BodyLength at 0; 0 held at 0: BodyLength at 0",
     ),
     (
         [1000, 1000, 3],
-        &[
-            Streams {
-                frames: &[&SCHEMA, &BATCH],
-                read: THREE_ROWS,
-                rows: &[("three rows of three", &[], Whole)],
-            },
-            Streams {
-                frames: &[&letters::SCHEMA, &ABC],
-                read: A_TO_C,
-                rows: &[("three values of three", &[], Whole)],
-            },
-        ],
+        &[NUMBERS, THREE],
+        &[],
+        "schema n; batch 1 null 3; 0 held at 328: whole",
     ),
     (
-        [1000, 1000, 2],
-        &[
-            Streams {
-                frames: &[&SCHEMA, &BATCH],
-                read: NUMBERS,
-                rows: &[("three rows of two", &[], Refused(Kind::Rows))],
-            },
-            Streams {
-                frames: &[&letters::SCHEMA, &ABC],
-                read: LETTERS,
-                rows: &[("three values of two", &[], Refused(Kind::Rows))],
-            },
-        ],
+        [1000, 1000, 3],
+        &[LETTERS, ABC],
+        &[],
+        "schema k; dictionary a b c; 0 held at 424: whole",
     ),
-    (
-        [1000, 1000, 0],
-        &[
-            Streams {
-                frames: &[&SCHEMA, &BATCH],
-                read: NUMBERS,
-                rows: &[("three rows of none", &[], Refused(Kind::Rows))],
-            },
-            Streams {
-                frames: &[&letters::SCHEMA, &ABC],
-                read: LETTERS,
-                rows: &[("three values of none", &[], Refused(Kind::Rows))],
-            },
-        ],
-    ),
+    ([1000, 1000, 2], &[NUMBERS, THREE], &[], THREE_ROWS),
+    ([1000, 1000, 2], &[LETTERS, ABC], &[], THREE_VALUES),
+    ([1000, 1000, 0], &[NUMBERS, THREE], &[], THREE_ROWS),
+    ([1000, 1000, 0], &[LETTERS, ABC], &[], THREE_VALUES),
     // Three values and two behind them are too many where four rows are allowed.
     (
         [67_108_864, 68_719_476_736, 4],
-        &[Streams {
-            frames: &[
-                &letters::SCHEMA,
-                &ABC,
-                &FIRST,
-                &DE,
-                &SECOND,
-                &ACDE,
-                &THIRD,
-                &END_MARKER,
-            ],
-            read: THREE_VALUES,
-            rows: &[("five values of four", &[], Refused(Kind::Rows))],
-        }],
+        &[(Growing, 0, 1_376)],
+        &[],
+        "schema k; dictionary a b c; batch a b c; refused Rows at 592; 0 held at 592: Rows at 592",
     ),
     // Four values in the place of three are not seven.
     (
         [67_108_864, 68_719_476_736, 4],
-        &[Streams {
-            frames: &[&letters::SCHEMA, &ABC, &ACDE],
-            read: FOUR_VALUES,
-            rows: &[("four values of four", &[], Whole)],
-        }],
+        &[LETTERS, ABC, (Growing, 976, 1_208)],
+        &[],
+        "schema k; dictionary a b c; dictionary a c d e; 0 held at 656: whole",
+    ),
+    // Nor are a batch's rows counted with those of the next.
+    (
+        [1000, 1000, 3],
+        &[NUMBERS, THREE, THREE],
+        &[],
+        "schema n; batch 1 null 3; batch 1 null 3; 0 held at 504: whole",
+    ),
+    (
+        [1000, 1000, 3],
+        &[LETTERS, ABC, FIRST],
+        &[],
+        "schema k; dictionary a b c; batch a b c; 0 held at 592: whole",
     ),
 ];
 
+// What is answered to a stream byte by byte, and the first cut in two of which it is answered
+// otherwise, if there is one.
+fn answers_in_pieces(
+    alloc: Global,
+    reader: &mut StreamReader,
+    bytes: &[u8],
+) -> Result<(String, Option<usize>), AllocError> {
+    let mut ones = Vec::new(alloc);
+    for byte in bytes.chunks(1) {
+        ones.push(byte)?;
+    }
+    let each = answers_to(alloc, reader, &ones)?;
+    for cut in 0..bytes.len() {
+        reader.restart();
+        let (front, back) = bytes.split_at(cut);
+        if answers_to(alloc, reader, &[front, back])? != each {
+            return Ok((each, Some(cut)));
+        }
+    }
+    Ok((each, None))
+}
+
+fn assert_limited(rt: &impl Abort, alloc: Global, number: usize, it: &Limited) {
+    let (most, parts, edits, want) = it;
+    let limits = Limits::new(most[0], most[1], most[2]).expect(rt, "within the ceilings");
+    let bytes = joined(alloc, parts, edits).expect(rt, "a stream");
+    let mut reader = StreamReader::new(alloc, limits);
+    let (answers, cut) = answers_in_pieces(alloc, &mut reader, &bytes).expect(rt, "memory");
+    assert_eq!(rt; (answers.as_str(), cut), (*want, None), "row {number}");
+}
+
 #[test]
 fn limits_are_kept(rt: HostRuntime) {
-    for &([most_metadata, most_body, most_rows], streams) in &LIMITED {
-        let limits = Limits::new(most_metadata, most_body, most_rows);
-        let limits = limits.expect(&rt, "within the ceilings");
-        are_told_within(&rt, rt.alloc(), limits, streams);
+    for (number, it) in LIMITED.iter().enumerate() {
+        assert_limited(&rt, rt.alloc(), number, it);
     }
 }

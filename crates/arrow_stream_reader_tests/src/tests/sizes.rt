@@ -1,14 +1,14 @@
 // Bodies about as long as the shortest that columns share, 65,536 bytes: whole in a piece, and in
 // parts.
 
-use super::values::MEMORY;
-use crate::frames::letters::{ABC, DE, FIRST, SECOND};
-use crate::frames::{BATCH, END_MARKER, SCHEMA, letters};
 use arrow_data::{Array, Batch};
 use arrow_stream_reader::{Item, StreamReader};
+use arrow_test_streams::streams::{GROWING, ONE_BATCH};
 use arrow_types::Limits;
 use std::alloc::Global;
 use std::process::Abort;
+
+const MEMORY: &str = "memory";
 
 // How the bytes of a stream come.
 #[derive(Clone, Copy, Debug, PartialEq, Eq)]
@@ -105,7 +105,7 @@ fn push_squares(rt: &impl Abort, bytes: &mut Vec<u8>, body_len: usize) {
         (136, 0),
         (144, (rows as u64).saturating_mul(4)),
     ];
-    push_front(rt, bytes, &BATCH[..152], &numbers);
+    push_front(rt, bytes, &ONE_BATCH[152..304], &numbers);
     let end = bytes.len().saturating_add(body_len);
     for i in 0..u32::try_from(rows).expect(rt, "so many rows") {
         let number = i.wrapping_mul(i).wrapping_add(7);
@@ -150,11 +150,17 @@ const BODIES: [(usize, usize, i128); 5] = [
 fn are_squares(rt: &impl Abort, alloc: Global, body: (usize, usize, i128), pieces: Pieces) {
     let (body_len, rows, sum) = body;
     let mut bytes = Vec::new(alloc);
-    bytes.extend_from_slice(&SCHEMA).expect(rt, MEMORY);
+    bytes
+        .extend_from_slice(&ONE_BATCH[..152])
+        .expect(rt, MEMORY);
     push_squares(rt, &mut bytes, body_len);
-    bytes.extend_from_slice(&BATCH).expect(rt, MEMORY);
+    bytes
+        .extend_from_slice(&ONE_BATCH[152..328])
+        .expect(rt, MEMORY);
     push_squares(rt, &mut bytes, body_len);
-    bytes.extend_from_slice(&END_MARKER).expect(rt, MEMORY);
+    bytes
+        .extend_from_slice(&ONE_BATCH[328..])
+        .expect(rt, MEMORY);
     let batches = batches_of(rt, alloc, &bytes, pieces);
     assert_eq!(rt; batches.len(), 3);
     for (k, batch) in batches.iter().enumerate() {
@@ -247,11 +253,15 @@ fn is_text(rt: &impl Abort, column: &Array, i: usize, letter: u8, len: usize) {
 // That a dictionary in a body of so many bytes is read, and one that grows by another.
 fn are_letters(rt: &impl Abort, alloc: Global, body_len: usize, pieces: Pieces) {
     let mut bytes = Vec::new(alloc);
-    bytes.extend_from_slice(&letters::SCHEMA).expect(rt, MEMORY);
-    push_texts(rt, &mut bytes, &ABC[..200], body_len, b"abc");
-    bytes.extend_from_slice(&FIRST).expect(rt, MEMORY);
-    push_texts(rt, &mut bytes, &DE[..200], body_len, b"de");
-    bytes.extend_from_slice(&SECOND).expect(rt, MEMORY);
+    bytes.extend_from_slice(&GROWING[..200]).expect(rt, MEMORY);
+    push_texts(rt, &mut bytes, &GROWING[200..400], body_len, b"abc");
+    bytes
+        .extend_from_slice(&GROWING[424..592])
+        .expect(rt, MEMORY);
+    push_texts(rt, &mut bytes, &GROWING[592..792], body_len, b"de");
+    bytes
+        .extend_from_slice(&GROWING[816..976])
+        .expect(rt, MEMORY);
     let batches = batches_of(rt, alloc, &bytes, pieces);
     assert_eq!(rt; batches.len(), 2);
     let first = batches[0].columns().first().expect(rt, "a column");

@@ -1,0 +1,6 @@
+//! Streams that tests of several crates read, each of which stands here alone, and others that are
+//! made of their parts.
+#![tactic(auto)]
+
+pub mod parts;
+pub mod streams;
