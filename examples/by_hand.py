@@ -5,9 +5,8 @@ and then places and fields in its value.
 import struct
 
 from bodies import large_strings
-from frames import (BINARY, INT32, STRUCT, UTF8, Buffer, batch, dictionary, dictionary_batch, field, integer, laid, lists,
-                    metadata_in, numbers, pairs, scalar, schema, strings, table, text, vector)
-from streams import four_fields
+from frames import (INT32, Buffer, batch, field, integer, laid, lists, metadata_in, numbers, pairs, scalar, schema, table, text,
+                    vector)
 
 
 def body(column):
@@ -40,15 +39,6 @@ ARRAYS = {
         "TEXTS 1": TEXTS[:43],
         "LATER_BYTES 1": struct.pack("<4q", 1, 4, 4, 7) + bytes([5, 0, 1, 0xff, 9, 9, 9, 6]),
         "LISTS 1": struct.pack("<B4q5i", 0xfd, 1, 2, 4, 4, 0, 1, 2, 3, 4),
-    },
-    "crates/arrow_meta_reader_tests/src/vectors.rt": {
-        "ONE_FIELD": metadata_in(NUMBERS),
-        "ONE_BATCH": metadata_in(THREE),
-        "FOUR_FIELDS": metadata_in(four_fields()),
-        "LETTERS": metadata_in(dictionary_batch(0, strings("abc"))),
-        "SHARED_ID": metadata_in(schema(field("a", UTF8, encoding=dictionary(7, 8)),
-                                        field("b", BINARY, encoding=dictionary(7)))),
-        "NESTED": metadata_in(schema(field("o", STRUCT, [field("i", UTF8, encoding=dictionary(2))], encoding=dictionary(1)))),
     },
     "crates/arrow_meta_writer_tests/src/tests/tables.rt": {"LAID_OUT": tables()},
     "crates/arrow_small_tests/src/tests/chunks.rt": {"BYTES": bytes((240 + 37 * at) % 256 for at in range(33))},

@@ -67,31 +67,26 @@ def rows_with(noted):
 
 
 def held_metadata():
-    """The metadata that the tests of pairs hold."""
+    """The metadata that the tests of arrow_meta_reader hold."""
     return {
-        "PLAIN": ("One nullable column `n` of signed 32-bit integers.", metadata_in(numbers_with())),
-        "ROWS": ("The batch of 1, a null and 3 for it.", metadata_in(batch(numbers([1, None, 3])))),
+        "ROWS": ("The batch of 1, a null and 3.", metadata_in(batch(numbers([1, None, 3])))),
         "WORDS": ("Dictionary 0 is three texts.", metadata_in(dictionary_batch(0, strings("abc")))),
-        "AT_SCHEMA": ("The column, with the pair of `k` and `v` at the schema.", metadata_in(numbers_with(PAIR))),
-        "AT_COLUMN": ("The column, with this pair at itself.", metadata_in(numbers_with((), PAIR))),
-        "AT_BOTH": ("The column, with this pair at the schema and at itself.", metadata_in(numbers_with(PAIR, PAIR))),
-        "AT_MESSAGE": ("The column, with this pair at the message.", metadata_in(message(PAIR))),
-        "NO_PAIRS": ("The column, where schema and column have each a vector of no pairs.", metadata_in(no_pairs())),
-        "ABSENT": ("The column, with three pairs: without a key, without a value, and without both.",
-                   metadata_in(numbers_with((), ABSENT))),
-        "FILLED": ("The same, where an empty text stands for each of them.", metadata_in(numbers_with((), FILLED))),
-        "LEVELS": ("Pairs at the schema, at columns, and at fields below a list, a large list, a struct and a list in it.",
-                   metadata_in(levels())),
-        "SHARED": ("Columns `a` and `b` of lists by dictionary 7: the item of `a` has a pair, and `b` has it itself.",
-                   metadata_in(shared())),
+        **{name: (meaning, metadata_in(held)) for name, (meaning, held) in held_frames().items() if name != "ROWS_AT_MESSAGE"},
     }
 
 
 def held_frames():
-    """The frames that the tests of arrow_stream_reader hold."""
+    """Frames with pairs and without them."""
     return {
+        "PLAIN": ("One nullable column `n` of signed 32-bit integers.", numbers_with()),
         "AT_SCHEMA": ("The schema of `n`, with the pair of `k` and `v`.", numbers_with(PAIR)),
         "AT_COLUMN": ("The same pair at the column.", numbers_with((), PAIR)),
+        "AT_BOTH": ("The column, with this pair at the schema and at itself.", numbers_with(PAIR, PAIR)),
         "AT_MESSAGE": ("The same pair at the message.", message(PAIR)),
         "ROWS_AT_MESSAGE": ("The batch of 1, a null and 3, with the same pair at the message.", rows_with(PAIR)),
+        "NO_PAIRS": ("The column, where schema and column have each a vector of no pairs.", no_pairs()),
+        "ABSENT": ("The column, with three pairs: without a key, without a value, and without both.", numbers_with((), ABSENT)),
+        "FILLED": ("The same, where an empty text stands for each of them.", numbers_with((), FILLED)),
+        "LEVELS": ("Pairs at the schema, at columns, and at fields below a list, a large list, a struct and a list in it.", levels()),
+        "SHARED": ("Columns `a` and `b` of lists by dictionary 7: the item of `a` has a pair, and `b` has it itself.", shared()),
     }

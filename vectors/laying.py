@@ -88,6 +88,12 @@ def split(held):
         place = end
 
 
+def metadata_frame(words, align=8):
+    """Metadata as a frame without a body."""
+    words += bytes(-(8 + len(words)) % align)
+    return b"\xff" * 4 + struct.pack("<i", len(words)) + words
+
+
 def raw_batch(length, nodes, places, body=b"", more=()):
     """The frame of a record batch of which everything is told."""
     return frame(3, table(*record_batch(length, nodes, places)[1], *more), body)

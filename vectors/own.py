@@ -12,8 +12,8 @@ import streams
 from frames import (END_MARKER, INT32, LARGE_LIST, LARGE_UTF8, LIST, NULL, ONE_BATCH, ONE_COLUMN, STRUCT, UTF8, batch, date,
                     dictionary, dictionary_batch, field, fixed_size_binary, floating, frame, lists, numbers, pairs, record_batch,
                     scalar, schema, strings, table, text, time, vector)
-from laying import (FIELD, INT32S, NODE, ONE, TEXTS, TYPE, VALIDITY, WORDS, column, i32, in_one, letters, of_another_writer,
-                    one_batch_of, raw_batch, raw_dictionary, raw_field, raw_schema, schema_in_one, stream,
+from laying import (FIELD, INT32S, NODE, ONE, TEXTS, TYPE, VALIDITY, WORDS, column, i32, in_one, letters, metadata_frame,
+                    of_another_writer, one_batch_of, raw_batch, raw_dictionary, raw_field, raw_schema, schema_in_one, stream,
                     written_by_another)
 from sound import nested
 
@@ -304,16 +304,14 @@ def other_texts():
 
 def foreign():
     """Streams as FlatBuffers' own builder lays them out, which examples/foreign wrote: what has its default is left out."""
-    def framed_metadata(words):
-        return b"\xff" * 4 + struct.pack("<i", len(words) + -len(words) % 8) + words + bytes(-len(words) % 8)
-    noted_its = of_another_writer("arrow_pairs_tests/src/foreign.rt")
+    noted_its = of_another_writer("arrow_meta_reader_tests/src/foreign.rt")
     return {
         "defaults_left_out": ("a schema, a dictionary, a delta and batches of another writer, who leaves out what has its default",
             written_by_another("defaults_left_out")),
         "defaults_left_out_with_pairs": ("the schema of another writer, with pairs on all levels, of which some are not UTF-8",
-            stream(framed_metadata(noted_its["LEVELS"]), noted.stream()[len(noted.levels()):-len(END_MARKER)])),
+            stream(metadata_frame(noted_its["LEVELS"]), noted.stream()[len(noted.levels()):-len(END_MARKER)])),
         "defaults_left_out_without_keys": ("a column of another writer, with pairs without a key, without a value and without both",
-            stream(framed_metadata(noted_its["ABSENT"]), ONE_BATCH)),
+            stream(metadata_frame(noted_its["ABSENT"]), ONE_BATCH)),
     }
 
 

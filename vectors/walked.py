@@ -35,7 +35,7 @@ def listed(vectors):
     found = {}
     for name in vectors["LIST"].decode().split():
         found[name] = (vectors[name], b"") if name.endswith(".changes") else (vectors[f"{name}.txt"], vectors[f"{name}.arrows"])
-    return found | rows.texts()
+    return found | rows.texts() | {name: (b"", held) for name, held in copies().items()}
 
 
 def copies():
@@ -52,16 +52,14 @@ def files(vectors):
     changes, whole = [], []
     held_by = listed(vectors)
     for name, (text, held) in held_by.items():
-        is_changes = name.endswith(".changes")
         lines = text.decode().split("\n")[2:]
-        if is_changes:
+        if name.endswith(".changes"):
             changes.append(f"{name}: {sum(map(count, lines))} streams, as told\n")
-        else:
+        elif text:
             messages = sum(it.startswith("take ") and not it.endswith(" nothing") for it in lines)
             whole.append(f"{name}: {len(held)} bytes, {messages} messages, as told\n")
-    all_of_them = [(name, text.decode(), held) for name, (text, held) in held_by.items()]
-    all_of_them += [(name, "", held) for name, held in copies().items()]
-    named = schema(field("name", UTF8, nullable=False), field("text", UTF8, nullable=False), field("stream", BINARY, nullable=False))
-    told = named + batch(*(strings(its) for its in zip(*all_of_them))) + END_MARKER
-    printed = "".join([*changes, *whole, f"{len(all_of_them)} entries\n"])
+    its = [[*held_by], [text.decode() for text, _ in held_by.values()], [held for _, held in held_by.values()]]
+    named = schema(*(field(name, kind, nullable=False) for name, kind in (("name", UTF8), ("text", UTF8), ("stream", BINARY))))
+    told = named + batch(*map(strings, its)) + END_MARKER
+    printed = "".join([*changes, *whole, f"{len(held_by)} entries\n"])
     return {f"{CRATE}/data/vectors.arrows": told, f"{CRATE}/stdout": printed.encode()}

@@ -97,7 +97,7 @@ EXAMPLES = {
         "end_marker_before_the_schema": refused("NoSchema", 0)}),
     "lists and CSV": ([], {"lists_and_texts": rows('[1, 2], "a,b"', "null, null", '[], ""')}),
     "struct column": ([], {"struct_column": rows('{"m": 5}', "null")}),
-    "shared fields": (["arrow_meta_reader_tests/visits"], {
+    "shared fields": (["arrow_meta_reader_tests/shared"], {
         "shared_fields_17_deep": refused("Metadata", 0),
             "fields_at_the_limit.changes": ["schema.header.fields.0 at * -> batches 0 rows 0 end clean"]}),
     "two connections": (["arrowflow_session_tests/session"], {
@@ -128,7 +128,7 @@ EXAMPLES = {
             "three_bytes_of_offsets": refused("Layout", "*"),
         "one_offset": CLEAN, "int8_alone": rows("-128", "null", "127", "127", "-128")}),
     "columns built, dictionaries, batches": (["arrow_builder_tests/pushes", "arrow_builder_tests/arrays",
-        "arrow_data_tests/batches", "arrow_small_tests/types"], {
+        "arrow_data_tests/batches", "arrow_types_tests/types"], {
             "index_above": refused("Index", "*"), "null_indices_without_a_dictionary": rows("null", "null"),
                 "columns_of_unequal_lengths": refused("Layout", "*")}),
     "messages written and read": (["arrow_meta_writer_tests/written"], {
@@ -191,7 +191,7 @@ EXAMPLES = {
     "a batch's validity, byte by byte": ([], {
         "no_validity_and_a_null": refused("Layout", 152), "no_validity": rows("1", "0", "3"),
             "validity_of_no_nulls": refused("Layout", 152), "spare_bit": THREE}),
-    "levels, visits and bytes of names": (["arrow_meta_reader_tests/visits", "arrow_pairs_tests/limits"], {
+    "levels, visits and bytes of names": (["arrow_meta_reader_tests/shared", "arrow_meta_reader_tests/counts"], {
         "32_levels": CLEAN, "33_levels": refused("Metadata", 0), "shared_name_of_40_bytes": CLEAN,
             "shared_name_of_4000_bytes": CLEAN,
         "names_over_the_limit": refused("Metadata", 0), "names_at_the_limit.changes": ["* -> batches 0 rows 0 end clean"]}),
@@ -202,11 +202,12 @@ EXAMPLES = {
         "durations_for_integers": column("n: duration[ms]"), "large_bytes_for_integers": column("n: large_binary"),
             "large_list_without_a_child": refused("Schema", 0),
         "later_types": CLEAN, "dictionary_of_large_lists": CLEAN, "lists_in_structs_in_lists": CLEAN}),
-    "V4": (["arrow_pairs_tests/versions", "arrowflow_tests/copying"], {
+    "V4": (["arrow_meta_reader_tests/messages", "arrowflow_tests/copying"], {
         "version_4_of_the_schema": column("n: int32") + THREE, "version_4_of_the_batch": THREE, "version_4": LETTERS_SHOWN,
             "mixed_versions": LETTERS_SHOWN,
         "version_3": refused("Version", 0), "version_4_and_floating_point": refused("Unsupported", 0)}),
-    "custom metadata": (["arrow_pairs_tests/written", "arrowflow_session_tests/other_schemas", "arrowflow_tests/copying"], {
+    "custom metadata": (["arrow_types_tests/pairs", "arrow_meta_writer_tests/written", "arrowflow_session_tests/other_schemas",
+        "arrowflow_tests/copying"], {
         "pair_of_the_schema": ["take 208 schema", '  metadata x"6b"=x"76"', *column("n: int32"), *THREE],
         "pairs_on_every_level": ['  metadata x"6f726967696e"=x"68657265" x""=x"" x"6f726967696e"=x"7468657265"', *CLEAN],
         "absent_keys_and_values": ['    metadata x""=x"76" x"6b"=x"" x""=x""', *THREE],

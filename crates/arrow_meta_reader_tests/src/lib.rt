@@ -5,8 +5,6 @@
 #[cfg(test)]
 mod foreign;
 #[cfg(test)]
-mod laid;
-#[cfg(test)]
 mod tests;
 #[cfg(test)]
 mod vectors;

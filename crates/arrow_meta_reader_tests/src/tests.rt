@@ -1,11 +1,11 @@
 //! What no clause says: that the definitions say what the formats mean, and that calls succeed.
 //!
-//! A row changes bytes of a metadata at places counted from its first byte.
+//! Here stands what no stream tells: the numbers of a batch, the version of a message, what was
+//! counted, other limits than the standard ones, and metadata of 63 MiB. A row changes bytes of a
+//! metadata at places counted from its first byte.
 
-mod codes;
-mod defaults;
-mod faults;
-mod meanings;
+mod counts;
+mod hostile;
+mod messages;
 mod reading;
-mod sharing;
-mod visits;
+mod shared;

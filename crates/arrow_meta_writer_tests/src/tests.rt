@@ -1,8 +1,6 @@
 //! What no clause says: that the bytes are those that another program lays out, and that calls
-//! succeed.
+//! succeed. Most messages are written by copies of streams (`vectors/`).
 
-mod again;
-mod built;
 mod frames;
 mod refused;
 mod tables;

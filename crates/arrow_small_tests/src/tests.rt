@@ -10,4 +10,3 @@ mod nested;
 mod records;
 mod refusals;
 mod sinks;
-mod types;

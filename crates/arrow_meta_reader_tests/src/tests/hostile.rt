@@ -1,0 +1,101 @@
+// Metadata that are made here, most of them of 63 MiB and more, and are long on purpose: refused,
+// whatever of them is shared, with no more counted than the limits allow.
+
+use super::reading::MEMORY;
+use super::shared::{Shared, fill, front, is_counted, metadata, push};
+use crate::vectors::PLAIN;
+use std::process::Abort;
+
+// As many bytes as the longest metadata may have that a reader takes by itself.
+const MOST: u64 = 67_108_864;
+
+// 63 MiB.
+const LONG: u32 = 66_060_288;
+
+// An offset to what stands behind it, and there a table without fields, whose vtable stands before
+// it: again and again it is a vector of such tables.
+const EMPTY_TABLES: &[u8] = &[4, 0, 0, 0];
+
+// So many of them, all of which are readable.
+const COUNT: u32 = 16_515_071;
+
+fn is_refused(rt: &(impl Abort + AllocGlobal), mut bytes: Vec<u8>, filled: u32) {
+    fill(rt, &mut bytes, EMPTY_TABLES, filled as usize);
+    let len = bytes.len();
+    assert!(rt; len >= 66_060_288 && len <= 67_108_864, "{len} bytes");
+    is_counted(rt, &bytes, MOST, None);
+}
+
+// The vector of the schema, which is that of many fields too.
+#[test]
+fn a_long_vector_of_pairs_is_refused(rt: HostRuntime) {
+    is_refused(&rt, front(&rt, Shared([0, COUNT, 0], "o")), LONG);
+}
+
+#[test]
+fn a_long_vector_of_many_fields_is_refused(rt: HostRuntime) {
+    is_refused(&rt, front(&rt, Shared([10_000, COUNT, 0], "o")), LONG);
+}
+
+#[test]
+fn a_long_vector_of_columns_is_refused(rt: HostRuntime) {
+    let mut bytes = Vec::from_slice(rt.alloc(), &PLAIN[..60]).expect(&rt, MEMORY);
+    push(&rt, &mut bytes, &[COUNT]);
+    is_refused(&rt, bytes, LONG);
+}
+
+// A short vector of pairs of many fields; a text as the name of all fields, and as the key of a pair
+// in many places, and how many bytes may be read of names and keys: two of it, and one.
+static TEXTS: [(Shared, u64); 3] = [
+    (Shared([2_000, 64, LONG], ""), MOST),
+    (Shared([1_000, 0, 1_048_576], "n"), 2_097_152),
+    (Shared([0, 1_000, 16_777_216], "ok"), 33_554_431),
+];
+
+#[test]
+fn long_texts_are_refused(rt: HostRuntime) {
+    for (shared, most) in &TEXTS {
+        is_counted(&rt, &metadata(&rt, *shared), *most, None);
+    }
+}
+
+// The offsets of a vector of this many elements to what stands behind it.
+fn offsets(rt: &(impl Abort + AllocGlobal), width: u32) -> Vec<u8> {
+    let mut bytes = Vec::new(rt.alloc());
+    for number in 0..width {
+        push(
+            rt,
+            &mut bytes,
+            &[width.wrapping_sub(number).wrapping_mul(4)],
+        );
+    }
+    bytes
+}
+
+// A schema of one column: structs nested `depth` deep, each but the lowest with so many children,
+// which are one and the same table.
+fn nested(rt: &(impl Abort + AllocGlobal), depth: u32, width: u32) -> Vec<u8> {
+    let offsets = offsets(rt, width);
+    let mut bytes = Vec::from_slice(rt.alloc(), &PLAIN[..68]).expect(rt, MEMORY);
+    // The vtable of all fields, with type code and children; the first field stands at 88.
+    push(rt, &mut bytes, &[0xc_0010, 0, 4, 0x8_0000, 0]);
+    for _ in 1..depth {
+        let place = u32::try_from(bytes.len()).expect(rt, "less than 2^32 bytes");
+        push(rt, &mut bytes, &[place.wrapping_sub(68), 13, 4, width]);
+        bytes.extend_from_slice(&offsets).expect(rt, MEMORY);
+    }
+    let place = u32::try_from(bytes.len()).expect(rt, "less than 2^32 bytes");
+    push(rt, &mut bytes, &[place.wrapping_sub(68), 13, 4, 0]);
+    bytes
+}
+
+#[test]
+fn nested_sharing_is_refused(rt: HostRuntime) {
+    is_refused(&rt, nested(&rt, 32, 540_000), 0);
+}
+
+// The levels are too many before the fields are.
+#[test]
+fn deep_sharing_is_refused(rt: HostRuntime) {
+    is_refused(&rt, nested(&rt, 1_000, 16_700), 0);
+}

@@ -1,0 +1,5 @@
+//! What no clause says: that the definitions say what the format means, and that calls succeed.
+
+mod fields;
+mod pairs;
+mod types;

@@ -1,0 +1,84 @@
+"""Schemas of types in each form, laid out by frames.py: what vectors/ROWS changes, and what examples have."""
+from frames import (BINARY, BOOL, INT32, LARGE_BINARY, LARGE_LIST, LARGE_UTF8, LIST, NULL, STRUCT, UTF8, batch, bools, date,
+                    dictionary, dictionary_batch, duration, field, fixed_size_binary, integer, lists, numbers, schema, strings,
+                    structs, time, timestamp)
+from streams import four_fields
+
+
+def every_type():
+    widths = [integer(bits, signed) for bits in (8, 16, 32, 64) for signed in (True, False)]
+    times = [kind(unit) for unit in range(4) for kind in (time, timestamp)]
+    plain = [NULL, BOOL, *widths, BINARY, UTF8, date(0), date(1), *times]
+    columns = [field(f"c{number}", kind) for number, kind in enumerate(plain)]
+    columns.append(field("in a zone", timestamp(2, "Europe/Berlin")))
+    columns.append(field("never null", integer(32, True), nullable=False))
+    columns.append(field("a\\b\tc", UTF8))
+    columns.append(field("list", LIST, [field("item", integer(64, True))]))
+    inner = field("inner", STRUCT, [field("x", integer(8, False)), field("y", UTF8, nullable=False)])
+    columns.append(field("lists of structs", LIST, [inner], nullable=False))
+    columns.append(field("words", UTF8, encoding=dictionary(0)))
+    columns.append(field("sizes", UTF8, encoding=dictionary(-7, 8, False, True), nullable=False))
+    lists = field("tags", LIST, [field("tag", UTF8, encoding=dictionary(0, 16))])
+    columns.append(field("nested", STRUCT, [lists, field("none", NULL)]))
+    columns.append(field("listed", LIST, [field("item", BOOL)], encoding=dictionary(3, 64)))
+    return schema(*columns, *later_types())
+
+
+def later_types():
+    widths = [fixed_size_binary(width) for width in (0, 16, 2 ** 31 - 1)]
+    plain = [*widths, *(duration(unit) for unit in range(4)), LARGE_BINARY, LARGE_UTF8]
+    columns = [field(f"d{number}", kind) for number, kind in enumerate(plain)]
+    item = field("item", LARGE_LIST, [field("", fixed_size_binary(7), nullable=False)])
+    columns.append(field("large list", LARGE_LIST, [item]))
+    columns.append(field("large words", LARGE_UTF8, encoding=dictionary(4, 16, False, True)))
+    columns.append(field("hashes", fixed_size_binary(20), encoding=dictionary(5, 8)))
+    listed = [field("item", duration(1))]
+    columns.append(field("large listed", LARGE_LIST, listed, encoding=dictionary(-1, 64), nullable=False))
+    return columns
+
+
+def shared_columns():
+    """Two columns of one dictionary, one of them below a struct, whose types have each own part of a type below them."""
+    inner = [field("i", INT32), field("d", date(1)), field("t", time(2)), field("s", timestamp(1, "UTC")),
+             field("u", duration(1)), field("f", fixed_size_binary(16)), field("b", BINARY),
+             field("l", LARGE_LIST, [field("o", BOOL)]), field("w", UTF8, nullable=False)]
+    lists = LIST, [field("r", STRUCT, inner)]
+    below = field("z", *lists, nullable=False, encoding=dictionary(7, 8))
+    return field("x", *lists, encoding=dictionary(7)), field("y", STRUCT, [field("n", NULL), below])
+
+
+def shown():
+    """A schema and a batch of ten rows of what is shown in braces, in brackets, as words and in few digits."""
+    def halves(values):
+        return numbers(values, "h")
+    number, more = integer(16, True), [None] * 7
+    fields = [field("n", number), field("long name", BINARY)]
+    columns = [field("s", STRUCT, fields), field("b", BOOL), field("l", LIST, [field("item", number)]),
+               field("t", LIST, [field("item", BOOL)]), field("d", number)]
+    pairs = structs([(), (), None, *more], halves([-300, None, None, *more]), strings([b"\xab\x0c", None, None, *more]))
+    return schema(*columns), batch(pairs, bools([True, False, None, *more]), lists([[1, None, -3], [], None, *more], halves),
+        lists([[True, None, False], [], None, *more], bools), halves([0, 1, 9, 10, 11, 99, 100, -1, -9, -10]))
+
+
+def frames():
+    """The frames by their names."""
+    columns, rows = shown()
+    none = field("a", NULL), field("b", NULL)
+    one_id = field("a", UTF8, encoding=dictionary(7, 8)), field("b", BINARY, encoding=dictionary(7))
+    below = field("i", UTF8, encoding=dictionary(2))
+    return {
+        "EVERY_TYPE": every_type(),
+        "FOUR_FIELDS": four_fields(),
+        "ENCODED": schema(field("k", UTF8, encoding=dictionary(5, 8, True, True))),
+        "ONE_CHILD": schema(field("s", STRUCT, none[:1])),
+        "TWO_CHILDREN": schema(field("s", STRUCT, none)),
+        "INT_WITH_A_CHILD": schema(field("s", INT32, none[:1])),
+        "ONE_TYPE": schema(*shared_columns()),
+        "SHARED_ID": schema(*one_id),
+        "NESTED": schema(field("o", STRUCT, [below], encoding=dictionary(1))),
+        "LEAST_SCHEMA": schema(field("k", UTF8, encoding=dictionary(-2 ** 63))),
+        "LEAST_VALUES": dictionary_batch(-2 ** 63, strings(["x"])),
+        "LEAST_ROWS": batch(numbers([0])),
+        "SHOWN": columns,
+        "SHOWN_ROWS": rows,
+    }
