@@ -31,7 +31,7 @@ use Rattle.arrow_dict.specs.ValueTypes.{value_type_of}
 use Rattle.arrow_meta_reader.specs.Means.{PlainBatch, PlainHeader, dictionary}
 use Rattle.arrow_stream_reader.specs.declared.kind.Refusal.TheVariants.{UnknownId, NoBase, Rows}
 use Rattle.arrow_stream_reader.specs.Batch.{columns, base_of, field_of_type, has_bad_length, is_bad_length, with_values}
-use Rattle.arrow_stream_reader.specs.Frame.{is_out_of_order, against, BodySays, dictionary_comes, First, whole}
+use Rattle.arrow_stream_reader.specs.Frame.{is_out_of_order, state_refusal, BodySays, dictionary_comes, First, whole}
 use Rattle.arrow_stream_reader.specs.State.{StreamState, Given, dictionary_given}
 use Rattle.arrow_stream_reader.proofs.Fitness.{values_flat}
 use Rattle.arrow_stream_reader.proofs.Whole.{frame_whole}
@@ -126,7 +126,7 @@ frame_length {body = body} f =
 
 -- a frame that the limits and the state allow is one whole message
 pub frame_first : (l : LimitNumbers) (s : StreamState) (p size : ℕ) (content : PlainHeader) (body b : List ℕ) (s' : StreamState) (g : Given) → IsFrameOf l size content body b
-    → size ≤ l.max_metadata → p + length b ≤ 2 ^ 62 → is_out_of_order (is_some s.schema) content ≡ false → against l.max_rows s content ≡ None
+    → size ≤ l.max_metadata → p + length b ≤ 2 ^ 62 → is_out_of_order (is_some s.schema) content ≡ false → state_refusal l.max_rows s content ≡ None
     → BodySays s content body (Ok (s', g)) → First l s p b (whole (length b) s' g)
 frame_first l s p size content body b s' g f small near order free says =
     frame_whole l s p size content f.prefix f.metadata body b s' g f.eight f.continued f.number f.sized f.some f.bytes (_, f.means, refl) small near order free says
@@ -238,7 +238,7 @@ module _ (l : LimitNumbers) (z : ℕ) (shape : SchemaShape) where
       let base = base_of w.is_delta (listed ds w.id) in
       let total : length base + count_of u.record_batch.length ≡ length w.whole =
       ap (λ n. length base + count_of n) x.long ∙ sym (length-append base w.carried) ∙ ap length chosen.behind in
-      let none_against : against l.max_rows s (dictionary w.id w.is_delta u.record_batch) ≡ None =
+      let none_against : state_refusal l.max_rows s (dictionary w.id w.is_delta u.record_batch) ≡ None =
       allowed_if (is_some o) (w.is_delta && not (is_some (listed ds w.id))) (has_bad_length l.max_rows own u.record_batch) (ltb l.max_rows (length base + count_of u.record_batch.length))
       (ap is_some named) chosen.there (lengths_good l z (dictionary_size z own) own (w.carried ∷ []) (length w.carried) u.record_batch u.body x f)
       (le-ltb l.max_rows (length base + count_of u.record_batch.length) (let few = leb-true (length w.whole) l.max_rows two.1 in omega arith)) in

@@ -17,7 +17,7 @@ use Rattle.arrow_body_reader.proofs.Readings.{columns_resolve}
 use Rattle.arrow_meta_reader.specs.Means.{schema, batch}
 use Rattle.arrow_stream_reader.specs.declared.kind.Refusal.TheVariants as kinds
 use Rattle.arrow_stream_reader.specs.Batch.{columns}
-use Rattle.arrow_stream_reader.specs.Frame.{BodySays, schema_comes, batch_comes, First, marker, against}
+use Rattle.arrow_stream_reader.specs.Frame.{BodySays, schema_comes, batch_comes, First, marker, state_refusal}
 use Rattle.arrow_stream_reader.specs.State.{StreamState, batch_given, schema_given, nothing_yet}
 use Rattle.arrow_stream_reader.proofs.Whole.{marker_whole}
 use Rattle.arrow_sink.specs.declared.write_fault.WriteFault.TheVariants.{TooLarge}
@@ -80,7 +80,7 @@ module _ {l : LimitNumbers} {o : Options} {shape : SchemaShape} where
       let count : t.rows ≡ count_of x.record_batch.length = sym (ap count_of x.built.long) in
       let says : BodySays s (batch x.record_batch) x.body (Ok (s, batch_given table)) =
       batch_comes (columns (layout_of x.built) x.built.columns.text indexed) (ap (λ n. Ok (s, batch_given (record { schema = shape; columns = cs; rows = n }))) count) in
-      let free : against l.max_rows s (batch x.record_batch) ≡ None =
+      let free : state_refusal l.max_rows s (batch x.record_batch) ≡ None =
       bad_none _ (lengths_good l o.align (batch_size o.align shape.fields) shape.fields (raws_of t.columns) t.rows x.record_batch x.body x.built f.record_fits) in
       let len : length x.last ≡ record_size o.align shape.fields t = frame_length x.frame ∙ ap (λ n. 8 + batch_size o.align shape.fields + n) x.built.columns.sized in
       let first = frame_first l s (p + us) (batch_size o.align shape.fields) (batch x.record_batch) x.body x.last s (batch_given table) x.frame f.record_fits.metadata_fits (omega arith) refl free says in
