@@ -3,6 +3,9 @@
 use std::alloc::{AllocError, Global};
 use std::collections::BTreeMap;
 
+/// A stream of more bytes than these is cut at few places.
+const LONG: u64 = 8192;
+
 /// What a message is.
 #[derive(Clone, Copy, PartialEq, Eq)]
 pub(crate) enum Form {
@@ -106,12 +109,15 @@ impl<'a> Told<'a> {
     }
 
     /// Whether pieces or a connection are to end at a place of a stream of this size: from one byte
-    /// before the end of a message to eight behind it, at every 32nd place, and at 16 places of
-    /// a larger stream.
+    /// before the end of a message to eight behind it, or just there in a long stream, at every 32nd
+    /// place, and at 16 places of a larger stream.
     pub(crate) fn is_chosen(&self, place: u64, size: u64) -> bool {
+        let (before, behind) = if size <= LONG { (1, 8) } else { (0, 0) };
         let mut ends = self.messages.iter().map(|message| message.end());
         place % (size / 16).max(32) == 0
-            || ends.any(|end| place <= end.saturating_add(8) && end <= place.saturating_add(1))
+            || ends.any(|end| {
+                place <= end.saturating_add(behind) && end <= place.saturating_add(before)
+            })
     }
 
     /// Whether a message ends at a place, or one byte before or behind it.
