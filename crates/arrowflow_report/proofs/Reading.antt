@@ -10,7 +10,7 @@ use Rattle.arrow_stream_reader.specs.State.{StreamState, Given}
 use Rattle.arrow_stream_reader.specs.Stream.{ReaderView, ReaderStands}
 use Rattle.arrow_stream_reader.proofs.Firsts.{First-within, whole_says}
 use Rattle.arrow_stream_reader.proofs.Fronts.{front_place}
-use Rattle.arrow_stream_reader.proofs.Works.{size_small, frame_small}
+use Rattle.arrow_stream_reader.proofs.Decoding.{size_small, frame_small}
 use Rattle.arrowflow_report.specs.Reads.{IsReadWhile, answer_by}
 use Rattle.arrowflow_report.specs.declared.pieces.ReadFailed.{ReadFailed}
 use Rattle.arrowflow_report.specs.declared.tool_fault.ToolFault.{ToolFault}

@@ -15,7 +15,7 @@ use Rattle.arrow_stream_reader.specs.State.{StreamState, Given, nothing_yet, sch
 use Rattle.arrow_stream_reader.proofs.Beginnings.{whole_gives}
 use Rattle.arrow_stream_reader.proofs.Firsts.{whole_says, First-append, First-within}
 use Rattle.arrow_stream_reader.proofs.Fronts.{at_bytes, front_follows}
-use Rattle.arrow_stream_reader.proofs.Works.{message_in_order}
+use Rattle.arrow_stream_reader.proofs.Decoding.{message_in_order}
 use Rattle.arrowflow_report.proofs.First.{not_marker}
 
 -- what a front with more bytes has behind an open one
