@@ -58,17 +58,18 @@ def is_built(name):
     return os.path.isdir(rlib(name)) and all(os.path.getmtime(it) < os.path.getmtime(rlib(name)) for it in sources(name))
 
 
-def read_by(name, crates):
-    """The words that name to the kit's `rattle` what a crate is and reads, over the libraries below it as they were built."""
+def read_by(name, crates, place=rlib):
+    """The words that name to the kit's `rattle` what a crate is and reads, over the libraries below it as they were built, or as
+    they lie at other places."""
     root = "main" if os.path.isfile(f"{TOP}/crates/{name}/src/main.rt") else "lib"
     words = ["--crate-name", name, f"src/{root}.rt"]
     for it in ["std", *[x for x in crates[name] if x not in crates]]:
         words += ["--extern", f"{it}={KIT}/rlibs/{it}.rlib"]
     words += ["-L", f"dependency={KIT}/rlibs"]
     for it in [x for x in crates[name] if x in crates]:
-        words += ["--extern", f"{it}={rlib(it)}"]
+        words += ["--extern", f"{it}={place(it)}"]
     for it in below(name, crates):
-        words += ["-L", f"dependency={os.path.dirname(rlib(it))}"]
+        words += ["-L", f"dependency={os.path.dirname(place(it))}"]
     words += ["--antt-project", f"{KIT}/rattle/logic/antt-project.json", "--logic-built", f"{KIT}/logic_built"]
     return [*words, "--links", f"{name}="]
 
