@@ -18,3 +18,6 @@ pub mod Marking
 pub mod Bytewise
 pub mod Numbering
 pub mod Wholes
+pub mod Moving
+pub mod Spanning
+pub mod Holding

@@ -11,7 +11,6 @@ use Rattle.arrow_data.specs.PlainValue.{PlainValue, null_value, is_null_value, v
 use Rattle.arrow_data.specs.Slots.{HasBits, is_valid_at, or_null}
 use Rattle.arrow_data.specs.View.{AreBuffersOf}
 use Rattle.arrow_data.specs.declared.form.Form.{Form}
-use Rattle.arrow_data.specs.declared.form.Form.TheVariants as forms
 use Rattle.arrow_data.specs.declared.view.Buffers.{Buffers}
 use Rattle.arrow_data.specs.declared.view.Buffers.TheVariants as buffers
 use Rattle.arrow_body_laws.proofs.Slotted.{not_zero}
@@ -19,7 +18,7 @@ use Rattle.arrow_body_laws.specs.Raws.{last_offset}
 use Rattle.arrow_body_laws.specs.Stored.{nulls_in}
 use Rattle.arrow_body_writer.proofs.Ranges.{from_next, none_from}
 use Rattle.arrow_body_writer.proofs.Running.{offsets_more}
-use Rattle.arrow_body_writer.specs.Marks.{AreMarked, bits_from, has_offsets, validity_of}
+use Rattle.arrow_body_writer.specs.Marks.{AreMarked, bits_from, validity_of}
 use Rattle.arrow_body_writer.specs.Packing.{IsPacking}
 use Rattle.arrow_body_writer.specs.Part.{IsWritten}
 use Rattle.arrow_body_writer.specs.Tally.{Counts, capped}
@@ -175,24 +174,13 @@ zeros_between bytes start stop order =
 pub rest_of_bytes : (bytes : List ℕ) (first : ℕ) → take (length bytes - first) (drop first bytes) ≡ drop first bytes
 rest_of_bytes bytes first = take_all (length bytes - first) (drop first bytes) (omega (arith, length-drop first bytes))
 
--- a node without offsets has none to go on
-no_offsets : (form : Form) (vs : List PlainValue) → has_offsets form ≡ false → last_offset form vs ≡ 0
-no_offsets forms.Nulls vs none = refl
-no_offsets forms.Bits vs none = refl
-no_offsets (forms.Numbers bits signed) vs none = refl
-no_offsets (forms.Bytes w) vs none = cc
-no_offsets (forms.Texts w) vs none = cc
-no_offsets (forms.FixedBytes w) vs none = refl
-no_offsets (forms.Lists w) vs none = cc
-no_offsets forms.Structs vs none = refl
-
--- slots of such a node are counted
-pub marked_counted : (form : Form) (vs : List PlainValue) (old new : Tally) → has_offsets form ≡ false → new.slots ≡ capped (old.slots + length vs) → new.nulls ≡ capped (old.nulls + nulls_in vs)
-    → new.end ≡ old.end → Counts form vs old new
-marked_counted form vs old new none slots nulls end = λ before t. record {
+-- slots are counted by their bits and by what their offsets go on
+pub marked_counted : (form : Form) (vs : List PlainValue) (old new : Tally) → new.slots ≡ capped (old.slots + length vs) → new.nulls ≡ capped (old.nulls + nulls_in vs)
+    → new.end ≡ capped (old.end + last_offset form vs) → Counts form vs old new
+marked_counted form vs old new slots nulls end = λ before t. record {
   slots = omega (arith, slots, t.slots, length-append before vs);
   nulls = omega (arith, nulls, t.nulls, sum_by-append (λ x. cond (is_null_value x) 1 0) before vs);
-  end = omega (arith, end, t.end, offsets_more form before vs, no_offsets form vs none);
+  end = omega (arith, end, t.end, offsets_more form before vs);
 }
 
 -- the bits of slots are added to a buffer of validity

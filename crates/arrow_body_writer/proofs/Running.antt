@@ -22,7 +22,7 @@ use Rattle.arrow_body_laws.specs.Raws.{bytes_in_value, fixed_in, items_in_value,
 use Rattle.arrow_body_laws.specs.Stored.{nulls_in, number_buffer}
 use Rattle.arrow_body_writer.proofs.Shown.{items_are}
 use Rattle.arrow_body_writer.specs.Part.{IsWritten}
-use Rattle.arrow_body_writer.specs.Runs.{ArePieces, HasRun, are_strings}
+use Rattle.arrow_body_writer.specs.Runs.{AreBytesOf, HasRun, are_strings}
 use Rattle.arrow_body_writer.specs.Tally.{Counts, capped}
 use Rattle.arrow_body_writer.specs.declared.part.Part.{Part}
 use Rattle.arrow_body_writer.specs.declared.part.Part.TheVariants.{Validity, Truths, Numbers, StringOffsets, ListOffsets, Strings, FixedBytes}
@@ -241,7 +241,7 @@ more_numbers w before items new bytes vs ws so_far more are =
     ∙ ap (λ b. before ++ b) (sym (ap (flat_map (int_bytes w)) (map-append number_in vs ws) ∙ flat_map-append (int_bytes w) (map number_in vs) (map number_in ws)))
 
 -- so several slots are added at once
-pub pieces_written : (part : Part) (old new : Writing) (bytes : List ℕ) (ws : List PlainValue) → ArePieces part ws bytes → new.out.items ≡ old.out.items ++ bytes
+pub pieces_written : (part : Part) (old new : Writing) (bytes : List ℕ) (ws : List PlainValue) → AreBytesOf part ws bytes → new.out.items ≡ old.out.items ++ bytes
     → (before : List ℕ) (vs : List PlainValue) → IsWritten part before vs old → IsWritten part before (vs ++ ws) new
 pieces_written Validity old new bytes ws are more before vs so_far = absurd are
 pieces_written Truths old new bytes ws are more before vs so_far = absurd are

@@ -10,3 +10,5 @@ pub mod Source
 pub mod Runs
 pub mod Whole
 pub mod Marks
+pub mod Spans
+pub mod Offsets

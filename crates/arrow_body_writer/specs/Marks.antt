@@ -1,11 +1,9 @@
 -- The validity bitmap of slots, and the bytes of their numbers, as they lie in an array.
-use Rattle.std.specs.Prelude.{◌≡◌, ◌≤◌, ◌<◌, ◌+◌, ◌-◌, ◌*◌, ℕ, Bool, false, true, not, List, length, map, slice_range, Option, None, Some}
+use Rattle.std.specs.Prelude.{◌≡◌, ◌≤◌, ◌<◌, ◌+◌, ◌-◌, ◌*◌, ℕ, Bool, false, not, List, length, map, slice_range, Option, None, Some}
 use Rattle.std.specs.List.{range_with_len}
 use Rattle.arrow_bits.specs.Bitmap.{bit_of}
 use Rattle.arrow_bits.specs.Numbers.{int_bytes}
 use Rattle.arrow_data.specs.PlainValue.{PlainValue, is_null_value, value_at}
-use Rattle.arrow_data.specs.declared.form.Form.{Form}
-use Rattle.arrow_data.specs.declared.form.Form.TheVariants as forms
 use Rattle.arrow_data.specs.declared.view.Buffers.{Buffers}
 use Rattle.arrow_data.specs.declared.view.Buffers.TheVariants as buffers
 use Rattle.arrow_body_laws.specs.Raws.{number_in}
@@ -43,14 +41,3 @@ validity_of (buffers.FixedBytes width validity values) = Some validity.now
 validity_of (buffers.Lists width validity offsets child) = Some validity.now
 validity_of (buffers.Structs validity children) = Some validity.now
 validity_of (buffers.Indices of dictionary) = Some of.validity.now
-
--- a node of the form has a buffer of offsets
-abbrev pub has_offsets : Form → Bool
-has_offsets forms.Nulls = false
-has_offsets forms.Bits = false
-has_offsets (forms.Numbers bits signed) = false
-has_offsets (forms.Bytes width) = true
-has_offsets (forms.Texts width) = true
-has_offsets (forms.FixedBytes width) = false
-has_offsets (forms.Lists width) = true
-has_offsets forms.Structs = false

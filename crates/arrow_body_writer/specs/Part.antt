@@ -87,17 +87,19 @@ HasNextOffset width len old new =
     (new.out.items ≡ old.out.items ++ number_bytes (offset_bytes width) new.end)
     × (old.end + len ≤ greatest_offset width → new.end ≡ old.end + len)
 
+-- After `before` stand the offsets of slots with these values, which have so much each, and the last one is kept, if the width
+-- can tell them.
+abbrev pub AreOffsetsTo : OffsetWidth → (PlainValue → ℕ) → List ℕ → List PlainValue → Writing → Type 0
+AreOffsetsTo width long before vs w =
+    sum_by long vs ≤ greatest_offset width → (w.out.items ≡ before ++ offsets_bytes width (map long vs)) × (w.end ≡ sum_by long vs)
+
 -- After `before` stands what the slots with these values are in the buffer. Of offsets it is asked that their width can tell
 -- them; the last one is kept beside.
 abbrev pub IsWritten : Part → List ℕ → List PlainValue → Writing → Type 0
 IsWritten Validity before vs w = IsPacking before (map (λ v. not (is_null_value v)) vs) w.pending.byte w.pending.weight w.out.items
 IsWritten Truths before vs w = IsPacking before (map truth_in vs) w.pending.byte w.pending.weight w.out.items
 IsWritten (Numbers bits) before vs w = w.out.items ≡ before ++ number_buffer (number_width bits) vs
-IsWritten (StringOffsets width) before vs w =
-    sum_by (λ v. length (bytes_in_value v)) vs ≤ greatest_offset width
-    → (w.out.items ≡ before ++ offsets_bytes width (map (λ v. length (bytes_in_value v)) vs)) × (w.end ≡ sum_by (λ v. length (bytes_in_value v)) vs)
-IsWritten (ListOffsets width) before vs w =
-    sum_by (λ v. length (items_in_value v)) vs ≤ greatest_offset width
-    → (w.out.items ≡ before ++ offsets_bytes width (map (λ v. length (items_in_value v)) vs)) × (w.end ≡ sum_by (λ v. length (items_in_value v)) vs)
+IsWritten (StringOffsets width) before vs w = AreOffsetsTo width (λ v. length (bytes_in_value v)) before vs w
+IsWritten (ListOffsets width) before vs w = AreOffsetsTo width (λ v. length (items_in_value v)) before vs w
 IsWritten Strings before vs w = w.out.items ≡ before ++ flat_map bytes_in_value vs
 IsWritten (FixedBytes width) before vs w = w.out.items ≡ before ++ flat_map (fixed_in width) vs

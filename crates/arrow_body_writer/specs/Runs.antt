@@ -1,15 +1,20 @@
 -- Slots one after another of which none is null.
-use Rattle.std.specs.Prelude.{◌≡◌, ◌≤◌, ℕ, Bool, true, false, List, [], ◌∷◌, length}
+use Rattle.std.specs.Prelude.{◌≡◌, ◌≤◌, ℕ, Bool, true, false, List, [], ◌∷◌, length, ⊤}
 use Rattle.std.specs.List.{flat_map}
 use Rattle.arrow_data.specs.Column.{AreOf, Column, values_from}
 use Rattle.arrow_data.specs.Form.{number_width}
 use Rattle.arrow_data.specs.PlainValue.{PlainValue}
+use Rattle.arrow_data.specs.declared.form.OffsetWidth.{OffsetWidth}
 use Rattle.arrow_data.specs.declared.form.Form.{Form}
 use Rattle.arrow_data.specs.declared.form.Form.TheVariants as forms
 use Rattle.arrow_body_laws.specs.Raws.{bytes_in_value, fixed_in, items_in_value}
 use Rattle.arrow_body_laws.specs.Stored.{number_buffer}
+use Rattle.arrow_body_writer.specs.Spans.{AreSpans, AreThere}
 use Rattle.arrow_body_writer.specs.declared.part.Part.{Part}
 use Rattle.arrow_body_writer.specs.declared.part.Part.TheVariants.{Validity, Truths, Numbers, StringOffsets, ListOffsets, Strings, FixedBytes}
+use Rattle.arrow_body_writer.specs.declared.pieces.Piece.{Piece}
+use Rattle.arrow_body_writer.specs.declared.pieces.Piece.TheVariants as pieces
+use Rattle.arrow_body_writer.specs.declared.spans.Spans.{Spans}
 
 -- slots of the form hold byte strings or texts
 abbrev pub are_strings : Form → Bool
@@ -30,12 +35,39 @@ pub record HasRun (c : Column) (start stop first last : ℕ) (child : Column) : 
   pub inside : last ≤ length child.raw
   pub same : flat_map items_in_value (values_from c.raw start stop) ≡ values_from child.raw first last
 
--- bytes are what slots with these values are in the buffer, which has a piece for each slot
-abbrev pub ArePieces : Part → List PlainValue → List ℕ → Type 0
-ArePieces Validity vs bytes = ⊥
-ArePieces Truths vs bytes = ⊥
-ArePieces (Numbers bits) vs bytes = bytes ≡ number_buffer (number_width bits) vs
-ArePieces (StringOffsets width) vs bytes = ⊥
-ArePieces (ListOffsets width) vs bytes = ⊥
-ArePieces Strings vs bytes = bytes ≡ flat_map bytes_in_value vs
-ArePieces (FixedBytes width) vs bytes = bytes ≡ flat_map (fixed_in width) vs
+-- bytes are what slots with these values are in the buffer, which has bytes for each slot
+abbrev pub AreBytesOf : Part → List PlainValue → List ℕ → Type 0
+AreBytesOf Validity vs bytes = ⊥
+AreBytesOf Truths vs bytes = ⊥
+AreBytesOf (Numbers bits) vs bytes = bytes ≡ number_buffer (number_width bits) vs
+AreBytesOf (StringOffsets width) vs bytes = ⊥
+AreBytesOf (ListOffsets width) vs bytes = ⊥
+AreBytesOf Strings vs bytes = bytes ≡ flat_map bytes_in_value vs
+AreBytesOf (FixedBytes width) vs bytes = bytes ≡ flat_map (fixed_in width) vs
+
+-- they are the offsets of slots with these values, which have so much each
+pub record AreOffsetsOf (s : Spans) (width : OffsetWidth) (long : PlainValue → ℕ) (vs : List PlainValue) : Type 0 where
+  pub raw : List PlainValue
+  pub spans : AreSpans s long raw
+  pub same_width : s.width ≡ width
+  pub values : vs ≡ values_from raw s.start s.stop
+
+-- offsets are those of slots with these values
+abbrev pub AreSpansIn : Part → List PlainValue → Spans → Type 0
+AreSpansIn Validity vs s = ⊥
+AreSpansIn Truths vs s = ⊥
+AreSpansIn (Numbers bits) vs s = ⊥
+AreSpansIn (StringOffsets width) vs s = AreOffsetsOf s width (λ v. length (bytes_in_value v)) vs
+AreSpansIn (ListOffsets width) vs s = AreOffsetsOf s width (λ v. length (items_in_value v)) vs
+AreSpansIn Strings vs s = ⊥
+AreSpansIn (FixedBytes width) vs s = ⊥
+
+-- a piece is what slots with these values are in the buffer
+abbrev pub IsPiece : Part → List PlainValue → Piece → Type 0
+IsPiece part vs (pieces.Bytes bytes) = AreBytesOf part vs bytes.now
+IsPiece part vs (pieces.Offsets spans) = AreSpansIn part vs spans
+
+-- offsets of a piece are there
+abbrev pub IsThere : Piece → Type 0
+IsThere (pieces.Bytes bytes) = ⊤
+IsThere (pieces.Offsets spans) = AreThere spans

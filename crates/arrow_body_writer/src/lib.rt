@@ -8,14 +8,16 @@
 //! bodies in the room of an earlier one, so that who stores one after another asks for memory once.
 //!
 //! A body is written front to back, by the public calls of `arrow_data` alone. Numbers beside a
-//! validity bitmap are copied with the bytes under nulls, which are cleared in the copy (`masked`);
-//! of all other slots no byte is copied that stood under a null. A node is known by its number in
-//! pre-order. One walk finds the slots that a node is sent, below lists and structs too, and either
-//! counts them or writes one of the node's buffers (`pass`); so each node is walked once to be
-//! counted and once for each buffer, and nothing is kept of the slots. Where a struct or a list is sent all slots of its children
-//! (`whole`), these are laid out as columns by themselves after its own node, level by level: so
-//! the work grows with the nodes, and not with their square. A column with nulls above others, or
-//! with slots that it does not send, is walked from its own node to each one below it.
+//! validity bitmap are copied with the bytes under nulls, which are cleared in the copy (`masked`).
+//! Offsets and the bytes between them are copied where nothing lies under a null (`offsets`), and
+//! to each offset so much is added as the buffer has gone on (`spans`). Of all other slots no byte
+//! is copied that stood under a null. A node is known by its number in pre-order. One walk finds
+//! the slots that a node is sent, below lists and structs too, and either counts them or writes one
+//! of the node's buffers (`pass`); so each node is walked once to be counted and once for each
+//! buffer, and nothing is kept of the slots. Where a struct or a list is sent all slots of its
+//! children (`whole`), these are laid out as columns by themselves after its own node, level by
+//! level: so the work grows with the nodes, and not with their square. A column with nulls above
+//! others, or with slots that it does not send, is walked from its own node to each one below it.
 //!
 //! | Notion | Definition |
 //! |---|---|
@@ -27,13 +29,15 @@
 //! | slots passed, and counted | `specs/Pass.antt`: `Takes`; `specs/Tally.antt`: `IsTally` |
 //! | children that are sent whole | `specs/Whole.antt`: `AreSentWhole` |
 //! | a buffer on its way | `specs/Part.antt`: `IsWritten`; `specs/Packing.antt`; `specs/Runs.antt` |
+//! | offsets as they lie | `specs/Offsets.antt`: `AreHeld`; `specs/Spans.antt`: `AreSpans` |
 //! | bitmaps and numbers as they lie | `specs/Marks.antt`: `AreMarked`, `HasNumbers` |
 //!
 //! Of the proofs, `Sending` says what nodes are sent, `Passing`, `RunPasses` and `Sources` what a
 //! pass takes of that, `Levels` goes from what is said level by level to the numbers of nodes,
 //! `Chunks` shows that a body to which all columns were added is the stored one, `Wholes` when
 //! children are sent whole, `Marking` what a bitmap says of slots, `Bytewise` how its bytes are
-//! added to bits, and `Numbering` that numbers are cleared under nulls.
+//! added to bits, `Numbering` that numbers are cleared under nulls, `Holding` what lies between
+//! offsets, `Moving` what is added to them, and `Spanning` that they are then those of the slots.
 #![tactic(auto)]
 
 pub(crate) mod align;
@@ -45,12 +49,15 @@ pub(crate) mod forms;
 pub(crate) mod masked;
 pub(crate) mod measured;
 pub(crate) mod nodes;
+pub(crate) mod offsets;
 pub(crate) mod packing;
 pub(crate) mod part;
 pub(crate) mod pass;
+pub(crate) mod pieces;
 pub(crate) mod sizes;
 pub(crate) mod slots;
 pub(crate) mod source;
+pub(crate) mod spans;
 pub(crate) mod tally;
 pub(crate) mod whole;
 pub(crate) mod writing;

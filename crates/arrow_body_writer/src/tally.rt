@@ -1,13 +1,15 @@
 //! The slots that a node is sent, counted.
 
-ghost use Rattle.std.specs.Prelude.{◌≡◌, ◌≤◌, ◌<◌, ◌+◌, ◌-◌, ◌*◌, count_by, length, not};
+ghost use Rattle.std.specs.Prelude.{◌≡◌, ◌≤◌, ◌<◌, ◌+◌, ◌-◌, ◌*◌, IfSome, count_by, length, not};
+ghost use Rattle.std.specs.List.{sum_by};
 ghost use Rattle.arrow_data.specs.Column.{values_from};
 ghost use Rattle.arrow_data.specs.FullSlots.{AreFull};
-ghost use Rattle.arrow_body_laws.specs.Raws.{last_offset};
-ghost use Rattle.arrow_body_writer.specs.Marks.{bits_from, has_offsets};
+ghost use Rattle.arrow_body_laws.specs.Raws.{bytes_in_value, items_in_value, last_offset};
+ghost use Rattle.arrow_body_writer.specs.Marks.{AreMarked, bits_from};
 ghost use Rattle.arrow_body_writer.specs.Tally.{Counts, CountsNull, capped};
 
 use crate::bitmap::{bitmap, zeros};
+use crate::offsets::{lists_between, strings_between};
 use crate::slots::{items, strings};
 use arrow_data::Array;
 use arrow_data::form::Form;
@@ -19,18 +21,6 @@ pub(crate) struct Tally {
     pub(crate) slots: u64,
     pub(crate) nulls: u64,
     pub(crate) end: u64,
-}
-
-// Whether a node of the form has a buffer of offsets.
-fn has_offsets(form: Form) -> bool
-    ensures { result ≡ has_offsets form }
-{
-    match form {
-        Form::Bytes(_) | Form::Texts(_) | Form::Lists(_) => true,
-        Form::Nulls | Form::Bits | Form::Numbers { .. } | Form::FixedBytes(_) | Form::Structs => {
-            false
-        }
-    }
 }
 
 // How far the offsets of a range of slots go on, of which none is null: 0 where the form has none.
@@ -48,6 +38,46 @@ fn stretch(form: Form, array: &Array, start: usize, stop: usize) -> usize
             None => 0,
         },
         Form::Nulls | Form::Bits | Form::Numbers { .. } | Form::FixedBytes(_) | Form::Structs => 0,
+    }
+}
+
+// How far the offsets of the byte strings or texts of a range of slots go on, where nothing lies
+// under the nulls among these. None also where there are no slots, or other ones.
+fn string_reach(array: &Array, start: usize, stop: usize) -> Option<usize>
+    requires order { start ≤ stop }
+    requires inside { stop ≤ length array.now.raw }
+    ensures { IfSome result (λ len. len
+        ≡ sum_by (λ v. length (bytes_in_value v)) (values_from array.now.raw start stop)) }
+{
+    let (spans, _) = strings_between(array, start, stop)?;
+    Some(spans.len())
+}
+
+// The same of the lists of a range of slots.
+fn list_reach(array: &Array, start: usize, stop: usize) -> Option<usize>
+    requires order { start ≤ stop }
+    requires inside { stop ≤ length array.now.raw }
+    ensures { IfSome result (λ len. len
+        ≡ sum_by (λ v. length (items_in_value v)) (values_from array.now.raw start stop)) }
+{
+    let spans = lists_between(array, start, stop)?;
+    Some(spans.len())
+}
+
+// The same of the slots of a node of the form: 0 where it has no offsets.
+fn reach(form: Form, array: &Array, start: usize, stop: usize) -> Option<usize>
+    requires order { start ≤ stop }
+    requires inside { stop ≤ length array.now.raw }
+    ensures { IfSome result (λ len. len
+        ≡ last_offset form (values_from array.now.raw start stop)) }
+{
+    match form {
+        Form::Bytes(_) => string_reach(array, start, stop),
+        Form::Texts(_) => string_reach(array, start, stop),
+        Form::Lists(_) => list_reach(array, start, stop),
+        Form::Nulls | Form::Bits | Form::Numbers { .. } | Form::FixedBytes(_) | Form::Structs => {
+            Some(0)
+        }
     }
 }
 
@@ -115,28 +145,42 @@ impl Tally {
         }
     }
 
-    // Counts slots whose bits these are, which have no offsets.
-    fn add_marked(&mut self, bits: &[u8], start: usize, stop: usize)
+    // Counts slots whose bits these are, and whose offsets go so far on.
+    fn add_marked(&mut self, bits: &[u8], start: usize, stop: usize, len: usize)
         requires order { start ≤ stop }
         requires inside { stop ≤ 8 * length bits.now }
         ensures slots { self.new.slots ≡ capped (self.old.slots + (stop - start)) }
         ensures nulls { self.new.nulls
             ≡ capped (self.old.nulls + count_by not (bits_from bits.now start stop)) }
-        ensures end { self.new.end ≡ self.old.end }
+        ensures end { self.new.end ≡ capped (self.old.end + len) }
     {
         self.slots = self.slots.saturating_add((stop - start) as u64);
         self.nulls = self.nulls.saturating_add(zeros(bits, start, stop) as u64);
+        self.end = self.end.saturating_add(len as u64);
     }
 
-    // Counts the slots of a range: where they have a bitmap and no offsets by its bits.
+    // Counts slots beside a bitmap: by its bits, where nothing lies under a null.
+    fn add_beside(&mut self, form: Form, array: &Array, bits: &[u8], start: usize, stop: usize)
+        requires order { start ≤ stop }
+        requires inside { stop ≤ length array.now.raw }
+        requires bits { AreMarked array.now.raw bits.now }
+        ensures { Counts form (values_from array.now.raw start stop) self.old self.new }
+    {
+        match reach(form, array, start, stop) {
+            Some(len) => self.add_marked(bits, start, stop, len),
+            None => self.add_runs(form, array, start, stop),
+        }
+    }
+
+    // Counts the slots of a range.
     pub(crate) fn add_slots(&mut self, form: Form, array: &Array, start: usize, stop: usize)
         requires order { start ≤ stop }
         requires inside { stop ≤ length array.now.raw }
         ensures { Counts form (values_from array.now.raw start stop) self.old self.new }
     {
         match bitmap(array) {
-            Some(bits) if !has_offsets(form) => self.add_marked(bits, start, stop),
-            Some(_) | None => self.add_runs(form, array, start, stop),
+            Some(bits) => self.add_beside(form, array, bits, start, stop),
+            None => self.add_runs(form, array, start, stop),
         }
     }
 }

@@ -1,6 +1,6 @@
 //! A buffer on its way into the body, slot by slot.
 
-ghost use Rattle.std.specs.Prelude.{◌≡◌, ◌<◌, ◌≤◌, ◌+◌, ◌++◌, [], ◌∷◌, List, ℕ, IfOk, IfSome, OnOk, length, replicate};
+ghost use Rattle.std.specs.Prelude.{◌≡◌, ◌<◌, ◌≤◌, ◌+◌, ◌++◌, [], ◌∷◌, List, ℕ, IfOk, OnOk, length, replicate};
 ghost use Rattle.std.specs.List.{AllByRecursion};
 ghost use Rattle.arrow_bits.specs.Numbers.{number_bytes};
 ghost use Rattle.arrow_data.specs.Column.{values_from};
@@ -8,14 +8,18 @@ ghost use Rattle.arrow_data.specs.Form.{offset_bytes};
 ghost use Rattle.arrow_data.specs.FullSlots.{AreFull};
 ghost use Rattle.arrow_data.specs.PlainValue.{PlainValue, null_value, value_at};
 ghost use Rattle.arrow_body_laws.specs.Raws.{fixed_in, greatest_offset};
-ghost use Rattle.arrow_body_writer.specs.Part.{HasNextOffset, HasRoom, IsTold, IsWritten, part_bytes};
-ghost use Rattle.arrow_body_writer.specs.Runs.{ArePieces};
+ghost use Rattle.arrow_body_writer.specs.Part.{AreOffsetsTo, HasNextOffset, HasRoom, IsTold};
+ghost use Rattle.arrow_body_writer.specs.Part.{IsWritten, part_bytes};
+ghost use Rattle.arrow_body_writer.specs.Runs.{IsPiece, IsThere};
+ghost use Rattle.arrow_body_writer.specs.Spans.{AreSpans, AreThere};
 
 use crate::bitmap::bitmap;
 use crate::masked::numbers_of;
 use crate::packing::Pending;
 use crate::part::{Part, greatest_offset, number_width, offset_bytes};
-use crate::slots::{fixed, numbers, put_number, put_string, span, string, strings, truth};
+use crate::pieces::{Piece, pieces, spanned};
+use crate::slots::{put_number, put_string, span, string, truth};
+use crate::spans::Spans;
 use arrow_bits::put_int;
 use arrow_data::Array;
 use arrow_data::form::OffsetWidth;
@@ -60,23 +64,6 @@ pub(crate) fn put_fixed(
     match array.bytes_at(i) {
         Some(bytes) => out.extend_from_slice(bytes),
         None => put_zeros(out, width as usize),
-    }
-}
-
-// The bytes that the slots of a range are in the buffer, of which none is null, where they lie so
-// in the array; None where they do not.
-fn pieces(part: Part, array: &Array, start: usize, stop: usize) -> Option<&[u8]>
-    requires order { start ≤ stop }
-    requires inside { stop ≤ length array.now.raw }
-    requires full { AreFull array.now start stop }
-    ensures { IfSome result (λ bytes.
-        ArePieces part (values_from array.now.raw start stop) bytes.now) }
-{
-    match part {
-        Part::Numbers(bits) => numbers(array, bits, start, stop),
-        Part::Strings => Some(strings(array, start, stop)),
-        Part::FixedBytes(width) => fixed(array, width, start, stop),
-        Part::Validity | Part::Truths | Part::StringOffsets(_) | Part::ListOffsets(_) => None,
     }
 }
 
@@ -176,6 +163,33 @@ impl Writing {
         }
     }
 
+    // Adds the offsets after slots, each as far on from the one before it as where they lie.
+    fn put_spans(&mut self, spans: Spans<'_>) -> Result<(), AllocError>
+        requires { AreThere spans }
+        ensures { OnOk result ((long : PlainValue → ℕ) (raw : List PlainValue)
+            → AreSpans spans.entry long raw → (before : List ℕ) (vs : List PlainValue)
+            → AreOffsetsTo spans.entry.width long before vs self.old
+            → AreOffsetsTo spans.entry.width long before
+            (vs ++ values_from raw spans.entry.start spans.entry.stop) self.new) }
+    {
+        spans.put(&mut self.out, self.end)?;
+        self.end = next_end(spans.width, self.end, spans.len());
+        Ok(())
+    }
+
+    // Adds what slots with these values are in the buffer, all at once.
+    fn put_piece(&mut self, part: Part, piece: Piece<'_>) -> Result<(), AllocError>
+        requires { IsThere piece }
+        ensures { OnOk result ((values : List PlainValue) → IsPiece part values piece.entry
+            → (before : List ℕ) (vs : List PlainValue) → IsWritten part before vs self.old
+            → IsWritten part before (vs ++ values) self.new) }
+    {
+        match piece {
+            Piece::Bytes(bytes) => put_bytes(&mut self.out, bytes),
+            Piece::Offsets(spans) => self.put_spans(spans),
+        }
+    }
+
     // Adds what the slots of a range are in the buffer, one by one.
     fn put_each(
         &mut self,
@@ -215,7 +229,7 @@ impl Writing {
             → IsWritten part before (vs ++ values_from array.now.raw start stop) self.new) }
     {
         match pieces(part, array, start, stop) {
-            Some(bytes) => put_bytes(&mut self.out, bytes),
+            Some(piece) => self.put_piece(part, piece),
             None => self.put_each(part, array, start, stop),
         }
     }
@@ -270,7 +284,8 @@ impl Writing {
     }
 
     // Adds what the slots of a range are in the buffer. Where they have a bitmap its bits are
-    // copied, and of numbers all bytes, in which those of nulls are cleared.
+    // copied, and of numbers all bytes, in which those of nulls are cleared. Offsets and the bytes
+    // between them are copied where nothing lies under a null.
     pub(crate) fn put_slots(
         &mut self,
         part: Part,
@@ -294,11 +309,13 @@ impl Writing {
                 Some(numbers) => numbers.put(&mut self.out, start, stop),
                 None => self.put_runs(part, array, start, stop),
             },
-            Part::Truths
-            | Part::StringOffsets(_)
-            | Part::ListOffsets(_)
-            | Part::Strings
-            | Part::FixedBytes(_) => self.put_runs(part, array, start, stop),
+            Part::StringOffsets(_) | Part::ListOffsets(_) | Part::Strings => {
+                match spanned(part, array, start, stop) {
+                    Some(piece) => self.put_piece(part, piece),
+                    None => self.put_runs(part, array, start, stop),
+                }
+            }
+            Part::Truths | Part::FixedBytes(_) => self.put_runs(part, array, start, stop),
         }
     }
 }

@@ -1,0 +1,141 @@
+//! The offsets of byte strings, texts and lists, where nothing lies under a null.
+
+ghost use Rattle.std.specs.Prelude.{◌≡◌, ◌≤◌, ◌<◌, ◌+◌, ◌*◌, List, IfSome, length, slice_range};
+ghost use Rattle.std.specs.List.{flat_map};
+ghost use Rattle.arrow_data.specs.Column.{values_from};
+ghost use Rattle.arrow_data.specs.Form.{offset_bytes};
+ghost use Rattle.arrow_data.specs.PlainValue.{PlainValue};
+ghost use Rattle.arrow_data.specs.Slots.{HasBits};
+ghost use Rattle.arrow_body_laws.specs.Raws.{bytes_in_value, items_in_value};
+ghost use Rattle.arrow_body_writer.specs.Offsets.{AreBetween, AreHeld, AreOf, AreSpansOf};
+
+use crate::spans::Spans;
+use arrow_data::form::OffsetWidth;
+use arrow_data::{Array, Buffers};
+
+// The offsets of an array, and a bit for each slot, 0 of a null one: none where no slot is null.
+#[derive(Clone, Copy)]
+pub(crate) struct Offsets<'a> {
+    pub(crate) width: OffsetWidth,
+    pub(crate) validity: &'a [u8],
+    pub(crate) bytes: &'a [u8],
+}
+
+impl<'a> Offsets<'a> {
+    // Offsets, with a bit for each slot.
+    fn of(width: OffsetWidth, validity: &'a [u8], bytes: &'a [u8]) -> Offsets<'a>
+        ensures { AreOf width validity.now bytes.now result }
+    {
+        Offsets {
+            width,
+            validity,
+            bytes,
+        }
+    }
+
+    // Those of a range of slots, where nothing lies under the nulls among these; None also where
+    // there are no slots.
+    fn between(self, start: usize, stop: usize) -> Option<Spans<'a>>
+        requires order { start ≤ stop }
+        requires there { start < stop
+            → offset_bytes self.width * (stop + 1) ≤ length self.bytes.now }
+        requires bits { HasBits stop self.validity.now }
+        ensures { IfSome result (AreBetween self.entry start stop) }
+    {
+        if start == stop {
+            return None;
+        }
+        let spans = Spans {
+            width: self.width,
+            offsets: self.bytes,
+            start,
+            stop,
+        };
+        if self.validity.is_empty() || spans.hide_nothing(self.validity) {
+            Some(spans)
+        } else {
+            None
+        }
+    }
+}
+
+// The offsets of the array's byte strings or texts, and all their bytes. None where slots hold
+// something else.
+fn strings_of(array: &Array) -> Option<(Offsets<'_>, &[u8])>
+    ensures { IfSome result (λ r. AreHeld r.0 r.1.now bytes_in_value array.now.raw) }
+{
+    match array.buffers() {
+        Buffers::Binaries(of) => Some((Offsets::of(of.width, of.validity, of.offsets), of.bytes)),
+        Buffers::Texts(of) => Some((Offsets::of(of.width, of.validity, of.offsets), of.bytes)),
+        Buffers::Nulls
+        | Buffers::Bools { .. }
+        | Buffers::Numbers(_)
+        | Buffers::FixedBytes { .. }
+        | Buffers::Lists { .. }
+        | Buffers::Structs { .. }
+        | Buffers::Indices(..) => None,
+    }
+}
+
+// The offsets of the array's lists. None where slots hold something else.
+fn lists_of(array: &Array) -> Option<Offsets<'_>>
+    ensures { IfSome result (λ offsets. (all : List PlainValue)
+        × AreHeld offsets all items_in_value array.now.raw) }
+{
+    match array.buffers() {
+        Buffers::Lists {
+            width,
+            validity,
+            offsets,
+            ..
+        } => Some(Offsets::of(width, validity, offsets)),
+        Buffers::Nulls
+        | Buffers::Bools { .. }
+        | Buffers::Numbers(_)
+        | Buffers::Binaries(_)
+        | Buffers::Texts(_)
+        | Buffers::FixedBytes { .. }
+        | Buffers::Structs { .. }
+        | Buffers::Indices(..) => None,
+    }
+}
+
+// The bytes from one place up to another.
+fn part(bytes: &[u8], first: u64, last: u64) -> &[u8]
+    requires order { first ≤ last }
+    requires inside { last ≤ length bytes.now }
+    ensures { result.now ≡ slice_range bytes.now first last }
+{
+    &bytes[first as usize..last as usize]
+}
+
+// The offsets of the byte strings or texts of a range of slots, and their bytes, where nothing lies
+// under the nulls among these. None also where there are no slots, or where they hold something
+// else.
+pub(crate) fn strings_between(
+    array: &Array,
+    start: usize,
+    stop: usize,
+) -> Option<(Spans<'_>, &[u8])>
+    requires order { start ≤ stop }
+    requires inside { stop ≤ length array.now.raw }
+    ensures spans { IfSome result (λ r.
+        AreSpansOf r.0 (λ v. length (bytes_in_value v)) array.now.raw start stop) }
+    ensures bytes { IfSome result (λ r.
+        r.1.now ≡ flat_map bytes_in_value (values_from array.now.raw start stop)) }
+{
+    let (offsets, bytes) = strings_of(array)?;
+    let spans = offsets.between(start, stop)?;
+    Some((spans, part(bytes, spans.at(start), spans.at(stop))))
+}
+
+// The same of the lists of a range of slots.
+pub(crate) fn lists_between(array: &Array, start: usize, stop: usize) -> Option<Spans<'_>>
+    requires order { start ≤ stop }
+    requires inside { stop ≤ length array.now.raw }
+    ensures { IfSome result (λ spans.
+        AreSpansOf spans (λ v. length (items_in_value v)) array.now.raw start stop) }
+{
+    let offsets = lists_of(array)?;
+    offsets.between(start, stop)
+}
