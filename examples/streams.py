@@ -272,11 +272,11 @@ def closed_gap():
 
 def long_lists():
     """Lists of nulls by a dictionary of two, whose items are 2^31 in all: the first list has as many as 32 bits count, and the
-    second one comes with the second batch."""
+    second one comes by a delta."""
     def one_list(count):
         return dictionary_batch(0, frames.Column([(1, 0), (count, count)], [b"", struct.pack("<2i", 0, count)]), count == 1)
-    return [schema(field("k", LIST, [field("item", NULL)], encoding=dictionary(0))), one_list(2 ** 31 - 1), batch(numbers([0])),
-            one_list(1), batch(numbers([1])), END_MARKER]
+    return [schema(field("k", LIST, [field("item", NULL)], encoding=dictionary(0))), one_list(2 ** 31 - 1), one_list(1),
+            batch(numbers([1]))]
 
 
 def written():
@@ -310,9 +310,6 @@ def written():
         "NUMBERS": ("One batch of 1, a null and 3, at an alignment of 8.", b"".join(one_batch[0])),
         "NUMBERS_64": ("The same at an alignment of 64.", b"".join(one_batch[1])),
         "OTHER": ("One batch of letters by another schema, with the same id.", b"".join(other_letters())),
-        "RENAMED": ("One batch of letters, whose column has another name alone.",
-                    schema(field("K", UTF8, encoding=dictionary(0))) + letters("abc") + batch(numbers([0, 1, 2])) + END_MARKER),
-        "ONLY_X": ("Letters by the dictionary of `x`.", letters_schema() + letters("x") + batch(numbers([0])) + END_MARKER),
         "TWICE_X": ("One batch of `x` in two columns by one dictionary.",
                     two_columns + letters("x") + batch(numbers([0]), numbers([0])) + END_MARKER),
         "GAP": ("One list of the second of two items.", b"".join(list_after_a_gap())),
@@ -321,8 +318,6 @@ def written():
         "NESTED": ("Lists and structs of letters by one dictionary.", encoded("BELOW ABC BELOW_ROWS END")),
         "MANY_TYPES": ("One batch of nulls, integers, byte strings, dates, times and timestamps.",
                        joined(COLUMNS, "MANY MANY_ROWS END")),
-        "LONG_LISTS": ("Two batches of lists of nulls by a dictionary with 2^31 items, the last of which comes by a delta.",
-                       b"".join(long_lists())),
     } | noted_streams()
 
 

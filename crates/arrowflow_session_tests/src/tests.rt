@@ -1,17 +1,16 @@
 //! What no clause says: that what is sent is what the format means, byte by byte, and that calls
-//! succeed.
+//! succeed. Most streams are written by copies of vectors (`vectors/`), whose bytes are compared
+//! there.
 //!
 //! Batches are read from streams that another program laid out, or built value by value.
 
+mod batches;
 mod beginnings;
 mod broken;
-mod building;
 mod calls;
-mod long_lists;
+mod limits;
 mod one_id;
 mod other_schemas;
-mod reading;
 mod session;
-mod stream;
-mod telling;
+mod told;
 mod writers;

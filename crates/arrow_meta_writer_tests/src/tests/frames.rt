@@ -1,56 +1,53 @@
 // Frames around metadata that another program laid out.
 
-use super::written::decoded;
-use crate::vectors::{ONE_BATCH, ONE_FIELD};
+use super::written::{MEMORY, ONE_BATCH, ONE_FIELD, bytes_of, decoded};
 use arrow_meta_writer::encoded_size;
 use arrow_stream_writer::{put_end_marker, put_frame};
+use arrow_test_streams::parts::Source::{Bytes, OneBatch};
+use arrow_test_streams::parts::{Edit, Part};
 use std::process::Abort;
 
-// Metadata, the alignment, the size of the metadata with their padding as it stands in the prefix,
-// how many zero bytes the padding has, and how many bytes the body has.
-static FRAMES: [(&[u8], usize, [u8; 4], usize, usize); 4] = [
-    (&ONE_FIELD, 8, [144, 0, 0, 0], 0, 0),
-    (&ONE_FIELD, 64, [184, 0, 0, 0], 40, 0),
-    (&ONE_BATCH, 8, [144, 0, 0, 0], 0, 24),
-    (&ONE_BATCH, 64, [184, 0, 0, 0], 40, 24),
+const BODY: Part = (OneBatch, 304, 328);
+
+const NO_BODY: Part = (OneBatch, 0, 0);
+
+// The zero bytes that fill up 152 bytes to a multiple of 64, and the size that the prefix tells then.
+const ZEROS: Part = (Bytes(&[0; 40]), 0, 40);
+
+const FILLED: &[Edit] = &[(4, &[184])];
+
+// Metadata, a body, the alignment, and the frame: parts, and what is other in them.
+static FRAMES: [(Part, Part, usize, &[Part], &[Edit]); 4] = [
+    (ONE_FIELD, NO_BODY, 8, &[(OneBatch, 0, 152)], &[]),
+    (ONE_FIELD, NO_BODY, 64, &[(OneBatch, 0, 152), ZEROS], FILLED),
+    (ONE_BATCH, BODY, 8, &[(OneBatch, 152, 328)], &[]),
+    (
+        ONE_BATCH,
+        BODY,
+        64,
+        &[(OneBatch, 152, 304), ZEROS, BODY],
+        FILLED,
+    ),
 ];
 
-// The frame of the message that metadata mean, behind one byte, with a body of sevens.
-fn framed(rt: &(impl Abort + AllocGlobal), metadata: &[u8], align: usize) -> Vec<u8> {
+// The frame of the message that metadata mean, behind one byte.
+fn framed(rt: &(impl Abort + AllocGlobal), metadata: &[u8], body: &[u8], align: usize) -> Vec<u8> {
     let message = decoded(rt, metadata);
-    let mut body = Vec::new(rt.alloc());
-    for _ in 0..message.body_len {
-        body.push(7).expect(rt, "memory");
-    }
-    let mut out = Vec::new(rt.alloc());
-    out.push(1).expect(rt, "memory");
-    let is_sized = encoded_size(&message).is_some() && message.body_len == body.len() as u64;
-    if align >= 1 && align <= 64 && is_sized {
-        put_frame(&mut out, rt.alloc(), align, &message, &body).expect(rt, "memory");
-    }
+    assert!(rt; align >= 1 && align <= 64 && message.body_len == body.len() as u64);
+    assert!(rt; encoded_size(&message).is_some());
+    let mut out = vec![in rt.alloc(); 1].expect(rt, MEMORY);
+    put_frame(&mut out, rt.alloc(), align, &message, body).expect(rt, MEMORY);
     out
-}
-
-// Whether bytes are a one, the prefix, the metadata, so many zero bytes, and then so many sevens.
-fn is_frame(frame: &[u8], size: &[u8; 4], metadata: &[u8], [zeros, sevens]: [usize; 2]) -> bool {
-    let parts = frame
-        .strip_prefix(&[1, 255, 255, 255, 255])
-        .and_then(|rest| rest.strip_prefix(size))
-        .and_then(|rest| rest.strip_prefix(metadata));
-    let Some(rest) = parts else {
-        return false;
-    };
-    rest.len() == zeros.saturating_add(sevens)
-        && rest.iter().take(zeros).all(|byte| *byte == 0)
-        && rest.iter().skip(zeros).all(|byte| *byte == 7)
 }
 
 #[test]
 fn frames_stand_behind_what_there_was(rt: HostRuntime) {
-    for (metadata, align, size, zeros, sevens) in &FRAMES {
-        let bytes = framed(&rt, metadata, *align);
+    for (metadata, body, align, parts, edits) in &FRAMES {
+        let metadata = bytes_of(&rt, &[*metadata], &[]);
+        let bytes = framed(&rt, &metadata, &bytes_of(&rt, &[*body], &[]), *align);
+        let wanted = bytes_of(&rt, parts, edits);
         assert!(rt;
-            is_frame(&bytes, size, metadata, [*zeros, *sevens]),
+            bytes.strip_prefix(&[1]) == Some(wanted.as_slice()),
             "{bytes:?}"
         );
     }
@@ -58,9 +55,8 @@ fn frames_stand_behind_what_there_was(rt: HostRuntime) {
 
 #[test]
 fn the_end_marker_stands_behind_what_there_was(rt: HostRuntime) {
-    let mut bytes = Vec::new(rt.alloc());
-    bytes.push(1).expect(&rt, "memory");
-    put_end_marker(&mut bytes).expect(&rt, "memory");
+    let mut bytes = vec![in rt.alloc(); 1].expect(&rt, MEMORY);
+    put_end_marker(&mut bytes).expect(&rt, MEMORY);
     assert_eq!(rt;
         bytes.as_slice(),
         [1, 255, 255, 255, 255, 0, 0, 0, 0].as_slice()

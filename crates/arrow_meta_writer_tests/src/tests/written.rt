@@ -1,12 +1,21 @@
 // Messages that no copy of a stream has: of numbers that no reader takes, and built here.
 
-use crate::vectors::{ABC, EXTREMES, ONE_BATCH, ONE_FIELD};
-use arrow_meta_reader::{Header, Message, RecordBatch, decode};
+use crate::vectors::EXTREMES;
+use arrow_meta_reader::{Header, Message, decode};
 use arrow_meta_writer::{encode, encoded_size};
-use arrow_types::{BitWidth, Buffer, DataType, Field, FieldNode, Limits, Schema};
+use arrow_test_streams::parts::Source::{Bytes, Growing, OneBatch};
+use arrow_test_streams::parts::{Edit, Part, joined};
+use arrow_types::{BitWidth, DataType, Field, Limits, Schema};
 use std::process::Abort;
 
-const MEMORY: &str = "memory";
+pub(super) const MEMORY: &str = "memory";
+
+// The metadata of the schema of numbers, of their batch, and of a dictionary.
+pub(super) const ONE_FIELD: Part = (OneBatch, 8, 152);
+
+pub(super) const ONE_BATCH: Part = (OneBatch, 160, 304);
+
+const ABC: Part = (Growing, 208, 400);
 
 // The message that bytes mean to a reader with the widest limits.
 pub(super) fn decoded(rt: &(impl Abort + AllocGlobal), bytes: &[u8]) -> Message {
@@ -36,47 +45,35 @@ fn written(rt: &(impl Abort + AllocGlobal), message: &Message) -> Vec<u8> {
     bytes
 }
 
-// The number -1, and one that has 32 bits without a sign.
-const LESS: [u8; 8] = [255; 8];
-
-const MORE: [u8; 8] = [0xfe, 0xff, 0xff, 0xff, 0, 0, 0, 0];
+// The number -1.
+const LESS: &[u8] = &[255; 8];
 
 // Metadata with a number at a place: the length of a batch, the nulls of its node, the offset and the
-// length of its first buffer, and the id of a dictionary.
-static NUMBERS: [(&[u8], usize, [u8; 8]); 7] = [
-    (&ONE_BATCH, 64, [0; 8]),
-    (&ONE_BATCH, 64, LESS),
-    (&ONE_BATCH, 96, LESS),
-    (&ONE_BATCH, 112, LESS),
-    (&ONE_BATCH, 120, LESS),
-    (&ABC, 64, LESS),
-    (&ABC, 64, MORE),
+// length of its first buffer, and the id of a dictionary, which also has 32 bits without a sign; and
+// those of the least and the greatest numbers.
+static NUMBERS: [(Part, &[Edit]); 8] = [
+    (ONE_BATCH, &[(64, &[0; 8])]),
+    (ONE_BATCH, &[(64, LESS)]),
+    (ONE_BATCH, &[(96, LESS)]),
+    (ONE_BATCH, &[(112, LESS)]),
+    (ONE_BATCH, &[(120, LESS)]),
+    (ABC, &[(64, LESS)]),
+    (ABC, &[(64, &[0xfe, 0xff, 0xff, 0xff, 0, 0, 0, 0])]),
+    ((Bytes(&EXTREMES), 0, 144), &[]),
 ];
 
-// The bytes with these in their place.
-fn changed(rt: &(impl Abort + AllocGlobal), bytes: &[u8], place: usize, number: &[u8]) -> Vec<u8> {
-    let mut changed = Vec::from_slice(rt.alloc(), bytes).expect(rt, MEMORY);
-    for (at, byte) in number.iter().enumerate() {
-        *changed
-            .get_mut(place.saturating_add(at))
-            .expect(rt, "a place") = *byte;
-    }
-    changed
+// These bytes.
+pub(super) fn bytes_of(rt: &(impl Abort + AllocGlobal), parts: &[Part], edits: &[Edit]) -> Vec<u8> {
+    joined(rt.alloc(), parts, edits).expect(rt, "parts of streams")
 }
 
 #[test]
 fn numbers_are_written_byte_for_byte(rt: HostRuntime) {
-    for (bytes, place, number) in &NUMBERS {
-        let bytes = changed(&rt, bytes, *place, number);
+    for (number, (part, edits)) in NUMBERS.iter().enumerate() {
+        let bytes = bytes_of(&rt, &[*part], edits);
         let again = written(&rt, &decoded(&rt, &bytes));
-        assert!(rt; again.as_slice() == bytes.as_slice(), "at {place}");
+        assert!(rt; again.as_slice() == bytes.as_slice(), "row {number}");
     }
-}
-
-#[test]
-fn the_least_and_the_greatest_numbers_are_written(rt: HostRuntime) {
-    let again = written(&rt, &decoded(&rt, &EXTREMES));
-    assert!(rt; again.as_slice() == EXTREMES.as_slice());
 }
 
 // Keys and values.
@@ -102,19 +99,13 @@ fn field(
     Field::new(rt.alloc(), name, data_type, nullable)
 }
 
-// A message of this version.
-fn message(header: Header, body_len: u64) -> Message {
+// The message of the schema of these columns.
+fn schema(rt: &(impl Abort + AllocGlobal), columns: Vec<Field>) -> Message {
     Message {
         version: 4,
-        header,
-        body_len,
+        header: Header::Schema(Schema::new(rt.alloc(), columns).expect(rt, "a schema")),
+        body_len: 0,
     }
-}
-
-// The schema of these columns, with these pairs of its own.
-pub(super) fn schema(rt: &(impl Abort + AllocGlobal), columns: Vec<Field>, own: Pairs) -> Message {
-    let schema = Schema::with_metadata(rt.alloc(), columns, pairs(rt, own));
-    message(Header::Schema(schema.expect(rt, "a schema")), 0)
 }
 
 const INT32: DataType = DataType::Int {
@@ -139,28 +130,18 @@ const NONE: Pairs = &[];
 
 const ONE: Pairs = &[(b"k", b"v")];
 
-const THREE: Pairs = &[(b"", b"v"), (b"k", b""), (b"", b"")];
-
-// How many levels a column has, the pairs of the schema and of the lowest field, and in how many bytes
-// another program laid it out.
-static DEEP: [(usize, Pairs, Pairs, usize); 7] = [
-    (1, NONE, NONE, 144),
-    (1, ONE, NONE, 200),
-    (1, NONE, ONE, 192),
-    (1, ONE, ONE, 256),
-    (1, NONE, THREE, 280),
-    (32, NONE, NONE, 2128),
-    (32, NONE, ONE, 2176),
-];
+// How many levels a column has, the pairs of the lowest field, and in how many bytes another program
+// laid it out.
+static DEEP: [(usize, Pairs, usize); 3] = [(1, NONE, 144), (32, NONE, 2128), (32, ONE, 2176)];
 
 #[test]
 fn schemas_that_are_built_are_written(rt: HostRuntime) {
-    for (levels, own, noted, size) in &DEEP {
-        let schema = schema(&rt, deep(&rt, *levels, noted), own);
+    for (levels, noted, size) in &DEEP {
+        let schema = schema(&rt, deep(&rt, *levels, noted));
         assert_eq!(rt; written(&rt, &schema).len(), *size);
     }
-    let one = written(&rt, &schema(&rt, deep(&rt, 1, NONE), NONE));
-    assert!(rt; one.as_slice() == ONE_FIELD.as_slice());
+    let one = written(&rt, &schema(&rt, deep(&rt, 1, NONE)));
+    assert!(rt; one.as_slice() == bytes_of(&rt, &[ONE_FIELD], &[]).as_slice());
 }
 
 // The most columns that a schema has, without names and of nulls alone.
@@ -171,32 +152,5 @@ fn the_widest_schema_is_written(rt: HostRuntime) {
         let column = field(&rt, "", false, DataType::Null);
         columns.push(column).expect(&rt, MEMORY);
     }
-    assert_eq!(rt; written(&rt, &schema(&rt, columns, NONE)).len(), 3_932_224);
-}
-
-static NODES: [FieldNode; 1] = [FieldNode {
-    length: 3,
-    null_count: 1,
-}];
-
-static BUFFERS: [Buffer; 2] = [
-    Buffer {
-        offset: 0,
-        length: 1,
-    },
-    Buffer {
-        offset: 8,
-        length: 12,
-    },
-];
-
-#[test]
-fn a_batch_that_is_built_is_written(rt: HostRuntime) {
-    let batch = RecordBatch {
-        length: 3,
-        nodes: Vec::from_slice(rt.alloc(), &NODES).expect(&rt, MEMORY),
-        buffers: Vec::from_slice(rt.alloc(), &BUFFERS).expect(&rt, MEMORY),
-    };
-    let bytes = written(&rt, &message(Header::Batch(batch), 24));
-    assert!(rt; bytes.as_slice() == ONE_BATCH.as_slice());
+    assert_eq!(rt; written(&rt, &schema(&rt, columns)).len(), 3_932_224);
 }

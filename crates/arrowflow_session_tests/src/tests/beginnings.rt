@@ -1,13 +1,13 @@
 //! What a reader has of the first bytes of a stream of letters.
 
-use super::stream::Stream;
+use super::batches::MEMORY;
 use std::process::Abort;
 
 /// A place where a frame ends, and the letters of the batches and of the dictionaries that a reader
 /// has there.
 pub(super) type Frame = (usize, &'static str);
 
-/// The frames of `Stream::Growing`.
+/// The frames of the growing dictionary.
 pub(super) static GROWN: [Frame; 8] = [
     (200, ""),
     (424, "0:abc "),
@@ -19,7 +19,7 @@ pub(super) static GROWN: [Frame; 8] = [
     (1376, "abc ea ce 0:acde "),
 ];
 
-/// The frames of `Stream::Resent`.
+/// The frames where all of its values are sent each time.
 pub(super) static RESENT: [Frame; 8] = [
     (200, ""),
     (424, "0:abc "),
@@ -31,34 +31,17 @@ pub(super) static RESENT: [Frame; 8] = [
     (1384, "abc ea ce 0:acde "),
 ];
 
-/// The last frame that ends in the first `len` bytes.
-fn last_frame(frames: &'static [Frame], len: usize) -> Option<Frame> {
-    let mut last = None;
-    for frame in frames {
-        if frame.0 <= len {
-            last = Some(*frame);
-        }
-    }
-    last
-}
-
 /// What a reader tells that has the first `len` bytes of a stream, or all where it is shorter.
 pub(super) fn beginning(
     rt: &(impl Abort + AllocGlobal),
     frames: &'static [Frame],
-    stream: Stream,
     len: usize,
 ) -> String {
-    let len = len.min(stream.bytes().len());
-    let text = match last_frame(frames, len) {
+    let size = frames.last().map_or(0, |(end, _)| *end);
+    let text = match frames.iter().rev().find(|(end, _)| *end <= len) {
         None => String::from_str(rt.alloc(), "NoSchema at 0"),
-        Some((place, letters)) => {
-            if place == len {
-                format!(in rt.alloc(); "{letters}Clean")
-            } else {
-                format!(in rt.alloc(); "{letters}Truncated at {place}")
-            }
-        }
+        Some((end, letters)) if *end == len.min(size) => format!(in rt.alloc(); "{letters}Clean"),
+        Some((end, letters)) => format!(in rt.alloc(); "{letters}Truncated at {end}"),
     };
-    text.expect(rt, "memory")
+    text.expect(rt, MEMORY)
 }

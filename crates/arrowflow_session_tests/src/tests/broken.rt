@@ -1,33 +1,27 @@
 //! Sinks that fail: what they hold, what the writer answers from then on, and what a reader has of
 //! it.
 
+use super::batches::{ABC, ABCDE, ACDE, MEMORY, OTHER, batch_of, received};
 use super::beginnings::{GROWN, beginning};
-use super::reading::{batch_of, batches_of, received, schema_of};
-use super::stream::Stream::{Growing, Other};
-use super::telling::received_told;
-use super::writers::{DELTA, assert_shown, finished, written};
+use super::told::received_told;
+use super::writers::{DELTA, called, shown};
 use arrow_data::Batch;
-use arrow_sink::probe::{Failing, Narrow};
+use arrow_sink::WriteFault::{Broken, Finished};
+use arrow_sink::probe::Failing::{self, AtFlush, ByError, ByNothing};
+use arrow_sink::probe::Narrow;
 use arrow_sink::{Sink, WriteFault};
 use arrow_stream_writer::StreamWriter;
-use arrow_types::{Limits, Schema};
+use arrow_test_streams::streams::GROWING;
+use arrow_types::Limits;
 use std::process::Abort;
 
-/// What is written: the schema and the batches of `Stream::Growing`, and at the end a batch of
-/// another schema.
-#[derive(Drop)]
-struct Letters {
-    schema: Schema,
-    batches: Vec<Batch>,
-    other: Batch,
-}
-
-fn all_letters(rt: &(impl Abort + AllocGlobal)) -> Letters {
-    Letters {
-        schema: schema_of(rt, Growing),
-        batches: batches_of(rt, Growing),
-        other: batch_of(rt, Other, 0),
+/// The batches of the growing dictionary, and behind them one of another schema.
+fn all_batches(rt: &(impl Abort + AllocGlobal)) -> Vec<Batch> {
+    let mut batches = Vec::new(rt.alloc());
+    for rows in [ABC, ABCDE, ACDE, OTHER] {
+        batches.push(batch_of(rt, rows)).expect(rt, MEMORY);
     }
+    batches
 }
 
 /// Where the part of each batch begins and ends.
@@ -46,7 +40,7 @@ fn sent(len: usize) -> &'static str {
 /// What a call answers that sends the bytes between these places, into a sink for `left` bytes.
 fn answer(left: usize, begin: usize, end: usize) -> Option<WriteFault> {
     if left < begin {
-        Some(WriteFault::Broken)
+        Some(Broken)
     } else if left < end {
         Some(WriteFault::Sink)
     } else {
@@ -54,114 +48,86 @@ fn answer(left: usize, begin: usize, end: usize) -> Option<WriteFault> {
     }
 }
 
+/// What the end marker is answered, and each call after it; how often the sink was flushed, and how
+/// often it failed.
+type End = (Option<WriteFault>, WriteFault, (u64, u64));
+
 /// The batches are taken as far as the sink takes them, and nothing counts as sent that did not go
-/// out whole.
-fn assert_batches(
+/// out whole. Then come the end marker, the batch of another schema, and another end marker.
+fn assert_calls(
     rt: &(impl Abort + AllocGlobal),
     writer: &mut StreamWriter<Narrow>,
     batches: &[Batch],
     left: usize,
+    end: End,
 ) {
-    assert_eq!(rt; batches.len(), PARTS.len());
     for (batch, (begin, end)) in batches.iter().zip(&PARTS) {
-        let refusal = written(rt, writer, batch);
-        assert!(rt;
-            refusal == answer(left, *begin, *end),
-            "{left} bytes, at {begin}"
-        );
-        let len = left.min(*end);
-        assert_shown(rt, writer, Growing, len, sent(len));
+        let fault = called(rt, writer, Some(batch));
+        let (wanted, len) = (answer(left, *begin, *end), left.min(*end));
+        assert!(rt; fault == wanted, "{left} bytes, at {begin}");
+        assert_eq!(rt; writer.sink().taken().len(), len, "{left} bytes");
+        let text = shown(rt, writer, None);
+        assert_eq!(rt; text.as_str(), sent(len), "{left} bytes");
     }
-}
-
-/// The end marker, and each call after it.
-fn assert_end(
-    rt: &(impl Abort + AllocGlobal),
-    writer: &mut StreamWriter<Narrow>,
-    other: &Batch,
-    answers: (Option<WriteFault>, WriteFault),
-) {
-    let (end, later) = answers;
-    assert!(rt; finished(rt, writer) == end);
-    assert!(rt; written(rt, writer, other) == Some(later));
-    assert!(rt; finished(rt, writer) == Some(later));
+    assert!(rt; called(rt, writer, None) == end.0, "{left} bytes");
+    for other in [batches.last(), None] {
+        let later = called(rt, writer, other);
+        assert!(rt; later == Some(end.1), "{left} bytes");
+    }
 }
 
 /// A sink holds the first `left` bytes, of which a reader has the batches that came wholly.
 fn assert_held(rt: &(impl Abort + AllocGlobal), sink: &Narrow, left: usize, counts: (u64, u64)) {
-    assert!(rt;
-        Growing.bytes().get(..left) == Some(sink.taken()),
-        "{left} bytes"
-    );
+    let len = left.min(GROWING.len());
+    assert!(rt; GROWING.get(..len) == Some(sink.taken()), "{left} bytes");
     assert_eq!(rt; (sink.flushes(), sink.failures()), counts, "{left} bytes");
     let text = received_told(rt, &received(rt, sink.taken()));
-    let expected = beginning(rt, &GROWN, Growing, left);
+    let expected = beginning(rt, &GROWN, left);
     assert_eq!(rt; text.as_str(), expected.as_str(), "{left} bytes");
 }
 
-/// All calls of a writer into a sink that takes so many bytes, fewer than all.
-fn assert_broken(rt: &(impl Abort + AllocGlobal), it: &Letters, failing: Failing, left: usize) {
-    let sink = Narrow::new(rt.alloc(), 100, left, failing);
+/// A sink that fails in this way, takes at most so many bytes of a piece, and so many in all.
+type Taking = (Failing, usize, usize);
+
+/// All calls of a writer into a sink.
+fn assert_sink(rt: &(impl Abort + AllocGlobal), batches: &[Batch], taking: Taking, end: End) {
+    let (failing, at_once, left) = taking;
+    let sink = Narrow::new(rt.alloc(), at_once, left, failing);
     assert!(rt; sink.failures() < u64::MAX);
-    let limits = Limits::standard();
-    match StreamWriter::start(rt.alloc(), sink, &it.schema, DELTA, limits) {
+    let schema = batches.first().expect(rt, "a batch").schema();
+    match StreamWriter::start(rt.alloc(), sink, schema, DELTA, Limits::standard()) {
         Ok(mut writer) => {
-            assert_batches(rt, &mut writer, &it.batches, left);
-            let end = answer(left, 1368, 1376);
-            assert_end(rt, &mut writer, &it.other, (end, WriteFault::Broken));
-            assert_held(rt, writer.sink(), left, (0, 1));
+            assert_calls(rt, &mut writer, batches, left, end);
+            assert_held(rt, &writer.into_sink(), left, end.2);
         }
         Err((fault, sink)) => {
             assert!(rt; fault == WriteFault::Sink && left < 200, "{left} bytes");
-            assert_held(rt, &sink, left, (0, 1));
+            assert_held(rt, &sink, left, end.2);
         }
     }
 }
 
 #[test]
-fn sinks_that_answer_an_error(rt: HostRuntime) {
-    let letters = all_letters(&rt);
-    for left in 0..1376 {
-        assert_broken(&rt, &letters, Failing::ByError, left);
-    }
-}
-
-#[test]
-fn sinks_that_take_nothing(rt: HostRuntime) {
-    let letters = all_letters(&rt);
-    for left in 0..1376 {
-        assert_broken(&rt, &letters, Failing::ByNothing, left);
-    }
-}
-
-/// All calls of a writer into a sink that takes all bytes.
-fn assert_whole(
-    rt: &(impl Abort + AllocGlobal),
-    it: &Letters,
-    sink: (Failing, usize),
-    answers: (Option<WriteFault>, WriteFault),
-    counts: (u64, u64),
-) {
-    let (failing, left) = sink;
-    let sink = Narrow::new(rt.alloc(), 7, left, failing);
-    assert!(rt; sink.failures() < u64::MAX);
-    let limits = Limits::standard();
-    match StreamWriter::start(rt.alloc(), sink, &it.schema, DELTA, limits) {
-        Ok(mut writer) => {
-            assert_batches(rt, &mut writer, &it.batches, 1376);
-            assert_end(rt, &mut writer, &it.other, answers);
-            assert_held(rt, &writer.into_sink(), 1376, counts);
+fn sinks_that_fail(rt: HostRuntime) {
+    let batches = all_batches(&rt);
+    for failing in [ByError, ByNothing] {
+        for left in 0..1376 {
+            let end = (answer(left, 1368, 1376), Broken, (0, 1));
+            assert_sink(&rt, &batches, (failing, 100, left), end);
         }
-        Err(_) => panic!(rt; "refused schema"),
     }
 }
+
+static WHOLE: [(Taking, End); 3] = [
+    ((ByError, 7, 1376), (None, Finished, (1, 0))),
+    ((ByNothing, 7, 5_000), (None, Finished, (1, 0))),
+    ((AtFlush, 7, 1376), (Some(WriteFault::Sink), Broken, (1, 1))),
+];
 
 #[test]
 fn sinks_that_take_all(rt: HostRuntime) {
-    let letters = all_letters(&rt);
-    let fine = (None, WriteFault::Finished);
-    assert_whole(&rt, &letters, (Failing::ByError, 1376), fine, (1, 0));
-    assert_whole(&rt, &letters, (Failing::ByNothing, 5_000), fine, (1, 0));
-    let broken = (Some(WriteFault::Sink), WriteFault::Broken);
-    assert_whole(&rt, &letters, (Failing::AtFlush, 1376), broken, (1, 1));
+    let batches = all_batches(&rt);
+    for (taking, end) in &WHOLE {
+        assert_sink(&rt, &batches, *taking, *end);
+    }
 }

@@ -1,39 +1,52 @@
 //! Connections from end to end, of which the first bytes are delivered.
 
-use super::beginnings::{self, Frame, beginning};
-use super::building::pair;
-use super::reading::{batch_of, batches_of, schema_of};
-use super::stream::Stream::{
-    self, ClosedGap, Empty, Gap, Growing, NoColumns, Other, Resent, SecondLeftOut, Shared, TwiceX,
+use super::batches::{
+    self, ABC, ABCDE, ACDE, MEMORY, NO_COLUMNS, OTHER, Rows, SHARED, XX, XY, YX, batch_of, received,
 };
-use super::telling::{push_dictionaries, push_received};
-use super::writers::{DELTA, RESEND, limits_of};
-use arrow_data::Array;
-use arrow_types::Limits;
+use super::beginnings::{self, Frame, beginning};
+use super::told::{push_dictionaries, push_received};
+use super::writers::{DELTA, Most, RESEND, STANDARD, Sent, assert_sent, limits_of};
+use arrow_data::{Batch, Buffers};
+use arrow_test_streams::parts::Source::Growing;
+use arrow_test_streams::parts::{self, END, LETTERS as SCHEMA, Part, joined};
 use arrowflow_session::session::{Connection, Options, Report, run};
 use std::alloc::AllocError;
 use std::process::Abort;
 
-const MEMORY: &str = "memory";
+/// What is asked of a connection: a batch of its schema, the batches that are written, how they are
+/// sent, whether an end marker follows, and how many bytes are delivered.
+type Asked = (Rows, &'static [Rows], Options, bool, u64);
 
-/// The lengths of the parts, the refusals, and the writer's dictionaries of a whole connection.
-const SENT: &str = "200 392 384 392 8 0:acde | ";
+const ALL: u64 = u64::MAX;
 
-const SENT_AGAIN: &str = "200 392 392 392 8 0:acde | ";
+const LETTERS: &[Rows] = &[ABC, ABCDE, ACDE];
 
-/// A connection with the schema and the batches of a stream, and an end marker; all bytes come in
-/// one piece.
-fn connection(rt: &(impl Abort + AllocGlobal), stream: Stream, options: Options) -> Connection {
+/// The growing dictionary, by deltas, and with all of its values each time.
+const GROWN: Asked = (ABC, LETTERS, DELTA, true, ALL);
+
+const RESENT: Asked = (ABC, LETTERS, RESEND, true, ALL);
+
+/// What is sent of the growing dictionary.
+const STREAM: Sent = Some(&[(Growing, 0, 1_376)]);
+
+fn connection_of(rt: &(impl Abort + AllocGlobal), asked: Asked) -> Connection {
+    let (of, rows, options, finish, deliver) = asked;
+    let mut batches = Vec::new(rt.alloc());
+    for it in rows {
+        batches.push(batch_of(rt, *it)).expect(rt, MEMORY);
+    }
+    let of = batch_of(rt, of);
     Connection {
-        schema: schema_of(rt, stream),
+        schema: of.schema().copy(rt.alloc()).expect(rt, MEMORY),
         options,
-        batches: batches_of(rt, stream),
-        finish: true,
-        deliver: u64::MAX,
+        batches,
+        finish,
+        deliver,
         cuts: Vec::new(rt.alloc()),
     }
 }
 
+/// The lengths of the parts, the refusals, and the writer's dictionaries; and what was received.
 fn push_report(text: &mut String, report: &Report) -> Result<(), AllocError> {
     for part in &report.parts {
         write!(text, "{} ", part.len())?;
@@ -46,139 +59,66 @@ fn push_report(text: &mut String, report: &Report) -> Result<(), AllocError> {
     push_received(text, &report.received)
 }
 
-/// The parts of a report, one after the other.
-fn sent(rt: &(impl Abort + AllocGlobal), report: &Report) -> Vec<u8> {
+/// A report tells this, and these bytes were sent.
+fn assert_report(rt: &(impl Abort + AllocGlobal), report: &Report, wanted: &str, sent: Sent) {
+    let mut text = String::new(rt.alloc());
+    push_report(&mut text, report).expect(rt, MEMORY);
+    assert_eq!(rt; text.as_str(), wanted);
     let mut bytes = Vec::new(rt.alloc());
     for part in &report.parts {
         bytes.extend_from_slice(part).expect(rt, MEMORY);
     }
-    bytes
+    assert_sent(rt, &bytes, sent);
 }
 
-/// A report tells this, and these bytes were sent.
-fn assert_report(
+/// The report of the only connection tells this.
+fn assert_only(rt: &(impl Abort + AllocGlobal), only: &[Connection], wanted: &str, sent: Sent) {
+    let reports = run(rt.alloc(), &limits_of(rt, STANDARD), only).expect(rt, MEMORY);
+    assert_eq!(rt; reports.len(), 1);
+    assert_report(rt, &reports[0], wanted, sent);
+}
+
+/// Each number of first bytes of a connection, and more than there are.
+fn assert_beginnings(
     rt: &(impl Abort + AllocGlobal),
-    report: &Report,
-    expected: &str,
-    stream: &[u8],
-    row: usize,
-) {
-    let mut text = String::new(rt.alloc());
-    push_report(&mut text, report).expect(rt, MEMORY);
-    assert_eq!(rt; text.as_str(), expected, "row {row}");
-    assert!(rt; sent(rt, report).as_slice() == stream, "row {row}");
-}
-
-/// The reports of connections tell this, each with the bytes that were sent.
-fn assert_reports(
-    rt: &(impl Abort + AllocGlobal),
-    limits: Limits,
-    connections: &[Connection],
-    expected: &[(&str, &[u8])],
-    row: usize,
-) {
-    let reports = run(rt.alloc(), &limits, connections).expect(rt, MEMORY);
-    assert_eq!(rt; reports.len(), expected.len());
-    for (report, (text, stream)) in reports.iter().zip(expected) {
-        assert_report(rt, report, text, stream, row);
-    }
-}
-
-/// What is sent over a connection, and what of its first bytes comes at the other end.
-#[derive(Clone, Copy)]
-struct Delivered {
-    stream: Stream,
-    sent: &'static str,
+    asked: Asked,
     frames: &'static [Frame],
-}
-
-fn assert_delivered(
-    rt: &(impl Abort + AllocGlobal),
-    connections: &mut [Connection],
-    it: &Delivered,
-    deliver: usize,
+    told: &str,
+    sent: Sent,
 ) {
-    for connection in connections.iter_mut() {
-        connection.deliver = deliver as u64;
+    let mut only = [connection_of(rt, asked)];
+    let size = frames.last().map_or(0, |(end, _)| *end);
+    for deliver in (0..size.saturating_add(2)).chain([usize::MAX]) {
+        only[0].deliver = deliver as u64;
+        let received = beginning(rt, frames, deliver);
+        let wanted = format!(in rt.alloc(); "{told} | {received}").expect(rt, MEMORY);
+        assert_only(rt, &only, &wanted, sent);
     }
-    let received = beginning(rt, it.frames, it.stream, deliver);
-    let text = format!(in rt.alloc(); "{}{received}", it.sent).expect(rt, MEMORY);
-    let limits = Limits::standard();
-    assert_reports(
-        rt,
-        limits,
-        connections,
-        &[(&text, it.stream.bytes())],
-        deliver,
-    );
 }
 
 #[test]
 fn each_number_of_bytes(rt: HostRuntime) {
-    let it = Delivered {
-        stream: Growing,
-        sent: SENT,
-        frames: &beginnings::GROWN,
-    };
-    let mut connections = [connection(&rt, Growing, DELTA)];
-    for deliver in 0..1378 {
-        assert_delivered(&rt, &mut connections, &it, deliver);
-    }
-    assert_delivered(&rt, &mut connections, &it, usize::MAX);
+    let told = "200 392 384 392 8 0:acde";
+    assert_beginnings(&rt, GROWN, &beginnings::GROWN, told, STREAM);
 }
 
+/// The bytes are those of the copy of `growing_dictionary` in way 1.
 #[test]
 fn each_number_of_bytes_without_deltas(rt: HostRuntime) {
-    let it = Delivered {
-        stream: Resent,
-        sent: SENT_AGAIN,
-        frames: &beginnings::RESENT,
-    };
-    let mut connections = [connection(&rt, Growing, RESEND)];
-    for deliver in 0..1386 {
-        assert_delivered(&rt, &mut connections, &it, deliver);
-    }
-    assert_delivered(&rt, &mut connections, &it, usize::MAX);
-}
-
-/// The first bytes come in pieces of these lengths.
-fn assert_cut(
-    rt: &(impl Abort + AllocGlobal),
-    connections: &mut [Connection],
-    deliver: u64,
-    cuts: &[usize],
-    expected: &str,
-) {
-    for connection in connections.iter_mut() {
-        connection.deliver = deliver;
-        connection.cuts = Vec::from_slice(rt.alloc(), cuts).expect(rt, MEMORY);
-    }
-    let limits = Limits::standard();
-    assert_reports(
-        rt,
-        limits,
-        connections,
-        &[(expected, Growing.bytes())],
-        cuts.len(),
-    );
+    let told = "200 392 392 392 8 0:acde";
+    assert_beginnings(&rt, RESENT, &beginnings::RESENT, told, None);
 }
 
 /// No report hangs on the lengths of the pieces: the last byte of the second batch is missing, and
 /// then it is there.
-fn assert_cuts(rt: &(impl Abort + AllocGlobal), connections: &mut [Connection], cuts: &[usize]) {
+fn assert_cuts(rt: &(impl Abort + AllocGlobal), only: &mut [Connection; 1], cuts: &[usize]) {
+    only[0].cuts = Vec::from_slice(rt.alloc(), cuts).expect(rt, MEMORY);
+    only[0].deliver = 975;
     let without = "200 392 384 392 8 0:acde | abc 0:abcde Truncated at 816";
-    assert_cut(rt, connections, 975, cuts, without);
+    assert_only(rt, only, without, STREAM);
+    only[0].deliver = 976;
     let with = "200 392 384 392 8 0:acde | abc ea 0:abcde Clean";
-    assert_cut(rt, connections, 976, cuts, with);
-}
-
-#[test]
-fn each_length_of_pieces(rt: HostRuntime) {
-    let mut connections = [connection(&rt, Growing, DELTA)];
-    for piece in 1..1377 {
-        let cuts = Vec::from_elem(rt.alloc(), piece, 1376 / piece).expect(&rt, MEMORY);
-        assert_cuts(&rt, &mut connections, &cuts);
-    }
+    assert_only(rt, only, with, STREAM);
 }
 
 /// Lengths of pieces, some of which are empty or go past the end.
@@ -194,156 +134,139 @@ static CUTS: [&[usize]; 8] = [
 ];
 
 #[test]
-fn pieces_of_no_bytes_and_past_the_end(rt: HostRuntime) {
-    let mut connections = [connection(&rt, Growing, DELTA)];
+fn each_length_of_pieces(rt: HostRuntime) {
+    let mut only = [connection_of(&rt, GROWN)];
+    for piece in 1..1377 {
+        let cuts = Vec::from_elem(rt.alloc(), piece, 1376 / piece).expect(&rt, MEMORY);
+        assert_cuts(&rt, &mut only, &cuts);
+    }
     for cuts in &CUTS {
-        assert_cuts(&rt, &mut connections, cuts);
+        assert_cuts(&rt, &mut only, cuts);
+    }
+}
+
+/// A connection, what its report tells, and what was sent.
+type Reported = (Asked, &'static str, Sent);
+
+static CONNECTIONS: [Reported; 9] = [
+    // Behind a broken one comes one of another schema with the same id, `other_letters`.
+    (
+        (ABC, LETTERS, DELTA, true, 5),
+        "200 392 384 392 8 0:acde | NoSchema at 0",
+        STREAM,
+    ),
+    (
+        (OTHER, &[OTHER], DELTA, true, ALL),
+        "200 384 8 0:xy | yxy 0:xy Clean",
+        None,
+    ),
+    (
+        (ABC, LETTERS, RESEND, true, 824),
+        "200 392 392 392 8 0:acde | abc 0:abcde Clean",
+        None,
+    ),
+    // Without an end marker, without batches too, and without batches alone.
+    (
+        (ABC, LETTERS, DELTA, false, ALL),
+        "200 392 384 392 0:acde | abc ea ce 0:acde Clean",
+        Some(&[(Growing, 0, 1_368)]),
+    ),
+    (
+        (ABC, &[], DELTA, false, ALL),
+        "200 | Clean",
+        Some(&[SCHEMA]),
+    ),
+    (
+        (ABC, &[], DELTA, true, ALL),
+        "200 8 | Clean",
+        Some(&[SCHEMA, END]),
+    ),
+    // A batch of another schema is left out, and so are those of two dictionaries of one id, beside
+    // the batch of `one_dictionary_of_two_columns`.
+    (
+        (ABC, &[ABC, OTHER, ABCDE, ACDE], DELTA, true, ALL),
+        "200 392 384 392 8 Batch(1) SchemaDiffers 0:acde | abc ea ce 0:acde Clean",
+        STREAM,
+    ),
+    (
+        (XX, &[XY, XX, YX], DELTA, true, ALL),
+        "320 432 8 Batch(0) DictionariesDiffer Batch(2) DictionariesDiffer 0:x | xx 0:x Clean",
+        None,
+    ),
+    // Dictionaries stand by rising id, as in `two_dictionaries`.
+    (
+        (SHARED, &[SHARED], DELTA, true, ALL),
+        "448 728 8 -2:r 5:cd | dcr__d -2:r 5:cd Clean",
+        None,
+    ),
+];
+
+/// Limits within which the second batch is left out.
+const NARROW: Most = (192, 32, 4);
+
+static LEFT_OUT: [Reported; 1] = [(
+    GROWN,
+    "200 392 392 8 Batch(1) TooLarge 0:acde | abc ce 0:acde Clean",
+    Some(&[(Growing, 0, 592), (Growing, 976, 1_376)]),
+)];
+
+/// Limits within which the schema of letters is refused.
+const NARROWER: Most = (191, 1_000, 1_000);
+
+static REFUSED: [Reported; 3] = [
+    (GROWN, "Start TooLarge | NoSchema at 0", Some(&[])),
+    (
+        (NO_COLUMNS, &[NO_COLUMNS], DELTA, true, ALL),
+        "72 104 8 |  Clean",
+        None,
+    ),
+    (RESENT, "Start TooLarge | NoSchema at 0", Some(&[])),
+];
+
+/// The connections come one after the other.
+fn assert_session(rt: &(impl Abort + AllocGlobal), most: Most, its: &[Reported]) {
+    let mut connections = Vec::new(rt.alloc());
+    for (asked, _, _) in its {
+        let connection = connection_of(rt, *asked);
+        connections.push(connection).expect(rt, MEMORY);
+    }
+    let reports = run(rt.alloc(), &limits_of(rt, most), &connections).expect(rt, MEMORY);
+    assert_eq!(rt; reports.len(), its.len());
+    for (report, (_, wanted, sent)) in reports.iter().zip(its) {
+        assert_report(rt, report, wanted, *sent);
     }
 }
 
 #[test]
-fn a_connection_after_a_broken_one(rt: HostRuntime) {
-    let mut connections = [
-        connection(&rt, Growing, DELTA),
-        connection(&rt, Other, DELTA),
-        connection(&rt, Growing, RESEND),
-    ];
-    connections[0].deliver = 5;
-    connections[2].deliver = 824;
-    let expected: [(&str, &[u8]); 3] = [
-        ("200 392 384 392 8 0:acde | NoSchema at 0", Growing.bytes()),
-        ("200 384 8 0:xy | yxy 0:xy Clean", Other.bytes()),
-        (
-            "200 392 392 392 8 0:acde | abc 0:abcde Clean",
-            Resent.bytes(),
-        ),
-    ];
-    assert_reports(&rt, Limits::standard(), &connections, &expected, 0);
-    let none: [Connection; 0] = [];
-    assert_reports(&rt, Limits::standard(), &none, &[], 1);
+fn one_connection_after_the_other(rt: HostRuntime) {
+    assert_session(&rt, STANDARD, &[]);
+    assert_session(&rt, STANDARD, &CONNECTIONS);
+    assert_session(&rt, NARROW, &LEFT_OUT);
+    assert_session(&rt, NARROWER, &REFUSED);
 }
 
-#[test]
-fn connections_that_are_not_finished(rt: HostRuntime) {
-    let mut connections = [
-        connection(&rt, Growing, DELTA),
-        connection(&rt, Growing, DELTA),
-        connection(&rt, Growing, DELTA),
-    ];
-    connections[0].finish = false;
-    connections[1].finish = false;
-    connections[1].batches.clear();
-    connections[2].batches.clear();
-    let unfinished = Growing.bytes().get(..1368).expect(&rt, "all batches");
-    let schema = Growing.bytes().get(..200).expect(&rt, "a schema");
-    let expected: [(&str, &[u8]); 3] = [
-        (
-            "200 392 384 392 0:acde | abc ea ce 0:acde Clean",
-            unfinished,
-        ),
-        ("200 | Clean", schema),
-        ("200 8 | Clean", Empty.bytes()),
-    ];
-    assert_reports(&rt, Limits::standard(), &connections, &expected, 0);
-}
-
-#[test]
-fn a_batch_that_passes_a_limit_is_left_out(rt: HostRuntime) {
-    let connections = [connection(&rt, Growing, DELTA)];
-    let text = "200 392 392 8 Batch(1) TooLarge 0:acde | abc ce 0:acde Clean";
-    let limits = limits_of(&rt, (192, 32, 4));
-    assert_reports(
-        &rt,
-        limits,
-        &connections,
-        &[(text, SecondLeftOut.bytes())],
-        0,
-    );
-}
-
-#[test]
-fn a_batch_of_another_schema_is_left_out(rt: HostRuntime) {
-    let mut connections = [connection(&rt, Growing, DELTA)];
-    let other = batch_of(&rt, Other, 0);
-    let batches = &mut connections[0].batches;
-    assert!(rt; batches.len() == 3);
-    batches.insert(1, other).expect(&rt, MEMORY);
-    let text = "200 392 384 392 8 Batch(1) SchemaDiffers 0:acde | abc ea ce 0:acde Clean";
-    assert_reports(
-        &rt,
-        Limits::standard(),
-        &connections,
-        &[(text, Growing.bytes())],
-        0,
-    );
-}
-
-#[test]
-fn batches_of_two_dictionaries_are_left_out(rt: HostRuntime) {
-    let mut connections = [connection(&rt, TwiceX, DELTA)];
-    let mut batches = Vec::new(rt.alloc());
-    for words in [["x", "y"], ["x", "x"], ["y", "x"]] {
-        batches.push(pair(&rt, words)).expect(&rt, MEMORY);
+/// The bytes of the three numbers of the only column of the only batch.
+fn numbers_in<'a>(rt: &impl Abort, batches: &'a [Batch]) -> &'a [u8] {
+    let columns = batches.first().expect(rt, "a batch").columns();
+    match columns.first().expect(rt, "a column").buffers() {
+        Buffers::Numbers(numbers) => numbers.values.get(..12).expect(rt, "three numbers"),
+        _ => panic!(rt; "no numbers"),
     }
-    connections[0].batches = batches;
-    let text =
-        "320 432 8 Batch(0) DictionariesDiffer Batch(2) DictionariesDiffer 0:x | xx 0:x Clean";
-    assert_reports(
-        &rt,
-        Limits::standard(),
-        &connections,
-        &[(text, TwiceX.bytes())],
-        0,
-    );
 }
 
+const NUMBERS: &[Part] = &[parts::NUMBERS, parts::THREE, END];
+
+/// A batch is handed out as it was read, and not as it was given: with a 7 under its null.
 #[test]
-fn dictionaries_by_rising_id(rt: HostRuntime) {
-    let connections = [connection(&rt, Shared, DELTA)];
-    let text = "448 728 8 -2:red 5:catdog | dogcatred__dog -2:red 5:catdog Clean";
-    assert_reports(
-        &rt,
-        Limits::standard(),
-        &connections,
-        &[(text, Shared.bytes())],
-        0,
-    );
-}
-
-#[test]
-fn a_schema_that_is_refused(rt: HostRuntime) {
-    let connections = [
-        connection(&rt, Growing, DELTA),
-        connection(&rt, NoColumns, DELTA),
-        connection(&rt, Growing, RESEND),
-    ];
-    let refused: (&str, &[u8]) = ("Start TooLarge | NoSchema at 0", &[]);
-    let expected: [(&str, &[u8]); 3] = [refused, ("72 104 8 |  Clean", NoColumns.bytes()), refused];
-    let limits = limits_of(&rt, (191, 1_000, 1_000));
-    assert_reports(&rt, limits, &connections, &expected, 0);
-}
-
-/// The range of the first list, how many items there are, and the number of the last one.
-fn list_told(rt: &impl Abort, column: &Array) -> (usize, usize, usize, Option<i128>) {
-    assert!(rt; column.len() == 1);
-    let (start, end, items) = column.list_at(0).expect(rt, "a list");
-    assert!(rt; items.len() > 0);
-    (start, end, items.len(), items.int_at(items.len() - 1))
-}
-
-/// A column of the only batch of a report is handed out as it was read, and not as it was given.
-#[test]
-fn a_list_after_a_gap(rt: HostRuntime) {
-    let connections = [connection(&rt, Gap, DELTA)];
-    let given = &connections[0].batches;
-    assert!(rt; given.len() == 1 && given[0].columns().len() == 1);
-    let before = list_told(&rt, given[0].column(0));
-    assert!(rt; before == (1, 2, 2, Some(8)));
-    let reports = run(rt.alloc(), &Limits::standard(), &connections).expect(&rt, MEMORY);
-    assert!(rt; reports.len() == 1);
-    assert!(rt; sent(&rt, &reports[0]).as_slice() == ClosedGap.bytes());
-    let handed = &reports[0].received.handed;
-    assert!(rt; handed.len() == 1 && handed[0].columns().len() == 1);
-    let after = list_told(&rt, handed[0].column(0));
-    assert!(rt; after == (0, 1, 1, Some(8)));
+fn a_number_under_a_null(rt: HostRuntime) {
+    let bytes = joined(rt.alloc(), NUMBERS, &[(316, &[7])]).expect(&rt, "a stream");
+    let mut only = [connection_of(&rt, (batches::NUMBERS, &[], DELTA, true, ALL))];
+    only[0].batches = received(&rt, &bytes).handed;
+    let given = numbers_in(&rt, &only[0].batches);
+    assert!(rt; given == [1, 0, 0, 0, 7, 0, 0, 0, 3, 0, 0, 0].as_slice());
+    let reports = run(rt.alloc(), &limits_of(&rt, STANDARD), &only).expect(&rt, MEMORY);
+    assert_eq!(rt; reports.len(), 1);
+    assert_report(&rt, &reports[0], "152 176 8 | ___ Clean", Some(NUMBERS));
+    let handed = numbers_in(&rt, &reports[0].received.handed);
+    assert!(rt; handed == [1, 0, 0, 0, 0, 0, 0, 0, 3, 0, 0, 0].as_slice());
 }

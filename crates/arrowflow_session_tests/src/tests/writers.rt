@@ -1,14 +1,15 @@
 //! Writers into sinks that keep what they take: how they are started, what their calls answer, and
 //! what they show.
 
-use super::stream::Stream;
-use super::telling::dictionaries_told;
+use super::batches::{MEMORY, Rows, batch_of};
+use super::told::push_dictionaries;
 use arrow_body_writer::Align;
 use arrow_data::Batch;
 use arrow_dict::Updates;
 use arrow_sink::probe::{Failing, Narrow};
 use arrow_sink::{Sink, WriteFault};
 use arrow_stream_writer::{Options, StreamWriter};
+use arrow_test_streams::parts::{Part, joined};
 use arrow_types::{Limits, Schema};
 use std::process::Abort;
 
@@ -27,60 +28,126 @@ pub(super) const DELTA_64: Options = Options {
     align: Align::SixtyFour,
 };
 
-/// Limits on the bytes of metadata, on those of a body, and on rows.
-pub(super) fn limits_of(rt: &impl Abort, limits: (u64, u64, u64)) -> Limits {
-    Limits::new(limits.0, limits.1, limits.2).expect(rt, "limits")
+/// The most bytes of metadata, bytes of a body, and rows.
+pub(super) type Most = (u64, u64, u64);
+
+/// Limits that nothing here passes.
+pub(super) const WIDE: Most = (1_000, 1_000, 1_000);
+
+/// Those of a reader or a writer that is told nothing else.
+pub(super) const STANDARD: Most = (67_108_864, 68_719_476_736, 2_147_483_647);
+
+pub(super) fn limits_of(rt: &impl Abort, most: Most) -> Limits {
+    Limits::new(most.0, most.1, most.2).expect(rt, "limits")
 }
 
-/// A sink that takes all.
-pub(super) fn roomy(rt: &(impl Abort + AllocGlobal)) -> Narrow {
-    Narrow::new(rt.alloc(), usize::MAX, usize::MAX, Failing::ByError)
-}
-
-/// A writer of batches of this schema, into a sink that takes all.
-pub(super) fn writer_of(
+/// Starts a writer of batches of this schema, into a sink that takes all; or what it is refused
+/// with, and the sink.
+pub(super) fn started(
     rt: &(impl Abort + AllocGlobal),
     schema: &Schema,
     options: Options,
-    limits: Limits,
-) -> StreamWriter<Narrow> {
-    let sink = roomy(rt);
+    most: Most,
+) -> Result<StreamWriter<Narrow>, (WriteFault, Narrow)> {
+    let sink = Narrow::new(rt.alloc(), usize::MAX, usize::MAX, Failing::ByError);
     assert!(rt; sink.failures() < u64::MAX);
-    match StreamWriter::start(rt.alloc(), sink, schema, options, limits) {
+    StreamWriter::start(rt.alloc(), sink, schema, options, limits_of(rt, most))
+}
+
+/// A writer of batches of the schema of this one.
+pub(super) fn writer_of(
+    rt: &(impl Abort + AllocGlobal),
+    batch: &Batch,
+    options: Options,
+    most: Most,
+) -> StreamWriter<Narrow> {
+    match started(rt, batch.schema(), options, most) {
         Ok(writer) => writer,
         Err(_) => panic!(rt; "refused schema"),
     }
 }
 
-/// What a batch is refused with.
-pub(super) fn written(
+/// What a batch is refused with, or, where there is none, the end marker.
+pub(super) fn called(
     rt: &impl Abort,
     writer: &mut StreamWriter<Narrow>,
-    batch: &Batch,
+    batch: Option<&Batch>,
 ) -> Option<WriteFault> {
     assert!(rt; writer.sink().failures() < u64::MAX);
-    writer.write(batch).err()
+    match batch {
+        Some(batch) => writer.write(batch).err(),
+        None => writer.finish().err(),
+    }
 }
 
-/// What the end marker is refused with.
-pub(super) fn finished(rt: &impl Abort, writer: &mut StreamWriter<Narrow>) -> Option<WriteFault> {
-    assert!(rt; writer.sink().failures() < u64::MAX);
-    writer.finish().err()
-}
-
-/// The sink holds the first `len` of these bytes, and these dictionaries were sent.
-pub(super) fn assert_shown(
+/// The dictionaries that were sent, and what the last call was refused with.
+pub(super) fn shown(
     rt: &(impl Abort + AllocGlobal),
     writer: &StreamWriter<Narrow>,
-    stream: Stream,
-    len: usize,
-    sent: &str,
-) {
-    assert_eq!(rt; writer.sink().taken().len(), len);
-    assert!(rt;
-        stream.bytes().get(..len) == Some(writer.sink().taken()),
-        "{len} bytes"
-    );
-    let text = dictionaries_told(rt, writer.sent().entries());
-    assert_eq!(rt; text.as_str(), sent, "{len} bytes");
+    fault: Option<WriteFault>,
+) -> String {
+    let mut text = String::new(rt.alloc());
+    push_dictionaries(&mut text, writer.sent().entries()).expect(rt, MEMORY);
+    if let Some(fault) = fault {
+        write!(text, "{fault:?}").expect(rt, MEMORY);
+    }
+    text
+}
+
+/// What is shown behind this batch, which is the first one.
+pub(super) fn answer_to(rt: &(impl Abort + AllocGlobal), rows: Rows, most: Most) -> String {
+    let batch = batch_of(rt, rows);
+    let mut writer = writer_of(rt, &batch, DELTA, most);
+    let fault = called(rt, &mut writer, Some(&batch));
+    shown(rt, &writer, fault)
+}
+
+/// The call that writes this batch, or, where there is none, the end marker; and behind it how many
+/// bytes the sink holds, the dictionaries that were sent, and the refusal.
+pub(super) type Call = (Option<Rows>, &'static str);
+
+/// The call that writes the end marker.
+pub(super) const FINISH: Option<Rows> = None;
+
+/// What is sent, as parts of streams; none where it is the copy of a vector, whose bytes are compared
+/// there.
+pub(super) type Sent = Option<&'static [Part]>;
+
+/// Calls of one writer.
+pub(super) struct Calls {
+    /// A batch of the writer's schema, and how it sends.
+    pub(super) on: (Rows, Options, Most),
+    pub(super) calls: &'static [Call],
+    pub(super) sent: Sent,
+}
+
+/// Makes the calls of this row, one after the other.
+fn assert_calls(rt: &(impl Abort + AllocGlobal), row: &Calls, number: usize) {
+    let (of, options, most) = row.on;
+    let mut writer = writer_of(rt, &batch_of(rt, of), options, most);
+    for (rows, wanted) in row.calls {
+        let fault = match rows {
+            Some(rows) => called(rt, &mut writer, Some(&batch_of(rt, *rows))),
+            None => called(rt, &mut writer, None),
+        };
+        let (len, shown) = (writer.sink().taken().len(), shown(rt, &writer, fault));
+        let text = format!(in rt.alloc(); "{len} {shown}").expect(rt, MEMORY);
+        assert_eq!(rt; text.as_str().trim_end(), *wanted, "row {number}");
+    }
+    assert_sent(rt, writer.sink().taken(), row.sent);
+}
+
+/// Makes the calls of all rows.
+pub(super) fn assert_all(rt: &(impl Abort + AllocGlobal), rows: &[Calls]) {
+    for (number, row) in rows.iter().enumerate() {
+        assert_calls(rt, row, number);
+    }
+}
+
+/// These bytes were sent.
+pub(super) fn assert_sent(rt: &(impl Abort + AllocGlobal), bytes: &[u8], sent: Sent) {
+    if let Some(parts) = sent {
+        let wanted = joined(rt.alloc(), parts, &[]).expect(rt, "parts of streams");
+        assert!(rt; bytes == wanted.as_slice());
+    }
 }

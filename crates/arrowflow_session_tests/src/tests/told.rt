@@ -1,33 +1,25 @@
-//! What was sent and received of letters, as texts.
+//! What was sent and received, as texts.
 
 use arrow_data::{Array, Batch, Dictionary};
 use arrowflow_report::session::{Ending, Received};
 use std::alloc::AllocError;
 use std::process::Abort;
 
-/// The text in slot `i`.
-fn text_in(values: &Array, i: usize) -> &str {
-    if i < values.len() {
-        values.text_at(i).unwrap_or("_")
-    } else {
-        "no slot"
-    }
-}
-
-/// The text that the index in slot `i` refers to.
-fn referred(column: &Array, i: usize) -> &str {
+/// The text in slot `i`, or the one to which its index refers.
+fn text_in(column: &Array, i: usize) -> &str {
     if i >= column.len() {
         return "no slot";
     }
-    match column.resolved(i) {
-        Some((values, place)) => text_in(values, place),
-        None => "_",
+    let (values, place) = column.resolved(i).unwrap_or((column, i));
+    if place >= values.len() {
+        return "no slot";
     }
+    values.text_at(place).unwrap_or("_")
 }
 
 fn push_column(text: &mut String, column: &Array) -> Result<(), AllocError> {
     for i in 0..column.len() {
-        text.push_str(referred(column, i))?;
+        text.push_str(text_in(column, i))?;
     }
     Ok(())
 }
@@ -72,16 +64,6 @@ pub(super) fn push_received(text: &mut String, received: &Received) -> Result<()
         Ending::Clean => text.push_str("Clean"),
         Ending::Fault(fault) => write!(text, "{:?} at {}", fault.kind, fault.place),
     }
-}
-
-/// What a writer sent of dictionaries.
-pub(super) fn dictionaries_told(
-    rt: &(impl Abort + AllocGlobal),
-    dictionaries: &[(i64, Dictionary)],
-) -> String {
-    let mut text = String::new(rt.alloc());
-    push_dictionaries(&mut text, dictionaries).expect(rt, "memory");
-    text
 }
 
 /// What a reader had of a stream.
