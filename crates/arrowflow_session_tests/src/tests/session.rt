@@ -68,7 +68,7 @@ fn assert_report(rt: &(impl Abort + AllocGlobal), report: &Report, wanted: &str,
     for part in &report.parts {
         bytes.extend_from_slice(part).expect(rt, MEMORY);
     }
-    assert_sent(rt, &bytes, sent);
+    assert_sent(rt, &bytes, sent, wanted);
 }
 
 /// The report of the only connection tells this.

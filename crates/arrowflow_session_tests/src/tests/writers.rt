@@ -134,7 +134,8 @@ fn assert_calls(rt: &(impl Abort + AllocGlobal), row: &Calls, number: usize) {
         let text = format!(in rt.alloc(); "{len} {shown}").expect(rt, MEMORY);
         assert_eq!(rt; text.as_str().trim_end(), *wanted, "row {number}");
     }
-    assert_sent(rt, writer.sink().taken(), row.sent);
+    let last = row.calls.last().map_or("", |(_, wanted)| *wanted);
+    assert_sent(rt, writer.sink().taken(), row.sent, last);
 }
 
 /// Makes the calls of all rows.
@@ -144,10 +145,10 @@ pub(super) fn assert_all(rt: &(impl Abort + AllocGlobal), rows: &[Calls]) {
     }
 }
 
-/// These bytes were sent.
-pub(super) fn assert_sent(rt: &(impl Abort + AllocGlobal), bytes: &[u8], sent: Sent) {
+/// These bytes were sent, of which this was told.
+pub(super) fn assert_sent(rt: &(impl Abort + AllocGlobal), bytes: &[u8], sent: Sent, told: &str) {
     if let Some(parts) = sent {
         let wanted = joined(rt.alloc(), parts, &[]).expect(rt, "parts of streams");
-        assert!(rt; bytes == wanted.as_slice());
+        assert!(rt; bytes == wanted.as_slice(), "{told}");
     }
 }
