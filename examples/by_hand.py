@@ -5,7 +5,7 @@ and then places and fields in its value.
 import struct
 
 from bodies import large_strings
-from frames import (INT32, Buffer, batch, field, integer, laid, lists, metadata_in, numbers, pairs, scalar, schema, table, text,
+from frames import (INT32, Buffer, batch, field, laid, lists, metadata_in, numbers, pairs, scalar, schema, table, text,
                     vector)
 
 
@@ -48,10 +48,5 @@ ARRAYS = {
         "SHARED": struct.pack("<I4Hi5Ii2H", 12, 6, 8, 4, 0, 8, 4, 3, 12, 8, 0, 32, 0x12a, 0),
         "SCHEMA": metadata_in(NUMBERS),
         "BATCH": metadata_in(THREE),
-    },
-    "crates/arrowflow_tests/src/tests/rooms.rt": {
-        "SCHEMA": schema(field("n", integer(8, True))),
-        "MANY": batch(numbers([at % 103 for at in range(1030)], "b"))[:152],
-        "ONE": batch(numbers([0], "b"))[:152],
     },
 }

@@ -39,6 +39,12 @@ def extremes():
     return stream(schema(*(field(name, kind) for name, kind, _ in its)), batch(*(streams.extremes(form) for _, _, form in its)))
 
 
+def one_after_many():
+    """Batches of one number, and of ten times the numbers from 0 to 102."""
+    many = [at % 103 for at in range(1030)]
+    return stream(schema(field("n", integer(8, True))), *(batch(numbers(it, "b")) for it in ([5], many, [-7], [100], many, [0])))
+
+
 def truths_and_texts(items):
     """Structs of a truth value and a text."""
     parts = [it or (None, None) for it in items]
@@ -101,6 +107,10 @@ def columns():
         "name_of_a_line_feed": ("a name that is a line feed", in_one((f"{FIELD}.name.bytes", "0a"))),
         "names_of_other_letters": ("names of quotes, a backslash and letters beyond ASCII",
             stream(schema(field('q"\\', INT32), field("ä€", INT32), field("\x7f,", INT32)), batch(*3 * [numbers([1])]))),
+        "names_of_signs": ("a name of signs and letters of one to four bytes, and a zone of signs",
+            stream(schema(field("\x00\t\n\x1f ~\x7f\x80\\x\"é€😀", NULL), field("z", timestamp(3, "a\\b\x1b"))),
+            batch(nulls(1), numbers([1], "q")))),
+        "one_row_after_many": ("batches of one row before, between and behind two of 1,030", one_after_many()),
         "no_columns_and_no_rows": ("a batch without columns and without rows", stream(schema(), batch(length=0))),
     }
 

@@ -150,8 +150,7 @@ EXAMPLES = {
             "take 232 dictionary 0 of 4", "take 160 batch of 2", "take 8 end"],
         "dictionary_of_no_values": ["take 200 schema", "take 208 dictionary 0 of 0", "take 168 batch of 2", "take 168 batch of 2",
             "take 216 dictionary 0 of 1", "take 160 batch of 1", "take 8 end"]}),
-    "a stream checked, copied, drilled": (["arrowflow_tests/copying", "arrowflow_tests/drilling",
-        "arrowflow_session_tests/session"], {
+    "a stream checked, copied, drilled": (["arrowflow_tests/drilling", "arrowflow_session_tests/session"], {
         "growing_dictionary": ["take 224 dictionary 0 of 5", "take 8 end"], "resent_dictionary": ["take 8 end"],
         "list_after_a_gap": rows("[8]"), "list_without_its_gap": rows("[8]")}),
     "one falling pair of offsets, at each place": (["arrow_small_tests/bits"], {
@@ -168,7 +167,7 @@ EXAMPLES = {
             '*', '69 -> "rrr"')]}),
     "each growth refused in turn": (["growths/reading", "growths/writing", "growths/telling", "growths/copying", "growths/decoding",
         "growths/storing"], {"growing_dictionary": ["end clean"], "int32_column": ["end clean"]}),
-    "sinks and inputs that fail": (["arrowflow_session_tests/broken", "arrowflow_tests/failures"], {
+    "sinks and inputs that fail": (["arrowflow_session_tests/broken"], {
         "cut_off_in_the_first_dictionary": ["take 200 schema", "take 200 nothing", "hold 200", "end Truncated at 200"],
             "growing_dictionary_cut.changes": CUT}),
     "one batch, cut to each length": ([], {"int32_column_cut.changes": [
@@ -202,12 +201,11 @@ EXAMPLES = {
         "durations_for_integers": column("n: duration[ms]"), "large_bytes_for_integers": column("n: large_binary"),
             "large_list_without_a_child": refused("Schema", 0),
         "later_types": CLEAN, "dictionary_of_large_lists": CLEAN, "lists_in_structs_in_lists": CLEAN}),
-    "V4": (["arrow_meta_reader_tests/messages", "arrowflow_tests/copying"], {
+    "V4": (["arrow_meta_reader_tests/messages"], {
         "version_4_of_the_schema": column("n: int32") + THREE, "version_4_of_the_batch": THREE, "version_4": LETTERS_SHOWN,
             "mixed_versions": LETTERS_SHOWN,
         "version_3": refused("Version", 0), "version_4_and_floating_point": refused("Unsupported", 0)}),
-    "custom metadata": (["arrow_types_tests/pairs", "arrow_meta_writer_tests/written", "arrowflow_session_tests/other_schemas",
-        "arrowflow_tests/copying"], {
+    "custom metadata": (["arrow_types_tests/pairs", "arrow_meta_writer_tests/written", "arrowflow_session_tests/other_schemas"], {
         "pair_of_the_schema": ["take 208 schema", '  metadata x"6b"=x"76"', *column("n: int32"), *THREE],
         "pairs_on_every_level": ['  metadata x"6f726967696e"=x"68657265" x""=x"" x"6f726967696e"=x"7468657265"', *CLEAN],
         "absent_keys_and_values": ['    metadata x""=x"76" x"6b"=x"" x""=x""', *THREE],

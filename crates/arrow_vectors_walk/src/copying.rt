@@ -1,9 +1,10 @@
 //! Streams written again.
 
 use crate::findings::Findings;
+use crate::given::Given;
 use crate::pack::{Vector, stream_of};
 use crate::reading::answers_to;
-use crate::reports::written;
+use crate::reports::{fault_of, written};
 use crate::told::{Form, Told};
 use arrow_body_writer::Align;
 use arrow_dict::Updates;
@@ -12,6 +13,9 @@ use arrow_stream_writer::Options;
 use arrow_types::Limits;
 use arrowflow_copy::copy;
 use std::alloc::{AllocError, Global};
+
+/// What ends a stream.
+const END_MARKER: [u8; 8] = [0xff, 0xff, 0xff, 0xff, 0, 0, 0, 0];
 
 /// The ways to write a stream.
 pub(crate) const WAYS: [Options; 4] = [
@@ -43,18 +47,17 @@ pub(crate) fn walk(
     vector: &Vector<'_>,
     told: &Told<'_>,
 ) -> Result<(), AllocError> {
-    let mut fault = String::new(alloc);
-    told.push_fault(&mut fault)?;
+    let fault = fault_of(alloc, told)?;
     let wanted = rows_of(alloc, told, told.is_clean())?;
     for (way, options) in WAYS.iter().enumerate() {
-        let (bytes, answer) = copy_of(alloc, vector.stream, *options)?;
+        let (bytes, answer) = copy_of(alloc, Given::whole(vector.stream), *options)?;
         found.compare(("copied in way", way), &answer, &fault)?;
         let answers = answers_to(alloc, &bytes)?;
         let copied = Told::of(alloc, &answers)?;
         let rows = rows_of(alloc, &copied, copied.is_ended())?;
         found.compare(("rows copied in way", way), &rows, &wanted)?;
         if told.is_clean() {
-            let (again, _) = copy_of(alloc, &bytes, *options)?;
+            let (again, _) = copy_of(alloc, Given::whole(&bytes), *options)?;
             compare_bytes(found, ("copied twice in way", way), &again, &bytes)?;
         }
         let name = format!(in alloc; "{}.copy{way}", vector.name)?;
@@ -65,8 +68,41 @@ pub(crate) fn walk(
     Ok(())
 }
 
+/// Compares what is written of an input, whose whole stream is copied to these bytes in a way: they
+/// begin so, up to the last batch that is told of, and where the input ends well the end marker
+/// follows.
+pub(crate) fn walk_beginning(
+    alloc: Global,
+    found: &mut Findings,
+    given: Given<'_>,
+    told: &Told<'_>,
+    copied: (usize, &[u8]),
+) -> Result<(), AllocError> {
+    let (way, whole) = copied;
+    let answers = answers_to(alloc, whole)?;
+    let sent = Told::of(alloc, &answers)?;
+    let mut wanted = Vec::new(alloc);
+    if told.schema().is_some() {
+        let end = sent.end_of_batches(told.batches_before(u64::MAX));
+        wanted.extend_from_slice(whole.get(..end as usize).unwrap_or(whole))?;
+    }
+    if told.is_clean() {
+        wanted.extend_from_slice(&END_MARKER)?;
+    }
+    let options = WAYS.get(way).unwrap_or(&WAYS[0]);
+    let (bytes, answer) = copy_of(alloc, given, *options)?;
+    let fault = fault_of(alloc, told)?;
+    found.compare(("copied by reads of", given.number()), &answer, &fault)?;
+    compare_bytes(
+        found,
+        ("bytes copied by reads of", given.number()),
+        &bytes,
+        &wanted,
+    )
+}
+
 /// Compares bytes with what they should be.
-fn compare_bytes(
+pub(crate) fn compare_bytes(
     found: &mut Findings,
     call: (&str, usize),
     bytes: &[u8],
@@ -80,13 +116,13 @@ fn compare_bytes(
     found.compare(call, is_same, "the same\n")
 }
 
-/// What is written of a stream, and behind it the fault.
+/// What is written of an input, and behind it the fault.
 pub(crate) fn copy_of(
     alloc: Global,
-    stream: &[u8],
+    given: Given<'_>,
     options: Options,
 ) -> Result<(Vec<u8>, String), AllocError> {
-    let mut input = stream;
+    let mut input = given.input();
     let output = Counted::new(Vec::new(alloc));
     let (output, answer) = copy(alloc, &mut input, output, options, &Limits::standard());
     let answer = written(alloc, &[], &answer)?;

@@ -2,9 +2,11 @@
 
 use crate::copying::{WAYS, copy_of};
 use crate::findings::Findings;
-use crate::pack::Vector;
+use crate::given::Given;
 use crate::reading::answers_to;
-use crate::told::{Form, Message, Told};
+use crate::reports::fault_of;
+use crate::told::{Message, Told, push_ending};
+use arrow_sink::probe::Trickle;
 use arrow_stream_writer::Options;
 use arrow_types::Limits;
 use arrowflow_drill::drill;
@@ -15,24 +17,24 @@ use std::collections::BTreeMap;
 /// A stream of up to so many bytes breaks at each of them.
 const SMALL: u64 = 200;
 
-/// Compares what is told of a connection over the stream, written in each way, that breaks: in the first way behind
-/// each byte where few are written, else behind those that are chosen, in the others where a message
-/// ends. What is written is what a copy has, whose places the reader tells.
+/// In pieces of how many bytes connections are delivered, in turn.
+const PIECES: [u64; 12] = [0, 1, 2, 3, 4, 5, 6, 7, 65, 1_000, 65_536, 1_073_741_824];
+
+/// Compares what is told of a connection over the stream, written in each way, that breaks: in the
+/// first way behind each byte where few are written, else behind those that are chosen, in the
+/// others where a message ends. What is written is what a copy has, whose places the reader tells.
 pub(crate) fn walk(
     alloc: Global,
     found: &mut Findings,
-    vector: &Vector<'_>,
+    stream: &[u8],
     told: &Told<'_>,
 ) -> Result<(), AllocError> {
+    if !told.is_clean() {
+        return Ok(());
+    }
+    let given = Given::whole(stream);
     for (way, options) in WAYS.iter().enumerate() {
-        if !told.is_clean() {
-            let mut fault = String::new(alloc);
-            told.push_fault(&mut fault)?;
-            let answer = drilled(alloc, vector.stream, *options, (0, 0))?;
-            found.compare(("drilled in way", way), &answer, &fault)?;
-            continue;
-        }
-        let (bytes, _) = copy_of(alloc, vector.stream, *options)?;
+        let (bytes, _) = copy_of(alloc, given, *options)?;
         let answers = answers_to(alloc, &bytes)?;
         let sent = Told::of(alloc, &answers)?;
         for place in 0..sent.place().saturating_add(2) {
@@ -42,9 +44,10 @@ pub(crate) fn walk(
                 sent.is_beside_an_end(place)
             };
             if is_tried {
-                let delivery = (place, place % 8);
-                let answer = drilled(alloc, vector.stream, *options, delivery)?;
-                let wanted = wanted_of(alloc, &sent, delivery)?;
+                let delivery = delivery_at(place, sent.place());
+                let answer = drilled(alloc, &[given], *options, delivery)?;
+                let mut wanted = String::new(alloc);
+                push_connection(alloc, &mut wanted, 0, &sent, delivery)?;
                 found.compare(("drilled, broken at", place as usize), &answer, &wanted)?;
             }
         }
@@ -52,23 +55,107 @@ pub(crate) fn walk(
     Ok(())
 }
 
-/// What is told of a connection of which so many bytes are delivered, in pieces of this length.
+/// How a stream of this size is delivered up to a place: whole behind its end.
+fn delivery_at(place: u64, size: u64) -> (u64, u64) {
+    let piece = PIECES.get(place as usize % PIECES.len()).unwrap_or(&1);
+    (if place > size { u64::MAX } else { place }, *piece)
+}
+
+/// Compares what is told of three connections, the first and the last over the stream, written in
+/// some of the ways, that break at one place: nothing but the fault of the stream where it has one.
+/// Where the input of one of them fails, this is told, and no further one is read.
+pub(crate) fn walk_several(
+    alloc: Global,
+    found: &mut Findings,
+    stream: &[u8],
+    other: &[u8],
+    told: &Told<'_>,
+) -> Result<(), AllocError> {
+    let (given, between) = (Given::whole(stream), Given::whole(other));
+    if !told.is_clean() {
+        let givens = [between, given, Given::whole(&[])];
+        let answer = drilled(alloc, &givens, WAYS[0], (u64::MAX, 8))?;
+        let fault = fault_of(alloc, told)?;
+        return found.compare(("drilled behind another", 1), &answer, &fault);
+    }
+    for (way, options) in WAYS.iter().enumerate().take(2) {
+        let (bytes, _) = copy_of(alloc, given, *options)?;
+        let answers = answers_to(alloc, &bytes)?;
+        let sent = Told::of(alloc, &answers)?;
+        let (bytes, _) = copy_of(alloc, between, *options)?;
+        let others = answers_to(alloc, &bytes)?;
+        let other_sent = Told::of(alloc, &others)?;
+        let delivery = (sent.place() / 3 * 2, 100);
+        let answer = drilled(alloc, &[given, between, given], *options, delivery)?;
+        let mut wanted = String::new(alloc);
+        push_connection(alloc, &mut wanted, 0, &sent, delivery)?;
+        push_connection(alloc, &mut wanted, 1, &other_sent, delivery)?;
+        push_connection(alloc, &mut wanted, 2, &sent, delivery)?;
+        found.compare(("three drilled in way", way), &answer, &wanted)?;
+    }
+    walk_failing(alloc, found, given, between, told.place() as usize / 2)
+}
+
+/// Compares what is told of three inputs, of which each in turn fails at a place, and how far they
+/// are read.
+fn walk_failing(
+    alloc: Global,
+    found: &mut Findings,
+    given: Given<'_>,
+    whole: Given<'_>,
+    place: usize,
+) -> Result<(), AllocError> {
+    let failing = Given {
+        stream: given.stream,
+        at_once: 100,
+        fails: Some(place),
+    };
+    let all = whole.stream.len();
+    for number in 0..3 {
+        let mut inputs = Vec::new(alloc);
+        let mut wanted = format!(in alloc; "cannot read input {number}\n")?;
+        for at in 0..3 {
+            let (input, read) = match number {
+                _ if at == number => (failing, place),
+                _ if at < number => (whole, all),
+                _ => (whole, 0),
+            };
+            inputs.push(input.input())?;
+            write!(wanted, "{read} ")?;
+        }
+        let mut answer = answer_of(alloc, &mut inputs, WAYS[0], (u64::MAX, 8))?;
+        for input in &inputs {
+            write!(answer, "{} ", input.given())?;
+        }
+        found.compare(("drilled, failing input", number), &answer, &wanted)?;
+    }
+    Ok(())
+}
+
+/// What is told of connections of which so many bytes are delivered, in pieces of this length.
 fn drilled(
     alloc: Global,
-    stream: &[u8],
+    givens: &[Given<'_>],
+    options: Options,
+    delivery: (u64, u64),
+) -> Result<String, AllocError> {
+    let mut inputs = Vec::new(alloc);
+    for given in givens {
+        inputs.push(given.input())?;
+    }
+    answer_of(alloc, &mut inputs, options, delivery)
+}
+
+fn answer_of(
+    alloc: Global,
+    inputs: &mut [Trickle<'_>],
     options: Options,
     delivery: (u64, u64),
 ) -> Result<String, AllocError> {
     let (bytes, piece) = delivery;
-    match drill(
-        alloc,
-        &mut [stream],
-        options,
-        bytes,
-        piece,
-        &Limits::standard(),
-    ) {
+    match drill(alloc, inputs, options, bytes, piece, &Limits::standard()) {
         Ok(text) => Ok(text),
+        Err(ToolFault::Input(number)) => format!(in alloc; "cannot read input {number}\n"),
         Err(fault) => fault_text(alloc, &fault),
     }
 }
@@ -78,37 +165,33 @@ fn fault_text(alloc: Global, fault: &ToolFault) -> Result<String, AllocError> {
     format!(in alloc; "{} {line}\n", fault.status())
 }
 
-/// What is to be told of a connection that sends these messages.
-fn wanted_of(alloc: Global, sent: &Told<'_>, delivery: (u64, u64)) -> Result<String, AllocError> {
+/// Appends what is to be told of the connection of this number that sends these messages.
+fn push_connection(
+    alloc: Global,
+    text: &mut String,
+    number: usize,
+    sent: &Told<'_>,
+    delivery: (u64, u64),
+) -> Result<(), AllocError> {
     let (size, batches) = (sent.place(), sent.batches_before(u64::MAX));
     let (place, piece) = (delivery.0.min(size), delivery.1);
     let parts = batches.saturating_add(2);
-    let mut text = String::new(alloc);
-    write!(text, "connection 0: wrote {size} bytes in {parts} parts, ")?;
-    write!(text, "delivered {place} in pieces of {piece}\n")?;
-    let (handed, rows) = (sent.batches_before(place), rows_before(sent, place));
     write!(
         text,
-        "connection 0: handed out {handed} of {batches} batches, {rows} rows\n"
+        "connection {number}: wrote {size} bytes in {parts} parts, "
     )?;
-    text.push_str("connection 0: dictionaries reader ")?;
-    push_dictionaries(&mut text, &sent.dictionaries_at(alloc, place)?)?;
+    write!(text, "delivered {place} in pieces of {piece}\n")?;
+    let (handed, rows) = (sent.batches_before(place), sent.rows_before(place));
+    write!(
+        text,
+        "connection {number}: handed out {handed} of {batches} batches, {rows} rows\n"
+    )?;
+    write!(text, "connection {number}: dictionaries reader ")?;
+    push_dictionaries(text, &sent.dictionaries_at(alloc, place)?)?;
     text.push_str(", writer ")?;
-    push_dictionaries(&mut text, &sent.dictionaries_at(alloc, u64::MAX)?)?;
-    text.push_str("\nconnection 0: ending ")?;
-    push_ending(&mut text, sent, place)?;
-    Ok(text)
-}
-
-/// How many rows the batches have that end up to this place.
-fn rows_before(sent: &Told<'_>, place: u64) -> u64 {
-    let mut rows = 0u64;
-    for message in &sent.messages {
-        if message.form == Form::Batch && message.end() <= place {
-            rows = rows.saturating_add(message.count().parse::<u64>().unwrap_or(0));
-        }
-    }
-    rows
+    push_dictionaries(text, &sent.dictionaries_at(alloc, u64::MAX)?)?;
+    write!(text, "\nconnection {number}: ending ")?;
+    push_ending(text, sent.last_end_before(place), place)
 }
 
 fn push_dictionaries(
@@ -125,21 +208,4 @@ fn push_dictionaries(
         write!(text, "{id}={}", message.count())?;
     }
     Ok(())
-}
-
-/// How a stream of these messages ends that is cut off at a place.
-fn push_ending(text: &mut String, sent: &Told<'_>, place: u64) -> Result<(), AllocError> {
-    let mut before = 0;
-    for message in &sent.messages {
-        if message.end() <= place {
-            before = message.end();
-        }
-    }
-    if before == 0 {
-        return text.push_str("NoSchema at 0\n");
-    }
-    if before == place {
-        return text.push_str("clean\n");
-    }
-    write!(text, "Truncated at {before}\n")
 }

@@ -13,11 +13,11 @@ use std::alloc::{AllocError, Global};
 pub(crate) fn walk_whole(
     alloc: Global,
     found: &mut Findings,
-    vector: &Vector<'_>,
+    stream: &[u8],
     told: &Told<'_>,
 ) -> Result<(), AllocError> {
     let mut reader = StreamReader::new(alloc, Limits::standard());
-    let whole = received(alloc, &mut reader, vector.stream, &[])?;
+    let whole = received(alloc, &mut reader, stream, &[])?;
     found.compare(("received in pieces:", 1), &whole, &wanted_of(alloc, told)?)
 }
 

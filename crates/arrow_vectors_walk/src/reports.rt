@@ -1,47 +1,95 @@
 //! What the calls behind `schema`, `check` and `show` write.
 
 use crate::findings::Findings;
-use crate::pack::Vector;
+use crate::given::Given;
 use crate::records::{push_header, push_record};
 use crate::told::{Form, Message, Told, column_in};
 use arrow_sink::Counted;
-use arrow_sink::probe::Trickle;
 use arrow_types::Limits;
-use arrowflow_report::{ToolFault, check, schema_text, show};
+use arrowflow_report::{ToolFault, check, check_quietly, schema_text, show, show_first};
 use std::alloc::{AllocError, Global};
 
-/// Compares what the three calls write of the stream, and their faults. So many bytes come at once.
+/// One of the calls.
+#[derive(Clone, Copy)]
+pub(crate) enum Call {
+    Schema,
+    Check,
+    Quiet,
+    Show,
+    /// The first rows, so many.
+    First(u64),
+}
+
+impl Call {
+    /// It in words.
+    fn words(self) -> &'static str {
+        match self {
+            Call::Schema => "schema by reads of",
+            Call::Check => "check by reads of",
+            Call::Quiet => "quiet check by reads of",
+            Call::Show => "show by reads of",
+            Call::First(_) => "first rows by reads of",
+        }
+    }
+}
+
+/// Compares what the calls write of an input, and their faults.
 pub(crate) fn walk(
     alloc: Global,
     found: &mut Findings,
-    vector: &Vector<'_>,
+    given: Given<'_>,
     told: &Told<'_>,
-    at_once: usize,
 ) -> Result<(), AllocError> {
-    let limits = Limits::standard();
-    let mut input = Trickle::new(vector.stream, at_once, None);
-    let (text, answer) = match schema_text(alloc, &mut input, &limits) {
-        Ok(text) => (text.into_bytes(), Ok(())),
-        Err(fault) => (Vec::new(alloc), Err(fault)),
+    let rows = told.rows_before(u64::MAX);
+    let calls = [
+        Call::Schema,
+        Call::Check,
+        Call::Quiet,
+        Call::Show,
+        Call::First(0),
+        Call::First(1),
+        Call::First(rows / 2),
+        Call::First(rows),
+        Call::First(u64::MAX),
+    ];
+    for call in &calls {
+        let answer = answer_of(alloc, *call, given)?;
+        let wanted = wanted_of(alloc, *call, told)?;
+        found.compare((call.words(), given.number()), &answer, &wanted)?;
+    }
+    Ok(())
+}
+
+/// What a call writes of an input, and behind it the status and the line of its fault.
+fn answer_of(alloc: Global, call: Call, given: Given<'_>) -> Result<String, AllocError> {
+    let (limits, mut input) = (Limits::standard(), given.input());
+    let output = Counted::new(Vec::new(alloc));
+    let (output, answer) = match call {
+        Call::Schema => return schema_answer(alloc, given),
+        Call::Quiet => return written(alloc, &[], &check_quietly(alloc, &mut input, &limits)),
+        Call::Check => check(alloc, &mut input, output, &limits),
+        Call::Show => show(alloc, &mut input, output, &limits),
+        Call::First(rows) => show_first(alloc, &mut input, output, rows, &limits),
     };
-    let text = written(alloc, &text, &answer)?;
-    found.compare(
-        ("schema by reads of", at_once),
-        &text,
-        &schema_of(alloc, told)?,
-    )?;
-    let mut input = Trickle::new(vector.stream, at_once, None);
-    let (output, answer) = check(alloc, &mut input, Counted::new(Vec::new(alloc)), &limits);
-    let text = written(alloc, &output.into_inner(), &answer)?;
-    found.compare(
-        ("check by reads of", at_once),
-        &text,
-        &messages_of(alloc, told)?,
-    )?;
-    let mut input = Trickle::new(vector.stream, at_once, None);
-    let (output, answer) = show(alloc, &mut input, Counted::new(Vec::new(alloc)), &limits);
-    let text = written(alloc, &output.into_inner(), &answer)?;
-    found.compare(("show by reads of", at_once), &text, &rows_of(alloc, told)?)
+    written(alloc, &output.into_inner(), &answer)
+}
+
+fn schema_answer(alloc: Global, given: Given<'_>) -> Result<String, AllocError> {
+    match schema_text(alloc, &mut given.input(), &Limits::standard()) {
+        Ok(text) => Ok(text),
+        Err(fault) => written(alloc, &[], &Err(fault)),
+    }
+}
+
+/// What a call is to write of a stream, with the line of the fault.
+pub(crate) fn wanted_of(alloc: Global, call: Call, told: &Told<'_>) -> Result<String, AllocError> {
+    match call {
+        Call::Schema => schema_of(alloc, told),
+        Call::Check => messages_of(alloc, told),
+        Call::Quiet => fault_of(alloc, told),
+        Call::Show => rows_of(alloc, told, None),
+        Call::First(rows) => rows_of(alloc, told, Some(rows)),
+    }
 }
 
 /// What was written, and behind it the status and the line of the fault.
@@ -110,18 +158,32 @@ fn push_message(text: &mut String, message: &Message<'_>, number: u64) -> Result
     }
 }
 
-/// The names of the columns, then the rows of each batch behind its number.
-fn rows_of(alloc: Global, told: &Told<'_>) -> Result<String, AllocError> {
+/// The line of the fault alone.
+pub(crate) fn fault_of(alloc: Global, told: &Told<'_>) -> Result<String, AllocError> {
     let mut text = String::new(alloc);
-    if let Some(schema) = told.schema() {
-        push_header(alloc, &mut text, &schema.below)?;
-    }
+    told.push_fault(&mut text)?;
+    Ok(text)
+}
+
+/// The names of the columns, then the rows of each batch behind its number, or the first of them:
+/// nothing is told of what stands behind these.
+fn rows_of(alloc: Global, told: &Told<'_>, first: Option<u64>) -> Result<String, AllocError> {
+    let (mut text, mut left) = (String::new(alloc), first.unwrap_or(u64::MAX));
+    let Some(schema) = told.schema() else {
+        return fault_of(alloc, told);
+    };
+    push_header(alloc, &mut text, &schema.below)?;
     let batches = told.messages.iter().filter(|it| it.form == Form::Batch);
     for (number, batch) in batches.enumerate() {
         for row in &batch.below {
-            push_record(alloc, &mut text, number, row)?;
+            if left > 0 {
+                push_record(alloc, &mut text, number, row)?;
+            }
+            left = left.saturating_sub(1);
         }
     }
-    told.push_fault(&mut text)?;
+    if first.is_none() || left > 0 {
+        told.push_fault(&mut text)?;
+    }
     Ok(text)
 }

@@ -6,6 +6,18 @@ use std::collections::BTreeMap;
 /// A stream of more bytes than these is cut at few places.
 const LONG: u64 = 8192;
 
+/// How a stream ends whose input fails.
+const FAILED: &str = "failed";
+
+/// How an input breaks off.
+#[derive(Clone, Copy, PartialEq, Eq)]
+pub(crate) enum Break {
+    /// It has no more bytes.
+    Ends,
+    /// It fails.
+    Fails,
+}
+
 /// What a message is.
 #[derive(Clone, Copy, PartialEq, Eq)]
 pub(crate) enum Form {
@@ -108,6 +120,17 @@ impl<'a> Told<'a> {
         self.messages.last().map_or(0, |last| last.end())
     }
 
+    /// Where the last message ends that is whole before this place, 0 where there is none.
+    pub(crate) fn last_end_before(&self, place: u64) -> u64 {
+        let mut before = 0;
+        for message in &self.messages {
+            if message.end() <= place {
+                before = message.end();
+            }
+        }
+        before
+    }
+
     /// Whether pieces or a connection are to end at a place of a stream of this size: from one byte
     /// before the end of a message to eight behind it, or just there in a long stream, at every 32nd
     /// place, and at 16 places of a larger stream.
@@ -145,6 +168,30 @@ impl<'a> Told<'a> {
             .filter(|first| first.form == Form::Schema)
     }
 
+    /// How many rows the batches have that end up to this place.
+    pub(crate) fn rows_before(&self, place: u64) -> u64 {
+        let mut rows = 0u64;
+        for message in &self.messages {
+            if message.form == Form::Batch && message.end() <= place {
+                rows = rows.saturating_add(message.count().parse::<u64>().unwrap_or(0));
+            }
+        }
+        rows
+    }
+
+    /// Where the batch ends that is the last one of so many, or the schema where there are none.
+    pub(crate) fn end_of_batches(&self, count: usize) -> u64 {
+        let mut end = self.schema().map_or(0, |schema| schema.end());
+        let mut left = count;
+        for message in &self.messages {
+            if message.form == Form::Batch && left > 0 {
+                end = message.end();
+                left = left.saturating_sub(1);
+            }
+        }
+        end
+    }
+
     /// The batches that end up to this place.
     pub(crate) fn batches_before(&self, place: u64) -> usize {
         let batches = self.messages.iter().filter(|it| it.form == Form::Batch);
@@ -169,11 +216,59 @@ impl<'a> Told<'a> {
     /// Appends the line of the fault, as the program prints it, with its status before it; nothing
     /// where the stream ends well.
     pub(crate) fn push_fault(&self, text: &mut String) -> Result<(), AllocError> {
+        if self.end == FAILED {
+            return text.push_str("2 cannot read in\n");
+        }
         match self.end.split_once(" at ") {
             Some((kind, place)) => write!(text, "1 fault at byte {place}: {kind}\n"),
             None => Ok(()),
         }
     }
+}
+
+/// The lines that tell of a stream that ends well what is whole where its input breaks off at a
+/// place, and how it ends there.
+pub(crate) fn lines_before(
+    alloc: Global,
+    lines: &str,
+    place: u64,
+    breaks: Break,
+) -> Result<String, AllocError> {
+    let mut text = String::new(alloc);
+    let (mut end, mut is_ended) = (0u64, false);
+    for line in lines.split('\n') {
+        if let Some((size, words)) = message_in(line) {
+            let next = end.saturating_add(size.parse::<u64>().unwrap_or(0));
+            if next > place {
+                break;
+            }
+            end = next;
+            is_ended = words == "end";
+            write!(text, "{line}\n")?;
+        } else if line.starts_with("  ") {
+            write!(text, "{line}\n")?;
+        }
+    }
+    if is_ended {
+        text.push_str("end clean\n")?;
+    } else if breaks == Break::Fails {
+        write!(text, "end {FAILED}\n")?;
+    } else {
+        text.push_str("end ")?;
+        push_ending(&mut text, end, place)?;
+    }
+    Ok(text)
+}
+
+/// Appends how a stream ends that is cut off at a place, where its last whole message ends before.
+pub(crate) fn push_ending(text: &mut String, end: u64, place: u64) -> Result<(), AllocError> {
+    if end == 0 {
+        return text.push_str("NoSchema at 0\n");
+    }
+    if end == place {
+        return text.push_str("clean\n");
+    }
+    write!(text, "Truncated at {end}\n")
 }
 
 /// The size and the words of a message's line.

@@ -1,19 +1,13 @@
-//! What no clause says: that texts are the ones that are meant, and that calls succeed.
+//! What no clause says and no stream shows: lines and pages, faults that no stream has, limits, how
+//! far inputs are read, and numbers of many digits. What the calls make of streams is compared in
+//! `arrow_vectors_walk`.
 
 mod command_line;
 mod copying;
-mod copying_ends;
 mod drilling;
-mod drilling_ends;
-mod edits;
-mod failures;
 mod fault_lines;
 mod first_rows;
-mod growing;
 mod help_pages;
-mod numbers;
-mod rooms;
-mod schema_lines;
+mod limits;
 mod session;
-mod streams;
 mod told;

@@ -1,8 +1,7 @@
 //! What `show_first` writes of streams, and what a check that writes nothing tells.
 
-use super::growing::GROWING;
-use super::streams::{EMPTY_BATCHES, ONE_BATCH};
 use super::told::{Call, LETTERS, NUMBERS, assert_told};
+use arrow_test_streams::streams::{GROWING, ONE_BATCH};
 
 /// The fault of one batch whose bytes go no further than to this place: all that a check that
 /// writes nothing tells.
@@ -40,21 +39,6 @@ static FIRST_LETTERS: [(u64, &str); 8] = [
 fn first_rows_of_a_stream(rt: HostRuntime) {
     for (rows, text) in &FIRST_LETTERS {
         assert_told(&rt, rt.alloc(), Call::First(*rows), &GROWING, text);
-    }
-}
-
-// How many rows of empty batches and others are asked for, and what is shown of them then.
-static FIRST_TEXTS: [(u64, &str); 4] = [
-    (0, "batch,t\n"),
-    (3, "batch,t\n1,a\n1,\n1,bc\n"),
-    (4, "batch,t\n1,a\n1,\n1,bc\n3,a\n"),
-    (6, "batch,t\n1,a\n1,\n1,bc\n3,a\n3,\n3,bc\n"),
-];
-
-#[test]
-fn first_rows_behind_empty_batches(rt: HostRuntime) {
-    for (rows, text) in &FIRST_TEXTS {
-        assert_told(&rt, rt.alloc(), Call::First(*rows), &EMPTY_BATCHES, text);
     }
 }
 

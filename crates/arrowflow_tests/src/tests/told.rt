@@ -6,7 +6,7 @@ use arrow_sink::probe::Trickle;
 use arrow_types::Limits;
 use arrowflow_report::{ToolFault, check, check_quietly, schema_text, show, show_first};
 use std::alloc::{AllocError, Global};
-use std::io::{ErrorKind, Read};
+use std::io::Read;
 use std::process::Abort;
 
 /// The rows of the growing dictionary.
@@ -26,29 +26,19 @@ pub(super) enum Call {
     First(u64),
 }
 
-/// The error by which an input fails at this place: each is told alike.
-pub(super) fn error_at(place: usize) -> ErrorKind {
-    match place % 4 {
-        0 => ErrorKind::Interrupted,
-        1 => ErrorKind::BrokenPipe,
-        2 => ErrorKind::UnexpectedEof,
-        _ => ErrorKind::Other,
-    }
-}
-
 /// Appends the status and the line of a fault.
 fn push_fault(text: &mut String, alloc: Global, fault: &ToolFault) -> Result<(), AllocError> {
     let line = fault.line(alloc, "in", "out")?;
     write!(text, "{} {line}", fault.status())
 }
 
+/// The status and the line of a fault, nothing where there is none.
+pub(super) fn ending(rt: &impl Abort, alloc: Global, answer: &Result<(), ToolFault>) -> String {
+    written(rt, alloc, &[], answer)
+}
+
 /// What stands in the output, and behind it the fault.
-pub(super) fn written(
-    rt: &impl Abort,
-    alloc: Global,
-    taken: &[u8],
-    answer: &Result<(), ToolFault>,
-) -> String {
+fn written(rt: &impl Abort, alloc: Global, taken: &[u8], answer: &Result<(), ToolFault>) -> String {
     let taken = str::from_utf8(taken).expect(rt, "the output is text");
     let mut text = String::from_str(alloc, taken).expect(rt, "memory");
     if let Err(fault) = answer {
@@ -98,7 +88,7 @@ pub(super) fn told<R: Read>(
 }
 
 /// A call tells this text of an input.
-pub(super) fn assert_told_of<R: Read>(
+fn assert_told_of<R: Read>(
     rt: &impl Abort,
     alloc: Global,
     call: Call,

@@ -1,0 +1,164 @@
+//! Inputs that end early or fail, and outputs that fail.
+
+use crate::copying::{WAYS, compare_bytes, copy_of, walk_beginning};
+use crate::findings::Findings;
+use crate::given::Given;
+use crate::pack::Vector;
+use crate::reports::{self, Call, wanted_of, written};
+use crate::told::{Break, Told, lines_before};
+use crate::{drilling, receiving};
+use arrow_sink::Sink;
+use arrow_sink::probe::{Failing, Narrow};
+use arrow_types::Limits;
+use arrowflow_copy::copy;
+use arrowflow_report::{check, show};
+use std::alloc::{AllocError, Global};
+
+/// Beside so many messages of a stream, about, its input breaks off.
+const BESIDE: usize = 16;
+
+/// An output of up to so many bytes fails at each place, a larger one at about so many.
+const SMALL: usize = 64;
+
+const PLACES: usize = 16;
+
+/// Compares what the calls make of a stream that ends well where its input ends or fails behind a
+/// message and one byte before, and where their output fails; at few places alone, if they are to
+/// be few.
+pub(crate) fn walk(
+    alloc: Global,
+    found: &mut Findings,
+    vector: &Vector<'_>,
+    told: &Told<'_>,
+    are_few: bool,
+) -> Result<(), AllocError> {
+    if !told.is_clean() {
+        return Ok(());
+    }
+    let (copied, _) = copy_of(alloc, Given::whole(vector.stream), WAYS[0])?;
+    let count = told.messages.len();
+    let step = if are_few { count } else { count / BESIDE };
+    for (number, message) in told.messages.iter().enumerate() {
+        if (number.saturating_add(1)) % step.max(1) == 0 {
+            let end = message.end() as usize;
+            break_input(alloc, found, vector, &copied, end)?;
+            break_input(alloc, found, vector, &copied, end.saturating_sub(1))?;
+        }
+    }
+    let texts = [Call::Check, Call::Show];
+    for call in &texts {
+        let text = wanted_of(alloc, *call, told)?;
+        let wanted = Output {
+            call: Some(*call),
+            stream: vector.stream,
+            wanted: text.as_bytes(),
+        };
+        wanted.walk(alloc, found, are_few)?;
+    }
+    let wanted = Output {
+        call: None,
+        stream: vector.stream,
+        wanted: &copied,
+    };
+    wanted.walk(alloc, found, are_few)
+}
+
+/// Compares what the calls make of an input that ends or fails at a place.
+fn break_input(
+    alloc: Global,
+    found: &mut Findings,
+    vector: &Vector<'_>,
+    copied: &[u8],
+    place: usize,
+) -> Result<(), AllocError> {
+    let stream = vector.stream.get(..place).unwrap_or(vector.stream);
+    let lines = lines_before(alloc, vector.lines(), place as u64, Break::Ends)?;
+    let told = Told::of(alloc, &lines)?;
+    let given = Given {
+        stream,
+        at_once: 7,
+        fails: None,
+    };
+    reports::walk(alloc, found, given, &told)?;
+    walk_beginning(alloc, found, given, &told, (0, copied))?;
+    receiving::walk_whole(alloc, found, stream, &told)?;
+    drilling::walk_several(alloc, found, stream, vector.stream, &told)?;
+    let lines = lines_before(alloc, vector.lines(), place as u64, Break::Fails)?;
+    let told = Told::of(alloc, &lines)?;
+    let given = Given {
+        stream: vector.stream,
+        at_once: 7,
+        fails: Some(place),
+    };
+    reports::walk(alloc, found, given, &told)?;
+    walk_beginning(alloc, found, given, &told, (0, copied))
+}
+
+/// What a call is to write of a stream: one of the reports, or else the copy.
+#[derive(Clone, Copy)]
+struct Output<'a> {
+    call: Option<Call>,
+    stream: &'a [u8],
+    wanted: &'a [u8],
+}
+
+impl Output<'_> {
+    /// Compares what is written where the output fails at some places, and not at all.
+    fn walk(&self, alloc: Global, found: &mut Findings, are_few: bool) -> Result<(), AllocError> {
+        let size = self.wanted.len();
+        let step = match size {
+            _ if are_few => size,
+            0..=SMALL => 1,
+            _ => size / PLACES,
+        };
+        for place in 0..size {
+            if place % step.max(1) == 0 || place.saturating_add(1) == size {
+                self.narrow(alloc, found, (Failing::ByError, place), (0, 1))?;
+                self.narrow(alloc, found, (Failing::ByNothing, place), (0, 1))?;
+            }
+        }
+        self.narrow(alloc, found, (Failing::AtFlush, size), (1, 1))?;
+        self.narrow(alloc, found, (Failing::ByError, size), (1, 0))
+    }
+
+    /// Compares what a sink takes that has room for so many bytes, how often it is flushed and
+    /// fails, and what is told of it.
+    fn narrow(
+        &self,
+        alloc: Global,
+        found: &mut Findings,
+        sink: (Failing, usize),
+        counts: (u64, u64),
+    ) -> Result<(), AllocError> {
+        let (failing, left) = sink;
+        let output = Narrow::new(alloc, 100, left, failing);
+        let (output, answer) = self.given_to(alloc, output)?;
+        let fault = if counts.1 == 0 {
+            ""
+        } else {
+            "2 cannot write out\n"
+        };
+        let (flushes, failures) = (output.flushes(), output.failures());
+        let answer = format!(in alloc; "{flushes} flushes, {failures} failures\n{answer}")?;
+        let wanted = format!(in alloc; "{} flushes, {} failures\n{fault}", counts.0, counts.1)?;
+        found.compare(("output fails at", left), &answer, &wanted)?;
+        let wanted = self.wanted.get(..left).unwrap_or(self.wanted);
+        compare_bytes(
+            found,
+            ("bytes of an output that fails at", left),
+            output.taken(),
+            wanted,
+        )
+    }
+
+    /// What the call writes into a sink, and the line of its fault.
+    fn given_to(&self, alloc: Global, output: Narrow) -> Result<(Narrow, String), AllocError> {
+        let (limits, mut input) = (Limits::standard(), self.stream);
+        let (output, answer) = match self.call {
+            Some(Call::Check) => check(alloc, &mut input, output, &limits),
+            Some(_) => show(alloc, &mut input, output, &limits),
+            None => copy(alloc, &mut input, output, WAYS[0], &limits),
+        };
+        Ok((output, written(alloc, &[], &answer)?))
+    }
+}

@@ -1,0 +1,47 @@
+//! Inputs as the calls are given them.
+
+use arrow_sink::probe::Trickle;
+use std::io::ErrorKind;
+
+/// An input over bytes.
+#[derive(Clone, Copy)]
+pub(crate) struct Given<'a> {
+    /// The bytes.
+    pub(crate) stream: &'a [u8],
+    /// So many of them come at once, at most.
+    pub(crate) at_once: usize,
+    /// Where it fails, if it does.
+    pub(crate) fails: Option<usize>,
+}
+
+impl<'a> Given<'a> {
+    /// An input that gives all that it can at once.
+    pub(crate) fn whole(stream: &'a [u8]) -> Given<'a> {
+        Given {
+            stream,
+            at_once: usize::MAX,
+            fails: None,
+        }
+    }
+
+    /// The input at its first byte.
+    pub(crate) fn input(&self) -> Trickle<'a> {
+        let fails = self.fails.map(|place| (place, error_at(place)));
+        Trickle::new(self.stream, self.at_once, fails)
+    }
+
+    /// The place where it fails, or else how much of it comes at once.
+    pub(crate) fn number(&self) -> usize {
+        self.fails.unwrap_or(self.at_once)
+    }
+}
+
+/// The error by which an input fails at a place: each is told alike.
+fn error_at(place: usize) -> ErrorKind {
+    match place % 4 {
+        0 => ErrorKind::Interrupted,
+        1 => ErrorKind::BrokenPipe,
+        2 => ErrorKind::UnexpectedEof,
+        _ => ErrorKind::Other,
+    }
+}
