@@ -45,22 +45,22 @@ pub(crate) fn walk(
             break_input(alloc, found, vector, &copied, end.saturating_sub(1))?;
         }
     }
-    let texts = [Call::Check, Call::Show];
-    for call in &texts {
-        let text = wanted_of(alloc, *call, told)?;
-        let wanted = Output {
-            call: Some(*call),
+    let messages = wanted_of(alloc, Call::Check, told)?;
+    let rows = wanted_of(alloc, Call::Show, told)?;
+    let outputs = [
+        (Written::Messages, messages.as_bytes()),
+        (Written::Rows, rows.as_bytes()),
+        (Written::Copy, copied.as_slice()),
+    ];
+    for (what, wanted) in &outputs {
+        let output = Output {
+            what: *what,
             stream: vector.stream,
-            wanted: text.as_bytes(),
+            wanted,
         };
-        wanted.walk(alloc, found, are_few)?;
+        output.walk(alloc, found, are_few)?;
     }
-    let wanted = Output {
-        call: None,
-        stream: vector.stream,
-        wanted: &copied,
-    };
-    wanted.walk(alloc, found, are_few)
+    Ok(())
 }
 
 /// Compares what the calls make of an input that ends or fails at a place.
@@ -82,7 +82,9 @@ fn break_input(
     reports::walk(alloc, found, given, &told)?;
     walk_beginning(alloc, found, given, &told, (0, copied))?;
     receiving::walk_whole(alloc, found, stream, &told)?;
-    drilling::walk_several(alloc, found, stream, vector.stream, &told)?;
+    if !told.is_clean() {
+        drilling::walk_several(alloc, found, stream, vector.stream, &told)?;
+    }
     let lines = lines_before(alloc, vector.lines(), place as u64, Break::Fails)?;
     let told = Told::of(alloc, &lines)?;
     let given = Given {
@@ -94,10 +96,18 @@ fn break_input(
     walk_beginning(alloc, found, given, &told, (0, copied))
 }
 
-/// What a call is to write of a stream: one of the reports, or else the copy.
+/// What is written.
+#[derive(Clone, Copy)]
+enum Written {
+    Messages,
+    Rows,
+    Copy,
+}
+
+/// What is to be written of a stream.
 #[derive(Clone, Copy)]
 struct Output<'a> {
-    call: Option<Call>,
+    what: Written,
     stream: &'a [u8],
     wanted: &'a [u8],
 }
@@ -154,10 +164,10 @@ impl Output<'_> {
     /// What the call writes into a sink, and the line of its fault.
     fn given_to(&self, alloc: Global, output: Narrow) -> Result<(Narrow, String), AllocError> {
         let (limits, mut input) = (Limits::standard(), self.stream);
-        let (output, answer) = match self.call {
-            Some(Call::Check) => check(alloc, &mut input, output, &limits),
-            Some(_) => show(alloc, &mut input, output, &limits),
-            None => copy(alloc, &mut input, output, WAYS[0], &limits),
+        let (output, answer) = match self.what {
+            Written::Messages => check(alloc, &mut input, output, &limits),
+            Written::Rows => show(alloc, &mut input, output, &limits),
+            Written::Copy => copy(alloc, &mut input, output, WAYS[0], &limits),
         };
         Ok((output, written(alloc, &[], &answer)?))
     }
