@@ -1,176 +1,234 @@
 // Columns of every type, without dictionaries.
 
-use super::forms::{Form, INT32, Leaf, Nested, Parts};
-use super::same::{all_are_nested_same, all_are_same};
-use super::told::{nested_shows, shows};
-use arrow_types::{BitWidth, DateUnit, TimeUnit};
+use super::making::{column, plain};
+use super::same::is_same_told;
+use super::told::shows;
 
-const TEXTS: Leaf<'static> = (
-    Form::Utf8,
-    &[
-        5, 0, 0, 0, 0, 0, 0, 0, 1, 0, 0, 0, 1, 0, 0, 0, 3, 0, 0, 0, 0x61, 0x62, 0x63,
-    ],
-    (3, &[(0, 1), (4, 20), (20, 23)]),
-);
-
-// All spare bits are set.
-const TRUTH_VALUES: Leaf<'static> = (Form::Bool, &[0xfb, 0xf9], (4, &[(0, 1), (1, 2)]));
-
-const NULLS: Leaf<'static> = (Form::Null, &[], (4, &[]));
-
-// The byte strings FF and the empty one, which are no texts.
-const STRINGS: &[u8] = &[0, 0, 0, 0, 1, 0, 0, 0, 1, 0, 0, 0, 0xff];
-
-const NO_BYTES: &[(usize, usize)] = &[(0, 0), (0, 0), (0, 0)];
-
-// Columns, and what they show.
-static COLUMNS: [(Leaf<'static>, &str); 13] = [
+// Columns, and what they show. A validity of 253 has a null in the second slot, and all spare bits are
+// set.
+static COLUMNS: [(&str, &str); 44] = [
+    ("int32; 3; 5 / i 1 0 3", "3: 1, null, 3"),
+    ("utf8; 3; 5 / i 0 1 1 3 / 'abc'", "3: 'a', null, 'bc'"),
+    ("binary; 2; / i 0 1 1 / 255", "2: [255], []"),
+    ("utf8; 2; / i 0 1 1 / 255", "no column"),
+    ("bool; 4; 251 / 249", "4: true, false, null, true"),
+    ("bool; 3; 253 / 251", "3: true, null, false"),
+    ("null; 4", "4: null, null, null, null"),
+    ("null; 0", "0:"),
+    ("bool; 0; /", "0:"),
+    ("int32; 0; /", "0:"),
+    ("binary; 0; / /", "0:"),
+    ("utf8; 0; / /", "0:"),
+    ("large_utf8; 0; / /", "0:"),
+    ("date[day]; 0; /", "0:"),
+    ("utf8; 0; / 0 0 /", "no column"),
+    ("large_binary; 0; / l 0 /", "0:"),
+    ("large_binary; 0; / i 0 /", "no column"),
+    // Under the null are two bytes that are no UTF-8.
     (
-        (
-            INT32,
-            &[
-                5, 0, 0, 0, 0, 0, 0, 0, 1, 0, 0, 0, 0, 0, 0, 0, 3, 0, 0, 0, 0, 0, 0, 0,
-            ],
-            (3, &[(0, 1), (8, 20)]),
-        ),
-        "len 3: int 1 = 1, null = null, int 3 = 3",
+        "binary; 3; 253 / i 0 1 3 4 / 97 255 255 100",
+        "3: [97], null, [100]",
     ),
     (
-        TEXTS,
-        "len 3: text 'a' = 'a', null = null, text 'bc' = 'bc'",
+        "utf8; 3; 253 / i 0 1 3 4 / 97 255 255 100",
+        "3: 'a', null, 'd'",
     ),
+    ("large_utf8; 3; 5 / l 0 1 1 3 / 'abc'", "3: 'a', null, 'bc'"),
+    ("large_utf8; 2; 2 / l 0 1 2 / 255 97", "2: null, 'a'"),
+    ("large_utf8; 2; / l 0 1 2 / 255 97", "no column"),
+    // From the second byte on.
     (
-        (Form::Binary, STRINGS, (2, &[(0, 0), (0, 12), (12, 13)])),
-        "len 2: bytes [255] = [255], bytes [] = []",
+        "large_binary; 3; / l 1 4 4 7 / 5 0 1 255 9 9 9 6",
+        "3: [0, 1, 255], [], [9, 9, 9]",
     ),
+    // In the last of these the lower half of an offset alone would do.
+    ("large_binary; 1; / l 0 2 / 'ab'", "1: [97, 98]"),
+    ("large_binary; 1; / l 1 2 / 'ab'", "1: [98]"),
+    ("large_binary; 1; / l -1 2 / 'ab'", "no column"),
+    ("large_binary; 1; / l 2 1 / 'ab'", "no column"),
+    ("large_binary; 1; / l 0 4294967297 / 'ab'", "no column"),
     (
-        (Form::Utf8, STRINGS, (2, &[(0, 0), (0, 12), (12, 13)])),
+        "large_binary; 1; / l 4294967296 4294967297 / 'ab'",
         "no column",
     ),
     (
-        TRUTH_VALUES,
-        "len 4: bool true = true, bool false = false, null = null, bool true = true",
+        "fixed_size_binary[3]; 2; 1 / 0 1 255 0 0 0",
+        "2: [0, 1, 255], null",
     ),
     (
-        NULLS,
-        "len 4: null = null, null = null, null = null, null = null",
+        "fixed_size_binary[3]; 3; 253 / 0 1 255 7 7 7 9 9 9 8 8",
+        "3: [0, 1, 255], null, [9, 9, 9]",
     ),
-    ((Form::Null, &[], (0, NO_BYTES)), "len 0"),
-    ((Form::Bool, &[], (0, NO_BYTES)), "len 0"),
-    ((INT32, &[], (0, NO_BYTES)), "len 0"),
-    ((Form::Binary, &[], (0, NO_BYTES)), "len 0"),
-    ((Form::Utf8, &[], (0, NO_BYTES)), "len 0"),
-    ((Form::Date(DateUnit::Day), &[], (0, NO_BYTES)), "len 0"),
+    ("fixed_size_binary[3]; 2; / 1 2 3 4 5", "no column"),
+    ("fixed_size_binary[3]; 2; / 1 2", "no column"),
+    ("fixed_size_binary[0]; 2; 2 /", "2: null, []"),
+    ("fixed_size_binary[2147483647]; 0; /", "0:"),
+    ("fixed_size_binary[2147483647]; 1; / l 0 0", "no column"),
     (
-        (Form::Utf8, &[0, 0], (0, &[(0, 0), (0, 2), (0, 0)])),
+        "duration[s]; 2; / l -9223372036854775808 9223372036854775807",
+        "2: -9223372036854775808, 9223372036854775807",
+    ),
+    // A byte short of two numbers.
+    (
+        "duration[ns]; 2; / 0 0 0 0 0 0 0 0 0 0 0 0 0 0 0",
         "no column",
+    ),
+    (
+        "list int32; 3 2; 5 / i 0 2 2 2 / / i 1 2",
+        "3: 0..2 [1 2], null, 2..2 [] | items 2: 1, 2",
+    ),
+    // The null list hides 2 and 3, and no list has the last items; the null struct hides 2.
+    (
+        "list int32; 3 5; 253 / i 0 1 3 3 / / i 1 2 3 4 5",
+        "3: 0..1 [1], null, 3..3 [] | items 5: 1, 2, 3, 4, 5",
+    ),
+    (
+        "large_list int32; 3 5; 253 / l 1 2 4 4 / / i 0 1 2 3 4",
+        "3: 1..2 [1], null, 4..4 [] | items 5: 0, 1, 2, 3, 4",
+    ),
+    (
+        "large_list int32; 3 3; 253 / l 1 2 4 4 / / i 0 1 2",
+        "no column",
+    ),
+    (
+        "struct[1] int32; 2 2; 1 / 1 / i 5 0",
+        "2: {0}, null | 1 fields | field 0 2: 5, null",
+    ),
+    (
+        "struct[1] int32; 3 5; 253 / / i 1 2 3 4 5",
+        "3: {0}, null, {2} | 1 fields | field 0 5: 1, 2, 3, 4, 5",
     ),
 ];
 
 #[test]
 fn columns_of_each_type(rt: HostRuntime) {
-    for (row, (column, want)) in COLUMNS.iter().enumerate() {
-        shows(&rt, row, column, want);
+    for (text, want) in &COLUMNS {
+        shows(&rt, text, &column(&rt, text, &[]), want);
     }
 }
 
-const EIGHT_BYTES: &[u8] = &[0xfe, 0xff, 0xff, 0xff, 0xff, 0xff, 0xff, 0xff];
+// Behind the validity, all spare bits of which are set, stand the bytes F1 to F8 and 9 to 24.
+const NUMBERS: &str =
+    "; 3; 253 / 241 242 243 244 245 246 247 248 9 10 11 12 13 14 15 16 17 18 19 20 \
+                       21 22 23 24";
 
-const ONE_NUMBER: Parts<'static> = (1, &[(0, 0), (0, 8)]);
-
-// Types of numbers, and what a column of one slot of the eight bytes shows.
-static NUMBERS: [(Form, &str); 18] = [
-    (Form::Int(BitWidth::Eight, true), "len 1: int -2 = -2"),
-    (Form::Int(BitWidth::Eight, false), "len 1: int 254 = 254"),
-    (Form::Int(BitWidth::Sixteen, true), "len 1: int -2 = -2"),
+// Types of numbers, and what three slots show, of which the second is null: how wide they are, and
+// whether they have a sign.
+static TYPES: [(&str, &str); 22] = [
+    ("uint8", "3: 241, null, 243"),
+    ("int8", "3: -15, null, -13"),
+    ("uint16", "3: 62193, null, 63221"),
+    ("int16", "3: -3343, null, -2315"),
+    ("uint32", "3: 4109628145, null, 202050057"),
+    ("int32", "3: -185339151, null, 202050057"),
     (
-        Form::Int(BitWidth::Sixteen, false),
-        "len 1: int 65534 = 65534",
+        "uint64",
+        "3: 17940079176890708721, null, 1735880461161533969",
     ),
-    (Form::Int(BitWidth::ThirtyTwo, true), "len 1: int -2 = -2"),
+    ("int64", "3: -506664896818842895, null, 1735880461161533969"),
+    ("date[day]", "3: -185339151, null, 202050057"),
     (
-        Form::Int(BitWidth::ThirtyTwo, false),
-        "len 1: int 4294967294 = 4294967294",
+        "date[ms]",
+        "3: -506664896818842895, null, 1735880461161533969",
     ),
-    (Form::Int(BitWidth::SixtyFour, true), "len 1: int -2 = -2"),
+    ("time[s]", "3: -185339151, null, 202050057"),
+    ("time[ms]", "3: -185339151, null, 202050057"),
     (
-        Form::Int(BitWidth::SixtyFour, false),
-        "len 1: int 18446744073709551614 = 18446744073709551614",
-    ),
-    (Form::Date(DateUnit::Day), "len 1: int -2 = -2"),
-    (Form::Date(DateUnit::Millisecond), "len 1: int -2 = -2"),
-    (Form::Time(TimeUnit::Second), "len 1: int -2 = -2"),
-    (Form::Time(TimeUnit::Millisecond), "len 1: int -2 = -2"),
-    (Form::Time(TimeUnit::Microsecond), "len 1: int -2 = -2"),
-    (Form::Time(TimeUnit::Nanosecond), "len 1: int -2 = -2"),
-    (Form::Timestamp(TimeUnit::Second), "len 1: int -2 = -2"),
-    (Form::Timestamp(TimeUnit::Millisecond), "len 1: int -2 = -2"),
-    (Form::Timestamp(TimeUnit::Microsecond), "len 1: int -2 = -2"),
-    (Form::Timestamp(TimeUnit::Nanosecond), "len 1: int -2 = -2"),
-];
-
-#[test]
-fn numbers_of_each_type(rt: HostRuntime) {
-    for (row, (form, want)) in NUMBERS.iter().enumerate() {
-        shows(&rt, row, &(*form, EIGHT_BYTES, ONE_NUMBER), want);
-    }
-}
-
-// The lists of 1 and 2, none, and the empty list.
-const LISTS: Nested<'static> = (
-    Form::List,
-    &[
-        5, 0, 0, 0, 0, 0, 0, 0, 0, 0, 0, 0, 2, 0, 0, 0, 2, 0, 0, 0, 2, 0, 0, 0, 1, 0, 0, 0, 2, 0,
-        0, 0,
-    ],
-    (3, &[(0, 1), (8, 24)]),
-    (2, &[(0, 0), (24, 32)]),
-);
-
-// The struct with 5 in its one field, and none.
-const STRUCTS: Nested<'static> = (
-    Form::Struct,
-    &[
-        1, 0, 0, 0, 0, 0, 0, 0, 1, 0, 0, 0, 0, 0, 0, 0, 5, 0, 0, 0, 0, 0, 0, 0,
-    ],
-    (2, &[(0, 1)]),
-    (2, &[(8, 9), (16, 24)]),
-);
-
-// Columns with children, and what they show.
-static NESTED: [(Nested<'static>, &str); 2] = [
-    (
-        LISTS,
-        "len 3: list 0..2 [ int 1 int 2 ] = 0..2 of 2, null = null, list 2..2 [ ] = 2..2 of 2 \
-         | items: len 2: int 1 = 1, int 2 = 2",
+        "time[us]",
+        "3: -506664896818842895, null, 1735880461161533969",
     ),
     (
-        STRUCTS,
-        "len 2: = struct 0 of 1 fields, null = null | 1 fields \
-         | field 0: len 2: int 5 = 5, null = null",
+        "time[ns]",
+        "3: -506664896818842895, null, 1735880461161533969",
+    ),
+    (
+        "timestamp[s]",
+        "3: -506664896818842895, null, 1735880461161533969",
+    ),
+    (
+        "timestamp[ms]",
+        "3: -506664896818842895, null, 1735880461161533969",
+    ),
+    (
+        "timestamp[us]",
+        "3: -506664896818842895, null, 1735880461161533969",
+    ),
+    (
+        "timestamp[ns]",
+        "3: -506664896818842895, null, 1735880461161533969",
+    ),
+    (
+        "duration[s]",
+        "3: -506664896818842895, null, 1735880461161533969",
+    ),
+    (
+        "duration[ms]",
+        "3: -506664896818842895, null, 1735880461161533969",
+    ),
+    (
+        "duration[us]",
+        "3: -506664896818842895, null, 1735880461161533969",
+    ),
+    (
+        "duration[ns]",
+        "3: -506664896818842895, null, 1735880461161533969",
     ),
 ];
 
 #[test]
-fn lists_and_structs(rt: HostRuntime) {
-    for (row, (column, want)) in NESTED.iter().enumerate() {
-        nested_shows(&rt, row, column, want);
+fn numbers_beside_a_null(rt: HostRuntime) {
+    for (word, want) in &TYPES {
+        let text = format!(in rt.alloc(); "{word}{NUMBERS}").expect(&rt, "memory");
+        shows(&rt, word, &column(&rt, &text, &[]), want);
     }
 }
+
+const TEXTS: &str = "utf8; 3; 5 / i 0 1 1 3 / 'abc'";
+
+const LARGE_TEXTS: &str = "large_utf8; 3; 5 / l 0 1 1 3 / 'abc'";
+
+const STRINGS: &str = "binary; 3; 253 / i 0 1 3 4 / 97 255 255 100";
+
+const HIDDEN: &str = "utf8; 3; 253 / i 0 1 3 4 / 97 255 255 100";
+
+const TRIPLES: &str = "fixed_size_binary[3]; 2; 1 / 0 1 255 0 0 0";
+
+const HIDDEN_TRIPLES: &str = "fixed_size_binary[3]; 3; 253 / 0 1 255 7 7 7 9 9 9 8 8";
+
+const LATER: &str = "large_binary; 3; / l 1 4 4 7 / 5 0 1 255 9 9 9 6";
+
+const LISTS: &str = "list int32; 3 2; 5 / i 0 2 2 2 / / i 1 2";
+
+const TWO_LISTS: &str = "list int32; 2 2; 253 / i 0 1 2 / / i 1 1";
+
+const LARGE_LISTS: &str = "large_list int32; 3 5; 253 / l 1 2 4 4 / / i 0 1 2 3 4";
+
+const SMALL_LISTS: &str = "list int32; 3 1; 253 / i 0 1 1 1 / / i 1";
+
+const STRUCTS: &str = "struct[1] int32; 2 2; 1 / 1 / i 5 0";
+
+const TWO_STRUCTS: &str = "struct[1] int32; 2 2; 253 / / i 1 1";
 
 // Two columns, and a word for each slot of the first: which slots of the second are equal to it.
-static SAME: [(Leaf<'static>, Leaf<'static>, &str); 2] = [
+// Values are the same whatever the width of the offsets, or whether they have any; what a null hides
+// makes no difference, and a null is equal to another one alone.
+static SAME: [(&str, &str, &str); 11] = [
     (TEXTS, TEXTS, "=-- -=- --="),
-    (NULLS, TRUTH_VALUES, "--=- --=- --=- --=-"),
-];
-
-static NESTED_SAME: [(Nested<'static>, Nested<'static>, &str); 2] = [
+    ("null; 4", "bool; 4; 251 / 249", "--=- --=- --=- --=-"),
     (LISTS, LISTS, "=-- -=- --="),
     (STRUCTS, STRUCTS, "=- -="),
+    (STRINGS, HIDDEN, "--- -=- ---"),
+    (TWO_STRUCTS, TWO_LISTS, "-- -="),
+    (TWO_STRUCTS, TWO_STRUCTS, "=- -="),
+    (LARGE_TEXTS, TEXTS, "=-- -=- --="),
+    (TRIPLES, HIDDEN_TRIPLES, "=-- -=-"),
+    (LATER, HIDDEN_TRIPLES, "=-- --- --="),
+    (LARGE_LISTS, SMALL_LISTS, "=-- -=- --="),
 ];
 
 #[test]
 fn equal_slots(rt: HostRuntime) {
-    all_are_same(&rt, &SAME);
-    all_are_nested_same(&rt, &NESTED_SAME);
+    for (column, other, want) in &SAME {
+        is_same_told(&rt, column, &plain(&rt, column), &plain(&rt, other), want);
+    }
 }

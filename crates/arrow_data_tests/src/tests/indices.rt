@@ -1,120 +1,60 @@
 // Indices of each width and sign, by themselves.
 
-use super::forms::{Form, leaf};
-use super::making::{NO_COLUMN, column, dictionary, index_width, one, range};
-use arrow_data::form::{Form as NodeForm, node_form};
+ghost use Rattle.std.specs.Prelude.{◌≡◌};
+ghost use Rattle.arrow_bits.specs.Numbers.{IsWidth};
+ghost use Rattle.arrow_data.specs.Slots.{index_width};
+
+use super::fields::fields_of;
+use super::making::{column, dictionary, listed};
+use super::told::shows;
+use arrow_data::form::{Form, node_form};
 use arrow_data::layout::{are_indices, has_fixed};
-use arrow_data::{Array, ByteRange, Dictionary};
-use arrow_types::{BitWidth, DataType, Encoding, Field, IndexType};
-use bytes::Bytes;
+use arrow_types::BitWidth::{self, Eight, Sixteen, SixtyFour, ThirtyTwo};
+use arrow_types::{Field, IndexType};
 use std::process::Abort;
 
-// The width of an index, whether it is signed, its bytes, how many values there are, and whether it
+// The width of an index, whether it is signed, the index, how many values there are, and whether it
 // leads to one.
-static INDICES: [(BitWidth, bool, &[u8], usize, bool); 30] = [
-    (BitWidth::Eight, false, &[0], 1, true),
-    (BitWidth::Eight, false, &[0], 0, false),
-    (BitWidth::Eight, false, &[199], 200, true),
-    (BitWidth::Eight, false, &[200], 200, false),
-    (BitWidth::Eight, false, &[255], 256, true),
-    (BitWidth::Eight, true, &[199], 200, false),
-    (BitWidth::Eight, true, &[127], 200, true),
-    (BitWidth::Eight, true, &[127], 127, false),
-    (BitWidth::Eight, true, &[255], 256, false),
-    (BitWidth::Sixteen, false, &[255, 255], 65536, true),
-    (BitWidth::Sixteen, false, &[255, 255], 65535, false),
-    (BitWidth::Sixteen, false, &[0, 1], 256, false),
-    (BitWidth::Sixteen, true, &[0, 128], 65536, false),
-    (BitWidth::Sixteen, true, &[255, 127], 32768, true),
-    (BitWidth::Sixteen, true, &[255, 127], 32767, false),
-    (
-        BitWidth::ThirtyTwo,
-        false,
-        &[0, 0, 0, 128],
-        2147483649,
-        true,
-    ),
-    (
-        BitWidth::ThirtyTwo,
-        false,
-        &[0, 0, 0, 128],
-        2147483648,
-        false,
-    ),
-    (
-        BitWidth::ThirtyTwo,
-        false,
-        &[255, 255, 255, 255],
-        4294967296,
-        true,
-    ),
-    (
-        BitWidth::ThirtyTwo,
-        true,
-        &[0, 0, 0, 128],
-        2147483649,
-        false,
-    ),
-    (
-        BitWidth::ThirtyTwo,
-        true,
-        &[255, 255, 255, 127],
-        2147483648,
-        true,
-    ),
-    (
-        BitWidth::ThirtyTwo,
-        true,
-        &[255, 255, 255, 127],
-        2147483647,
-        false,
-    ),
-    (BitWidth::ThirtyTwo, true, &[0, 0, 1, 0], 65536, false),
-    (
-        BitWidth::SixtyFour,
-        false,
-        &[0, 0, 0, 0, 1, 0, 0, 0],
-        4294967297,
-        true,
-    ),
-    (
-        BitWidth::SixtyFour,
-        false,
-        &[0, 0, 0, 0, 1, 0, 0, 0],
-        4294967296,
-        false,
-    ),
-    (
-        BitWidth::SixtyFour,
-        false,
-        &[0, 0, 0, 0, 0, 0, 0, 128],
-        usize::MAX,
-        true,
-    ),
-    (BitWidth::SixtyFour, false, &[255; 8], usize::MAX, false),
-    (
-        BitWidth::SixtyFour,
-        true,
-        &[0, 0, 0, 0, 1, 0, 0, 0],
-        4294967297,
-        true,
-    ),
-    (
-        BitWidth::SixtyFour,
-        true,
-        &[0, 0, 0, 0, 1, 0, 0, 0],
-        4294967296,
-        false,
-    ),
-    (
-        BitWidth::SixtyFour,
-        true,
-        &[0, 0, 0, 0, 0, 0, 0, 128],
-        usize::MAX,
-        false,
-    ),
-    (BitWidth::SixtyFour, true, &[255; 8], usize::MAX, false),
+static INDICES: [(BitWidth, bool, i128, usize, bool); 30] = [
+    (Eight, false, 0, 1, true),
+    (Eight, false, 0, 0, false),
+    (Eight, false, 199, 200, true),
+    (Eight, false, 200, 200, false),
+    (Eight, false, 255, 256, true),
+    (Eight, true, -57, 200, false),
+    (Eight, true, 127, 200, true),
+    (Eight, true, 127, 127, false),
+    (Eight, true, -1, 256, false),
+    (Sixteen, false, 65_535, 65_536, true),
+    (Sixteen, false, 65_535, 65_535, false),
+    (Sixteen, false, 256, 256, false),
+    (Sixteen, true, -32_768, 65_536, false),
+    (Sixteen, true, 32_767, 32_768, true),
+    (Sixteen, true, 32_767, 32_767, false),
+    (ThirtyTwo, false, 0x8000_0000, 0x8000_0001, true),
+    (ThirtyTwo, false, 0x8000_0000, 0x8000_0000, false),
+    (ThirtyTwo, false, 0xffff_ffff, 0x1_0000_0000, true),
+    (ThirtyTwo, true, -0x8000_0000, 0x8000_0001, false),
+    (ThirtyTwo, true, 0x7fff_ffff, 0x8000_0000, true),
+    (ThirtyTwo, true, 0x7fff_ffff, 0x7fff_ffff, false),
+    (ThirtyTwo, true, 65_536, 65_536, false),
+    (SixtyFour, false, 0x1_0000_0000, 0x1_0000_0001, true),
+    (SixtyFour, false, 0x1_0000_0000, 0x1_0000_0000, false),
+    (SixtyFour, false, 0x8000_0000_0000_0000, usize::MAX, true),
+    (SixtyFour, false, 0xffff_ffff_ffff_ffff, usize::MAX, false),
+    (SixtyFour, true, 0x1_0000_0000, 0x1_0000_0001, true),
+    (SixtyFour, true, 0x1_0000_0000, 0x1_0000_0000, false),
+    (SixtyFour, true, -0x8000_0000_0000_0000, usize::MAX, false),
+    (SixtyFour, true, -1, usize::MAX, false),
 ];
+
+// How many bytes an index takes.
+fn index_width(index: IndexType) -> usize
+    ensures same { result ≡ index_width index }
+    ensures whole { IsWidth result }
+{
+    (index.bits.bits() / 8) as usize
+}
 
 // That all of so many indices lead to a value, or that one does not.
 fn all_lead(
@@ -130,15 +70,12 @@ fn all_lead(
     assert_eq!(rt; lead, want, "{index:?} {bytes:?} of {count}");
 }
 
-// Whether the one index leads to a value, without a bitmap and with one; under a null it always
-// does.
-fn leads(rt: &impl Abort, index: IndexType, bytes: &[u8], count: usize, want: bool) {
-    for (validity, want) in [(&[] as &[u8], want), (&[1], want), (&[0], true)] {
-        all_lead(rt, index, (1, validity, bytes), count, want);
-    }
-}
+// Bits of 130 slots that are valid but for the last.
+static LAST_NULL: [u8; 17] = [
+    255, 255, 255, 255, 255, 255, 255, 255, 255, 255, 255, 255, 255, 255, 255, 255, 1,
+];
 
-// The index behind 129 that are 0.
+// The index behind 129 that are 0, at whose places they lead to the first value, where there is one.
 fn behind_zeros(rt: &(impl Abort + AllocGlobal), bytes: &[u8]) -> Vec<u8> {
     let mut all = Vec::new(rt.alloc());
     all.resize(bytes.len().wrapping_mul(129), 0)
@@ -147,19 +84,18 @@ fn behind_zeros(rt: &(impl Abort + AllocGlobal), bytes: &[u8]) -> Vec<u8> {
     all
 }
 
-// Bits of 130 slots that are valid but for the last.
-static LAST_NULL: [u8; 17] = [
-    255, 255, 255, 255, 255, 255, 255, 255, 255, 255, 255, 255, 255, 255, 255, 255, 1,
-];
-
-// The same of the last of 130 indices: those before lead to the first value, where there is one.
-fn last_leads(
+// Whether the one index leads to a value, alone and as the last of 130, without a bitmap and with
+// one; under a null it always does.
+fn leads(
     rt: &(impl Abort + AllocGlobal),
     index: IndexType,
     bytes: &[u8],
     count: usize,
     want: bool,
 ) {
+    for (validity, want) in [(&[] as &[u8], want), (&[1], want), (&[0], true)] {
+        all_lead(rt, index, (1, validity, bytes), count, want);
+    }
     let all = behind_zeros(rt, bytes);
     for (validity, want) in [
         (&[] as &[u8], want),
@@ -172,75 +108,57 @@ fn last_leads(
 
 #[test]
 fn an_index_by_its_width_and_sign(rt: HostRuntime) {
-    for &(bits, signed, bytes, count, want) in &INDICES {
-        leads(&rt, IndexType { bits, signed }, bytes, count, want);
-        last_leads(&rt, IndexType { bits, signed }, bytes, count, want);
+    for &(bits, signed, number, count, want) in &INDICES {
+        let index = IndexType { bits, signed };
+        let bytes = number.to_le_bytes();
+        let width = index_width(index);
+        leads(&rt, index, &bytes[..width], count, want);
     }
 }
 
-// A field of indices of 8 bits to nulls.
-fn indices_to_nulls(rt: &(impl Abort + AllocGlobal), signed: bool) -> Field {
-    Field::new(rt.alloc(), String::new(rt.alloc()), DataType::Null, true).with_dictionary(
-        Encoding {
-            id: 0,
-            index: IndexType {
-                bits: BitWidth::Eight,
-                signed,
-            },
-            ordered: false,
-        },
-    )
-}
-
-fn nulls(rt: &(impl Abort + AllocGlobal)) -> Dictionary {
-    let nulls = leaf(rt, &(Form::Null, &[], (300, &[]))).expect(rt, NO_COLUMN);
-    dictionary(rt, one(rt, nulls))
-}
-
-fn first_number(rt: &impl Abort, column: &Array) -> Option<i128> {
-    assert!(rt; 0 < column.len());
-    column.int_at(0)
-}
-
-// The number that an index of 8 bits to one of 300 nulls is shown as.
-fn shown(rt: &(impl Abort + AllocGlobal), signed: bool, byte: u8) -> Option<i128> {
-    let field = indices_to_nulls(rt, signed);
-    let body = Bytes::copy_from_slice(rt.alloc(), &[byte]).expect(rt, "memory");
-    let buffers = [ByteRange::EMPTY, range(0, 1)];
-    let (children, values) = (Vec::new(rt.alloc()), Some(nulls(rt)));
-    let column = column(rt, &field, 1, &body, &buffers, children, values);
-    first_number(rt, &column.expect(rt, NO_COLUMN))
-}
+// An index of 8 bits to one of 300 nulls, with a sign or without one, and what it shows.
+static SIGNS: [(&str, &str); 4] = [
+    ("by:0:uint8 null; 1; / 200", "1: 200=null | 300 values of 0"),
+    ("by:0:uint8 null; 1; / 100", "1: 100=null | 300 values of 0"),
+    ("by:0:int8 null; 1; / 100", "1: 100=null | 300 values of 0"),
+    ("by:0:int8 null; 1; / 200", "no column"),
+];
 
 #[test]
 fn an_index_is_shown_with_its_sign(rt: HostRuntime) {
-    for (signed, byte) in [(false, 200), (false, 100), (true, 100)] {
-        assert_eq!(rt; shown(&rt, signed, byte), Some(i128::from(byte)));
+    for (text, want) in &SIGNS {
+        let listed = listed(&rt, dictionary(&rt, &["null; 300"]));
+        shows(&rt, text, &column(&rt, text, &listed), want);
     }
 }
 
-// That a node of indices of this type has the form of its numbers.
-fn has_their_form(rt: &impl Abort, index: IndexType) {
-    let encoding = Encoding {
-        id: 0,
-        index,
-        ordered: false,
-    };
-    let IndexType { bits, signed } = index;
-    let form = node_form(&DataType::Utf8, Some(encoding));
-    assert_eq!(rt; form, NodeForm::Numbers { bits, signed });
+// Fields of indices, and the form of their nodes: that of the numbers.
+static FORMS: [(&str, BitWidth, bool); 8] = [
+    ("by:0:int8 utf8", Eight, true),
+    ("by:0:uint8 utf8", Eight, false),
+    ("by:0:int16 utf8", Sixteen, true),
+    ("by:0:uint16 utf8", Sixteen, false),
+    ("by:0:int32 utf8", ThirtyTwo, true),
+    ("by:0:uint32 utf8", ThirtyTwo, false),
+    ("by:0:int64 utf8", SixtyFour, true),
+    ("by:0:uint64 utf8", SixtyFour, false),
+];
+
+fn has_form(rt: &impl Abort, name: &str, fields: &[Field], want: Form) {
+    for field in fields {
+        let form = node_form(&field.data_type, field.dictionary);
+        assert_eq!(rt; form, want, "{name}");
+    }
 }
 
 #[test]
 fn a_node_of_indices_has_their_form(rt: HostRuntime) {
-    for bits in [
-        BitWidth::Eight,
-        BitWidth::Sixteen,
-        BitWidth::ThirtyTwo,
-        BitWidth::SixtyFour,
-    ] {
-        for signed in [false, true] {
-            has_their_form(&rt, IndexType { bits, signed });
-        }
+    for &(words, bits, signed) in &FORMS {
+        has_form(
+            &rt,
+            words,
+            &fields_of(&rt, words),
+            Form::Numbers { bits, signed },
+        );
     }
 }
