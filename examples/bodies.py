@@ -68,7 +68,7 @@ def large_lists(values, of):
 
 
 def pair(slot):
-    return (None if slot % 5 == 4 else number(8, True, slot), string(slot))
+    return ([-128, 127, None, slot][slot % 4], string(slot))
 
 
 def pairs(values):
@@ -79,7 +79,7 @@ def pairs(values):
 
 
 def pairs_in_list(slot):
-    return [[], [pair(slot)], [None, pair(slot + 1)]][slot % 3]
+    return [[], [(127, b"a")], [None, (slot, b"a")], [(None, b""), (1, b"bc")]][slot % 4]
 
 
 # What stands in a slot of each kind, and the column of such values.
@@ -120,9 +120,8 @@ def sum_of(kind, length):
 
 def module():
     """The module that the tests hold: a row for each kind, with a sum for each length."""
-    lines = "//! Sums over how columns are laid out: for each kind one for each length.\n\n"
-    lines += f"pub(super) static SUMS: [[u32; {len(LENGTHS)}]; {len(KINDS)}] = [\n"
+    lines = "// Sums over how columns are laid out: for each kind one for each length.\n\n"
+    lines += f"pub(super) static SUMS: [&str; {len(KINDS)}] = [\n"
     for kind in KINDS:
-        sums = [f"0x{sum_of(kind, length):08x}" for length in LENGTHS]
-        lines += "    [\n        " + ", ".join(sums[:7]) + ",\n        " + sums[7] + ",\n    ],\n"
+        lines += '    "' + " ".join(f"{sum_of(kind, length):08x}" for length in LENGTHS) + '",\n'
     return lines + "];\n"

@@ -1,8 +1,9 @@
 //! Columns that are built value by value, against answers that are written out.
 
 mod arrays;
+mod building;
+mod fields;
 mod greatest;
-mod kinds;
 mod lengths;
 mod limits;
 mod noted;

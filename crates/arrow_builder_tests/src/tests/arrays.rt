@@ -1,212 +1,98 @@
 // Arrays of the same values with other dictionaries.
 
-use super::kinds::{Kind, builder};
+use super::building::{array, builder, dictionary, fault_of, listed, push_all, pushed};
 use super::told::{is_number, is_text, told};
-use super::values::Step::{self, Int, List, Null, Struct, Text};
 use super::values::value;
 use arrow_builder::{ArrayBuilder, ArrayFault, PushFault};
 use arrow_data::{Array, Dictionary};
-use arrow_types::BitWidth::Eight;
 use std::process::Abort;
 
 const MEMORY: &str = "memory";
 
-// A listed dictionary: its id, the kind of its values, and these.
-type Listed = (i64, Kind, &'static [&'static [Step]]);
+const ABC: &str = "7 utf8 = 'a' 'b' 'c'";
 
-// The dictionaries that are listed, the number of the fault or 0, and what the array shows.
-type Finish = (&'static [Listed], u8, &'static str);
+const AB: &str = "7 utf8 = 'a' 'b'";
 
-static FINISHES: [(Kind, &[&[Step]], &[Finish]); 7] = [
+const A: &str = "7 utf8 = 'a'";
+
+// The dictionaries that are listed, and what the array shows, or the number of the fault.
+type Finish = (&'static str, &'static str);
+
+// The type of a column and its values; how it is finished, again and again.
+static FINISHES: [(&str, &str, &[Finish]); 7] = [
     (
-        Kind::Indices,
-        &[&[Int(0)], &[Null], &[Int(2)]],
+        "by:7:uint8 utf8",
+        "0 null 2",
         &[
+            (ABC, "0='a', null, 2='c'"),
+            ("7 utf8 = 'x' 'y' null 'z'", "0='x', null, 2=null"),
+            (AB, "fault 2"),
+            ("", "fault 2"),
+            ("8 utf8 = 'a' 'b' 'c'", "fault 2"),
             (
-                &[(7, Kind::Utf8, &[&[Text("a")], &[Text("b")], &[Text("c")]])],
-                0,
+                "-7 bool =; 4294967303 bool =; 7 utf8 = 'a' 'b' 'c'",
                 "0='a', null, 2='c'",
             ),
+            ("7 int8 = 1 2 3", "fault 1"),
+            ("7 int8 =", "fault 1"),
             (
-                &[(
-                    7,
-                    Kind::Utf8,
-                    &[&[Text("x")], &[Text("y")], &[Null], &[Text("z")]],
-                )],
-                0,
-                "0='x', null, 2=null",
-            ),
-            (&[(7, Kind::Utf8, &[&[Text("a")], &[Text("b")]])], 2, ""),
-            (&[], 2, ""),
-            (
-                &[(8, Kind::Utf8, &[&[Text("a")], &[Text("b")], &[Text("c")]])],
-                2,
-                "",
-            ),
-            (
-                &[
-                    (-7, Kind::Bool, &[]),
-                    (4_294_967_303, Kind::Bool, &[]),
-                    (7, Kind::Utf8, &[&[Text("a")], &[Text("b")], &[Text("c")]]),
-                ],
-                0,
+                "8 int8 =; 7 utf8 = 'a' 'b' 'c'; 7 utf8 = 'x'; 7 int8 =",
                 "0='a', null, 2='c'",
             ),
-            (
-                &[(
-                    7,
-                    Kind::Int(Eight, true),
-                    &[&[Int(1)], &[Int(2)], &[Int(3)]],
-                )],
-                1,
-                "",
-            ),
-            (&[(7, Kind::Int(Eight, true), &[])], 1, ""),
-            (
-                &[
-                    (8, Kind::Int(Eight, true), &[]),
-                    (7, Kind::Utf8, &[&[Text("a")], &[Text("b")], &[Text("c")]]),
-                    (7, Kind::Utf8, &[&[Text("x")]]),
-                    (7, Kind::Int(Eight, true), &[]),
-                ],
-                0,
-                "0='a', null, 2='c'",
-            ),
-            (
-                &[
-                    (7, Kind::Utf8, &[&[Text("x")]]),
-                    (7, Kind::Utf8, &[&[Text("a")], &[Text("b")], &[Text("c")]]),
-                ],
-                2,
-                "",
-            ),
+            ("7 utf8 = 'x'; 7 utf8 = 'a' 'b' 'c'", "fault 2"),
         ],
     ),
     (
-        Kind::Indices,
-        &[&[Null], &[Null]],
+        "by:7:uint8 utf8",
+        "null null",
         &[
-            (&[], 0, "null, null"),
-            (&[(7, Kind::Utf8, &[])], 0, "null, null"),
-            (&[(7, Kind::Binary, &[])], 1, ""),
+            ("", "null, null"),
+            ("7 utf8 =", "null, null"),
+            ("7 binary =", "fault 1"),
         ],
     ),
-    (Kind::Indices, &[&[Int(0)]], &[(&[], 2, "")]),
+    ("by:7:uint8 utf8", "0", &[("", "fault 2")]),
+    ("by:7:int8 utf8", "-1", &[(A, "fault 2")]),
     (
-        Kind::SignedIndices,
-        &[&[Int(-1)]],
-        &[(&[(7, Kind::Utf8, &[&[Text("a")]])], 2, "")],
-    ),
-    (
-        Kind::ListOfIndices,
-        &[&[Int(1), Int(0), List(2)], &[Null], &[Int(1), List(1)]],
+        "list by:7:uint8 utf8",
+        "[ 1 0 ] null [ 1 ]",
         &[
-            (
-                &[(7, Kind::Utf8, &[&[Text("a")], &[Text("b")]])],
-                0,
-                "[1='b';0='a';], null, [1='b';]",
-            ),
-            (&[(7, Kind::Utf8, &[&[Text("a")]])], 2, ""),
-            (
-                &[(7, Kind::LargeUtf8, &[&[Text("a")], &[Text("b")]])],
-                1,
-                "",
-            ),
+            (AB, "[ 1='b' 0='a' ], null, [ 1='b' ]"),
+            (A, "fault 2"),
+            ("7 large_utf8 = 'a' 'b'", "fault 1"),
         ],
     ),
     (
-        Kind::StructOfIndices,
-        &[&[Int(5), Int(1), Struct(2)], &[Null]],
+        "struct[2] int8 by:7:uint8 utf8",
+        "{ 5 1 } null",
         &[
-            (
-                &[(7, Kind::Utf8, &[&[Text("a")], &[Text("b")]])],
-                0,
-                " 5 1='b', null null null",
-            ),
-            (&[(7, Kind::Utf8, &[&[Text("a")]])], 2, ""),
-            (&[(7, Kind::Null, &[])], 1, ""),
+            (AB, "{ 5 1='b' }, null"),
+            (A, "fault 2"),
+            ("7 null =", "fault 1"),
         ],
     ),
     (
-        Kind::ListOfIndices,
-        &[],
-        &[(&[], 0, ""), (&[(7, Kind::Bool, &[])], 1, "")],
+        "list by:7:uint8 utf8",
+        "",
+        &[("", ""), ("7 bool =", "fault 1")],
     ),
 ];
 
-fn pushed(rt: &(impl Abort + AllocGlobal), kind: Kind, values: &[&[Step]]) -> ArrayBuilder {
-    let mut column = builder(rt, kind);
-    for steps in values {
-        push_one(rt, &mut column, steps);
-    }
-    column
-}
-
-// The dictionary of an array that refers to no dictionary.
-fn dictionary(rt: &(impl Abort + AllocGlobal), values: Array) -> Dictionary {
-    assert!(rt; values.encoding().is_none() && !values.data_type().has_encoding_below());
-    Dictionary::from_array(rt.alloc(), values).expect(rt, MEMORY)
-}
-
-fn one_listed(rt: &(impl Abort + AllocGlobal), kind: Kind, values: &[&[Step]]) -> Dictionary {
-    let array = pushed(rt, kind, values).finish(rt.alloc(), &[]);
-    dictionary(rt, array.expect(rt, "an array without dictionaries"))
-}
-
-// So many texts "a".
-fn letters(rt: &(impl Abort + AllocGlobal), count: usize) -> Dictionary {
-    let letter = value(rt, &[Text("a")]);
-    let mut column = builder(rt, Kind::Utf8);
-    for _ in 0..count {
-        column.push(&letter).expect(rt, "a value that fits");
-    }
-    let array = column.finish(rt.alloc(), &[]);
-    dictionary(rt, array.expect(rt, "an array without dictionaries"))
-}
-
-fn all_listed(rt: &(impl Abort + AllocGlobal), all: &[Listed]) -> Vec<(i64, Dictionary)> {
-    let mut dictionaries = Vec::new(rt.alloc());
-    for (id, kind, values) in all {
-        dictionaries
-            .push((*id, one_listed(rt, *kind, values)))
-            .expect(rt, MEMORY);
-    }
-    dictionaries
-}
-
-// That a fault, or none, has this number.
-fn is_fault(rt: &impl Abort, row: usize, number: u8, want: u8) {
-    is_number(rt, row, usize::from(number), usize::from(want));
-}
-
-fn is_told(rt: &(impl Abort + AllocGlobal), row: usize, array: &Array, want: &str) {
-    is_text(rt, row, &told(rt, array), want);
-}
-
-fn is_finished(
-    rt: &(impl Abort + AllocGlobal),
-    row: usize,
-    column: &ArrayBuilder,
-    all: &[Listed],
-    fault: u8,
-    want: &str,
-) {
-    match column.finish(rt.alloc(), &all_listed(rt, all)) {
-        Ok(array) => {
-            is_told(rt, row, &array, want);
-            is_fault(rt, row, 0, fault);
-        }
-        Err(other) => is_fault(rt, row, other.number(), fault),
+// What an array shows, or the number of the fault.
+fn answered(rt: &(impl Abort + AllocGlobal), answer: Result<Array, ArrayFault>) -> String {
+    match answer {
+        Ok(array) => told(rt, &array),
+        Err(fault) => format!(in rt.alloc(); "fault {}", fault.number()).expect(rt, MEMORY),
     }
 }
 
 #[test]
 fn finished_again_and_again(rt: HostRuntime) {
-    for row in 0..FINISHES.len() {
-        let (kind, values, finishes) = &FINISHES[row];
-        let column = pushed(&rt, *kind, values);
-        for (all, fault, want) in *finishes {
-            is_finished(&rt, row, &column, all, *fault, want);
+    for (words, values, finishes) in &FINISHES {
+        let column = pushed(&rt, words, values);
+        for (all, want) in *finishes {
+            let answer = column.finish(rt.alloc(), &listed(&rt, all));
+            is_text(&rt, all, &answered(&rt, answer), want);
         }
     }
 }
@@ -224,61 +110,58 @@ fn are_same(array: &Array, other: &Array) -> bool {
     true
 }
 
-fn array_of(rt: &(impl Abort + AllocGlobal), column: &ArrayBuilder) -> Array {
-    column.finish(rt.alloc(), &[]).expect(rt, "an array")
-}
-
 // That the array which a builder now makes has the same slots as another one, or that it has not.
 fn is_same(rt: &(impl Abort + AllocGlobal), before: &Array, column: &ArrayBuilder, want: bool) {
-    let is_same = are_same(before, &array_of(rt, column));
+    let is_same = are_same(before, &array(rt, column));
     assert_eq!(rt; is_same, want);
-}
-
-// Puts one list more into the column.
-fn push_one(rt: &(impl Abort + AllocGlobal), column: &mut ArrayBuilder, steps: &[Step]) {
-    column
-        .push(&value(rt, steps))
-        .expect(rt, "a value that fits");
 }
 
 #[test]
 fn grown_after_an_array_was_made(rt: HostRuntime) {
-    let first: [&[Step]; 2] = [&[Int(1), Int(2), List(2)], &[Null]];
-    let mut column = pushed(&rt, Kind::List, &first);
-    let before = array_of(&rt, &column);
+    let mut column = pushed(&rt, "list int8", "[ 1 2 ] null");
+    let before = array(&rt, &column);
     is_same(&rt, &before, &column, true);
-    push_one(&rt, &mut column, &[Int(3), List(1)]);
+    push_all(&rt, &mut column, "[ 3 ]");
     is_same(&rt, &before, &column, false);
-    is_told(&rt, 0, &before, "[1;2;], null");
-    is_told(&rt, 1, &array_of(&rt, &column), "[1;2;], null, [3;]");
+    is_text(&rt, "before", &told(&rt, &before), "[ 1 2 ], null");
+    is_text(
+        &rt,
+        "after",
+        &told(&rt, &array(&rt, &column)),
+        "[ 1 2 ], null, [ 3 ]",
+    );
 }
 
 // An index, how many values there are, and the number of the fault or 0.
-static AMONG_MANY: [(Kind, i128, usize, u8); 6] = [
-    (Kind::Indices, 255, 256, 0),
-    (Kind::Indices, 255, 255, 2),
-    (Kind::Indices, 128, 129, 0),
-    (Kind::SignedIndices, 127, 128, 0),
-    (Kind::SignedIndices, -1, 256, 2),
-    (Kind::SignedIndices, -128, 300, 2),
+static AMONG_MANY: [(&str, &str, usize, u8); 6] = [
+    ("by:7:uint8 utf8", "255", 256, 0),
+    ("by:7:uint8 utf8", "255", 255, 2),
+    ("by:7:uint8 utf8", "128", 129, 0),
+    ("by:7:int8 utf8", "127", 128, 0),
+    ("by:7:int8 utf8", "-1", 256, 2),
+    ("by:7:int8 utf8", "-128", 300, 2),
 ];
 
-// The number of the fault of an index into so many letters, or 0.
-fn fault_among(rt: &(impl Abort + AllocGlobal), kind: Kind, index: i128, count: usize) -> u8 {
-    let column = pushed(rt, kind, &[&[Int(index)]]);
-    let mut listed = Vec::new(rt.alloc());
-    listed.push((7, letters(rt, count))).expect(rt, MEMORY);
-    match column.finish(rt.alloc(), &listed) {
-        Ok(_) => 0,
-        Err(other) => other.number(),
+// The dictionary 7 of so many texts.
+fn letters(rt: &(impl Abort + AllocGlobal), count: usize) -> Vec<(i64, Dictionary)> {
+    let letter = value(rt, "'a'", 0);
+    let mut column = builder(rt, "utf8");
+    for _ in 0..count {
+        column.push(&letter).expect(rt, "a value that fits");
     }
+    let mut listed = Vec::new(rt.alloc());
+    listed
+        .push((7, dictionary(rt, array(rt, &column))))
+        .expect(rt, MEMORY);
+    listed
 }
 
 #[test]
 fn indices_of_8_bits_with_and_without_a_sign(rt: HostRuntime) {
-    for (row, (kind, index, count, fault)) in AMONG_MANY.iter().enumerate() {
-        let told = fault_among(&rt, *kind, *index, *count);
-        is_fault(&rt, row, told, *fault);
+    for (words, index, count, want) in &AMONG_MANY {
+        let column = pushed(&rt, words, index);
+        let fault = fault_of(column.finish(rt.alloc(), &letters(&rt, *count)));
+        is_number(&rt, index, usize::from(fault), usize::from(*want));
     }
 }
 
@@ -308,10 +191,10 @@ const ARRAY_FAULTS: [(ArrayFault, &str); 3] = [
 fn faults_are_told(rt: HostRuntime) {
     for &(fault, want) in &PUSH_FAULTS {
         let got = format!(in rt.alloc(); "{} {fault}", fault.number()).expect(&rt, MEMORY);
-        is_text(&rt, usize::from(fault.number()), &got, want);
+        is_text(&rt, "a value's fault", &got, want);
     }
     for &(fault, want) in &ARRAY_FAULTS {
         let got = format!(in rt.alloc(); "{} {fault}", fault.number()).expect(&rt, MEMORY);
-        is_text(&rt, usize::from(fault.number()), &got, want);
+        is_text(&rt, "an array's fault", &got, want);
     }
 }

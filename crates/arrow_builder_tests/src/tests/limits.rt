@@ -1,68 +1,60 @@
 // Values that would make a column too long. A null of a fixed width takes its bytes too, so a list
 // of some hundred nulls passes 2^40 bytes of data, and is refused before it takes any.
 
-use super::kinds::{Kind, builder};
+use super::building::{array, builder, push_all};
 use super::told::{is_number, is_text, told};
-use super::values::Step::{self, Bytes, Int, List, Null, Struct};
-use super::values::value;
-use arrow_builder::PushFault;
+use super::values::{value, values};
+use arrow_builder::ArrayBuilder;
 use arrow_data::Value;
 use std::process::Abort;
 
 const MEMORY: &str = "memory";
 
-// So many nulls, and behind them a value.
-type Items = (usize, &'static [Step]);
+// The type of the column; so many nulls, and the item behind them; the fault that is told, or 0.
+type Limit = (&'static str, (usize, &'static str), u8);
 
-// The kind of the column; the items of a list; the fault that is told, or 0.
-type Limit = (Kind, Items, u8);
+const WIDE: &str = "list fixed_size_binary[1202966770]";
 
-// 914 * 1202966770 is 2^40 + 4, 513 * 2147483647 is 2^40 + 2147483135.
+const PAIRS: &str = "list struct[2] int8 fixed_size_binary[1202966770]";
+
+const SMALL_PAIRS: &str = "list struct[2] int8 fixed_size_binary[3]";
+
+const PAIR: &str = "struct[2] int8 list fixed_size_binary[1202966770]";
+
+// 914 * 1202966770 is 2^40 + 4, 513 * 2147483647 is 2^40 + 2147483135. In a struct the list stands
+// behind a number.
 static LIMITS: [Limit; 12] = [
-    (Kind::WideList(1_202_966_770), (913, &[Null]), 2),
-    (Kind::WideList(1_202_966_770), (913, &[Int(1)]), 1),
-    (Kind::WideList(1_202_966_770), (913, &[Bytes(b"abc")]), 1),
-    (Kind::WideList(2_147_483_647), (512, &[Null]), 2),
-    (Kind::WideList(3), (913, &[Bytes(b"abc")]), 0),
-    (Kind::WideList(0), (913, &[Null]), 0),
-    (Kind::ListOfWideStructs(1_202_966_770), (913, &[Null]), 2),
-    (
-        Kind::ListOfWideStructs(1_202_966_770),
-        (913, &[Int(5), Null, Struct(2)]),
-        2,
-    ),
-    (
-        Kind::ListOfWideStructs(1_202_966_770),
-        (913, &[Int(500), Null, Struct(2)]),
-        1,
-    ),
-    (
-        Kind::ListOfWideStructs(3),
-        (913, &[Int(5), Null, Struct(2)]),
-        0,
-    ),
-    (Kind::StructOfWideLists(1_202_966_770), (913, &[Null]), 2),
-    (Kind::StructOfWideLists(3), (913, &[Null]), 0),
+    (WIDE, (913, "null"), 2),
+    (WIDE, (913, "1"), 1),
+    (WIDE, (913, "x97,98,99"), 1),
+    ("list fixed_size_binary[2147483647]", (512, "null"), 2),
+    ("list fixed_size_binary[3]", (913, "x97,98,99"), 0),
+    ("list fixed_size_binary[0]", (913, "null"), 0),
+    (PAIRS, (913, "null"), 2),
+    (PAIRS, (913, "{ 5 null }"), 2),
+    (PAIRS, (913, "{ 500 null }"), 1),
+    (SMALL_PAIRS, (913, "{ 5 null }"), 0),
+    (PAIR, (913, "null"), 2),
+    ("struct[2] int8 list fixed_size_binary[3]", (913, "null"), 0),
 ];
 
-fn items(rt: &(impl Abort + AllocGlobal), wanted: &Items) -> Value {
-    let (count, last) = wanted;
+// The list of so many nulls and an item.
+fn list(rt: &(impl Abort + AllocGlobal), (count, last): (usize, &str)) -> Value {
     let mut items = Vec::new(rt.alloc());
-    for _ in 0..*count {
+    for _ in 0..count {
         items.push(Value::Null).expect(rt, MEMORY);
     }
-    items.push(value(rt, last)).expect(rt, MEMORY);
+    items.push(value(rt, last, 0)).expect(rt, MEMORY);
     Value::List(items)
 }
 
 // The value of a column of lists, or of structs whose second field is one.
-fn row_of(rt: &(impl Abort + AllocGlobal), kind: Kind, wanted: &Items) -> Value {
-    let list = items(rt, wanted);
-    let Kind::StructOfWideLists(_) = kind else {
+fn row_of(rt: &(impl Abort + AllocGlobal), words: &str, items: (usize, &str)) -> Value {
+    let list = list(rt, items);
+    if words.starts_with("list") {
         return list;
-    };
-    let mut parts = Vec::new(rt.alloc());
-    parts.push(Value::Int(7)).expect(rt, MEMORY);
+    }
+    let mut parts = values(rt, "7", 0);
     parts.push(list).expect(rt, MEMORY);
     Value::Struct(parts)
 }
@@ -70,59 +62,58 @@ fn row_of(rt: &(impl Abort + AllocGlobal), kind: Kind, wanted: &Items) -> Value 
 // That a push is answered with the number of this fault or 0, and that there are so many slots.
 fn is_answered(
     rt: &impl Abort,
-    row: usize,
-    answer: Result<(), PushFault>,
-    fault: u8,
-    (len, taken): (usize, usize),
+    name: &str,
+    column: &mut ArrayBuilder,
+    value: &Value,
+    (fault, len): (u8, usize),
 ) {
-    let told = match answer {
+    let told = match column.push(value) {
         Ok(()) => 0,
         Err(fault) => fault.number(),
     };
-    is_number(rt, row, usize::from(told), usize::from(fault));
-    is_number(rt, row, len, taken);
-}
-
-fn is_limited(rt: &(impl Abort + AllocGlobal), row: usize, limit: &Limit) {
-    let (kind, wanted, fault) = limit;
-    let mut column = builder(rt, *kind);
-    column.push(&Value::Null).expect(rt, "a null");
-    let answer = column.push(&row_of(rt, *kind, wanted));
-    let taken = if *fault == 0 { 2 } else { 1 };
-    is_answered(rt, row, answer, *fault, (column.len(), taken));
+    is_number(rt, name, usize::from(told), usize::from(fault));
+    is_number(rt, name, column.len(), len);
 }
 
 #[test]
 fn columns_that_would_be_too_long(rt: HostRuntime) {
-    for row in 0..LIMITS.len() {
-        is_limited(&rt, row, &LIMITS[row]);
+    for (words, items, fault) in &LIMITS {
+        let mut column = builder(&rt, words);
+        push_all(&rt, &mut column, "null");
+        let want = (*fault, if *fault == 0 { 2 } else { 1 });
+        is_answered(&rt, words, &mut column, &row_of(&rt, words, *items), want);
     }
 }
 
 // What was counted of a refused value counts no more.
 #[test]
 fn refused_values_leave_no_count(rt: HostRuntime) {
-    let kind = Kind::WideList(1_202_966_770);
-    let mut column = builder(&rt, kind);
+    let mut column = builder(&rt, WIDE);
+    let refused = list(&rt, (913, "null"));
     for _ in 0..3 {
-        let answer = column.push(&items(&rt, &(913, &[Null])));
-        is_answered(&rt, 0, answer, 2, (column.len(), 0));
+        is_answered(&rt, "refused", &mut column, &refused, (2, 0));
     }
-    column
-        .push(&value(&rt, &[List(0)]))
-        .expect(&rt, "a list without items");
-    column.push(&Value::Null).expect(&rt, "a null");
-    let array = column.finish(rt.alloc(), &[]).expect(&rt, "an array");
-    is_text(&rt, 0, &told(&rt, &array), "[], null");
+    push_all(&rt, &mut column, "[ ] null");
+    is_text(&rt, "taken", &told(&rt, &array(&rt, &column)), "[ ], null");
 }
 
 // 2^18 * 2^22 is 2^40: all items but the last are counted before the list is refused. What is taken
 // next would be too much behind them.
 #[test]
 fn refused_items_leave_no_count(rt: HostRuntime) {
-    let mut column = builder(&rt, Kind::WideList(1 << 22));
-    let refused = column.push(&items(&rt, &(1 << 18, &[Null])));
-    is_answered(&rt, 0, refused, 2, (column.len(), 0));
-    let taken = column.push(&value(&rt, &[Null, List(1)]));
-    is_answered(&rt, 1, taken, 0, (column.len(), 1));
+    let mut column = builder(&rt, "list fixed_size_binary[4194304]");
+    is_answered(
+        &rt,
+        "refused",
+        &mut column,
+        &list(&rt, (1 << 18, "null")),
+        (2, 0),
+    );
+    is_answered(
+        &rt,
+        "taken",
+        &mut column,
+        &value(&rt, "[ null ]", 0),
+        (0, 1),
+    );
 }

@@ -1,96 +1,27 @@
-//! Sums over how columns are laid out: for each kind one for each length.
+// Sums over how columns are laid out: for each kind one for each length.
 
-pub(super) static SUMS: [[u32; 8]; 23] = [
-    [
-        0x10199eb9, 0x6de59821, 0xa0ad7091, 0xfe7969f9, 0x5c456361, 0x254bff51, 0x8317f8b9,
-        0xe0e3f221,
-    ],
-    [
-        0x8f9668a9, 0x4d80cc21, 0x5218fab5, 0xa4ca5cb5, 0xb7165f03, 0x535bca91, 0x3aaed711,
-        0x2711b387,
-    ],
-    [
-        0x8f9668a9, 0x2251c9e5, 0x0a9d51b9, 0x2545cc3d, 0x7dc7a171, 0x3235add9, 0xfce736ed,
-        0x618687e9,
-    ],
-    [
-        0x8f9668a9, 0xc2c1abe5, 0x47a91bb9, 0x6251963d, 0x3b6abd71, 0xec067ed9, 0xb6b807ed,
-        0xd118bbe9,
-    ],
-    [
-        0x8f9668a9, 0x9cae9387, 0xcc055f15, 0xac733bdf, 0xe3ded781, 0xaf8c61f1, 0xcc9cce2b,
-        0x4f7eedf5,
-    ],
-    [
-        0x8f9668a9, 0x30746987, 0x45797715, 0x25e753df, 0x4de3f581, 0xd6b54ef1, 0xf3c5bb2b,
-        0xe8cfebf5,
-    ],
-    [
-        0x8f9668a9, 0x0cd97ecb, 0xb2653919, 0xd4291857, 0xe21ca08d, 0x78696ec5, 0xd2919a33,
-        0xf6508751,
-    ],
-    [
-        0x8f9668a9, 0x0bd9e4cb, 0xf0887919, 0x124c5857, 0xdb71f68d, 0x12a31bc5, 0x6ccb4733,
-        0x37fd1d51,
-    ],
-    [
-        0x8f9668a9, 0xb97ed553, 0x1926b531, 0xd8536487, 0xf08b57e5, 0x5961137d, 0x0bae3f03,
-        0xd8bf3849,
-    ],
-    [
-        0x8f9668a9, 0xc2a4db53, 0x1fc02531, 0x22ddb487, 0xb4d45de5, 0x159bd07d, 0x68d8ec03,
-        0xf0d33e49,
-    ],
-    [
-        0x8f9668a9, 0x0cd97ecb, 0xb2653919, 0xd4291857, 0xe21ca08d, 0x78696ec5, 0xd2919a33,
-        0xf6508751,
-    ],
-    [
-        0x8f9668a9, 0x0cd97ecb, 0xb2653919, 0xd4291857, 0xe21ca08d, 0x78696ec5, 0xd2919a33,
-        0xf6508751,
-    ],
-    [
-        0x8f9668a9, 0xb97ed553, 0x1926b531, 0xd8536487, 0xf08b57e5, 0x5961137d, 0x0bae3f03,
-        0xd8bf3849,
-    ],
-    [
-        0x8f9668a9, 0xb97ed553, 0x1926b531, 0xd8536487, 0xf08b57e5, 0x5961137d, 0x0bae3f03,
-        0xd8bf3849,
-    ],
-    [
-        0xc0c86071, 0xfc3d0de3, 0x85b7c8e9, 0xb59e590f, 0x5b11db49, 0xcb8bb6ed, 0x2d7abdc1,
-        0xe513d381,
-    ],
-    [
-        0xc0c86071, 0xfc3d0de3, 0x85b7c8e9, 0xb59e590f, 0x5b11db49, 0xcb8bb6ed, 0x2d7abdc1,
-        0xe513d381,
-    ],
-    [
-        0xb6298bd9, 0xead078bb, 0x5fbc4529, 0xe936d257, 0x51adae41, 0x6547326d, 0xe267ca09,
-        0xfde3bd99,
-    ],
-    [
-        0xb6298bd9, 0xead078bb, 0x5fbc4529, 0xe936d257, 0x51adae41, 0x6547326d, 0xe267ca09,
-        0xfde3bd99,
-    ],
-    [
-        0x8f9668a9, 0x9fc306d5, 0xc950428d, 0xaccac895, 0x01e294db, 0x5c5bb07b, 0xd8d9e523,
-        0x5676d2c7,
-    ],
-    [
-        0x66032759, 0xee396153, 0x0bacbfff, 0x5afdf311, 0x0bad6621, 0xd6e23e7d, 0x2390f0d9,
-        0x133359fd,
-    ],
-    [
-        0x8268f041, 0x6753a4e3, 0x1ad7ae7f, 0x549f58d9, 0x3d086c91, 0x2e73169d, 0x2d3726c1,
-        0x891f930d,
-    ],
-    [
-        0xbea58d69, 0x9362c2b9, 0x62c7741d, 0xd896ca4f, 0xc81f752d, 0x27067c27, 0x51551acf,
-        0x50332113,
-    ],
-    [
-        0xd42be8d9, 0x8b2c0b43, 0xabc0a471, 0x4bf67765, 0xdfa98f27, 0xc80e54cf, 0x8b630fa9,
-        0x5a492c0f,
-    ],
+pub(super) static SUMS: [&str; 23] = [
+    "10199eb9 6de59821 a0ad7091 fe7969f9 5c456361 254bff51 8317f8b9 e0e3f221",
+    "8f9668a9 4d80cc21 5218fab5 a4ca5cb5 b7165f03 535bca91 3aaed711 2711b387",
+    "8f9668a9 2251c9e5 0a9d51b9 2545cc3d 7dc7a171 3235add9 fce736ed 618687e9",
+    "8f9668a9 c2c1abe5 47a91bb9 6251963d 3b6abd71 ec067ed9 b6b807ed d118bbe9",
+    "8f9668a9 9cae9387 cc055f15 ac733bdf e3ded781 af8c61f1 cc9cce2b 4f7eedf5",
+    "8f9668a9 30746987 45797715 25e753df 4de3f581 d6b54ef1 f3c5bb2b e8cfebf5",
+    "8f9668a9 0cd97ecb b2653919 d4291857 e21ca08d 78696ec5 d2919a33 f6508751",
+    "8f9668a9 0bd9e4cb f0887919 124c5857 db71f68d 12a31bc5 6ccb4733 37fd1d51",
+    "8f9668a9 b97ed553 1926b531 d8536487 f08b57e5 5961137d 0bae3f03 d8bf3849",
+    "8f9668a9 c2a4db53 1fc02531 22ddb487 b4d45de5 159bd07d 68d8ec03 f0d33e49",
+    "8f9668a9 0cd97ecb b2653919 d4291857 e21ca08d 78696ec5 d2919a33 f6508751",
+    "8f9668a9 0cd97ecb b2653919 d4291857 e21ca08d 78696ec5 d2919a33 f6508751",
+    "8f9668a9 b97ed553 1926b531 d8536487 f08b57e5 5961137d 0bae3f03 d8bf3849",
+    "8f9668a9 b97ed553 1926b531 d8536487 f08b57e5 5961137d 0bae3f03 d8bf3849",
+    "c0c86071 fc3d0de3 85b7c8e9 b59e590f 5b11db49 cb8bb6ed 2d7abdc1 e513d381",
+    "c0c86071 fc3d0de3 85b7c8e9 b59e590f 5b11db49 cb8bb6ed 2d7abdc1 e513d381",
+    "b6298bd9 ead078bb 5fbc4529 e936d257 51adae41 6547326d e267ca09 fde3bd99",
+    "b6298bd9 ead078bb 5fbc4529 e936d257 51adae41 6547326d e267ca09 fde3bd99",
+    "8f9668a9 9fc306d5 c950428d accac895 01e294db 5c5bb07b d8d9e523 5676d2c7",
+    "66032759 ee396153 0bacbfff 5afdf311 0bad6621 d6e23e7d 2390f0d9 133359fd",
+    "8268f041 6753a4e3 1ad7ae7f 549f58d9 3d086c91 2e73169d 2d3726c1 891f930d",
+    "bea58d69 9362c2b9 8523ce49 889561d5 05bc03f3 4743b6e5 02806947 c7a0ed87",
+    "d42be8d9 8b2c0b43 d165bf0d 1e0650fd f203d877 3a2fe089 f4e50f2d d927e961",
 ];

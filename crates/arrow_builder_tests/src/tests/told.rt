@@ -1,99 +1,22 @@
-// What a column shows, as text: slot after slot, of an index the value that it refers to, of a list
-// its items, of a struct the values of its fields.
+// What a column shows, in the words of `values`, with commas between the slots: of an index that and
+// the value to which it refers, as in `2='c', null, 3=null`.
 
-ghost use Rattle.std.specs.Prelude.{◌<◌, length};
-
-use arrow_data::Array;
+use arrow_data::{Array, SlotValue};
 use std::process::Abort;
 
 const MEMORY: &str = "memory";
 
-fn push_leaf(rt: &impl Abort, text: &mut String, column: &Array, j: usize)
-    requires { j < length column.now.raw }
-{
-    if column.is_null(j) {
-        text.push_str("null").expect(rt, MEMORY);
-    }
-    if let Some(truth) = column.bool_at(j) {
-        write!(text, "{truth}").expect(rt, MEMORY);
-    }
-    if let Some(number) = column.int_at(j) {
-        write!(text, "{number}").expect(rt, MEMORY);
-    }
-    if let Some(bytes) = column.bytes_at(j) {
-        write!(text, "{bytes:?}").expect(rt, MEMORY);
-    }
-    if let Some(letters) = column.text_at(j) {
-        write!(text, "'{letters}'").expect(rt, MEMORY);
-    }
-}
-
-// The index and the value that it refers to, or the value itself.
-fn push_resolved(rt: &impl Abort, text: &mut String, column: &Array, j: usize)
-    requires { j < length column.now.raw }
-{
-    push_leaf(rt, text, column, j);
-    if let Some((values, place)) = column.resolved(j) {
-        assert!(rt; place < values.len());
-        text.push_str("=").expect(rt, MEMORY);
-        push_leaf(rt, text, values, place);
-    }
-}
-
-// The values of the fields at the slot, where the column is one of structs.
-fn push_fields(rt: &impl Abort, text: &mut String, column: &Array, j: usize) {
-    for k in 0..2 {
-        let Some(values) = column.field(k) else {
-            return;
-        };
-        assert!(rt; j < values.len());
-        text.push_str(" ").expect(rt, MEMORY);
-        push_resolved(rt, text, values, j);
-        push_numbers(rt, text, values, j);
-    }
-}
-
-// The numbers of the list in the slot of a field.
-fn push_numbers(rt: &impl Abort, text: &mut String, column: &Array, j: usize)
-    requires { j < length column.now.raw }
-{
-    let Some((start, end, items)) = column.list_at(j) else {
-        return;
-    };
-    text.push_str("[").expect(rt, MEMORY);
-    for i in start..end {
-        assert!(rt; i < items.len());
-        push_leaf(rt, text, items, i);
-        text.push_str(";").expect(rt, MEMORY);
-    }
-    text.push_str("]").expect(rt, MEMORY);
-}
-
-// The items of the list in the slot, which are leaves or structs.
-fn push_items(rt: &impl Abort, text: &mut String, column: &Array, j: usize)
-    requires { j < length column.now.raw }
-{
-    let Some((start, end, items)) = column.list_at(j) else {
-        return;
-    };
-    text.push_str("[").expect(rt, MEMORY);
-    for i in start..end {
-        assert!(rt; i < items.len());
-        push_resolved(rt, text, items, i);
-        push_fields(rt, text, items, i);
-        text.push_str(";").expect(rt, MEMORY);
-    }
-    text.push_str("]").expect(rt, MEMORY);
-}
+// More levels than a type of a test has.
+const LEVELS: u32 = 8;
 
 // That these are the same number of a row.
-pub(super) fn is_number(rt: &impl Abort, row: usize, number: usize, want: usize) {
-    assert_eq!(rt; number, want, "row {row}");
+pub(super) fn is_number(rt: &impl Abort, name: &str, number: usize, want: usize) {
+    assert_eq!(rt; number, want, "{name}");
 }
 
 // That the text that a row shows is this.
-pub(super) fn is_text(rt: &impl Abort, row: usize, text: &str, want: &str) {
-    assert_eq!(rt; text, want, "row {row}");
+pub(super) fn is_text(rt: &impl Abort, name: &str, text: &str, want: &str) {
+    assert_eq!(rt; text, want, "{name}");
 }
 
 pub(super) fn told(rt: &(impl Abort + AllocGlobal), column: &Array) -> String {
@@ -102,9 +25,46 @@ pub(super) fn told(rt: &(impl Abort + AllocGlobal), column: &Array) -> String {
         if j > 0 {
             text.push_str(", ").expect(rt, MEMORY);
         }
-        push_resolved(rt, &mut text, column, j);
-        push_fields(rt, &mut text, column, j);
-        push_items(rt, &mut text, column, j);
+        push_slot(rt, &mut text, column, j, LEVELS);
     }
     text
+}
+
+// The value of a slot, and before it the index that refers to it.
+fn push_slot(rt: &impl Abort, text: &mut String, column: &Array, j: usize, levels: u32) {
+    assert!(rt; levels > 0 && j < column.len());
+    if let (Some(index), true) = (column.int_at(j), column.encoding().is_some()) {
+        write!(text, "{index}=").expect(rt, MEMORY);
+    }
+    match column.slot(j) {
+        SlotValue::Null => text.push_str("null").expect(rt, MEMORY),
+        SlotValue::Bool(truth) => write!(text, "{truth}").expect(rt, MEMORY),
+        SlotValue::Int(number) => write!(text, "{number}").expect(rt, MEMORY),
+        SlotValue::Bytes(bytes) => push_bytes(rt, text, bytes),
+        SlotValue::Text(letters) => write!(text, "'{letters}'").expect(rt, MEMORY),
+        SlotValue::List(start, end, items) => {
+            text.push_str("[ ").expect(rt, MEMORY);
+            for k in start..end {
+                push_slot(rt, text, items, k, levels - 1);
+                text.push_str(" ").expect(rt, MEMORY);
+            }
+            text.push_str("]").expect(rt, MEMORY);
+        }
+        SlotValue::Struct(fields, place) => {
+            text.push_str("{ ").expect(rt, MEMORY);
+            for field in fields {
+                push_slot(rt, text, field, place, levels - 1);
+                text.push_str(" ").expect(rt, MEMORY);
+            }
+            text.push_str("}").expect(rt, MEMORY);
+        }
+    }
+}
+
+fn push_bytes(rt: &impl Abort, text: &mut String, bytes: &[u8]) {
+    text.push_str("x").expect(rt, MEMORY);
+    for (place, byte) in bytes.iter().enumerate() {
+        let comma = if place == 0 { "" } else { "," };
+        write!(text, "{comma}{byte}").expect(rt, MEMORY);
+    }
 }

@@ -1,28 +1,43 @@
-// Values out of tables.
+// Values out of text, with a blank between all words: `null true -5 'abc' x0,255 [ 1 2 ] { 1 'a' }` are
+// a null, a truth value, a number, a text, two bytes, a list and a struct.
 
 use arrow_data::Value;
 use std::process::Abort;
 
 const MEMORY: &str = "memory";
 
-// A step of the making of a value: what is put on a pile, and the last one of which is the value.
-#[derive(Clone, Copy)]
-pub(super) enum Step {
-    Null,
-    Bool(bool),
-    Int(i128),
-    Bytes(&'static [u8]),
-    Text(&'static str),
-    // A list of so many values, which are taken off the pile.
-    List(usize),
-    // A struct of them.
-    Struct(usize),
+// The one value of a text, in which `#` is this number.
+pub(super) fn value(rt: &(impl Abort + AllocGlobal), text: &str, number: usize) -> Value {
+    values(rt, text, number).pop().expect(rt, "a value")
 }
 
-// The last values of the pile, in their order.
-fn taken(rt: &(impl Abort + AllocGlobal), pile: &mut Vec<Value>, count: usize) -> Vec<Value> {
+// All values of a text.
+pub(super) fn values(rt: &(impl Abort + AllocGlobal), text: &str, number: usize) -> Vec<Value> {
+    let mut pile = Vec::new(rt.alloc());
+    let mut marks = Vec::new(rt.alloc());
+    for word in text.split_ascii_whitespace() {
+        let value = match word {
+            "[" | "{" => {
+                marks.push(pile.len()).expect(rt, MEMORY);
+                continue;
+            }
+            "]" => Value::List(taken(rt, &mut pile, marks.pop())),
+            "}" => Value::Struct(taken(rt, &mut pile, marks.pop())),
+            _ => leaf(rt, word, number),
+        };
+        pile.push(value).expect(rt, MEMORY);
+    }
+    pile
+}
+
+// The values of the pile behind a mark, in their order.
+fn taken(
+    rt: &(impl Abort + AllocGlobal),
+    pile: &mut Vec<Value>,
+    mark: Option<usize>,
+) -> Vec<Value> {
     let mut values = Vec::new(rt.alloc());
-    for _ in 0..count {
+    for _ in mark.expect(rt, "a bracket")..pile.len() {
         let value = pile.pop().expect(rt, "a value on the pile");
         values.push(value).expect(rt, MEMORY);
     }
@@ -30,25 +45,34 @@ fn taken(rt: &(impl Abort + AllocGlobal), pile: &mut Vec<Value>, count: usize) -
     values
 }
 
-fn one(rt: &(impl Abort + AllocGlobal), pile: &mut Vec<Value>, step: Step) -> Value {
-    match step {
-        Step::Null => Value::Null,
-        Step::Bool(truth) => Value::Bool(truth),
-        Step::Int(number) => Value::Int(number),
-        Step::Bytes(bytes) => {
-            Value::Bytes(Vec::from_slice(rt.alloc(), bytes).expect(rt, MEMORY))
-        }
-        Step::Text(text) => Value::Text(String::from_str(rt.alloc(), text).expect(rt, MEMORY)),
-        Step::List(count) => Value::List(taken(rt, pile, count)),
-        Step::Struct(count) => Value::Struct(taken(rt, pile, count)),
+fn leaf(rt: &(impl Abort + AllocGlobal), word: &str, number: usize) -> Value {
+    match word {
+        "null" => Value::Null,
+        "true" => Value::Bool(true),
+        "false" => Value::Bool(false),
+        "#" => Value::Int(number as i128),
+        _ => string(rt, word, number),
     }
 }
 
-pub(super) fn value(rt: &(impl Abort + AllocGlobal), steps: &[Step]) -> Value {
-    let mut pile = Vec::new(rt.alloc());
-    for step in steps {
-        let value = one(rt, &mut pile, *step);
-        pile.push(value).expect(rt, MEMORY);
+fn string(rt: &(impl Abort + AllocGlobal), word: &str, number: usize) -> Value {
+    if let Some(rest) = word.strip_prefix('\'') {
+        let letters = rest.strip_suffix('\'').expect(rt, "a quote at the end");
+        return Value::Text(String::from_str(rt.alloc(), letters).expect(rt, MEMORY));
     }
-    pile.pop().expect(rt, "a value on the pile")
+    match word.strip_prefix('x') {
+        Some(words) => Value::Bytes(bytes(rt, words, number)),
+        None => Value::Int(word.parse::<i128>().ok().expect(rt, "a number")),
+    }
+}
+
+fn bytes(rt: &(impl Abort + AllocGlobal), words: &str, number: usize) -> Vec<u8> {
+    let mut bytes = Vec::new(rt.alloc());
+    for word in words.split(',') {
+        if !word.is_empty() {
+            let byte = word.parse::<u8>().unwrap_or((number % 256) as u8);
+            bytes.push(byte).expect(rt, MEMORY);
+        }
+    }
+    bytes
 }

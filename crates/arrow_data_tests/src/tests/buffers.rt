@@ -1,6 +1,6 @@
 // The buffers that columns hand out, by their layouts.
 
-use super::making::{column, dictionary, listed, plain};
+use super::making::{column, dictionary, halves, listed, plain};
 use super::told::is_text;
 use arrow_data::form::OffsetWidth;
 use arrow_data::{Array, Buffers, NumberBuffers, StringBuffers};
@@ -8,75 +8,45 @@ use std::process::Abort;
 
 const MEMORY: &str = "memory";
 
-// Behind the last offset stand two bytes that no slot has.
-const TEXTS: &str = "utf8; 3; 5 / i 0 1 1 3 / 'abc??'";
-
 // Columns, and their buffers; of children what they are of themselves.
-static COLUMNS: [(&str, &str); 17] = [
-    ("null; 4", "nulls"),
-    ("bool; 4; 251 / 249", "truths [251] [249]"),
-    (
-        "int32; 2; / i 1 2",
-        "4 signed bytes [] [1, 0, 0, 0, 2, 0, 0, 0]",
-    ),
-    ("uint16; 2; 1 / 2 1 4 3", "2 bytes [1] [2, 1, 4, 3]"),
-    (
-        "timestamp[s]; 1; / l -2",
-        "8 signed bytes [] [254, 255, 255, 255, 255, 255, 255, 255]",
-    ),
-    (
-        TEXTS,
-        "small texts [5] [0, 0, 0, 0, 1, 0, 0, 0, 1, 0, 0, 0, 3, 0, 0, 0] [97, 98, 99, 63, 63]",
-    ),
-    (
-        "large_utf8; 1; / l 0 2 / 'ab'",
-        "large texts [] [0, 0, 0, 0, 0, 0, 0, 0, 2, 0, 0, 0, 0, 0, 0, 0] [97, 98]",
-    ),
-    (
-        "binary; 1; / i 1 2 / 255 254",
-        "small strings [] [1, 0, 0, 0, 2, 0, 0, 0] [255, 254]",
-    ),
-    (
-        "fixed_size_binary[2]; 2; 1 / 1 2 3 4",
-        "strings of 2 [1] [1, 2, 3, 4]",
-    ),
-    ("fixed_size_binary[0]; 2; /", "strings of 0 [] []"),
-    ("int32; 0; /", "4 signed bytes [] []"),
-    ("utf8; 0; / /", "small texts [] [] []"),
-    (
-        "large_binary; 0; / l 0 /",
-        "large strings [] [0, 0, 0, 0, 0, 0, 0, 0] []",
-    ),
-    (
-        "list int32; 3 2; 5 / i 0 2 2 2 / / i 1 2",
-        "small lists [5] [0, 0, 0, 0, 2, 0, 0, 0, 2, 0, 0, 0, 2, 0, 0, 0], \
-         2 of 4 signed bytes [] [1, 0, 0, 0, 2, 0, 0, 0]",
-    ),
-    (
-        "large_list int32; 1 1; / l 0 1 / 1 / i 7",
-        "large lists [] [0, 0, 0, 0, 0, 0, 0, 0, 1, 0, 0, 0, 0, 0, 0, 0], \
-         1 of 4 signed bytes [1] [7, 0, 0, 0]",
-    ),
-    (
-        "list int32; 0 1; / / / i 7",
-        "small lists [] [], 1 of 4 signed bytes [] [7, 0, 0, 0]",
-    ),
-    (
-        "struct[1] int32; 2 2; 1 / 3 / i 5 6",
-        "structs [1], 2 of 4 signed bytes [3] [5, 0, 0, 0, 6, 0, 0, 0]",
-    ),
+static COLUMNS: [&str; 17] = [
+    "null; 4 => nulls",
+    "bool; 4; 251 / 249 => truths [251] [249]",
+    "int32; 2; / i 1 2 => 4 signed bytes [] [1, 0, 0, 0, 2, 0, 0, 0]",
+    "uint16; 2; 1 / 2 1 4 3 => 2 bytes [1] [2, 1, 4, 3]",
+    "timestamp[s]; 1; / l -2 => 8 signed bytes [] [254, 255, 255, 255, 255, 255, 255, 255]",
+    "utf8; 3; 5 / i 0 1 1 3 / 'abc??' => \
+     small texts [5] [0, 0, 0, 0, 1, 0, 0, 0, 1, 0, 0, 0, 3, 0, 0, 0] [97, 98, 99, 63, 63]",
+    "large_utf8; 1; / l 0 2 / 'ab' => \
+     large texts [] [0, 0, 0, 0, 0, 0, 0, 0, 2, 0, 0, 0, 0, 0, 0, 0] [97, 98]",
+    "binary; 1; / i 1 2 / 255 254 => small strings [] [1, 0, 0, 0, 2, 0, 0, 0] [255, 254]",
+    "fixed_size_binary[2]; 2; 1 / 1 2 3 4 => strings of 2 [1] [1, 2, 3, 4]",
+    "fixed_size_binary[0]; 2; / => strings of 0 [] []",
+    "int32; 0; / => 4 signed bytes [] []",
+    "utf8; 0; / / => small texts [] [] []",
+    "large_binary; 0; / l 0 / => large strings [] [0, 0, 0, 0, 0, 0, 0, 0] []",
+    "list int32; 3 2; 5 / i 0 2 2 2 / / i 1 2 => \
+     small lists [5] [0, 0, 0, 0, 2, 0, 0, 0, 2, 0, 0, 0, 2, 0, 0, 0], \
+     2 of 4 signed bytes [] [1, 0, 0, 0, 2, 0, 0, 0]",
+    "large_list int32; 1 1; / l 0 1 / 1 / i 7 => \
+     large lists [] [0, 0, 0, 0, 0, 0, 0, 0, 1, 0, 0, 0, 0, 0, 0, 0], \
+     1 of 4 signed bytes [1] [7, 0, 0, 0]",
+    "list int32; 0 1; / / / i 7 => small lists [] [], 1 of 4 signed bytes [] [7, 0, 0, 0]",
+    "struct[1] int32; 2 2; 1 / 3 / i 5 6 => \
+     structs [1], 2 of 4 signed bytes [3] [5, 0, 0, 0, 6, 0, 0, 0]",
 ];
 
 #[test]
 fn buffers_of_columns(rt: HostRuntime) {
-    for (text, want) in &COLUMNS {
+    for row in &COLUMNS {
+        let (text, want) = halves(&rt, row);
         are_told(&rt, &plain(&rt, text), want);
     }
 }
 
 #[test]
 fn buffers_of_indices(rt: HostRuntime) {
-    let listed = listed(&rt, dictionary(&rt, &[TEXTS]));
+    let listed = listed(&rt, dictionary(&rt, &["utf8; 3; 5 / i 0 1 1 3 / 'abc'"]));
     let column = column(&rt, "by:0:int8 utf8; 3; 3 / 2 0 9", &listed);
     let want = "1 signed bytes [3] [2, 0, 9] into 3 values";
     are_told(&rt, &column.expect(&rt, "a column"), want);

@@ -1,183 +1,110 @@
 // Columns of every type, without dictionaries.
 
-use super::making::{column, plain};
+use super::making::{column, halves, plain};
 use super::same::is_same_told;
 use super::told::shows;
 
 // Columns, and what they show. A validity of 253 has a null in the second slot, and all spare bits are
 // set.
-static COLUMNS: [(&str, &str); 44] = [
-    ("int32; 3; 5 / i 1 0 3", "3: 1, null, 3"),
-    ("utf8; 3; 5 / i 0 1 1 3 / 'abc'", "3: 'a', null, 'bc'"),
-    ("binary; 2; / i 0 1 1 / 255", "2: [255], []"),
-    ("utf8; 2; / i 0 1 1 / 255", "no column"),
-    ("bool; 4; 251 / 249", "4: true, false, null, true"),
-    ("bool; 3; 253 / 251", "3: true, null, false"),
-    ("null; 4", "4: null, null, null, null"),
-    ("null; 0", "0:"),
-    ("bool; 0; /", "0:"),
-    ("int32; 0; /", "0:"),
-    ("binary; 0; / /", "0:"),
-    ("utf8; 0; / /", "0:"),
-    ("large_utf8; 0; / /", "0:"),
-    ("date[day]; 0; /", "0:"),
-    ("utf8; 0; / 0 0 /", "no column"),
-    ("large_binary; 0; / l 0 /", "0:"),
-    ("large_binary; 0; / i 0 /", "no column"),
+static COLUMNS: [&str; 44] = [
+    "int32; 3; 5 / i 1 0 3 => 3: 1, null, 3",
+    "utf8; 3; 5 / i 0 1 1 3 / 'abc' => 3: 'a', null, 'bc'",
+    "binary; 2; / i 0 1 1 / 255 => 2: [255], []",
+    "utf8; 2; / i 0 1 1 / 255 => no column",
+    "bool; 4; 251 / 249 => 4: true, false, null, true",
+    "bool; 3; 253 / 251 => 3: true, null, false",
+    "null; 4 => 4: null, null, null, null",
+    "null; 0 => 0:",
+    "bool; 0; / => 0:",
+    "int32; 0; / => 0:",
+    "binary; 0; / / => 0:",
+    "utf8; 0; / / => 0:",
+    "large_utf8; 0; / / => 0:",
+    "date[day]; 0; / => 0:",
+    "utf8; 0; / 0 0 / => no column",
+    "large_binary; 0; / l 0 / => 0:",
+    "large_binary; 0; / i 0 / => no column",
     // Under the null are two bytes that are no UTF-8.
-    (
-        "binary; 3; 253 / i 0 1 3 4 / 97 255 255 100",
-        "3: [97], null, [100]",
-    ),
-    (
-        "utf8; 3; 253 / i 0 1 3 4 / 97 255 255 100",
-        "3: 'a', null, 'd'",
-    ),
-    ("large_utf8; 3; 5 / l 0 1 1 3 / 'abc'", "3: 'a', null, 'bc'"),
-    ("large_utf8; 2; 2 / l 0 1 2 / 255 97", "2: null, 'a'"),
-    ("large_utf8; 2; / l 0 1 2 / 255 97", "no column"),
+    "binary; 3; 253 / i 0 1 3 4 / 97 255 255 100 => 3: [97], null, [100]",
+    "utf8; 3; 253 / i 0 1 3 4 / 97 255 255 100 => 3: 'a', null, 'd'",
+    "large_utf8; 3; 5 / l 0 1 1 3 / 'abc' => 3: 'a', null, 'bc'",
+    "large_utf8; 2; 2 / l 0 1 2 / 255 97 => 2: null, 'a'",
+    "large_utf8; 2; / l 0 1 2 / 255 97 => no column",
     // From the second byte on.
-    (
-        "large_binary; 3; / l 1 4 4 7 / 5 0 1 255 9 9 9 6",
-        "3: [0, 1, 255], [], [9, 9, 9]",
-    ),
+    "large_binary; 3; / l 1 4 4 7 / 5 0 1 255 9 9 9 6 => 3: [0, 1, 255], [], [9, 9, 9]",
     // In the last of these the lower half of an offset alone would do.
-    ("large_binary; 1; / l 0 2 / 'ab'", "1: [97, 98]"),
-    ("large_binary; 1; / l 1 2 / 'ab'", "1: [98]"),
-    ("large_binary; 1; / l -1 2 / 'ab'", "no column"),
-    ("large_binary; 1; / l 2 1 / 'ab'", "no column"),
-    ("large_binary; 1; / l 0 4294967297 / 'ab'", "no column"),
-    (
-        "large_binary; 1; / l 4294967296 4294967297 / 'ab'",
-        "no column",
-    ),
-    (
-        "fixed_size_binary[3]; 2; 1 / 0 1 255 0 0 0",
-        "2: [0, 1, 255], null",
-    ),
-    (
-        "fixed_size_binary[3]; 3; 253 / 0 1 255 7 7 7 9 9 9 8 8",
-        "3: [0, 1, 255], null, [9, 9, 9]",
-    ),
-    ("fixed_size_binary[3]; 2; / 1 2 3 4 5", "no column"),
-    ("fixed_size_binary[3]; 2; / 1 2", "no column"),
-    ("fixed_size_binary[0]; 2; 2 /", "2: null, []"),
-    ("fixed_size_binary[2147483647]; 0; /", "0:"),
-    ("fixed_size_binary[2147483647]; 1; / l 0 0", "no column"),
-    (
-        "duration[s]; 2; / l -9223372036854775808 9223372036854775807",
-        "2: -9223372036854775808, 9223372036854775807",
-    ),
+    "large_binary; 1; / l 0 2 / 'ab' => 1: [97, 98]",
+    "large_binary; 1; / l 1 2 / 'ab' => 1: [98]",
+    "large_binary; 1; / l -1 2 / 'ab' => no column",
+    "large_binary; 1; / l 2 1 / 'ab' => no column",
+    "large_binary; 1; / l 0 4294967297 / 'ab' => no column",
+    "large_binary; 1; / l 4294967296 4294967297 / 'ab' => no column",
+    "fixed_size_binary[3]; 2; 1 / 0 1 255 0 0 0 => 2: [0, 1, 255], null",
+    "fixed_size_binary[3]; 3; 253 / 0 1 255 7 7 7 9 9 9 8 8 => 3: [0, 1, 255], null, [9, 9, 9]",
+    "fixed_size_binary[3]; 2; / 1 2 3 4 5 => no column",
+    "fixed_size_binary[3]; 2; / 1 2 => no column",
+    "fixed_size_binary[0]; 2; 2 / => 2: null, []",
+    "fixed_size_binary[2147483647]; 0; / => 0:",
+    "fixed_size_binary[2147483647]; 1; / l 0 0 => no column",
+    "duration[s]; 2; / l -9223372036854775808 9223372036854775807 => \
+     2: -9223372036854775808, 9223372036854775807",
     // A byte short of two numbers.
-    (
-        "duration[ns]; 2; / 0 0 0 0 0 0 0 0 0 0 0 0 0 0 0",
-        "no column",
-    ),
-    (
-        "list int32; 3 2; 5 / i 0 2 2 2 / / i 1 2",
-        "3: 0..2 [1 2], null, 2..2 [] | items 2: 1, 2",
-    ),
+    "duration[ns]; 2; / 0 0 0 0 0 0 0 0 0 0 0 0 0 0 0 => no column",
+    "list int32; 3 2; 5 / i 0 2 2 2 / / i 1 2 => 3: 0..2 [1 2], null, 2..2 [] | items 2: 1, 2",
     // The null list hides 2 and 3, and no list has the last items; the null struct hides 2.
-    (
-        "list int32; 3 5; 253 / i 0 1 3 3 / / i 1 2 3 4 5",
-        "3: 0..1 [1], null, 3..3 [] | items 5: 1, 2, 3, 4, 5",
-    ),
-    (
-        "large_list int32; 3 5; 253 / l 1 2 4 4 / / i 0 1 2 3 4",
-        "3: 1..2 [1], null, 4..4 [] | items 5: 0, 1, 2, 3, 4",
-    ),
-    (
-        "large_list int32; 3 3; 253 / l 1 2 4 4 / / i 0 1 2",
-        "no column",
-    ),
-    (
-        "struct[1] int32; 2 2; 1 / 1 / i 5 0",
-        "2: {0}, null | 1 fields | field 0 2: 5, null",
-    ),
-    (
-        "struct[1] int32; 3 5; 253 / / i 1 2 3 4 5",
-        "3: {0}, null, {2} | 1 fields | field 0 5: 1, 2, 3, 4, 5",
-    ),
+    "list int32; 3 5; 253 / i 0 1 3 3 / / i 1 2 3 4 5 => \
+     3: 0..1 [1], null, 3..3 [] | items 5: 1, 2, 3, 4, 5",
+    "large_list int32; 3 5; 253 / l 1 2 4 4 / / i 0 1 2 3 4 => \
+     3: 1..2 [1], null, 4..4 [] | items 5: 0, 1, 2, 3, 4",
+    "large_list int32; 3 3; 253 / l 1 2 4 4 / / i 0 1 2 => no column",
+    "struct[1] int32; 2 2; 1 / 1 / i 5 0 => 2: {0}, null | 1 fields | field 0 2: 5, null",
+    "struct[1] int32; 3 5; 253 / / i 1 2 3 4 5 => \
+     3: {0}, null, {2} | 1 fields | field 0 5: 1, 2, 3, 4, 5",
 ];
 
 #[test]
 fn columns_of_each_type(rt: HostRuntime) {
-    for (text, want) in &COLUMNS {
+    for row in &COLUMNS {
+        let (text, want) = halves(&rt, row);
         shows(&rt, text, &column(&rt, text, &[]), want);
     }
 }
 
 // Behind the validity, all spare bits of which are set, stand the bytes F1 to F8 and 9 to 24.
-const NUMBERS: &str =
-    "; 3; 253 / 241 242 243 244 245 246 247 248 9 10 11 12 13 14 15 16 17 18 19 20 \
-                       21 22 23 24";
+const NUMBERS: &str = "; 3; 253 / 241 242 243 244 245 246 247 248 9 10 11 12 13 14 15 16 17 18 19 \
+                       20 21 22 23 24";
 
 // Types of numbers, and what three slots show, of which the second is null: how wide they are, and
 // whether they have a sign.
-static TYPES: [(&str, &str); 22] = [
-    ("uint8", "3: 241, null, 243"),
-    ("int8", "3: -15, null, -13"),
-    ("uint16", "3: 62193, null, 63221"),
-    ("int16", "3: -3343, null, -2315"),
-    ("uint32", "3: 4109628145, null, 202050057"),
-    ("int32", "3: -185339151, null, 202050057"),
-    (
-        "uint64",
-        "3: 17940079176890708721, null, 1735880461161533969",
-    ),
-    ("int64", "3: -506664896818842895, null, 1735880461161533969"),
-    ("date[day]", "3: -185339151, null, 202050057"),
-    (
-        "date[ms]",
-        "3: -506664896818842895, null, 1735880461161533969",
-    ),
-    ("time[s]", "3: -185339151, null, 202050057"),
-    ("time[ms]", "3: -185339151, null, 202050057"),
-    (
-        "time[us]",
-        "3: -506664896818842895, null, 1735880461161533969",
-    ),
-    (
-        "time[ns]",
-        "3: -506664896818842895, null, 1735880461161533969",
-    ),
-    (
-        "timestamp[s]",
-        "3: -506664896818842895, null, 1735880461161533969",
-    ),
-    (
-        "timestamp[ms]",
-        "3: -506664896818842895, null, 1735880461161533969",
-    ),
-    (
-        "timestamp[us]",
-        "3: -506664896818842895, null, 1735880461161533969",
-    ),
-    (
-        "timestamp[ns]",
-        "3: -506664896818842895, null, 1735880461161533969",
-    ),
-    (
-        "duration[s]",
-        "3: -506664896818842895, null, 1735880461161533969",
-    ),
-    (
-        "duration[ms]",
-        "3: -506664896818842895, null, 1735880461161533969",
-    ),
-    (
-        "duration[us]",
-        "3: -506664896818842895, null, 1735880461161533969",
-    ),
-    (
-        "duration[ns]",
-        "3: -506664896818842895, null, 1735880461161533969",
-    ),
+static TYPES: [&str; 22] = [
+    "uint8 => 3: 241, null, 243",
+    "int8 => 3: -15, null, -13",
+    "uint16 => 3: 62193, null, 63221",
+    "int16 => 3: -3343, null, -2315",
+    "uint32 => 3: 4109628145, null, 202050057",
+    "int32 => 3: -185339151, null, 202050057",
+    "uint64 => 3: 17940079176890708721, null, 1735880461161533969",
+    "int64 => 3: -506664896818842895, null, 1735880461161533969",
+    "date[day] => 3: -185339151, null, 202050057",
+    "date[ms] => 3: -506664896818842895, null, 1735880461161533969",
+    "time[s] => 3: -185339151, null, 202050057",
+    "time[ms] => 3: -185339151, null, 202050057",
+    "time[us] => 3: -506664896818842895, null, 1735880461161533969",
+    "time[ns] => 3: -506664896818842895, null, 1735880461161533969",
+    "timestamp[s] => 3: -506664896818842895, null, 1735880461161533969",
+    "timestamp[ms] => 3: -506664896818842895, null, 1735880461161533969",
+    "timestamp[us] => 3: -506664896818842895, null, 1735880461161533969",
+    "timestamp[ns] => 3: -506664896818842895, null, 1735880461161533969",
+    "duration[s] => 3: -506664896818842895, null, 1735880461161533969",
+    "duration[ms] => 3: -506664896818842895, null, 1735880461161533969",
+    "duration[us] => 3: -506664896818842895, null, 1735880461161533969",
+    "duration[ns] => 3: -506664896818842895, null, 1735880461161533969",
 ];
 
 #[test]
 fn numbers_beside_a_null(rt: HostRuntime) {
-    for (word, want) in &TYPES {
+    for row in &TYPES {
+        let (word, want) = halves(&rt, row);
         let text = format!(in rt.alloc(); "{word}{NUMBERS}").expect(&rt, "memory");
         shows(&rt, word, &column(&rt, &text, &[]), want);
     }

@@ -10,6 +10,11 @@ use std::process::Abort;
 
 const MEMORY: &str = "memory";
 
+// What a row asks, and its answer.
+pub(super) fn halves<'a>(rt: &impl Abort, row: &'a str) -> (&'a str, &'a str) {
+    row.split_once(" => ").expect(rt, "an answer")
+}
+
 // Puts a buffer behind the others: letters in quotes, or numbers, of 4 bytes each behind an `i`, of
 // 8 behind an `l`, of one without a letter.
 fn put(rt: &impl Abort, body: &mut Vec<u8>, words: &str) {

@@ -100,39 +100,34 @@ fn by_type(rt: &(impl Abort + AllocGlobal), column: &Array) -> String {
     let mut text = begun(rt, column.len());
     for j in 0..column.len() {
         push_comma(rt, &mut text, j);
-        push_plain(rt, &mut text, column, j);
+        push_value(rt, &mut text, of_type(column, j));
         if let Some((values, place)) = column.resolved(j) {
             text.push_str("=").expect(rt, MEMORY);
             assert!(rt; place < values.len());
-            push_plain(rt, &mut text, values, place);
+            push_value(rt, &mut text, of_type(values, place));
         }
     }
     text
 }
 
 // What stands in the slot itself.
-fn push_plain(rt: &impl Abort, text: &mut String, column: &Array, j: usize)
+fn of_type(column: &Array, j: usize) -> SlotValue<'_>
     requires { j < length column.now.raw }
 {
     if column.is_null(j) {
-        text.push_str("null").expect(rt, MEMORY);
-    } else if column.fields().is_some() {
-        write!(text, "{{{j}}}").expect(rt, MEMORY);
-    }
-    if let Some(truth) = column.bool_at(j) {
-        write!(text, "{truth}").expect(rt, MEMORY);
-    }
-    if let Some(number) = column.int_at(j) {
-        write!(text, "{number}").expect(rt, MEMORY);
-    }
-    if let Some(bytes) = column.bytes_at(j) {
-        write!(text, "{bytes:?}").expect(rt, MEMORY);
-    }
-    if let Some(letters) = column.text_at(j) {
-        write!(text, "'{letters}'").expect(rt, MEMORY);
-    }
-    if let Some((start, end, items)) = column.list_at(j) {
-        push_items(rt, text, (start, end), items);
+        SlotValue::Null
+    } else if let Some(truth) = column.bool_at(j) {
+        SlotValue::Bool(truth)
+    } else if let Some(number) = column.int_at(j) {
+        SlotValue::Int(number)
+    } else if let Some(bytes) = column.bytes_at(j) {
+        SlotValue::Bytes(bytes)
+    } else if let Some(letters) = column.text_at(j) {
+        SlotValue::Text(letters)
+    } else if let Some((start, end, items)) = column.list_at(j) {
+        SlotValue::List(start, end, items)
+    } else {
+        SlotValue::Struct(column.fields().unwrap_or(&[]), j)
     }
 }
 
