@@ -8,7 +8,6 @@ mod fields;
 mod full;
 mod indices;
 mod making;
-mod same;
 mod told;
 mod utf8;
 mod values;

@@ -165,35 +165,34 @@ fn indices_of_8_bits_with_and_without_a_sign(rt: HostRuntime) {
     }
 }
 
-// The faults with their numbers and their words.
-const PUSH_FAULTS: [(PushFault, &str); 3] = [
-    (
-        PushFault::DoesNotFit,
-        "1 a value that does not fit the field",
-    ),
-    (
-        PushFault::TooLong,
-        "2 more slots or bytes than a column can have",
-    ),
-    (PushFault::Memory, "3 out of memory"),
+// The faults, and their numbers and words.
+const PUSH_FAULTS: [PushFault; 3] = [PushFault::DoesNotFit, PushFault::TooLong, PushFault::Memory];
+
+static PUSH_WORDS: [&str; 3] = [
+    "1 a value that does not fit the field",
+    "2 more slots or bytes than a column can have",
+    "3 out of memory",
 ];
 
-const ARRAY_FAULTS: [(ArrayFault, &str); 3] = [
-    (
-        ArrayFault::DictionaryType,
-        "1 a dictionary of another type than the field's values",
-    ),
-    (ArrayFault::IndexRange, "2 an index without a value"),
-    (ArrayFault::Memory, "3 out of memory"),
+const ARRAY_FAULTS: [ArrayFault; 3] = [
+    ArrayFault::DictionaryType,
+    ArrayFault::IndexRange,
+    ArrayFault::Memory,
+];
+
+static ARRAY_WORDS: [&str; 3] = [
+    "1 a dictionary of another type than the field's values",
+    "2 an index without a value",
+    "3 out of memory",
 ];
 
 #[test]
 fn faults_are_told(rt: HostRuntime) {
-    for &(fault, want) in &PUSH_FAULTS {
+    for (&fault, want) in PUSH_FAULTS.iter().zip(&PUSH_WORDS) {
         let got = format!(in rt.alloc(); "{} {fault}", fault.number()).expect(&rt, MEMORY);
         is_text(&rt, "a value's fault", &got, want);
     }
-    for &(fault, want) in &ARRAY_FAULTS {
+    for (&fault, want) in ARRAY_FAULTS.iter().zip(&ARRAY_WORDS) {
         let got = format!(in rt.alloc(); "{} {fault}", fault.number()).expect(&rt, MEMORY);
         is_text(&rt, "an array's fault", &got, want);
     }

@@ -21,7 +21,7 @@ fn letters(rt: &(impl Abort + AllocGlobal), words: &str, count: usize) -> Value 
 // How often so many letters are pushed, one after the other: the first two make 2^31 - 1.
 const PUSHES: [(usize, usize); 4] = [(31, 1 << 26), (1, (1 << 26) - 1), (1, 1), (1, 0)];
 
-// The types of columns, and what is answered to each: the number of a fault, or 0.
+// That each of so many pushes is answered with the number of this fault, or 0.
 fn are_answered(
     rt: &impl Abort,
     column: &mut ArrayBuilder,

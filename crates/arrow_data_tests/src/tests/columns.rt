@@ -1,8 +1,7 @@
 // Columns of every type, without dictionaries.
 
 use super::making::{column, halves, plain};
-use super::same::is_same_told;
-use super::told::shows;
+use super::told::{has_same, shows};
 
 // Columns, and what they show. A validity of 253 has a null in the second slot, and all spare bits are
 // set.
@@ -156,6 +155,6 @@ static SAME: [(&str, &str, &str); 11] = [
 #[test]
 fn equal_slots(rt: HostRuntime) {
     for (column, other, want) in &SAME {
-        is_same_told(&rt, column, &plain(&rt, column), &plain(&rt, other), want);
+        has_same(&rt, &plain(&rt, column), &plain(&rt, other), want);
     }
 }

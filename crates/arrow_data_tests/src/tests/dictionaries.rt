@@ -1,8 +1,7 @@
 // Dictionaries of one and of several segments, and the columns that refer to them.
 
-use super::making::{append, column, dictionary, listed};
-use super::same::is_same_told;
-use super::told::{has_value, has_values, shows};
+use super::making::{append, column, dictionary, halves, listed};
+use super::told::{has_same, has_value, has_values, shows};
 use arrow_data::{Array, Dictionary};
 use std::process::Abort;
 
@@ -169,76 +168,55 @@ fn a_copy_stays_as_it_was(rt: HostRuntime) {
     let copy = grown.copy(rt.alloc()).expect(&rt, MEMORY);
     are_equal(&rt, "at first", &copy, &grown, true);
     add(&rt, &mut grown, "de");
-    has_values(
-        &rt,
-        &grown,
-        "5: 0/3 'a', 1/3 'b', 2/3 'c', 0/2 'd', 1/2 'e'",
-    );
+    let want = "5: 0/3 'a', 1/3 'b', 2/3 'c', 0/2 'd', 1/2 'e'";
+    has_values(&rt, &grown, want);
     has_values(&rt, &copy, "3: 0/3 'a', 1/3 'b', 2/3 'c'");
     are_equal(&rt, "grown", &copy, &grown, false);
 }
 
-// A column of indices, the letters of its dictionary where it is given one, and what it shows.
-static INDICES: [(&str, Option<&str>, &str); 8] = [
+// The letters of a dictionary, where one is given, and a column of indices with what it shows.
+static INDICES: [(Option<&str>, &str); 8] = [
     (
-        "by:0:int8 utf8; 4; 251 / 4 0 9 2",
         Some("abc|de"),
-        "4: 4='e', 0='a', null, 2='c' | 5 values of 0",
+        "4; 251 / 4 0 9 2 => 4: 4='e', 0='a', null, 2='c' | 5 values of 0",
     ),
-    ("by:0:int8 utf8; 1; / 3", Some("abc"), "no column"),
-    (
-        "by:0:int8 utf8; 1; 254 / 3",
-        Some("abc"),
-        "1: null | 3 values of 0",
-    ),
-    ("by:0:int8 utf8; 1; / 255", Some("abc"), "no column"),
-    (
-        "by:0:int8 utf8; 1; 254 / 255",
-        Some("abc"),
-        "1: null | 3 values of 0",
-    ),
-    (
-        "by:0:int8 utf8; 2; 0 / 7 8",
-        None,
-        "2: null, null | 0 values of 0",
-    ),
-    ("by:0:int8 utf8; 1; / 0", None, "no column"),
-    (
-        "by:0:int8 utf8; 1; / 2",
-        Some("|ab||c"),
-        "1: 2='c' | 3 values of 0",
-    ),
+    (Some("abc"), "1; / 3 => no column"),
+    (Some("abc"), "1; 254 / 3 => 1: null | 3 values of 0"),
+    (Some("abc"), "1; / 255 => no column"),
+    (Some("abc"), "1; 254 / 255 => 1: null | 3 values of 0"),
+    (None, "2; 0 / 7 8 => 2: null, null | 0 values of 0"),
+    (None, "1; / 0 => no column"),
+    (Some("|ab||c"), "1; / 2 => 1: 2='c' | 3 values of 0"),
 ];
 
-// A column of indices into the dictionary of these letters.
+// A column of signed indices of 8 bits into the dictionary of these letters.
 fn by_letters(
     rt: &(impl Abort + AllocGlobal),
-    text: &str,
     segments: Option<&str>,
+    parts: &str,
 ) -> Option<Array> {
+    let text = format!(in rt.alloc(); "by:0:int8 utf8; {parts}").expect(rt, MEMORY);
     match segments {
-        Some(segments) => column(rt, text, &listed(rt, spelled(rt, segments))),
-        None => column(rt, text, &[]),
+        Some(segments) => column(rt, &text, &listed(rt, spelled(rt, segments))),
+        None => column(rt, &text, &[]),
     }
 }
 
 #[test]
 fn indices_of_letters(rt: HostRuntime) {
-    for (text, segments, want) in &INDICES {
-        shows(&rt, text, &by_letters(&rt, text, *segments), want);
+    for (segments, row) in &INDICES {
+        let (parts, want) = halves(&rt, row);
+        shows(&rt, row, &by_letters(&rt, *segments, parts), want);
     }
 }
 
 // Slots by indices are equal where their indices are, whatever the dictionaries say.
 #[test]
 fn equal_indices(rt: HostRuntime) {
-    let column = by_letters(&rt, "by:0:int8 utf8; 4; 251 / 1 0 9 1", Some("ab"));
-    let other = by_letters(&rt, "by:0:int8 utf8; 2; / 0 1", Some("xyz"));
-    let (column, other) = (
-        column.expect(&rt, "a column"),
-        other.expect(&rt, "a column"),
-    );
-    is_same_told(&rt, "indices", &column, &other, "-= =- -- -=");
+    let column = by_letters(&rt, Some("ab"), "4; 251 / 1 0 9 1");
+    let other = by_letters(&rt, Some("xyz"), "2; / 0 1");
+    let other = other.expect(&rt, "a column");
+    has_same(&rt, &column.expect(&rt, "a column"), &other, "-= =- -- -=");
 }
 
 // The lists of 1, of none, and of 2 and 3; then those of 4, and of 5 and 6.

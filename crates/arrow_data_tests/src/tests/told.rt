@@ -193,3 +193,25 @@ fn push_entry(rt: &impl Abort, text: &mut String, dictionary: &Dictionary, i: us
     assert!(rt; place < values.len());
     push_value(rt, text, values.slot(place));
 }
+
+// That slots of two columns are equal where the text says it: a word for each slot of the first, with
+// a sign for each slot of the other.
+pub(super) fn has_same(rt: &(impl Abort + AllocGlobal), column: &Array, other: &Array, want: &str) {
+    let mut text = String::new(rt.alloc());
+    for j in 0..column.len() {
+        text.push_str(if j == 0 { "" } else { " " })
+            .expect(rt, MEMORY);
+        push_same(rt, &mut text, column, j, other);
+    }
+    is_text(rt, "equal slots", &text, want);
+}
+
+fn push_same(rt: &impl Abort, text: &mut String, column: &Array, j: usize, other: &Array)
+    requires { j < length column.now.raw }
+{
+    for k in 0..other.len() {
+        let is_same = column.same_slot(j, other, k);
+        text.push_str(if is_same { "=" } else { "-" })
+            .expect(rt, MEMORY);
+    }
+}
