@@ -25,3 +25,5 @@ pub use Rattle.arrow_body_writer.specs.Source
 pub use Rattle.arrow_body_writer.specs.Runs
 pub use Rattle.arrow_body_writer.specs.Whole
 pub use Rattle.arrow_body_writer.specs.Marks
+pub use Rattle.arrow_body_writer.specs.Spans
+pub use Rattle.arrow_body_writer.specs.Offsets
