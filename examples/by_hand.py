@@ -26,8 +26,7 @@ ARRAYS = {
     "crates/arrow_meta_writer_tests/src/tests/tables.rt": {"LAID_OUT": tables()},
     "crates/arrow_small_tests/src/tests/chunks.rt": {"BYTES": bytes((240 + 37 * at) % 256 for at in range(33))},
     "crates/arrow_small_tests/src/tests/flatbuf.rt": {
-        "LENGTHS 0 1": ONE_VECTOR,
-        "LENGTHS 3 1": ONE_VECTOR[:-1],
+        "TWO": ONE_VECTOR,
         "SHARED": struct.pack("<I4Hi5Ii2H", 12, 6, 8, 4, 0, 8, 4, 3, 12, 8, 0, 32, 0x12a, 0),
         "SCHEMA": metadata_in(NUMBERS),
         "BATCH": metadata_in(THREE),

@@ -9,11 +9,33 @@ def commented(mark, words):
     return "".join(f"{line}\n" for line in textwrap.wrap(words, 100, initial_indent=mark, subsequent_indent=mark))
 
 
-def module(words, held, item="pub(crate) const"):
-    """A module of constants, or of statics, one for each name with what it is and its bytes."""
+def escaped(byte):
+    """How a byte stands in a byte string."""
+    marks = {0: "\\0", 9: "\\t", 10: "\\n", 13: "\\r", 34: '\\"', 92: "\\\\"}
+    return marks.get(byte) or (chr(byte) if 32 < byte < 127 else f"\\x{byte:02x}")
+
+
+def byte_string(held, begun):
+    """The bytes as a byte string, in lines of 100 columns, behind what its first line begins with."""
+    lines, line = [], begun + 'b"'
+    for byte in held:
+        mark = escaped(byte)
+        if len(line) + len(mark) > 98:
+            lines, line = [*lines, line + "\\\n"], "    "
+        line += mark
+    return "".join([*lines, line]) + '";\n'
+
+
+def module(words, held, item="pub(crate) const", in_strings=False):
+    """A module of constants, or of statics, one for each name with what it is and its bytes; where it is asked for, these are
+    byte strings."""
     lines = commented("//! ", words)
     for name, (meaning, held_bytes) in held.items():
-        lines += "\n" + commented("/// ", meaning) + f"{item} {name}: [u8; {len(held_bytes)}] = [\n"
+        lines += "\n" + commented("/// ", meaning)
+        if in_strings:
+            lines += byte_string(held_bytes, f"{item} {name}: &[u8; {len(held_bytes)}] = ")
+            continue
+        lines += f"{item} {name}: [u8; {len(held_bytes)}] = [\n"
         for place in range(0, len(held_bytes), 16):
             lines += "    " + " ".join(f"0x{byte:02x}," for byte in held_bytes[place:place + 16]) + "\n"
         lines += "];\n"

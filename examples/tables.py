@@ -3,21 +3,22 @@
 Each row has the buffers of columns, and what a writer has to make of them. Those buffers are read here, by the columnar
 format alone, and their values laid out. What lies under nulls, before the first value and behind the last is passed over.
 """
+import re
 import struct
 
 import frames
 
-ALIGNMENTS = {"Eight": 8, "SixtyFour": 64}
+
+def bytes_of(words):
+    """The bytes of a buffer: a text, or numbers of one byte or of four each."""
+    if words.startswith("'"):
+        return words[1:-1].encode()
+    held = [int(it) for it in words.lstrip("#").split()]
+    return struct.pack(f"<{len(held)}{'B' if words.startswith('#') else 'i'}", *held)
 
 
-def variant(it):
-    return it.name.rpartition("::")[2]
-
-
-def bytes_of(held):
-    """The bytes of a buffer, which are written out, or as numbers of four bytes."""
-    form = {"Bytes": "B", "Numbers": "i"}[variant(held)]
-    return struct.pack(f"<{len(held.held[0])}{form}", *held.held[0])
+def nodes_of(words):
+    return [tuple(map(int, it.split("/"))) for it in words.split()]
 
 
 def numbers(buffer):
@@ -31,24 +32,26 @@ def parts(whole, ends):
 class Columns:
     """The columns of these types, nodes and buffers, of which each takes its own from the front."""
 
-    def __init__(self, kinds, nodes, buffers):
-        self.kinds, self.nodes, self.buffers = list(kinds), list(nodes), [bytes_of(it) for it in buffers]
+    def __init__(self, kinds, words):
+        nodes, _, buffers = words.partition(" | ")
+        self.kinds, self.nodes = kinds.split(), nodes_of(nodes)
+        self.buffers = [bytes_of(it) for it in buffers.split(", ")]
 
     def column(self):
         """The values of the next column, and what lays such values out."""
-        kind, (length, _) = self.kinds.pop(0), self.nodes.pop(0)
-        if variant(kind) == "Null":
+        (kind, _, count), (length, _) = self.kinds.pop(0).partition("."), self.nodes.pop(0)
+        if kind == "null":
             return [None] * length, lambda values: frames.nulls(len(values))
         validity = self.buffers.pop(0)
-        slots, layout = self.structs(kind.held[0]) if variant(kind) == "Struct" else self.slots(kind)
+        slots, layout = self.structs(int(count)) if kind == "struct" else self.slots(kind)
         return [slots[at] if not validity or validity[at // 8] >> at % 8 & 1 else None for at in range(length)], layout
 
     def slots(self, kind):
         """What stands in the slots, null or not."""
-        buffer, name = self.buffers.pop(0), variant(kind)
-        if name == "Text":
+        buffer = self.buffers.pop(0)
+        if kind == "utf8":
             return parts(self.buffers.pop(0), numbers(buffer)), frames.strings
-        if name == "List":
+        if kind == "list":
             items, of = self.column()
             return parts(items, numbers(buffer)), lambda values: frames.lists(values, of)
         return numbers(buffer), frames.numbers
@@ -62,27 +65,42 @@ class Columns:
 
 
 def is_laid(columns, wanted):
-    """Whether the columns have these nodes, buffers and bytes up to the last that is not 0, and as many bytes in all."""
-    nodes, places, body = frames.laid(columns, ALIGNMENTS[variant(wanted["align"])])
-    return (nodes, places, list(body.rstrip(b"\0")), len(body)) == tuple(wanted[it] for it in ("nodes", "buffers", "bytes", "size"))
+    """Whether the columns have these nodes and these buffers in their places, and as many bytes in all, which are 0 elsewhere."""
+    align, nodes, buffers, size = wanted.split(" | ")
+    held = [(int(place), bytes_of(words)) for words, place in (it.split(" @") for it in buffers.split(", ") if it)]
+    whole = bytearray(int(size))
+    for place, buffer in held:
+        whole[place:place + len(buffer)] = buffer
+    places = [(place, len(buffer)) for place, buffer in held]
+    return frames.laid(columns, int(align)) == (nodes_of(nodes), places, bytes(whole))
 
 
-def is_stored(row, _):
+def read(row):
+    """What stands in front of the arrow, without the name, and what behind it."""
+    of, wanted = re.sub(r"\\\n\s*", "", row).split(" => ")
+    return of.partition(": ")[2], wanted
+
+
+def is_stored(row):
     """Columns that were read and are stored again."""
-    held, columns = Columns(row["of"], *row["parts"]), []
+    of, wanted = read(row)
+    held, columns = Columns(*of.split(" | ", 1)), []
     while held.kinds:
         values, layout = held.column()
         columns.append(layout(values))
-    return is_laid(columns, row["wanted"])
+    return is_laid(columns, wanted)
 
 
-def is_rest(row, held):
+def is_rest(row):
     """The values of a dictionary from one on, which came in segments."""
-    values, segments = [], row["segments"]
-    for nodes, buffers in held[segments.name] if isinstance(segments, tuple) else segments:
-        more, layout = Columns(row["of"], nodes, buffers).column()
+    of, wanted = read(row)
+    of, start = of.rsplit(" from ", 1)
+    kinds, segments = of.split(" | ", 1)
+    values = []
+    for segment in segments.split(" + "):
+        more, layout = Columns(kinds, segment).column()
         values += more
-    return is_laid([layout(values[row["from"]:])], row["wanted"])
+    return is_laid([layout(values[int(start):])], wanted)
 
 
 # The tables by their file and their name, and what each row has to be.

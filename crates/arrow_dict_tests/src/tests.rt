@@ -1,7 +1,7 @@
-//! Stores and value fields against answers that are written out.
+//! Stores, trackers and value fields against answers that are written out.
 
 mod making;
-mod steps;
+mod played;
 mod stores;
 mod trackers;
 mod value_types;

@@ -1,79 +1,93 @@
-// Bodies whose buffers are written one after the other, and the columns that they are.
+// Bodies whose buffers are written one after the other, and the columns that they are, as their texts
+// say: `3/1 4/0 | #5, 1 9 3, 'abc'` are two nodes of a length and a number of nulls each, and buffers
+// of bytes, of numbers of four bytes each, and of a text.
 
-use super::fields::{Kind, fields_of};
+use super::fields::fields_of;
 use arrow_body_reader::{BodyFault, are_fit, load};
 use arrow_data::{Array, Dictionary};
 use arrow_types::{Buffer, FieldNode};
 use bytes::Bytes;
 use std::process::Abort;
 
-// Nodes as pairs of a length and a number of nulls, buffers as pairs of an offset and a length.
-pub(super) type Pairs<'a> = &'a [(i64, i64)];
-
-// A buffer of these bytes, or of these numbers of four bytes each.
-#[derive(Clone, Copy)]
-pub(super) enum Held<'a> {
-    Bytes(&'a [u8]),
-    Numbers(&'a [u8]),
-}
-
-// The nodes of columns and their buffers.
-pub(super) type Parts<'a> = (Pairs<'a>, &'a [Held<'a>]);
-
-impl Held<'_> {
-    fn put(self, rt: &impl Abort, body: &mut Vec<u8>) {
-        match self {
-            Held::Bytes(bytes) => body.extend_from_slice(bytes).expect(rt, "memory"),
-            Held::Numbers(numbers) => put_numbers(rt, body, numbers),
-        }
+// Appends the bytes of a buffer.
+pub(super) fn put(rt: &impl Abort, body: &mut Vec<u8>, words: &str) {
+    if let Some(text) = words.strip_prefix('\'') {
+        let text = text.strip_suffix('\'').expect(rt, "an end of the text");
+        body.extend_from_slice(text.as_bytes()).expect(rt, "memory");
+        return;
     }
-}
-
-fn put_numbers(rt: &impl Abort, body: &mut Vec<u8>, numbers: &[u8]) {
-    for number in numbers {
-        body.extend_from_slice(&[*number, 0, 0, 0])
+    let (numbers, width) = match words.strip_prefix('#') {
+        Some(bytes) => (bytes, 1),
+        None => (words, 4),
+    };
+    for number in numbers.split_whitespace() {
+        let number = number.parse::<i32>().ok().expect(rt, "a number");
+        body.extend_from_slice(&number.to_le_bytes()[..width])
             .expect(rt, "memory");
     }
 }
 
-pub(super) fn nodes_of_pairs(rt: &(impl Abort + AllocGlobal), pairs: Pairs<'_>) -> Vec<FieldNode> {
+pub(super) fn nodes_in(rt: &(impl Abort + AllocGlobal), words: &str) -> Vec<FieldNode> {
     let mut nodes = Vec::new(rt.alloc());
-    for &(length, null_count) in pairs {
-        let node = FieldNode { length, null_count };
+    for word in words.split_whitespace() {
+        let (length, null_count) = word.split_once('/').expect(rt, "a number of nulls");
+        let node = FieldNode {
+            length: length.parse::<i64>().ok().expect(rt, "a length"),
+            null_count: null_count
+                .parse::<i64>()
+                .ok()
+                .expect(rt, "a number of nulls"),
+        };
         nodes.push(node).expect(rt, "memory");
     }
     nodes
 }
 
 // Where the buffers stand in the body, and the body.
-pub(super) fn laid(rt: &(impl Abort + AllocGlobal), held: &[Held<'_>]) -> (Vec<Buffer>, Bytes) {
+pub(super) fn laid(rt: &(impl Abort + AllocGlobal), words: &str) -> (Vec<Buffer>, Bytes) {
     let mut buffers = Vec::new(rt.alloc());
     let mut body = Vec::new(rt.alloc());
-    for part in held {
+    for part in words.split(", ") {
         let start = body.len();
-        part.put(rt, &mut body);
-        let length = body.len().saturating_sub(start);
-        let offset = i64::try_from(start).expect(rt, "few bytes");
-        let length = i64::try_from(length).expect(rt, "few bytes");
-        let buffer = Buffer { offset, length };
+        put(rt, &mut body, part);
+        let buffer = Buffer {
+            offset: start as i64,
+            length: body.len().saturating_sub(start) as i64,
+        };
         buffers.push(buffer).expect(rt, "memory");
     }
     let body = Bytes::copy_from_slice(rt.alloc(), &body).expect(rt, "memory");
     (buffers, body)
 }
 
+// The nodes and the buffers of a text, and the body; without buffers it has nodes alone.
+pub(super) fn parts_of(
+    rt: &(impl Abort + AllocGlobal),
+    words: &str,
+) -> (Vec<FieldNode>, Vec<Buffer>, Bytes) {
+    let Some((nodes, held)) = words.split_once(" | ") else {
+        return (nodes_in(rt, words), Vec::new(rt.alloc()), Bytes::new());
+    };
+    let (buffers, body) = laid(rt, held);
+    (nodes_in(rt, nodes), buffers, body)
+}
+
 // The columns, or the fault; a dictionary of another type than its field is no case of a test.
 pub(super) fn loaded(
     rt: &(impl Abort + AllocGlobal),
-    of: &[Kind],
-    (nodes, held): Parts<'_>,
+    of: &str,
+    words: &str,
     dictionaries: &[(i64, Dictionary)],
 ) -> Result<Vec<Array>, BodyFault> {
     let fields = fields_of(rt, of);
-    let nodes = nodes_of_pairs(rt, nodes);
-    let (buffers, body) = laid(rt, held);
+    let (nodes, buffers, body) = parts_of(rt, words);
     assert!(rt; are_fit(&fields, dictionaries));
     load(rt.alloc(), &fields, &nodes, &buffers, &body, dictionaries)
+}
+
+fn only(rt: &impl Abort, columns: Result<Vec<Array>, BodyFault>) -> Array {
+    let mut columns = columns.expect(rt, "the body is sound");
+    columns.pop().expect(rt, "there is a column")
 }
 
 // The dictionary of the values in the one column.
@@ -81,8 +95,7 @@ pub(super) fn dictionary(
     rt: &(impl Abort + AllocGlobal),
     columns: Result<Vec<Array>, BodyFault>,
 ) -> Dictionary {
-    let mut columns = columns.expect(rt, "the body is sound");
-    let values = columns.pop().expect(rt, "there is a column");
+    let values = only(rt, columns);
     assert!(rt; values.encoding().is_none() && !values.data_type().has_encoding_below());
     Dictionary::from_array(rt.alloc(), values).expect(rt, "memory")
 }
@@ -93,8 +106,7 @@ pub(super) fn append(
     dictionary: &mut Dictionary,
     columns: Result<Vec<Array>, BodyFault>,
 ) {
-    let mut columns = columns.expect(rt, "the body is sound");
-    let values = columns.pop().expect(rt, "there is a column");
+    let values = only(rt, columns);
     assert!(rt; values.encoding().is_none() && values.data_type().same(dictionary.data_type()));
     assert!(rt; values.len() < 1 << 32 && dictionary.len() < 1 << 32);
     dictionary.append(rt.alloc(), values).expect(rt, "memory");
@@ -106,7 +118,5 @@ pub(super) fn listed(
     id: i64,
     dictionary: Dictionary,
 ) -> Vec<(i64, Dictionary)> {
-    let mut listed = Vec::new(rt.alloc());
-    listed.push((id, dictionary)).expect(rt, "memory");
-    listed
+    vec![in rt.alloc(); (id, dictionary)].expect(rt, "memory")
 }

@@ -1,8 +1,8 @@
 // Dictionaries of just as many values, and of just as many bytes, as a body tells of, and of one
 // more. Each is one array again and again.
 
-use super::bodies::{Pairs, append, dictionary, nodes_of_pairs};
-use super::fields::{Kind, fields_of};
+use super::bodies::{append, dictionary, nodes_in};
+use super::fields::fields_of;
 use super::told::holds;
 use arrow_body_reader::{BodyFault, are_fit, load};
 use arrow_body_writer::{Align, rest_size};
@@ -16,27 +16,22 @@ const LETTERS: usize = 4_194_304;
 
 // An array: its type, its node, the first bytes of its body, and where its buffers end in it, one
 // behind the other.
-type Piece = (Kind, (i64, i64), &'static [u8], &'static [i64]);
+type Piece = (&'static str, &'static str, &'static [u8], &'static [i64]);
 
 // 2^25 truth values: 64 times as many are 2^31.
-const TRUTHS: Piece = (Kind::Truth, (33_554_432, 0), &[], &[0, 4_194_304]);
+const TRUTHS: Piece = ("bool", "33554432/0", &[], &[0, 4_194_304]);
 
 // Two texts, of one letter and of the others, behind offsets of 32 and of 64 bits: 512 times 2^22
 // letters are 2^31.
 const SMALL: &[u8] = &[0, 0, 0, 0, 1, 0, 0, 0, 0, 0, 64, 0];
 
-const TEXTS: Piece = (Kind::Text, (2, 0), SMALL, &[0, 12, 4_194_316]);
+const LARGE: &[u8] = b"\0\0\0\0\0\0\0\0\x01\0\0\0\0\0\0\0\0\0\x40\0\0\0\0\0";
 
-const BYTES: Piece = (Kind::Bytes, (2, 0), SMALL, &[0, 12, 4_194_316]);
+const TEXTS: Piece = ("utf8", "2/0", SMALL, &[0, 12, 4_194_316]);
 
-const LARGE_TEXTS: Piece = (
-    Kind::LargeText,
-    (2, 0),
-    &[
-        0, 0, 0, 0, 0, 0, 0, 0, 1, 0, 0, 0, 0, 0, 0, 0, 0, 0, 64, 0, 0, 0, 0, 0,
-    ],
-    &[0, 24, 4_194_328],
-);
+const BYTES: Piece = ("binary", "2/0", SMALL, &[0, 12, 4_194_316]);
+
+const LARGE_TEXTS: Piece = ("large_utf8", "2/0", LARGE, &[0, 24, 4_194_328]);
 
 // Names, an array, how often it is put into the dictionary, from which value on this is laid out,
 // and in how many bytes. From the second text on there are 1,024 offsets and 2^31 - 1 bytes, of
@@ -61,11 +56,10 @@ struct Loading {
 }
 
 impl Loading {
-    fn of(rt: &(impl Abort + AllocGlobal), (kind, node, front, ends): &Piece) -> Loading {
-        let nodes: Pairs<'_> = &[*node];
+    fn of(rt: &(impl Abort + AllocGlobal), (of, node, front, ends): &Piece) -> Loading {
         Loading {
-            fields: fields_of(rt, &[*kind]),
-            nodes: nodes_of_pairs(rt, nodes),
+            fields: fields_of(rt, of),
+            nodes: nodes_in(rt, node),
             buffers: places(rt, ends),
             body: body_of(rt, front),
         }

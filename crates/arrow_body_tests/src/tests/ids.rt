@@ -1,23 +1,20 @@
 // Dictionaries in any order of their ids.
 
-use super::bodies::{Held, dictionary, loaded};
-use super::fields::{Kind, NUMBER};
+use super::bodies::{dictionary, loaded};
 use super::told::{is_text, told};
 use arrow_data::Dictionary;
-use arrow_types::BitWidth;
 use std::process::Abort;
 
 // The dictionary of one value, this number.
 fn single(rt: &(impl Abort + AllocGlobal), value: u8) -> Dictionary {
-    let held = [Held::Bytes(&[]), Held::Numbers(&[value])];
-    dictionary(rt, loaded(rt, &[NUMBER], (&[(1, 0)], &held), &[]))
+    let words = format!(in rt.alloc(); "1/0 | #, {value}").expect(rt, "memory");
+    dictionary(rt, loaded(rt, "int32", &words, &[]))
 }
 
 // What the column of index 0 into the dictionary of this id is.
 fn told_by(rt: &(impl Abort + AllocGlobal), listed: &[(i64, Dictionary)], id: i64) -> String {
-    let of = [Kind::Index(id, BitWidth::Eight), NUMBER];
-    let held = [Held::Bytes(&[]), Held::Bytes(&[0])];
-    told(rt, &loaded(rt, &of, (&[(1, 0)], &held), listed))
+    let of = format!(in rt.alloc(); "index8.{id} int32").expect(rt, "memory");
+    told(rt, &loaded(rt, &of, "1/0 | #, #0", listed))
 }
 
 // 200 ids, each with a value of its own, the first at -300, in steps of 3.

@@ -1,9 +1,9 @@
-// Columns, and dictionaries of their values.
+// Columns, and dictionaries of their values, as their texts say: `[1 2]` are numbers of 8 bits,
+// `[1][2 3]` these of two segments, and `nulls 7` so many nulls.
 
-ghost use Rattle.std.specs.Prelude.{◌≡◌, ◌≤◌, ℕ, IfOk, IsTrue, List, None, Some, false};
+ghost use Rattle.std.specs.Prelude.{◌≡◌, ◌≤◌, ℕ, IsTrue, List, None, Some};
 ghost use Rattle.arrow_types.specs.Field.{none};
-ghost use Rattle.arrow_types.specs.Schema.{has_encoding};
-ghost use Rattle.arrow_types.specs.View.{field_view, type_view};
+ghost use Rattle.arrow_types.specs.View.{type_view};
 ghost use Rattle.arrow_data.specs.Column.{ValueList};
 ghost use Rattle.arrow_data.specs.Layout.{IsText, buffer_count};
 ghost use Rattle.arrow_data.specs.Listed.{listed};
@@ -17,12 +17,10 @@ use std::alloc::Global;
 use std::process::Abort;
 
 // Signed numbers of 8 bits.
-pub(super) fn int8() -> DataType {
-    DataType::Int {
-        bits: BitWidth::Eight,
-        signed: true,
-    }
-}
+pub(super) const INT8: DataType = DataType::Int {
+    bits: BitWidth::Eight,
+    signed: true,
+};
 
 // A nullable field without a name and an encoding.
 pub(super) fn field(alloc: Global, data_type: DataType) -> Field
@@ -37,22 +35,7 @@ fn is_simple(data_type: &DataType) -> bool
     ensures texts { IsTrue result → (len : ℕ) (b : List (List ℕ)) → IsText (type_view data_type.now).tag None len b }
     ensures buffers { IsTrue result → buffer_count (type_view data_type.now).tag None ≤ 2 }
 {
-    match data_type {
-        DataType::Null | DataType::Int { .. } => true,
-        DataType::Bool
-        | DataType::Binary
-        | DataType::Utf8
-        | DataType::Date(_)
-        | DataType::Time(_)
-        | DataType::Timestamp(..)
-        | DataType::List(_)
-        | DataType::Struct(_)
-        | DataType::FixedSizeBinary(_)
-        | DataType::Duration(_)
-        | DataType::LargeBinary
-        | DataType::LargeUtf8
-        | DataType::LargeList(_) => false,
-    }
+    matches!(data_type, DataType::Null | DataType::Int { .. })
 }
 
 // A column of `len` slots without nulls.
@@ -71,22 +54,39 @@ fn column(rt: &impl Abort, alloc: Global, data_type: DataType, len: usize, bytes
     Array::from_parts(alloc, &field, len, &body, &buffers, children, None).expect(rt, "memory")
 }
 
-// Numbers of 8 bits.
-pub(super) fn numbers(rt: &impl Abort, alloc: Global, numbers: &[u8]) -> Array {
-    column(rt, alloc, int8(), numbers.len(), numbers)
+// The column of a text: numbers between brackets, or nulls, which lie in no body.
+pub(super) fn values(rt: &impl Abort, alloc: Global, text: &str) -> Array {
+    if let Some(count) = text.strip_prefix("nulls ") {
+        let len = count.parse::<usize>().ok().expect(rt, "a count");
+        return column(rt, alloc, DataType::Null, len, &[]);
+    }
+    let mut numbers = Vec::new(alloc);
+    for word in text.trim_matches(['[', ']']).split_whitespace() {
+        let number = word.parse::<u8>().ok().expect(rt, "a number");
+        numbers.push(number).expect(rt, "memory");
+    }
+    column(rt, alloc, INT8, numbers.len(), &numbers)
 }
 
-// Nulls, which lie in no body.
-pub(super) fn nulls(rt: &impl Abort, alloc: Global, len: usize) -> Array {
-    column(rt, alloc, DataType::Null, len, &[])
-}
-
-// Takes a dictionary of the values of a column for the id.
-pub(super) fn put(rt: &impl Abort, alloc: Global, store: &mut Store, id: i64, values: Array) {
+// The dictionary of a text, with a second segment where there is one.
+pub(super) fn dictionary(rt: &impl Abort, alloc: Global, text: &str) -> Dictionary {
+    let (first, second) = text.split_once("][").unwrap_or((text, ""));
+    let values = values(rt, alloc, first);
     assert!(rt; values.encoding().is_none());
     assert!(rt; !values.data_type().has_encoding_below());
-    let dictionary = Dictionary::from_array(alloc, values).expect(rt, "memory");
-    store.replace(id, dictionary).expect(rt, "memory");
+    let mut dictionary = Dictionary::from_array(alloc, values).expect(rt, "memory");
+    if !second.is_empty() {
+        append(rt, alloc, &mut dictionary, second);
+    }
+    dictionary
+}
+
+fn append(rt: &impl Abort, alloc: Global, dictionary: &mut Dictionary, text: &str) {
+    let values = values(rt, alloc, text);
+    assert!(rt; values.encoding().is_none());
+    assert!(rt; values.data_type().same(dictionary.data_type()));
+    assert!(rt; dictionary.len() <= 1 << 20 && values.len() <= 1 << 20);
+    dictionary.append(alloc, values).expect(rt, "memory");
 }
 
 // Whether values may be appended to what the id has.

@@ -16,59 +16,56 @@ type Row = (Edits, u8, [u64; 3]);
 // Metadata, and rows of each: of the ten fields of `LEVELS` the names have 19 bytes and the zone 3,
 // and of the twelve pairs the keys have 33 and the values 20. What is absent is not counted.
 static COUNTS: [(&[u8], &[Row]); 14] = [
-    (&PLAIN, &[(&[], 0, [1, 0, 1])]),
-    (&ROWS, &[(&[], 0, [0, 0, 0])]),
-    (&WORDS, &[(&[], 0, [0, 0, 0])]),
+    (PLAIN, &[("", 0, [1, 0, 1])]),
+    (ROWS, &[("", 0, [0, 0, 0])]),
+    (WORDS, &[("", 0, [0, 0, 0])]),
     (
-        &AT_SCHEMA,
+        AT_SCHEMA,
         &[
-            (&[], 0, [1, 1, 3]),
-            (&[(164, 0)], 0, [1, 1, 2]),
-            (&[(48, 0)], 0, [1, 0, 1]),
-            (&[(46, 0)], 0, [0, 1, 2]),
-            (&[(188, 8)], 0, [1, 1, 10]),
-            (&[(116, 0)], 0, [1, 1, 2]),
+            ("", 0, [1, 1, 3]),
+            ("164=0", 0, [1, 1, 2]),
+            ("48=0", 0, [1, 0, 1]),
+            ("46=0", 0, [0, 1, 2]),
+            ("188=8", 0, [1, 1, 10]),
+            ("116=0", 0, [1, 1, 2]),
         ],
     ),
-    (&AT_COLUMN, &[(&[], 0, [1, 1, 3])]),
-    (&AT_BOTH, &[(&[], 0, [1, 2, 5])]),
+    (AT_COLUMN, &[("", 0, [1, 1, 3])]),
+    (AT_BOTH, &[("", 0, [1, 2, 5])]),
     // The pairs of a message are not looked at.
+    (AT_MESSAGE, &[("", 0, [1, 0, 1]), ("167=255", 0, [1, 0, 1])]),
+    (NO_PAIRS, &[("", 0, [1, 0, 1])]),
+    (ABSENT, &[("", 0, [1, 3, 3])]),
+    (FILLED, &[("", 0, [1, 3, 3])]),
     (
-        &AT_MESSAGE,
-        &[(&[], 0, [1, 0, 1]), (&[(167, 0xff)], 0, [1, 0, 1])],
-    ),
-    (&NO_PAIRS, &[(&[], 0, [1, 0, 1])]),
-    (&ABSENT, &[(&[], 0, [1, 3, 3])]),
-    (&FILLED, &[(&[], 0, [1, 3, 3])]),
-    (
-        &LEVELS,
+        LEVELS,
         &[
-            (&[], 0, [10, 12, 75]),
+            ("", 0, [10, 12, 75]),
             // The second pair of three is the first one, and the last one is not there.
-            (&[(424, 16)], 0, [10, 12, 75]),
-            (&[(416, 2)], 0, [10, 11, 70]),
+            ("424=16", 0, [10, 12, 75]),
+            ("416=2", 0, [10, 11, 70]),
             // All was read before a fault that comes behind what is not readable.
-            (&[(20, 2)], 4, [10, 12, 75]),
-            (&[(39, 0x80)], 6, [10, 12, 75]),
-            (&[(60, 1)], 8, [10, 12, 75]),
-            (&[(129, 7)], 8, [10, 12, 75]),
-            (&[(404, 24)], 9, [10, 12, 75]),
+            ("20=2", 4, [10, 12, 75]),
+            ("39=128", 6, [10, 12, 75]),
+            ("60=1", 8, [10, 12, 75]),
+            ("129=7", 8, [10, 12, 75]),
+            ("404=24", 9, [10, 12, 75]),
             // No header is opened.
-            (&[(22, 0)], 5, [0, 0, 0]),
+            ("22=0", 5, [0, 0, 0]),
         ],
     ),
     (
-        &SHARED,
+        SHARED,
         &[
-            (&[], 0, [4, 2, 14]),
-            (&[(116, 0x78), (376, 0x79)], 0, [4, 2, 14]),
-            (&[(312, 0x6c)], 0, [4, 2, 14]),
-            (&[(496, 0x6a)], 9, [4, 2, 14]),
-            (&[(520, 0)], 9, [4, 2, 14]),
+            ("", 0, [4, 2, 14]),
+            ("116=120 376=121", 0, [4, 2, 14]),
+            ("312=108", 0, [4, 2, 14]),
+            ("496=106", 9, [4, 2, 14]),
+            ("520=0", 9, [4, 2, 14]),
         ],
     ),
-    (&foreign::ABSENT, &[(&[], 0, [1, 3, 3])]),
-    (&foreign::LEVELS, &[(&[], 0, [10, 12, 75])]),
+    (foreign::ABSENT, &[("", 0, [1, 3, 3])]),
+    (foreign::LEVELS, &[("", 0, [10, 12, 75])]),
 ];
 
 fn are_counted(rt: &(impl Abort + AllocGlobal), bytes: &[u8], rows: &[Row]) {
@@ -107,11 +104,11 @@ fn is_anew(rt: &(impl Abort + AllocGlobal), begun: u64) {
         pairs: begun,
         bytes: begun,
     };
-    assert!(rt; decode_counted(rt.alloc(), &LEVELS, &limits, &mut work).is_ok());
+    assert!(rt; decode_counted(rt.alloc(), LEVELS, &limits, &mut work).is_ok());
     assert_eq!(rt; [work.fields, work.pairs, work.bytes], [10, 12, 75]);
-    assert!(rt; decode_counted(rt.alloc(), &ROWS, &limits, &mut work).is_ok());
+    assert!(rt; decode_counted(rt.alloc(), ROWS, &limits, &mut work).is_ok());
     assert!(rt; work == Work::NONE);
-    assert!(rt; tree_counted(rt.alloc(), &AT_BOTH, &limits, &mut work).is_ok());
+    assert!(rt; tree_counted(rt.alloc(), AT_BOTH, &limits, &mut work).is_ok());
     assert_eq!(rt; [work.fields, work.pairs, work.bytes], [1, 2, 5]);
     assert!(rt; decode_counted(rt.alloc(), &[], &limits, &mut work).is_err());
     assert!(rt; work == Work::NONE);
@@ -126,15 +123,15 @@ fn the_work_begins_at_nothing(rt: HostRuntime) {
 
 // How many bytes names, zones, keys and values have together.
 static BYTES: [(&[u8], u64); 9] = [
-    (&PLAIN, 1),
-    (&AT_MESSAGE, 1),
-    (&AT_SCHEMA, 3),
-    (&AT_COLUMN, 3),
-    (&AT_BOTH, 5),
-    (&FILLED, 3),
-    (&LEVELS, 75),
-    (&foreign::ABSENT, 3),
-    (&foreign::LEVELS, 75),
+    (PLAIN, 1),
+    (AT_MESSAGE, 1),
+    (AT_SCHEMA, 3),
+    (AT_COLUMN, 3),
+    (AT_BOTH, 5),
+    (FILLED, 3),
+    (LEVELS, 75),
+    (foreign::ABSENT, 3),
+    (foreign::LEVELS, 75),
 ];
 
 // With so many bytes allowed, these are read or not.
@@ -161,9 +158,9 @@ fn names_zones_keys_and_values_keep_to_the_limit(rt: HostRuntime) {
 // Metadata, the most bytes of metadata and of a body, the number of the fault, and what was counted:
 // two bytes let the name and the key be read, and not the value.
 static LIMITED: [(&[u8], [u64; 2], u8, [u64; 3]); 3] = [
-    (&AT_SCHEMA, [2, 0], 3, [1, 1, 2]),
-    (&ROWS, [1, 24], 0, [0, 0, 0]),
-    (&ROWS, [1, 23], 6, [0, 0, 0]),
+    (AT_SCHEMA, [2, 0], 3, [1, 1, 2]),
+    (ROWS, [1, 24], 0, [0, 0, 0]),
+    (ROWS, [1, 23], 6, [0, 0, 0]),
 ];
 
 #[test]

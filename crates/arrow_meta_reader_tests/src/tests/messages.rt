@@ -47,16 +47,7 @@ const ALL_ROWS: &str = "4 24 3, 3/1, 0+1 8+12";
 
 const ALL_WORDS: &str = "4 24 0 false 3, 3/0, 0+0 0+16 16+3";
 
-const LEAST: Edits = &[
-    (14, 0),
-    (44, 0),
-    (48, 0),
-    (64, 5),
-    (76, 1),
-    (82, 0),
-    (84, 0),
-    (86, 0),
-];
+const LEAST: Edits = "14=0 44=0 48=0 64=5 76=1 82=0 84=0 86=0";
 
 const ONE_FIELD: &str = "4 0 [Field { name: \"n\", nullable: true, data_type: \
     Int { bits: ThirtyTwo, signed: true }, dictionary: None, metadata: [] }]";
@@ -64,54 +55,48 @@ const ONE_FIELD: &str = "4 0 [Field { name: \"n\", nullable: true, data_type: \
 // Of metadata of a batch, of a dictionary and of a schema, the bytes that are changed, and what they
 // mean then.
 static OF_ROWS: [(Edits, &str); 14] = [
-    (&[], ALL_ROWS),
-    (&[(20, 3)], "3 24 3, 3/1, 0+1 8+12"),
-    (&[(14, 0)], "4 0 3, 3/1, 0+1 8+12"),
-    (&[(44, 0)], "4 24 0, 3/1, 0+1 8+12"),
-    (&[(46, 0)], "4 24 3,, 0+1 8+12"),
-    (&[(48, 0)], "4 24 3, 3/1,"),
-    (&[(14, 0), (44, 0), (46, 0), (48, 0)], "4 0 0,,"),
-    (&[(71, 0x80)], "4 24 -9223372036854775805, 3/1, 0+1 8+12"),
-    (&[(95, 0x80)], "4 24 3, -9223372036854775805/1, 0+1 8+12"),
-    (&[(103, 0x80)], "4 24 3, 3/-9223372036854775807, 0+1 8+12"),
-    (&[(119, 0x80)], "4 24 3, 3/1, -9223372036854775808+1 8+12"),
-    (&[(127, 0x80)], "4 24 3, 3/1, 0+-9223372036854775807 8+12"),
-    (&[(40, 12)], ALL_ROWS),
-    (
-        &[(40, 12), (50, 1)],
-        "Compressed { batch: Record, body_len: 24 }",
-    ),
+    ("", ALL_ROWS),
+    ("20=3", "3 24 3, 3/1, 0+1 8+12"),
+    ("14=0", "4 0 3, 3/1, 0+1 8+12"),
+    ("44=0", "4 24 0, 3/1, 0+1 8+12"),
+    ("46=0", "4 24 3,, 0+1 8+12"),
+    ("48=0", "4 24 3, 3/1,"),
+    ("14=0 44=0 46=0 48=0", "4 0 0,,"),
+    ("71=128", "4 24 -9223372036854775805, 3/1, 0+1 8+12"),
+    ("95=128", "4 24 3, -9223372036854775805/1, 0+1 8+12"),
+    ("103=128", "4 24 3, 3/-9223372036854775807, 0+1 8+12"),
+    ("119=128", "4 24 3, 3/1, -9223372036854775808+1 8+12"),
+    ("127=128", "4 24 3, 3/1, 0+-9223372036854775807 8+12"),
+    ("40=12", ALL_ROWS),
+    ("40=12 50=1", "Compressed { batch: Record, body_len: 24 }"),
 ];
 
 static OF_WORDS: [(Edits, &str); 14] = [
-    (&[], ALL_WORDS),
-    (&[(20, 3)], "3 24 0 false 3, 3/0, 0+0 0+16 16+3"),
-    (&[(64, 5)], "4 24 5 false 3, 3/0, 0+0 0+16 16+3"),
-    (&[(44, 0), (64, 5)], ALL_WORDS),
-    (&[(76, 1)], "4 24 0 true 3, 3/0, 0+0 0+16 16+3"),
-    (&[(76, 0x80)], "4 24 0 true 3, 3/0, 0+0 0+16 16+3"),
-    (&[(77, 1)], ALL_WORDS),
-    (&[(48, 0), (76, 1)], ALL_WORDS),
-    (&[(82, 0)], "4 24 0 false 0, 3/0, 0+0 0+16 16+3"),
-    (&[(84, 0)], "4 24 0 false 3,, 0+0 0+16 16+3"),
-    (&[(86, 0)], "4 24 0 false 3, 3/0,"),
+    ("", ALL_WORDS),
+    ("20=3", "3 24 0 false 3, 3/0, 0+0 0+16 16+3"),
+    ("64=5", "4 24 5 false 3, 3/0, 0+0 0+16 16+3"),
+    ("44=0 64=5", ALL_WORDS),
+    ("76=1", "4 24 0 true 3, 3/0, 0+0 0+16 16+3"),
+    ("76=128", "4 24 0 true 3, 3/0, 0+0 0+16 16+3"),
+    ("77=1", ALL_WORDS),
+    ("48=0 76=1", ALL_WORDS),
+    ("82=0", "4 24 0 false 0, 3/0, 0+0 0+16 16+3"),
+    ("84=0", "4 24 0 false 3,, 0+0 0+16 16+3"),
+    ("86=0", "4 24 0 false 3, 3/0,"),
     (LEAST, "4 0 0 false 0,,"),
     (
-        &[(76, 2), (71, 0x80)],
+        "76=2 71=128",
         "4 24 -9223372036854775808 true 3, 3/0, 0+0 0+16 16+3",
     ),
-    (
-        &[(78, 12)],
-        "Compressed { batch: Dictionary, body_len: 24 }",
-    ),
+    ("78=12", "Compressed { batch: Dictionary, body_len: 24 }"),
 ];
 
 static OF_SCHEMA: [(Edits, &str); 5] = [
-    (&[], ONE_FIELD),
-    (&[(46, 0), (20, 3), (32, 8)], "3 8 []"),
-    (&[(97, 3), (33, 1)], "Unsupported { body_len: 256 }"),
-    (&[(132, 24), (32, 9)], "Schema { body_len: 9 }"),
-    (&[(36, 0x10), (46, 0)], "4 68719476736 []"),
+    ("", ONE_FIELD),
+    ("46=0 20=3 32=8", "3 8 []"),
+    ("97=3 33=1", "Unsupported { body_len: 256 }"),
+    ("132=24 32=9", "Schema { body_len: 9 }"),
+    ("36=16 46=0", "4 68719476736 []"),
 ];
 
 fn all_mean(rt: &(impl Abort + AllocGlobal), bytes: &[u8], rows: &[(Edits, &str)]) {
@@ -123,63 +108,54 @@ fn all_mean(rt: &(impl Abort + AllocGlobal), bytes: &[u8], rows: &[(Edits, &str)
 
 #[test]
 fn messages_are_read(rt: HostRuntime) {
-    all_mean(&rt, &ROWS, &OF_ROWS);
-    all_mean(&rt, &WORDS, &OF_WORDS);
-    all_mean(&rt, &PLAIN, &OF_SCHEMA);
-    all_mean(&rt, &NOTHING, &[(&[], "4 0 0,,")]);
-    all_mean(&rt, &[], &[(&[], "Metadata")]);
+    all_mean(&rt, ROWS, &OF_ROWS);
+    all_mean(&rt, WORDS, &OF_WORDS);
+    all_mean(&rt, PLAIN, &OF_SCHEMA);
+    all_mean(&rt, NOTHING, &[("", "4 0 0,,")]);
+    all_mean(&rt, &[], &[("", "Metadata")]);
 }
 
 #[test]
 fn a_tree_is_judged(rt: HostRuntime) {
     let limits = Limits::standard();
-    let tree = tree(rt.alloc(), &ROWS, &limits).expect(&rt, "a tree");
+    let tree = tree(rt.alloc(), ROWS, &limits).expect(&rt, "a tree");
     let message = judge(rt.alloc(), tree, &limits).expect(&rt, "a record batch");
     let mut text = String::new(rt.alloc());
     push_message(&rt, &mut text, &message);
     assert_eq!(rt; text.as_str(), ALL_ROWS);
 }
 
-// The faults with their numbers and words.
-static WORDED: [(MetaFault, u8, &str); 8] = [
-    (MetaFault::Metadata, 3, "the metadata are not readable"),
-    (MetaFault::Version, 4, "the version is neither V4 nor V5"),
-    (
-        MetaFault::Header,
-        5,
-        "the header is none of a schema, a dictionary batch and a record batch",
-    ),
-    (
-        MetaFault::BodyLength,
-        6,
-        "the body's length is negative or over the limit",
-    ),
-    (
-        MetaFault::Unsupported { body_len: 0 },
-        8,
-        "the schema has something that is not supported",
-    ),
-    (
-        MetaFault::Schema { body_len: 0 },
-        9,
-        "the schema contradicts itself",
-    ),
-    (
-        MetaFault::Compressed {
-            batch: BatchKind::Record,
-            body_len: 24,
-        },
-        10,
-        "the body is compressed",
-    ),
-    (MetaFault::Memory, 19, "out of memory"),
+// The faults, and each with its number and words.
+static FAULTS: [MetaFault; 8] = [
+    MetaFault::Metadata,
+    MetaFault::Version,
+    MetaFault::Header,
+    MetaFault::BodyLength,
+    MetaFault::Unsupported { body_len: 0 },
+    MetaFault::Schema { body_len: 0 },
+    MetaFault::Compressed {
+        batch: BatchKind::Record,
+        body_len: 24,
+    },
+    MetaFault::Memory,
 ];
+
+const WORDED: &str = "\
+3 the metadata are not readable
+4 the version is neither V4 nor V5
+5 the header is none of a schema, a dictionary batch and a record batch
+6 the body's length is negative or over the limit
+8 the schema has something that is not supported
+9 the schema contradicts itself
+10 the body is compressed
+19 out of memory
+";
 
 #[test]
 fn faults_have_their_numbers_and_words(rt: HostRuntime) {
-    for &(fault, number, words) in &WORDED {
-        let shown = format!(in rt.alloc(); "{fault}").expect(&rt, MEMORY);
-        assert_eq!(rt; fault.number(), number, "{fault:?}");
-        assert_eq!(rt; shown.as_str(), words);
+    let mut text = String::new(rt.alloc());
+    for fault in &FAULTS {
+        writeln!(text, "{} {fault}", fault.number()).expect(&rt, MEMORY);
     }
+    assert_eq!(rt; text.as_str(), WORDED);
 }

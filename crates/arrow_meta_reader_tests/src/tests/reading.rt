@@ -8,14 +8,17 @@ use std::process::Abort;
 // Why a test stops that finds no room.
 pub(super) const MEMORY: &str = "memory";
 
-// Bytes that are put at places of a metadata.
-pub(super) type Edits = &'static [(usize, u8)];
+// Bytes that are put at places of a metadata: `14=0 64=5` puts 0 at 14, and 5 at 64.
+pub(super) type Edits = &'static str;
 
 // The bytes with some changed.
 pub(super) fn edited(rt: &impl Abort, alloc: Global, bytes: &[u8], edits: Edits) -> Vec<u8> {
     let mut edited = Vec::from_slice(alloc, bytes).expect(rt, MEMORY);
-    for (place, byte) in edits {
-        *edited.get_mut(*place).expect(rt, "a place in the metadata") = *byte;
+    for edit in edits.split_whitespace() {
+        let (place, byte) = edit.split_once('=').expect(rt, "a place and a byte");
+        let place = place.parse::<usize>().ok().expect(rt, "a place");
+        let byte = byte.parse::<u8>().ok().expect(rt, "a byte");
+        *edited.get_mut(place).expect(rt, "a place in the metadata") = byte;
     }
     edited
 }

@@ -1,29 +1,21 @@
-ghost use Rattle.arrow_bits.specs.Numbers.{IsWidth};
-
 use arrow_bits::{
     Bits, BitsBuilder, LargeOffsets, Offsets, are_at_most, first_unset, int_at, plain, put_int,
 };
 use std::process::Abort;
 
-// Bits and how many of them are 0.
-type Counted<'a> = (&'a [bool], usize);
-
-// Bytes, how many bits are asked for, and those, where the bytes have so many.
-static BITS: [(&[u8], usize, Option<Counted<'static>>); 5] = [
-    (&[5], 3, Some((&[true, false, true], 1))),
-    (
-        &[5],
-        8,
-        Some((&[true, false, true, false, false, false, false, false], 6)),
-    ),
+// Bytes, how many bits are asked for, and how many of those are 0 and which they are, where the bytes
+// have so many.
+static BITS: [(&[u8], usize, Option<(usize, &str)>); 5] = [
+    (&[5], 3, Some((1, "101"))),
+    (&[5], 8, Some((6, "10100000"))),
     (&[5], 9, None),
     (&[5], usize::MAX, None),
-    (&[], 0, Some((&[], 0))),
+    (&[], 0, Some((0, ""))),
 ];
 
-fn are_listed(bits: &Bits<'_>, want: &[bool]) -> bool {
+fn are_listed(bits: &Bits<'_>, want: &[u8]) -> bool {
     for i in 0..bits.len() {
-        if want.get(i) != Some(&bits.get(i)) {
+        if want.get(i) != Some(if bits.get(i) { &b'1' } else { &b'0' }) {
             return false;
         }
     }
@@ -31,10 +23,10 @@ fn are_listed(bits: &Bits<'_>, want: &[bool]) -> bool {
 }
 
 // Whether the first `len` bits of the bytes are these, or there are none where none are wanted.
-fn are_bits(bytes: &[u8], len: usize, want: &Option<Counted<'_>>) -> bool {
+fn are_bits(bytes: &[u8], len: usize, want: Option<(usize, &str)>) -> bool {
     match (Bits::new(bytes, len), want) {
-        (Some(bits), Some((listed, zeros))) => {
-            bits.count_zero() == *zeros && are_listed(&bits, listed)
+        (Some(bits), Some((zeros, listed))) => {
+            bits.count_zero() == zeros && are_listed(&bits, listed.as_bytes())
         }
         (found, _) => found.is_none() && want.is_none(),
     }
@@ -43,7 +35,7 @@ fn are_bits(bytes: &[u8], len: usize, want: &Option<Counted<'_>>) -> bool {
 #[test]
 fn bits_of_a_byte(rt: HostRuntime) {
     for (row, (bytes, len, want)) in BITS.iter().enumerate() {
-        assert!(rt; are_bits(bytes, *len, want), "number {row}");
+        assert!(rt; are_bits(bytes, *len, *want), "number {row}");
     }
 }
 
@@ -66,37 +58,22 @@ fn zeros_alone(bytes: &[u8], len: usize) -> Option<usize> {
     }
 }
 
-// The same by the loop, of no more bits than there are bytes.
-fn plain_zeros(bytes: &[u8], len: usize) -> Option<usize> {
-    if len <= bytes.len() {
-        Some(plain::count_zero(bytes, len))
-    } else {
-        None
-    }
-}
-
 #[test]
 fn zeros_of_each_length(rt: HostRuntime) {
     let mut expected = 0usize;
     for len in 0..1601usize {
-        assert!(rt; zeros(&BYTES, len) == Some(expected), "of {len} bits");
-        assert!(rt;
-            zeros_alone(&BYTES, len) == Some(expected),
+        assert_eq!(rt; zeros(&BYTES, len), Some(expected), "of {len} bits");
+        assert_eq!(rt;
+            zeros_alone(&BYTES, len),
+            Some(expected),
             "of {len} bits alone"
         );
+        if len <= BYTES.len() {
+            assert_eq!(rt; plain::count_zero(&BYTES, len), expected, "of {len} bits");
+        }
         if let 1 | 3 | 4 | 6 = len % 8 {
             expected = expected.wrapping_add(1);
         }
-    }
-}
-
-#[test]
-fn plain_zeros_of_each_length(rt: HostRuntime) {
-    for len in 0..201usize {
-        assert!(rt;
-            zeros(&BYTES, len) == plain_zeros(&BYTES, len),
-            "of {len} bits"
-        );
     }
 }
 
@@ -141,34 +118,23 @@ fn ones_but(zero: usize) -> [u8; 18] {
 fn assert_zero_found(rt: &impl Abort, zero: usize, start: usize) {
     let bytes = ones_but(zero);
     for stop in EDGES.iter().filter(|stop| start <= **stop) {
-        let want = if start <= zero && zero < *stop {
-            zero
-        } else {
-            *stop
-        };
-        assert!(rt;
-            unset_in(&bytes, start, *stop) == Some(want),
-            "{zero} from {start} to {stop}"
-        );
-    }
-}
-
-fn assert_zero_found_from_each(rt: &impl Abort, zero: usize) {
-    for start in EDGES.iter() {
-        assert_zero_found(rt, zero, *start);
+        let is_inside = start <= zero && zero < *stop;
+        let want = if is_inside { zero } else { *stop };
+        let found = unset_in(&bytes, start, *stop);
+        assert_eq!(rt; found, Some(want), "{zero} from {start} to {stop}");
     }
 }
 
 #[test]
 fn first_bit_that_is_0(rt: HostRuntime) {
     for (start, stop, want) in UNSET.iter() {
-        assert!(rt;
-            unset_in(&BYTES, *start, *stop) == Some(*want),
-            "from {start} to {stop}"
-        );
+        let found = unset_in(&BYTES, *start, *stop);
+        assert_eq!(rt; found, Some(*want), "from {start} to {stop}");
     }
     for zero in EDGES.iter() {
-        assert_zero_found_from_each(&rt, *zero);
+        for start in EDGES.iter() {
+            assert_zero_found(&rt, *zero, *start);
+        }
     }
     assert!(rt; unset_in(&[0x7f], 0, 8) == Some(7));
     assert!(rt; unset_in(&[0xff; 8], 3, 64) == Some(64));
@@ -176,34 +142,27 @@ fn first_bit_that_is_0(rt: HostRuntime) {
 }
 
 // Bits, the bytes that they are packed into, and how many are 0.
-static PACKED: [(&[bool], &[u8], usize); 3] = [
-    (&[], &[], 0),
-    (&[true], &[1], 0),
-    (
-        &[
-            true, false, false, true, false, false, true, false, false, true, false, false, true,
-            false, false, true, false, false, true, false,
-        ],
-        &[0x49, 0x92, 0x04],
-        13,
-    ),
+static PACKED: [(&str, &[u8], usize); 3] = [
+    ("", &[], 0),
+    ("1", &[1], 0),
+    ("10010010010010010010", &[0x49, 0x92, 0x04], 13),
 ];
 
-fn built(rt: &(impl Abort + AllocGlobal), bits: &[bool]) -> BitsBuilder {
+fn built(rt: &(impl Abort + AllocGlobal), bits: &str) -> BitsBuilder {
     let mut builder = BitsBuilder::new(rt.alloc());
-    for (j, bit) in bits.iter().enumerate() {
+    for (j, bit) in bits.as_bytes().iter().enumerate() {
         assert!(rt; builder.len() == j, "{j} bits");
-        builder.push(*bit).expect(rt, "memory");
+        builder.push(*bit == b'1').expect(rt, "memory");
     }
     builder
 }
 
-fn assert_packed(rt: &(impl Abort + AllocGlobal), bits: &[bool], bytes: &[u8], zeros: usize) {
+fn assert_packed(rt: &(impl Abort + AllocGlobal), bits: &str, bytes: &[u8], zeros: usize) {
     let builder = built(rt, bits);
     assert!(rt; builder.is_empty() == bits.is_empty());
     assert!(rt; builder.as_bytes() == bytes);
     let packed = builder.into_bytes();
-    assert!(rt; are_bits(&packed, bits.len(), &Some((bits, zeros))));
+    assert!(rt; are_bits(&packed, bits.len(), Some((zeros, bits))));
 }
 
 #[test]
@@ -213,332 +172,213 @@ fn bits_are_packed(rt: HostRuntime) {
     }
 }
 
-// The offsets 2, 2 and 5.
-const RISING: &[u8] = &[2, 0, 0, 0, 2, 0, 0, 0, 5, 0, 0, 0];
-
-// Bytes, how many slots and what top are asked for, and the offsets where there are such.
-static OFFSETS: [(&[u8], usize, u64, Option<&[usize]>); 10] = [
-    (RISING, 2, 5, Some(&[2, 2, 5])),
-    (RISING, 2, 4, None),
-    (RISING, 2, u64::MAX, Some(&[2, 2, 5])),
-    (RISING, 3, 5, None),
-    (RISING, usize::MAX, 5, None),
-    (RISING, usize::MAX / 4, 5, None),
-    (&[0, 0, 0, 0, 3, 0, 0, 0, 2, 0, 0, 0], 2, 9, None),
-    (&[255, 255, 255, 255, 0, 0, 0, 0], 1, 9, None),
-    (&[0, 0, 0], 0, 0, None),
-    (&[0, 0, 0, 0], 0, 0, Some(&[0])),
-];
-
-fn offsets_are(offsets: &Offsets<'_>, want: &[usize]) -> bool {
-    for (i, offset) in want.iter().enumerate() {
-        if i > offsets.len() || offsets.at(i) != *offset {
-            return false;
-        }
+// Appends a number of so many bytes.
+fn add(rt: &impl Abort, bytes: &mut Vec<u8>, width: usize, number: i64) {
+    if let Some(part) = number.to_le_bytes().get(..width) {
+        bytes.extend_from_slice(part).expect(rt, "memory");
     }
-    want.len().checked_sub(1) == Some(offsets.len()) && offsets.is_empty() == (want.len() == 1)
 }
 
-// Whether these offsets are found and the check says so, or nothing is found where none are wanted.
-fn are_offsets(bytes: &[u8], len: usize, top: u64, want: Option<&[usize]>) -> bool {
-    let answer = Offsets::check(bytes, len, top);
-    match (Offsets::new(bytes, len, top), want) {
-        (Some(offsets), Some(want)) => answer && offsets_are(&offsets, want),
-        (found, _) => !answer && found.is_none() && want.is_none(),
+// What both forms of the check say of offsets of 4 or 8 bytes: how many slots are asked for, and what
+// top.
+fn checks(bytes: &[u8], width: usize, len: usize, top: u64) -> (bool, bool) {
+    if width == 4 {
+        let answer = Offsets::check(bytes, len, top);
+        (answer, plain::check_offsets(bytes, len, top))
+    } else {
+        let answer = LargeOffsets::check(bytes, len, top);
+        (answer, plain::check_large_offsets(bytes, len, top))
+    }
+}
+
+// Offset `i` of those that are found, with how many slots they have, and whether none.
+fn found_at(
+    bytes: &[u8],
+    width: usize,
+    (len, top): (usize, u64),
+    i: usize,
+) -> Option<(usize, bool, usize)> {
+    if width == 4 {
+        match Offsets::new(bytes, len, top) {
+            Some(it) if i <= it.len() => Some((it.len(), it.is_empty(), it.at(i))),
+            _ => None,
+        }
+    } else {
+        match LargeOffsets::new(bytes, len, top) {
+            Some(it) if i <= it.len() => Some((it.len(), it.is_empty(), it.at(i))),
+            _ => None,
+        }
+    }
+}
+
+// Offsets, how many bytes of the last are left off, how many slots and what top are asked for, and
+// whether the first offsets are those of so many slots.
+type Row = (&'static [i64], usize, usize, u64, bool);
+
+// Of each width.
+static OFFSETS: [Row; 16] = [
+    (&[2, 2, 5], 0, 2, 5, true),
+    (&[2, 2, 5], 0, 2, 4, false),
+    (&[2, 2, 5], 0, 2, u64::MAX, true),
+    (&[2, 2, 5], 0, 1, 2, true),
+    (&[2, 2, 5], 0, 3, 5, false),
+    (&[2, 2, 5], 0, usize::MAX, 5, false),
+    (&[2, 2, 5], 0, usize::MAX / 4, 5, false),
+    (&[2, 2, 5], 0, usize::MAX / 8, 5, false),
+    (&[0, 3, 2], 0, 2, 9, false),
+    (&[-1, 0], 0, 1, 9, false),
+    (&[-2, -1], 0, 1, u64::MAX, false),
+    (&[], 0, 0, 0, false),
+    (&[0], 1, 0, 0, false),
+    (&[0], 0, 0, 0, true),
+    (&[0, 9], 3, 0, 0, true),
+    (&[0, 0], 1, 1, 0, false),
+];
+
+// Of 64 bits. What rises may fall in the lower 32 bits, be the same there, or have their sign.
+static LARGE_OFFSETS: [Row; 9] = [
+    (&[i64::MIN], 0, 0, u64::MAX, false),
+    (&[4294967295], 0, 0, 4294967295, true),
+    (&[0, 4294967296], 0, 1, 4294967296, true),
+    (&[0, 4294967296], 0, 1, 4294967295, false),
+    (&[1, 4294967296], 0, 1, 4294967296, true),
+    (&[4294967296, 1], 0, 1, 4294967296, false),
+    (&[i64::MAX, i64::MAX], 0, 1, 9223372036854775807, true),
+    (&[i64::MAX, i64::MAX], 0, 1, 9223372036854775806, false),
+    (&[i64::MAX, i64::MIN], 0, 1, u64::MAX, false),
+];
+
+fn assert_row(rt: &(impl Abort + AllocGlobal), width: usize, row: &Row) {
+    let (offsets, cut, len, top, answer) = row;
+    let mut bytes = Vec::new(rt.alloc());
+    for offset in offsets.iter() {
+        add(rt, &mut bytes, width, *offset);
+    }
+    let bytes = &bytes[..bytes.len().saturating_sub(*cut)];
+    assert_eq!(rt;
+        checks(bytes, width, *len, *top),
+        (*answer, *answer),
+        "{row:?}"
+    );
+    for i in 0..=offsets.len() {
+        let want = match offsets.get(i) {
+            Some(offset) if *answer && i <= *len => Some((*len, *len == 0, *offset as usize)),
+            _ => None,
+        };
+        assert_eq!(rt; found_at(bytes, width, (*len, *top), i), want, "{row:?}");
     }
 }
 
 #[test]
 fn offsets_of_a_column(rt: HostRuntime) {
-    for (row, (bytes, len, top, want)) in OFFSETS.iter().enumerate() {
-        assert!(rt; are_offsets(bytes, *len, *top, *want), "number {row}");
+    for row in OFFSETS.iter() {
+        assert_row(&rt, 4, row);
+        assert_row(&rt, 8, row);
+    }
+    for row in LARGE_OFFSETS.iter() {
+        assert_row(&rt, 8, row);
     }
 }
 
-// Appends a number of 32 bits.
-fn add(rt: &impl Abort, bytes: &mut Vec<u8>, number: u32) {
-    let added = bytes.extend_from_slice(&number.to_le_bytes());
-    assert!(rt; added.is_ok(), "memory");
+// Offset `j` of those below, in steps of ten: of 64 bits they pass from 32 bits into more at 2^32 =
+// 4294967296, where `j` is 30.
+fn step(width: usize, j: u16) -> i64 {
+    let first = if width == 4 { 100 } else { 4294966996 };
+    first + 10 * i64::from(j)
 }
 
-// The bytes of `len + 1` offsets from 100 on in steps of ten, of which one is another.
-fn offsets_but_one(rt: &(impl Abort + AllocGlobal), len: u8, place: u16, other: i32) -> Vec<u8> {
+// The bytes of `len + 1` such offsets.
+#[derive(Drop)]
+struct Steps {
+    width: usize,
+    len: u8,
+    bytes: Vec<u8>,
+}
+
+fn steps(rt: &(impl Abort + AllocGlobal), width: usize, len: u8) -> Steps {
     let mut bytes = Vec::new(rt.alloc());
     for j in 0..u16::from(len) + 1 {
-        let offset = if j == place {
-            other
-        } else {
-            100 + 10 * i32::from(j)
-        };
-        add(rt, &mut bytes, offset.cast_unsigned());
+        add(rt, &mut bytes, width, step(width, j));
     }
-    bytes
+    Steps { width, len, bytes }
 }
 
-// Both forms of the check give this answer.
-fn assert_answers(rt: &impl Abort, bytes: &[u8], len: usize, top: u64, answer: bool) {
-    assert!(rt; Offsets::check(bytes, len, top) == answer, "{len} slots");
-    assert!(rt;
-        plain::check_offsets(bytes, len, top) == answer,
-        "{len} slots"
-    );
-}
-
+// Where one of them is another, both forms of the check give this answer, and false where a byte is
+// missing.
 fn assert_check(
     rt: &(impl Abort + AllocGlobal),
-    len: u8,
-    (place, other): (u16, i32),
-    top: u64,
-    answer: bool,
-) {
-    let bytes = offsets_but_one(rt, len, place, other);
-    assert_answers(rt, &bytes, usize::from(len), top, answer);
-}
-
-// An offset may equal the one before it, and may not be below it or below 0.
-fn assert_behind(rt: &(impl Abort + AllocGlobal), len: u8, place: u8) {
-    let last = 100 + 10 * u64::from(len);
-    let low = 100 + 10 * i32::from(place);
-    let behind = u16::from(place) + 1;
-    assert_check(rt, len, (behind, low), last, true);
-    assert_check(rt, len, (behind, low - 1), last, false);
-    assert_check(rt, len, (behind, -1), 4294967296, false);
-}
-
-fn assert_each_place(rt: &(impl Abort + AllocGlobal), len: u8) {
-    for place in 0..len {
-        assert_behind(rt, len, place);
-    }
-}
-
-fn assert_whole(rt: &(impl Abort + AllocGlobal), len: u8) {
-    let last = 100 + 10 * u64::from(len);
-    assert_check(rt, len, (0, 100), last, true);
-    assert_check(rt, len, (0, 100), 4294967296, true);
-    assert_check(rt, len, (0, 100), last - 1, false);
-    assert_check(rt, len, (0, -1), last, false);
-}
-
-#[test]
-fn offsets_of_each_length(rt: HostRuntime) {
-    for len in 0..131u8 {
-        assert_whole(&rt, len);
-        assert_each_place(&rt, len);
-    }
-}
-
-// The offsets 2, 2 and 5 of 64 bits.
-const LARGE_RISING: &[u8] = &[
-    2, 0, 0, 0, 0, 0, 0, 0, 2, 0, 0, 0, 0, 0, 0, 0, 5, 0, 0, 0, 0, 0, 0, 0,
-];
-
-// The offsets 0 and 4294967296, which are the same in their lower 32 bits.
-const FAR_APART: &[u8] = &[0, 0, 0, 0, 0, 0, 0, 0, 0, 0, 0, 0, 1, 0, 0, 0];
-
-// Two of the greatest offset.
-const GREATEST: &[u8] = &[
-    255, 255, 255, 255, 255, 255, 255, 127, 255, 255, 255, 255, 255, 255, 255, 127,
-];
-
-// Bytes, how many slots and what top are asked for, and the offsets where there are such.
-static LARGE_OFFSETS: [(&[u8], usize, u64, Option<&[usize]>); 25] = [
-    (LARGE_RISING, 2, 5, Some(&[2, 2, 5])),
-    (LARGE_RISING, 2, 4, None),
-    (LARGE_RISING, 2, u64::MAX, Some(&[2, 2, 5])),
-    (LARGE_RISING, 1, 2, Some(&[2, 2])),
-    (LARGE_RISING, 3, 5, None),
-    (LARGE_RISING, usize::MAX, 5, None),
-    (LARGE_RISING, usize::MAX / 8, 5, None),
-    // 0, 3 and 2
-    (
-        &[
-            0, 0, 0, 0, 0, 0, 0, 0, 3, 0, 0, 0, 0, 0, 0, 0, 2, 0, 0, 0, 0, 0, 0, 0,
-        ],
-        2,
-        9,
-        None,
-    ),
-    // -1 and 0
-    (
-        &[
-            255, 255, 255, 255, 255, 255, 255, 255, 0, 0, 0, 0, 0, 0, 0, 0,
-        ],
-        1,
-        9,
-        None,
-    ),
-    // the least number of 64 bits, and the greatest number of 32 without a sign
-    (&[0, 0, 0, 0, 0, 0, 0, 128], 0, u64::MAX, None),
-    (
-        &[255, 255, 255, 255, 0, 0, 0, 0],
-        0,
-        4294967295,
-        Some(&[4294967295]),
-    ),
-    (&[], 0, 0, None),
-    (&[0, 0, 0, 0, 0, 0, 0], 0, 0, None),
-    (&[0, 0, 0, 0, 0, 0, 0, 0], 0, 0, Some(&[0])),
-    (&[0, 0, 0, 0, 0, 0, 0, 0, 9], 0, 0, Some(&[0])),
-    (&[0, 0, 0, 0, 0, 0, 0, 0, 0, 0, 0, 0, 0, 0, 0], 1, 0, None),
-    (FAR_APART, 1, 4294967296, Some(&[0, 4294967296])),
-    (FAR_APART, 1, 4294967295, None),
-    // 1 and 4294967296, which falls in the lower 32 bits; then turned round, which rises there
-    (
-        &[1, 0, 0, 0, 0, 0, 0, 0, 0, 0, 0, 0, 1, 0, 0, 0],
-        1,
-        4294967296,
-        Some(&[1, 4294967296]),
-    ),
-    (
-        &[0, 0, 0, 0, 1, 0, 0, 0, 1, 0, 0, 0, 0, 0, 0, 0],
-        1,
-        4294967296,
-        None,
-    ),
-    (
-        GREATEST,
-        1,
-        9223372036854775807,
-        Some(&[9223372036854775807, 9223372036854775807]),
-    ),
-    (GREATEST, 1, 9223372036854775806, None),
-    (
-        GREATEST,
-        1,
-        u64::MAX,
-        Some(&[9223372036854775807, 9223372036854775807]),
-    ),
-    // the greatest, and one more, which has the sign bit
-    (
-        &[
-            255, 255, 255, 255, 255, 255, 255, 127, 0, 0, 0, 0, 0, 0, 0, 128,
-        ],
-        1,
-        u64::MAX,
-        None,
-    ),
-    // -2 and -1, which rise
-    (
-        &[
-            254, 255, 255, 255, 255, 255, 255, 255, 255, 255, 255, 255, 255, 255, 255, 255,
-        ],
-        1,
-        u64::MAX,
-        None,
-    ),
-];
-
-fn large_offsets_are(offsets: &LargeOffsets<'_>, want: &[usize]) -> bool {
-    for (i, offset) in want.iter().enumerate() {
-        if i > offsets.len() || offsets.at(i) != *offset {
-            return false;
-        }
-    }
-    want.len().checked_sub(1) == Some(offsets.len()) && offsets.is_empty() == (want.len() == 1)
-}
-
-// Whether these offsets are found and both checks say so, or nothing is found where none are
-// wanted.
-fn are_large_offsets(bytes: &[u8], len: usize, top: u64, want: Option<&[usize]>) -> bool {
-    let answer = LargeOffsets::check(bytes, len, top);
-    if answer != plain::check_large_offsets(bytes, len, top) {
-        return false;
-    }
-    match (LargeOffsets::new(bytes, len, top), want) {
-        (Some(offsets), Some(want)) => answer && large_offsets_are(&offsets, want),
-        (found, _) => !answer && found.is_none() && want.is_none(),
-    }
-}
-
-#[test]
-fn large_offsets_of_a_column(rt: HostRuntime) {
-    for (row, (bytes, len, top, want)) in LARGE_OFFSETS.iter().enumerate() {
-        assert!(rt; are_large_offsets(bytes, *len, *top, *want), "number {row}");
-    }
-}
-
-// Offset `j` of those below: they pass from 32 bits into more at 2^32 = 4294967296, where `j` is
-// 30.
-fn large_step(j: u16) -> i64 {
-    4294966996 + 10 * i64::from(j)
-}
-
-// The bytes of `len + 1` offsets of 64 bits, of which one is another.
-fn large_offsets_but_one(
-    rt: &(impl Abort + AllocGlobal),
-    len: u8,
-    place: u16,
-    other: i64,
-) -> Vec<u8> {
-    let mut bytes = Vec::new(rt.alloc());
-    for j in 0..u16::from(len) + 1 {
-        let offset = if j == place { other } else { large_step(j) };
-        let added = bytes.extend_from_slice(&offset.to_le_bytes());
-        assert!(rt; added.is_ok(), "memory");
-    }
-    bytes
-}
-
-// Both forms of the check give this answer, and false where a byte is missing.
-fn assert_large_check(
-    rt: &(impl Abort + AllocGlobal),
-    len: u8,
+    Steps { width, len, bytes }: &Steps,
     (place, other): (u16, i64),
     top: u64,
     answer: bool,
 ) {
-    let bytes = large_offsets_but_one(rt, len, place, other);
-    let slots = usize::from(len);
-    assert!(rt;
-        LargeOffsets::check(&bytes, slots, top) == answer,
-        "{len} slots"
+    let (width, slots) = (*width, usize::from(*len));
+    let mut bytes = Vec::from_slice(rt.alloc(), bytes).expect(rt, "memory");
+    let other_bytes = other.to_le_bytes();
+    let start = width.saturating_mul(usize::from(place));
+    if let Some(old) = bytes.get_mut(start..start.saturating_add(width)) {
+        for (old, byte) in old.iter_mut().zip(other_bytes.iter()) {
+            *old = *byte;
+        }
+    }
+    let found = checks(&bytes, width, slots, top);
+    assert_eq!(rt;
+        found,
+        (answer, answer),
+        "{slots} slots, {other} at {place}"
     );
-    assert!(rt;
-        plain::check_large_offsets(&bytes, slots, top) == answer,
-        "{len} slots"
-    );
-    let cut = bytes.get(1..);
-    assert!(rt;
-        cut.is_some_and(|cut| !LargeOffsets::check(cut, slots, u64::MAX)),
-        "{len} slots"
-    );
+    let cut = bytes.get(1..).unwrap_or(&[]);
+    assert!(rt; !checks(cut, width, slots, u64::MAX).0, "{slots} slots");
 }
 
 // An offset may equal the one before it, and may not be below it or below 0.
-fn assert_large_behind(rt: &(impl Abort + AllocGlobal), len: u8, place: u8) {
-    let last = large_step(u16::from(len)).unsigned_abs();
-    let low = large_step(u16::from(place));
+fn assert_behind(rt: &(impl Abort + AllocGlobal), steps: &Steps, place: u8) {
+    let last = step(steps.width, u16::from(steps.len)).unsigned_abs();
+    let low = step(steps.width, u16::from(place));
     let behind = u16::from(place) + 1;
-    assert_large_check(rt, len, (behind, low), last, true);
-    assert_large_check(rt, len, (behind, low.wrapping_sub(1)), last, false);
-    assert_large_check(rt, len, (behind, low.wrapping_sub(4294967296)), last, false);
-    assert_large_check(rt, len, (behind, -1), u64::MAX, false);
-}
-
-fn assert_large_each_place(rt: &(impl Abort + AllocGlobal), len: u8) {
-    for place in 0..len {
-        assert_large_behind(rt, len, place);
+    assert_check(rt, steps, (behind, low), last, true);
+    assert_check(rt, steps, (behind, low.wrapping_sub(1)), last, false);
+    assert_check(rt, steps, (behind, -1), u64::MAX, false);
+    if steps.width == 8 {
+        assert_check(
+            rt,
+            steps,
+            (behind, low.wrapping_sub(4294967296)),
+            last,
+            false,
+        );
     }
 }
 
-// The last offset may be as great as can be, and none may be above the top.
-fn assert_large_whole(rt: &(impl Abort + AllocGlobal), len: u8) {
-    let last = large_step(u16::from(len)).unsigned_abs();
-    let end = u16::from(len);
-    assert_large_check(rt, len, (0, 0), last, true);
-    assert_large_check(rt, len, (0, 0), u64::MAX, true);
-    assert_large_check(rt, len, (end, i64::MAX), 9223372036854775807, true);
-    assert_large_check(rt, len, (end, i64::MAX), 9223372036854775806, false);
-    assert_large_check(rt, len, (0, -1), u64::MAX, false);
-    assert_large_check(rt, len, (0, i64::MIN), u64::MAX, false);
+// The last offset may be as great as can be, and none may be above the top or below 0.
+fn assert_whole(rt: &(impl Abort + AllocGlobal), steps: &Steps, greatest: i64) {
+    let end = u16::from(steps.len);
+    let first = step(steps.width, 0);
+    let last = step(steps.width, end).unsigned_abs();
+    let most = greatest.unsigned_abs();
+    assert_check(rt, steps, (0, first), last, true);
+    assert_check(rt, steps, (0, first), last.wrapping_sub(1), false);
+    assert_check(rt, steps, (0, 0), u64::MAX, true);
+    assert_check(rt, steps, (end, greatest), most, true);
+    assert_check(rt, steps, (end, greatest), most.wrapping_sub(1), false);
+    assert_check(rt, steps, (0, -1), u64::MAX, false);
+    assert_check(rt, steps, (0, !greatest), u64::MAX, false);
+}
+
+fn assert_each_length(rt: &(impl Abort + AllocGlobal), width: usize, greatest: i64) {
+    for len in 0..131u8 {
+        let steps = steps(rt, width, len);
+        assert_whole(rt, &steps, greatest);
+        for place in 0..len {
+            assert_behind(rt, &steps, place);
+        }
+    }
 }
 
 #[test]
-fn large_offsets_of_each_length(rt: HostRuntime) {
-    for len in 0..131u8 {
-        assert_large_whole(&rt, len);
-        assert_large_each_place(&rt, len);
-    }
+fn offsets_of_each_length(rt: HostRuntime) {
+    assert_each_length(&rt, 4, 2147483647);
+    assert_each_length(&rt, 8, i64::MAX);
 }
 
 // A width, another number, a top, and whether the number and sevens are at most the top.
@@ -582,12 +422,8 @@ fn sevens_but_one(
 ) -> Vec<u8> {
     let mut bytes = Vec::new(rt.alloc());
     for j in 0..len {
-        let number = if j == place { other } else { 7 };
-        let whole = number.to_le_bytes();
-        if let Some(part) = whole.get(..width) {
-            let added = bytes.extend_from_slice(part);
-            assert!(rt; added.is_ok(), "memory");
-        }
+        let number = if j == place { other.cast_signed() } else { 7 };
+        add(rt, &mut bytes, width, number);
     }
     bytes
 }
@@ -606,11 +442,7 @@ fn first_are_at_most(bytes: &[u8], width: usize, len: u8, top: u64) -> Option<bo
 
 // With another number at any place of `len` the answer is this one; behind them it is not looked
 // at.
-fn assert_at_most(
-    rt: &(impl Abort + AllocGlobal),
-    len: u8,
-    (width, other, top, answer): (usize, u64, u64, bool),
-) {
+fn assert_at_most(rt: &(impl Abort + AllocGlobal), len: u8, (width, other, top, answer): Top) {
     for place in 0..len {
         let bytes = sevens_but_one(rt, width, len, place, other);
         let all = first_are_at_most(&bytes, width, len, top);
@@ -628,104 +460,81 @@ static LENGTHS: [u8; 18] = [
     1, 2, 7, 8, 9, 15, 16, 17, 31, 32, 33, 40, 63, 64, 65, 127, 128, 129,
 ];
 
-fn assert_at_most_of_each_length(rt: &(impl Abort + AllocGlobal), row: Top) {
-    for len in LENGTHS.iter() {
-        assert_at_most(rt, *len, row);
-    }
-}
-
 #[test]
 fn numbers_at_most_a_top(rt: HostRuntime) {
     for row in TOPS.iter() {
-        assert_at_most_of_each_length(&rt, *row);
+        for len in LENGTHS.iter() {
+            assert_at_most(&rt, *len, *row);
+        }
         assert!(rt; first_are_at_most(&[], row.0, 0, 0) == Some(true));
     }
 }
 
-// Eight bytes, whether they are read by their sign, and the integer that their first bytes are.
-type Row = ([u8; 8], bool, i128);
-
-static OF_ONE_BYTE: [Row; 6] = [
-    ([0; 8], true, 0),
-    ([0; 8], false, 0),
-    ([255; 8], true, -1),
-    ([255; 8], false, 255),
-    ([0x7f, 255, 255, 255, 255, 255, 255, 255], true, 127),
-    ([0x80, 0, 0, 0, 0, 0, 0, 0], true, -128),
+// A width, bytes from the lowest on, whether they are read by their sign, and the integer that the
+// first of them are.
+static INTEGERS: [(usize, u64, bool, i128); 21] = [
+    (1, 0, true, 0),
+    (1, 0, false, 0),
+    (1, u64::MAX, true, -1),
+    (1, u64::MAX, false, 255),
+    (1, 0xffff_ffff_ffff_ff7f, true, 127),
+    (1, 0x80, true, -128),
+    (2, 0, true, 0),
+    (2, u64::MAX, true, -1),
+    (2, u64::MAX, false, 65535),
+    (2, 0x7fff, true, 32767),
+    (2, 0x8000, true, -32768),
+    (4, 0, true, 0),
+    (4, u64::MAX, true, -1),
+    (4, u64::MAX, false, 4294967295),
+    (4, 0x7fff_ffff, true, 2147483647),
+    (4, 0x8000_0000, true, -2147483648),
+    (8, 0, true, 0),
+    (8, u64::MAX, true, -1),
+    (8, u64::MAX, false, 18446744073709551615),
+    (8, 0x7fff_ffff_ffff_ffff, true, 9223372036854775807),
+    (8, 0x8000_0000_0000_0000, true, -9223372036854775808),
 ];
 
-static OF_TWO_BYTES: [Row; 5] = [
-    ([0; 8], true, 0),
-    ([255; 8], true, -1),
-    ([255; 8], false, 65535),
-    ([0xff, 0x7f, 0, 0, 0, 0, 0, 0], true, 32767),
-    ([0, 0x80, 0, 0, 0, 0, 0, 0], true, -32768),
-];
-
-static OF_FOUR_BYTES: [Row; 5] = [
-    ([0; 8], true, 0),
-    ([255; 8], true, -1),
-    ([255; 8], false, 4294967295),
-    ([255, 255, 255, 0x7f, 0, 0, 0, 0], true, 2147483647),
-    ([0, 0, 0, 0x80, 0, 0, 0, 0], true, -2147483648),
-];
-
-static OF_EIGHT_BYTES: [Row; 5] = [
-    ([0; 8], true, 0),
-    ([255; 8], true, -1),
-    ([255; 8], false, 18446744073709551615),
-    (
-        [255, 255, 255, 255, 255, 255, 255, 0x7f],
-        true,
-        9223372036854775807,
-    ),
-    ([0, 0, 0, 0, 0, 0, 0, 0x80], true, -9223372036854775808),
-];
-
-static THREE_OF_TWO_BYTES: [u8; 6] = [1, 0, 2, 0, 3, 1];
-
-// The rows hold of integers of this width, in the first slot.
-fn assert_rows(rt: &impl Abort, width: usize, rows: &[Row])
-    requires { IsWidth width }
-{
-    for (place, row) in rows.iter().enumerate() {
-        let number = int_at(&row.0, width, row.1, 0);
-        assert!(rt; number == row.2, "number {place} of {width} bytes");
+// The integer in the first slot of eight bytes.
+fn first_int(bytes: &[u8; 8], width: usize, signed: bool) -> Option<i128> {
+    match width {
+        1 => Some(int_at(bytes, 1, signed, 0)),
+        2 => Some(int_at(bytes, 2, signed, 0)),
+        4 => Some(int_at(bytes, 4, signed, 0)),
+        8 => Some(int_at(bytes, 8, signed, 0)),
+        _ => None,
     }
 }
 
 #[test]
 fn integers_of_each_width(rt: HostRuntime) {
-    assert_rows(&rt, 1, &OF_ONE_BYTE);
-    assert_rows(&rt, 2, &OF_TWO_BYTES);
-    assert_rows(&rt, 4, &OF_FOUR_BYTES);
-    assert_rows(&rt, 8, &OF_EIGHT_BYTES);
-    assert!(rt; int_at(&THREE_OF_TWO_BYTES, 2, true, 2) == 259);
+    for row in INTEGERS.iter() {
+        let (width, bytes, signed, want) = *row;
+        assert_eq!(rt;
+            first_int(&bytes.to_le_bytes(), width, signed),
+            Some(want),
+            "{row:?}"
+        );
+    }
+    assert!(rt; int_at(&[1, 0, 2, 0, 3, 1], 2, true, 2) == 259);
 }
 
-static NARROW: [u8; 12] = [255, 255, 255, 128, 0, 0, 0, 128, 2, 1, 0, 0];
-
-fn assert_narrow(rt: &impl Abort, out: &mut Vec<u8>) {
-    put_int(out, 2, -1).expect(rt, "memory");
-    assert!(rt; out.as_slice() == &NARROW[..2]);
-    put_int(out, 1, 255).expect(rt, "memory");
-    put_int(out, 1, -128).expect(rt, "memory");
-    put_int(out, 4, -2147483648).expect(rt, "memory");
-    put_int(out, 4, 258).expect(rt, "memory");
-    assert!(rt; out.as_slice() == NARROW.as_slice());
-}
-
-fn assert_wide(rt: &impl Abort, out: &[u8]) {
-    assert!(rt; out.len() == 16);
-    assert!(rt; int_at(out, 8, false, 0) == 18446744073709551615);
-    assert!(rt; int_at(out, 8, true, 1) == -2);
-}
+static APPENDED: [u8; 28] = [
+    255, 255, 255, 128, 0, 0, 0, 128, 2, 1, 0, 0, 255, 255, 255, 255, 255, 255, 255, 255, 254, 255,
+    255, 255, 255, 255, 255, 255,
+];
 
 #[test]
 fn integers_are_appended(rt: HostRuntime) {
-    assert_narrow(&rt, &mut Vec::new(rt.alloc()));
-    let mut wide = Vec::new(rt.alloc());
-    put_int(&mut wide, 8, 18446744073709551615).expect(&rt, "memory");
-    put_int(&mut wide, 8, -2).expect(&rt, "memory");
-    assert_wide(&rt, &wide);
+    let mut out = Vec::new(rt.alloc());
+    put_int(&mut out, 2, -1).expect(&rt, "memory");
+    assert!(rt; out.as_slice() == &APPENDED[..2]);
+    put_int(&mut out, 1, 255).expect(&rt, "memory");
+    put_int(&mut out, 1, -128).expect(&rt, "memory");
+    put_int(&mut out, 4, -2147483648).expect(&rt, "memory");
+    put_int(&mut out, 4, 258).expect(&rt, "memory");
+    put_int(&mut out, 8, 18446744073709551615).expect(&rt, "memory");
+    put_int(&mut out, 8, -2).expect(&rt, "memory");
+    assert!(rt; out.as_slice() == APPENDED.as_slice());
 }

@@ -2,7 +2,6 @@
 // at each place, and byte strings of each length up to that of two chunks and one byte.
 
 use super::columns::{MEMORY, are_records, builder, push, records, schema};
-use arrow_builder::ArrayBuilder;
 use arrow_data::Value;
 use arrow_types::DataType;
 use std::process::Abort;
@@ -84,15 +83,7 @@ fn marked(
 
 // A row behind others.
 fn put_row(rt: &impl Abort, want: &mut String, shown: &str) {
-    want.push_str("7,").expect(rt, MEMORY);
-    want.push_str(shown).expect(rt, MEMORY);
-    want.push_str("\n").expect(rt, MEMORY);
-}
-
-// A text among others, and its row behind theirs.
-fn put(rt: &impl Abort, column: &mut ArrayBuilder, want: &mut String, text: String, shown: &str) {
-    push(rt, column, &Value::Text(text));
-    put_row(rt, want, shown);
+    writeln!(want, "7,{shown}").expect(rt, MEMORY);
 }
 
 // Each byte at one place of a text of so many bytes, a row for each.
@@ -101,9 +92,9 @@ fn check_place(rt: &(impl Abort + AllocGlobal), len: usize, place: usize) {
     let mut column = builder(rt, &schema);
     let mut want = String::new(rt.alloc());
     for (mark, shown, around) in &MARKS {
-        let text = marked(rt, len, place, mark, "");
-        let shown = marked(rt, len, place, shown, around);
-        put(rt, &mut column, &mut want, text, shown.as_str());
+        let text = Value::Text(marked(rt, len, place, mark, ""));
+        push(rt, &mut column, &text);
+        put_row(rt, &mut want, &marked(rt, len, place, shown, around));
     }
     are_records(rt, &records(rt, schema, &column), &want);
 }
@@ -124,15 +115,10 @@ fn texts_of_letters_alone(rt: HostRuntime) {
     let mut want = String::new(rt.alloc());
     for len in &LENGTHS {
         let text = marked(&rt, *len, *len, "", "");
-        let shown = marked(&rt, *len, *len, "", "");
-        put(&rt, &mut column, &mut want, text, shown.as_str());
+        put_row(&rt, &mut want, &text);
+        push(&rt, &mut column, &Value::Text(text));
     }
     are_records(&rt, &records(&rt, schema, &column), &want);
-}
-
-fn push_text(rt: &(impl Abort + AllocGlobal), column: &mut ArrayBuilder, text: &str) {
-    let text = String::from_str(rt.alloc(), text).expect(rt, MEMORY);
-    push(rt, column, &Value::Text(text));
 }
 
 #[test]
@@ -141,15 +127,11 @@ fn texts_of_many_quotes(rt: HostRuntime) {
     let mut column = builder(&rt, &schema);
     let mut want = String::new(rt.alloc());
     for (text, record) in &TEXTS {
-        push_text(&rt, &mut column, text);
+        let text = String::from_str(rt.alloc(), text).expect(&rt, MEMORY);
+        push(&rt, &mut column, &Value::Text(text));
         want.push_str(record).expect(&rt, MEMORY);
     }
     are_records(&rt, &records(&rt, schema, &column), &want);
-}
-
-fn push_bytes(rt: &(impl Abort + AllocGlobal), column: &mut ArrayBuilder, bytes: &[u8]) {
-    let bytes = Vec::from_slice(rt.alloc(), bytes).expect(rt, MEMORY);
-    push(rt, column, &Value::Bytes(bytes));
 }
 
 #[test]
@@ -158,7 +140,8 @@ fn byte_strings_of_each_length(rt: HostRuntime) {
     let mut column = builder(&rt, &schema);
     let mut want = String::new(rt.alloc());
     for len in 0..=BYTES.len() {
-        push_bytes(&rt, &mut column, &BYTES[..len]);
+        let bytes = Vec::from_slice(rt.alloc(), &BYTES[..len]).expect(&rt, MEMORY);
+        push(&rt, &mut column, &Value::Bytes(bytes));
         let digits = DIGITS.get(..2 * len).expect(&rt, "two digits a byte");
         put_row(&rt, &mut want, digits);
     }

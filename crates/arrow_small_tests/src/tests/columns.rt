@@ -11,32 +11,26 @@ pub(super) const MEMORY: &str = "memory";
 
 // A nullable field of this name.
 pub(super) fn field(rt: &(impl Abort + AllocGlobal), name: &str, data_type: DataType) -> Field {
-    Field::new(
-        rt.alloc(),
-        String::from_str(rt.alloc(), name).expect(rt, MEMORY),
-        data_type,
-        true,
-    )
+    let name = String::from_str(rt.alloc(), name).expect(rt, MEMORY);
+    Field::new(rt.alloc(), name, data_type, true)
 }
 
 // The schema of one nullable column without a name.
 pub(super) fn schema(rt: &(impl Abort + AllocGlobal), data_type: DataType) -> Rc<Schema> {
-    schema_of(rt, field(rt, "", data_type))
+    let fields = vec![in rt.alloc(); field(rt, "", data_type)].expect(rt, MEMORY);
+    schema_of(rt, fields)
 }
 
-// The schema of one field.
-pub(super) fn schema_of(rt: &(impl Abort + AllocGlobal), field: Field) -> Rc<Schema> {
-    let mut fields = Vec::new(rt.alloc());
-    fields.push(field).expect(rt, MEMORY);
-    let schema = Schema::new(rt.alloc(), fields).expect(rt, "the field of a schema");
+// The schema of these fields.
+pub(super) fn schema_of(rt: &(impl Abort + AllocGlobal), fields: Vec<Field>) -> Rc<Schema> {
+    let schema = Schema::new(rt.alloc(), fields).expect(rt, "the fields of a schema");
     Rc::new(rt.alloc(), schema).expect(rt, MEMORY)
 }
 
-// A builder of its column.
+// A builder of its first column.
 pub(super) fn builder(rt: &(impl Abort + AllocGlobal), schema: &Schema) -> ArrayBuilder {
-    let fields = schema.fields();
-    assert!(rt; !fields.is_empty());
-    ArrayBuilder::new(rt.alloc(), &fields[0]).expect(rt, MEMORY)
+    let field = schema.fields().first().expect(rt, "a column");
+    ArrayBuilder::new(rt.alloc(), field).expect(rt, MEMORY)
 }
 
 // That these bytes are records.
@@ -49,14 +43,19 @@ pub(super) fn push(rt: &impl Abort, column: &mut ArrayBuilder, value: &Value) {
     column.push(value).expect(rt, "a value of the column");
 }
 
-// The records of a column, of the batch that has number 7.
+// The array of a column that refers to no dictionary.
+pub(super) fn finished(rt: &(impl Abort + AllocGlobal), column: &ArrayBuilder) -> Array {
+    let array = column.finish(rt.alloc(), &[]);
+    array.expect(rt, "no dictionary is asked for")
+}
+
+// The records of such a column, of the batch that has number 7.
 pub(super) fn records(
     rt: &(impl Abort + AllocGlobal),
     schema: Rc<Schema>,
     column: &ArrayBuilder,
 ) -> Vec<u8> {
-    let array = column.finish(rt.alloc(), &[]);
-    records_of(rt, schema, array.expect(rt, "no dictionary is asked for"))
+    records_of(rt, schema, finished(rt, column))
 }
 
 // The records of an array, of the batch that has number 7.
@@ -66,8 +65,7 @@ pub(super) fn records_of(
     array: Array,
 ) -> Vec<u8> {
     let len = array.len();
-    let mut columns = Vec::new(rt.alloc());
-    columns.push(array).expect(rt, MEMORY);
+    let columns = vec![in rt.alloc(); array].expect(rt, MEMORY);
     let batch = Batch::new(schema, columns, len).expect(rt, "one column as asked");
     rows(rt.alloc(), 7, &batch, 0, batch.rows()).expect(rt, MEMORY)
 }

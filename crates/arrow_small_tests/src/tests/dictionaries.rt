@@ -1,6 +1,8 @@
 // Records of dictionary-encoded columns, of short dictionaries and of long ones.
 
-use super::columns::{MEMORY, are_records, builder, field, push, records_of, schema, schema_of};
+use super::columns::{
+    MEMORY, are_records, builder, field, finished, push, records_of, schema, schema_of,
+};
 use arrow_data::{Array, Dictionary, Value};
 use arrow_types::{BitWidth, DataType, Encoding, Field, IndexType, Schema};
 use std::process::Abort;
@@ -32,17 +34,14 @@ static ROWS: [(Option<i128>, &str); 12] = [
 
 // A field of texts by indices of 8 bits.
 fn encoded(rt: &(impl Abort + AllocGlobal)) -> Field {
-    Field {
-        dictionary: Some(Encoding {
-            id: 3,
-            index: IndexType {
-                bits: BitWidth::Eight,
-                signed: true,
-            },
-            ordered: false,
-        }),
-        ..field(rt, "k", DataType::Utf8)
-    }
+    field(rt, "k", DataType::Utf8).with_dictionary(Encoding {
+        id: 3,
+        index: IndexType {
+            bits: BitWidth::Eight,
+            signed: true,
+        },
+        ordered: false,
+    })
 }
 
 // A text as a value, or a null.
@@ -71,8 +70,7 @@ fn dictionary(rt: &(impl Abort + AllocGlobal), letters: usize) -> Dictionary {
     if letters > 0 {
         push(rt, &mut column, &long_text(rt, letters));
     }
-    let values = column.finish(rt.alloc(), &[]);
-    of_array(rt, values.expect(rt, "no dictionary is asked for"))
+    of_array(rt, finished(rt, &column))
 }
 
 // The dictionary of an array that refers to none.
@@ -81,21 +79,13 @@ fn of_array(rt: &(impl Abort + AllocGlobal), values: Array) -> Dictionary {
     Dictionary::from_array(rt.alloc(), values).expect(rt, MEMORY)
 }
 
-fn index(index: Option<i128>) -> Value {
-    match index {
-        Some(index) => Value::Int(index),
-        None => Value::Null,
-    }
-}
-
 // The column of the first `count` rows by the dictionary with one more text of so many letters.
 fn column(rt: &(impl Abort + AllocGlobal), schema: &Schema, count: usize, letters: usize) -> Array {
     let mut column = builder(rt, schema);
     for (at, _) in &ROWS[..count.min(12)] {
-        push(rt, &mut column, &index(*at));
+        push(rt, &mut column, &at.map_or(Value::Null, Value::Int));
     }
-    let mut listed = Vec::new(rt.alloc());
-    listed.push((3, dictionary(rt, letters))).expect(rt, MEMORY);
+    let listed = vec![in rt.alloc(); (3, dictionary(rt, letters))].expect(rt, MEMORY);
     column
         .finish(rt.alloc(), &listed)
         .expect(rt, "indices of the dictionary")
@@ -112,22 +102,17 @@ fn wanted(rt: &(impl Abort + AllocGlobal), count: usize) -> String {
 
 // That the first `count` rows by this dictionary have the records of the table.
 fn check_rows(rt: &(impl Abort + AllocGlobal), count: usize, letters: usize) {
-    let schema = schema_of(rt, encoded(rt));
+    let schema = schema_of(rt, vec![in rt.alloc(); encoded(rt)].expect(rt, MEMORY));
     let column = column(rt, &schema, count, letters);
     are_records(rt, &records_of(rt, schema, column), &wanted(rt, count));
 }
 
+// Few values beside the rows, and many.
 #[test]
-fn dictionaries_with_few_values_beside_the_rows(rt: HostRuntime) {
-    check_rows(&rt, 10, 0);
-    check_rows(&rt, 11, 0);
-}
-
-#[test]
-fn dictionaries_with_many_values_beside_the_rows(rt: HostRuntime) {
-    check_rows(&rt, 9, 0);
-    check_rows(&rt, 2, 0);
-    check_rows(&rt, 0, 0);
+fn dictionaries_beside_few_and_many_rows(rt: HostRuntime) {
+    for count in [10, 11, 9, 2, 0] {
+        check_rows(&rt, count, 0);
+    }
 }
 
 #[test]

@@ -2,9 +2,8 @@
 
 use super::columns::{MEMORY, are_records, builder, field, push, records, schema};
 use arrow_data::Value;
-use arrow_types::{BitWidth, DataType, Schema};
+use arrow_types::{BitWidth, DataType};
 use std::process::Abort;
-use std::rc::Rc;
 
 // Numbers of 16 bits.
 const NUMBER: DataType = DataType::Int {
@@ -12,30 +11,9 @@ const NUMBER: DataType = DataType::Int {
     signed: true,
 };
 
-// A struct of a number and of bytes.
-fn pair(rt: &(impl Abort + AllocGlobal), number: Value, bytes: Value) -> Value {
-    let mut values = Vec::new(rt.alloc());
-    values.push(number).expect(rt, MEMORY);
-    values.push(bytes).expect(rt, MEMORY);
-    Value::Struct(values)
-}
-
-// The type of such structs.
-fn pairs(rt: &(impl Abort + AllocGlobal)) -> DataType {
-    let mut fields = Vec::new(rt.alloc());
-    fields.push(field(rt, "n", NUMBER)).expect(rt, MEMORY);
-    fields
-        .push(field(rt, "long name", DataType::Binary))
-        .expect(rt, MEMORY);
-    DataType::Struct(fields)
-}
-
-fn bytes(rt: &(impl Abort + AllocGlobal), bytes: &[u8]) -> Value {
-    Value::Bytes(Vec::from_slice(rt.alloc(), bytes).expect(rt, MEMORY))
-}
-
 // That a column of these values has these records.
-fn are_shown(rt: &(impl Abort + AllocGlobal), schema: Rc<Schema>, values: &[Value], want: &str) {
+fn are_shown(rt: &(impl Abort + AllocGlobal), of: DataType, values: &[Value], want: &str) {
+    let schema = schema(rt, of);
     let mut column = builder(rt, &schema);
     for value in values {
         push(rt, &mut column, value);
@@ -43,61 +21,60 @@ fn are_shown(rt: &(impl Abort + AllocGlobal), schema: Rc<Schema>, values: &[Valu
     are_records(rt, &records(rt, schema, &column), want);
 }
 
+// A struct of a number and of bytes.
+fn pair(rt: &(impl Abort + AllocGlobal), number: Value, bytes: Value) -> Value {
+    Value::Struct(vec![in rt.alloc(); number, bytes].expect(rt, MEMORY))
+}
+
 #[test]
 fn structs_name_their_fields(rt: HostRuntime) {
-    let mut values = Vec::new(rt.alloc());
-    for value in [
-        pair(&rt, Value::Int(-300), bytes(&rt, &[0xab, 0x0c])),
+    let (number, bytes) = (
+        field(&rt, "n", NUMBER),
+        field(&rt, "long name", DataType::Binary),
+    );
+    let fields = vec![in rt.alloc(); number, bytes].expect(&rt, MEMORY);
+    let bytes = vec![in rt.alloc(); 0xab, 0x0c].expect(&rt, MEMORY);
+    let values = [
+        pair(&rt, Value::Int(-300), Value::Bytes(bytes)),
         pair(&rt, Value::Null, Value::Null),
         Value::Null,
-    ] {
-        values.push(value).expect(&rt, MEMORY);
-    }
+    ];
     let want = "7,{n=-300;long name=ab0c}\n7,{n=null;long name=null}\n7,\n";
-    are_shown(&rt, schema(&rt, pairs(&rt)), &values, want);
+    are_shown(&rt, DataType::Struct(fields), &values, want);
 }
 
 #[test]
 fn truth_values_are_words(rt: HostRuntime) {
     let values = [Value::Bool(true), Value::Bool(false), Value::Null];
-    let schema = schema(&rt, DataType::Bool);
-    are_shown(&rt, schema, &values, "7,true\n7,false\n7,\n");
+    are_shown(&rt, DataType::Bool, &values, "7,true\n7,false\n7,\n");
 }
 
-// The schema of a column of lists.
-fn lists(rt: &(impl Abort + AllocGlobal), items: DataType) -> Rc<Schema> {
-    let item = Box::new(rt.alloc(), field(rt, "item", items)).expect(rt, MEMORY);
-    schema(rt, DataType::List(item))
+// The type of lists.
+fn lists(rt: &(impl Abort + AllocGlobal), items: DataType) -> DataType {
+    DataType::List(Box::new(rt.alloc(), field(rt, "item", items)).expect(rt, MEMORY))
 }
 
-fn list(rt: &(impl Abort + AllocGlobal), items: [Value; 3]) -> Value {
-    let mut values = Vec::new(rt.alloc());
-    for item in items {
-        values.push(item).expect(rt, MEMORY);
-    }
-    Value::List(values)
+// A list of an item, a null, and another item.
+fn list(rt: &(impl Abort + AllocGlobal), first: Value, last: Value) -> Value {
+    Value::List(vec![in rt.alloc(); first, Value::Null, last].expect(rt, MEMORY))
 }
 
 #[test]
 fn lists_part_their_items(rt: HostRuntime) {
     let values = [
-        list(&rt, [Value::Int(1), Value::Null, Value::Int(-3)]),
+        list(&rt, Value::Int(1), Value::Int(-3)),
         Value::List(Vec::new(rt.alloc())),
         Value::Null,
     ];
-    are_shown(
-        &rt,
-        lists(&rt, NUMBER),
-        &values,
-        "7,[1;null;-3]\n7,[]\n7,\n",
-    );
+    let want = "7,[1;null;-3]\n7,[]\n7,\n";
+    are_shown(&rt, lists(&rt, NUMBER), &values, want);
 }
 
 #[test]
 fn lists_of_truth_values(rt: HostRuntime) {
-    let values = [list(&rt, [Value::Bool(true), Value::Null, Value::Bool(false)])];
-    let schema = lists(&rt, DataType::Bool);
-    are_shown(&rt, schema, &values, "7,[true;null;false]\n");
+    let values = [list(&rt, Value::Bool(true), Value::Bool(false))];
+    let want = "7,[true;null;false]\n";
+    are_shown(&rt, lists(&rt, DataType::Bool), &values, want);
 }
 
 #[test]

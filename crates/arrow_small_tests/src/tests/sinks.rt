@@ -4,10 +4,9 @@ use arrow_sink::probe::{Failing, Narrow, Trickle};
 use arrow_sink::{Counted, Sink, send};
 use std::io;
 use std::io::{ErrorKind, Read, Write};
-use std::test::Fail;
 
 #[test]
-fn all_is_sent_to_memory(rt: HostRuntime) -> Result<(), Fail> {
+fn all_is_sent_to_memory(rt: HostRuntime) {
     let mut sink = Counted::new(Vec::new(rt.alloc()));
     assert!(rt; send(&mut sink, b"frame").is_ok());
     assert!(rt; send(&mut sink, b"").is_ok());
@@ -15,37 +14,33 @@ fn all_is_sent_to_memory(rt: HostRuntime) -> Result<(), Fail> {
     assert!(rt; sink.flush().is_ok());
     assert_eq!(rt; sink.failures(), 0);
     assert_eq!(rt; sink.into_inner().as_slice(), b"frames".as_slice());
-    Ok(())
 }
 
 #[test]
-fn a_piece_is_taken_in_parts(rt: HostRuntime) -> Result<(), Fail> {
+fn a_piece_is_taken_in_parts(rt: HostRuntime) {
     let mut sink = Narrow::new(rt.alloc(), 2, 9, Failing::ByError);
     assert!(rt; send(&mut sink, b"record".as_slice()).is_ok());
     assert_eq!(rt; sink.failures(), 0);
     assert_eq!(rt; sink.taken(), b"record".as_slice());
-    Ok(())
 }
 
 #[test]
-fn a_sink_that_fails_keeps_a_beginning(rt: HostRuntime) -> Result<(), Fail> {
+fn a_sink_that_fails_keeps_a_beginning(rt: HostRuntime) {
     for failing in [Failing::ByError, Failing::ByNothing] {
         let mut sink = Narrow::new(rt.alloc(), 2, 5, failing);
         assert!(rt; send(&mut sink, b"record".as_slice()).is_err());
         assert_eq!(rt; sink.failures(), 1);
         assert_eq!(rt; sink.taken(), b"recor".as_slice());
     }
-    Ok(())
 }
 
 #[test]
-fn nothing_is_asked_of_a_sink_for_no_bytes(rt: HostRuntime) -> Result<(), Fail> {
+fn nothing_is_asked_of_a_sink_for_no_bytes(rt: HostRuntime) {
     let mut sink = Narrow::new(rt.alloc(), 2, 0, Failing::ByError);
     assert!(rt; send(&mut sink, b"").is_ok());
     assert_eq!(rt; sink.failures(), 0);
     assert!(rt; send(&mut sink, b"x").is_err());
     assert_eq!(rt; sink.failures(), 1);
-    Ok(())
 }
 
 // A writer that takes nothing and passes on nothing.
@@ -63,13 +58,12 @@ impl Write for Shut {
 }
 
 #[test]
-fn errors_of_a_writer_are_told_and_counted(rt: HostRuntime) -> Result<(), Fail> {
+fn errors_of_a_writer_are_told_and_counted(rt: HostRuntime) {
     let mut sink = Counted::new(Shut);
     assert!(rt; sink.put(b"x").is_err());
     assert_eq!(rt; sink.failures(), 1);
     assert!(rt; sink.flush().is_err());
     assert_eq!(rt; sink.failures(), 2);
-    Ok(())
 }
 
 // A writer that is interrupted at its first call and takes all from then on.
@@ -93,18 +87,17 @@ impl Write for Late {
 }
 
 #[test]
-fn an_interrupted_write_is_told_and_not_made_again(rt: HostRuntime) -> Result<(), Fail> {
+fn an_interrupted_write_is_told_and_not_made_again(rt: HostRuntime) {
     let mut sink = Counted::new(Late { calls: 0 });
     assert!(rt; sink.put(b"frame").is_err());
     assert_eq!(rt; sink.failures(), 1);
     assert_eq!(rt; sink.put(b"frame"), Ok(5));
     assert_eq!(rt; sink.failures(), 1);
     assert_eq!(rt; sink.into_inner().calls, 2);
-    Ok(())
 }
 
 #[test]
-fn a_narrow_sink_fails_as_it_is_told(rt: HostRuntime) -> Result<(), Fail> {
+fn a_narrow_sink_fails_as_it_is_told(rt: HostRuntime) {
     let mut sink = Narrow::new(rt.alloc(), 3, 4, Failing::AtFlush);
     assert_eq!(rt; (sink.room(2), sink.room(9)), (2, 3));
     assert_eq!(rt; sink.put(b"frames"), Ok(3));
@@ -114,11 +107,10 @@ fn a_narrow_sink_fails_as_it_is_told(rt: HostRuntime) -> Result<(), Fail> {
     assert_eq!(rt; (sink.taken(), sink.failures()), (b"fram".as_slice(), 1));
     assert!(rt; sink.flush().is_err());
     assert_eq!(rt; (sink.flushes(), sink.failures()), (1, 2));
-    Ok(())
 }
 
 #[test]
-fn an_input_gives_little_and_fails(rt: HostRuntime) -> Result<(), Fail> {
+fn an_input_gives_little_and_fails(rt: HostRuntime) {
     let fails = Some((3, ErrorKind::BrokenPipe));
     let mut input = Trickle::new(b"record".as_slice(), 2, fails);
     let mut room = [0; 4];
@@ -130,11 +122,10 @@ fn an_input_gives_little_and_fails(rt: HostRuntime) -> Result<(), Fail> {
         assert_eq!(rt; failed, Some(ErrorKind::BrokenPipe));
     }
     assert_eq!(rt; input.given(), 3);
-    Ok(())
 }
 
 #[test]
-fn an_input_ends(rt: HostRuntime) -> Result<(), Fail> {
+fn an_input_ends(rt: HostRuntime) {
     let mut input = Trickle::new(b"re".as_slice(), 0, Some((3, ErrorKind::Other)));
     let mut room = [0; 4];
     assert_eq!(rt; input.read(&mut room[..0]).ok(), Some(0));
@@ -142,5 +133,4 @@ fn an_input_ends(rt: HostRuntime) -> Result<(), Fail> {
     assert_eq!(rt; input.read(&mut room[1..]).ok(), Some(1));
     assert_eq!(rt; input.read(&mut room).ok(), Some(0));
     assert_eq!(rt; (input.given(), room), (2, *b"re\0\0"));
-    Ok(())
 }

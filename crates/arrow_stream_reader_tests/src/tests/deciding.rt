@@ -1,84 +1,31 @@
 // The byte that decides a refusal: the first after which a reader answers it.
 
 use crate::frames::columns::COMPRESSED;
-use arrow_stream_reader::{Fault, Kind, StreamReader};
+use arrow_stream_reader::{Fault, StreamReader};
 use arrow_test_streams::parts::Source::{Bytes, Growing};
-use arrow_test_streams::parts::{ABC, DE, Edit, FIRST, LETTERS, NUMBERS, Part, THREE, joined};
+use arrow_test_streams::parts::{ABC, DE, Edit, LETTERS, NUMBERS, Part, THREE, joined};
 use arrow_types::Limits;
-use std::alloc::Global;
 
-const BELOW_ZERO: [u8; 8] = [0xff; 8];
+const SQUEEZED: Part = (Bytes(COMPRESSED), 0, 192);
 
-const ROWS: u64 = Limits::ROWS_CEILING;
+// A stream, of which some bytes are others, how many bytes come until it is refused, and with what.
+type Decided = (&'static [Part], Edit, usize, &'static str);
 
-const SQUEEZED: Part = (Bytes(&COMPRESSED), 0, 192);
-
-// A stream, the most rows, how many bytes come until it is refused, and with what.
-type Decided = (&'static [Part], &'static [Edit], u64, usize, Kind, u64);
-
-// What the metadata decide is told before the body comes; a body is looked at when it is whole.
+// What the metadata decide is told before the body comes; a body is looked at when it is whole. Four
+// rows are allowed.
 static DECISIONS: [Decided; 11] = [
-    (&[THREE], &[], ROWS, 152, Kind::Order, 0),
-    (&[NUMBERS, SQUEEZED], &[], ROWS, 320, Kind::Compressed, 152),
-    (
-        &[NUMBERS, THREE],
-        &[(224, &BELOW_ZERO)],
-        ROWS,
-        304,
-        Kind::Rows,
-        152,
-    ),
-    (
-        &[NUMBERS, THREE],
-        &[(199, &[0x80])],
-        ROWS,
-        304,
-        Kind::BodyLength,
-        152,
-    ),
-    (
-        &[LETTERS, ABC],
-        &[(328, &BELOW_ZERO)],
-        ROWS,
-        400,
-        Kind::Rows,
-        200,
-    ),
-    (
-        &[LETTERS, ABC],
-        &[(416, &[0xff])],
-        ROWS,
-        424,
-        Kind::Text,
-        200,
-    ),
-    (
-        &[NUMBERS, THREE, THREE],
-        &[(244, &[0])],
-        ROWS,
-        328,
-        Kind::Layout,
-        152,
-    ),
-    (&[LETTERS, DE], &[(272, &[0])], ROWS, 400, Kind::NoBase, 200),
-    (
-        &[LETTERS, DE],
-        &[(272, &[7])],
-        ROWS,
-        400,
-        Kind::UnknownId,
-        200,
-    ),
-    (
-        &[LETTERS, ABC, FIRST, DE],
-        &[(576, &[3])],
-        ROWS,
-        592,
-        Kind::Index,
-        424,
-    ),
-    // Five values are too many where four rows are allowed.
-    (&[(Growing, 0, 1_376)], &[], 4, 792, Kind::Rows, 592),
+    (&[THREE], (0, &[]), 152, "Order at 0"),
+    (&[NUMBERS, SQUEEZED], (0, &[]), 320, "Compressed at 152"),
+    (&[NUMBERS, THREE], (224, &[0xff; 8]), 304, "Rows at 152"),
+    (&[NUMBERS, THREE], (199, &[0x80]), 304, "BodyLength at 152"),
+    (&[LETTERS, ABC], (328, &[0xff; 8]), 400, "Rows at 200"),
+    (&[LETTERS, ABC], (416, &[0xff]), 424, "Text at 200"),
+    (&[NUMBERS, THREE, THREE], (244, &[0]), 328, "Layout at 152"),
+    (&[LETTERS, DE], (272, &[0]), 400, "NoBase at 200"),
+    (&[LETTERS, DE], (272, &[7]), 400, "UnknownId at 200"),
+    (&[(Growing, 0, 816)], (576, &[3]), 592, "Index at 424"),
+    // Three values and two behind them are five.
+    (&[(Growing, 0, 1_376)], (0, &[]), 792, "Rows at 592"),
 ];
 
 // The first fault of a stream that comes byte by byte, and how many bytes had come by then.
@@ -91,23 +38,17 @@ fn first_fault(reader: &mut StreamReader, bytes: &[u8]) -> Option<(usize, Fault)
     None
 }
 
-// A reader of at most so many rows.
-fn reader_of(alloc: Global, rows: u64) -> Option<StreamReader> {
-    let standard = Limits::standard();
-    let limits = Limits::new(standard.max_metadata(), standard.max_body(), rows)?;
-    Some(StreamReader::new(alloc, limits))
-}
-
 #[test]
 fn the_byte_that_decides(rt: HostRuntime) {
-    for (number, (parts, edits, rows, count, kind, place)) in DECISIONS.iter().enumerate() {
-        let bytes = joined(rt.alloc(), parts, edits).expect(&rt, "a stream");
-        let mut reader = reader_of(rt.alloc(), *rows).expect(&rt, "under the ceilings");
-        let fault = Fault {
-            kind: *kind,
-            place: *place,
-        };
-        let found = first_fault(&mut reader, &bytes);
-        assert_eq!(rt; found, Some((*count, fault)), "row {number}");
+    let standard = Limits::standard();
+    let limits = Limits::new(standard.max_metadata(), standard.max_body(), 4);
+    let limits = limits.expect(&rt, "under the ceilings");
+    for (number, (parts, edit, count, want)) in DECISIONS.iter().enumerate() {
+        let bytes = joined(rt.alloc(), parts, &[*edit]).expect(&rt, "a stream");
+        let mut reader = StreamReader::new(rt.alloc(), limits);
+        let (found, fault) = first_fault(&mut reader, &bytes).expect(&rt, "a fault");
+        let told = format!(in rt.alloc(); "{} at {}", fault.kind, fault.place);
+        assert_eq!(rt; found, *count, "row {number}");
+        assert_eq!(rt; told.expect(&rt, "memory").as_str(), *want, "row {number}");
     }
 }

@@ -16,6 +16,12 @@ const BODY: Part = (Bytes(&[0; 8]), 0, 8);
 
 const AT_START: &str = "refused MetadataSize at 0; 0 held at 0: MetadataSize at 0";
 
+const ONE_COLUMN: &str = "schema n; 0 held at 152: whole";
+
+const ALL_ROWS: &str = "schema n; batch 1 null 3; 0 held at 328: whole";
+
+const ALL_VALUES: &str = "schema k; dictionary a b c; 0 held at 424: whole";
+
 const THREE_ROWS: &str = "schema n; refused Rows at 152; 0 held at 152: Rows at 152";
 
 const THREE_VALUES: &str = "schema k; refused Rows at 200; 0 held at 200: Rows at 200";
@@ -25,16 +31,11 @@ static LIMITED: [Limited; 18] = [
     // value these are 18 bytes.
     (
         [200, 0, 0],
-        &[(Bytes(&AT_SCHEMA), 0, 208)],
+        &[(Bytes(AT_SCHEMA), 0, 208)],
         &[(188, &[16])],
         "schema n; 0 held at 208: whole",
     ),
-    (
-        [144, 0, 0],
-        &[NUMBERS],
-        &[],
-        "schema n; 0 held at 152: whole",
-    ),
+    ([144, 0, 0], &[NUMBERS], &[], ONE_COLUMN),
     ([143, 0, 0], &[NUMBERS], &[], AT_START),
     // The other bytes of the size.
     ([399, 0, 0], &[NUMBERS], &[(5, &[1])], AT_START),
@@ -52,18 +53,8 @@ static LIMITED: [Limited; 18] = [
         &[(40, &[8])],
         "refused BodyLength at 0; 0 held at 0: BodyLength at 0",
     ),
-    (
-        [1000, 1000, 3],
-        &[NUMBERS, THREE],
-        &[],
-        "schema n; batch 1 null 3; 0 held at 328: whole",
-    ),
-    (
-        [1000, 1000, 3],
-        &[LETTERS, ABC],
-        &[],
-        "schema k; dictionary a b c; 0 held at 424: whole",
-    ),
+    ([1000, 1000, 3], &[NUMBERS, THREE], &[], ALL_ROWS),
+    ([1000, 1000, 3], &[LETTERS, ABC], &[], ALL_VALUES),
     ([1000, 1000, 2], &[NUMBERS, THREE], &[], THREE_ROWS),
     ([1000, 1000, 2], &[LETTERS, ABC], &[], THREE_VALUES),
     ([1000, 1000, 0], &[NUMBERS, THREE], &[], THREE_ROWS),

@@ -1,37 +1,9 @@
-// Fields that are built of what stands in tables.
+// Fields that are built of what stands in words.
 
 use arrow_types::{BitWidth, DataType, Encoding, Field, IndexType, Schema, SchemaFault, TimeUnit};
 use std::process::Abort;
 
 pub(super) const MEMORY: &str = "memory";
-
-// Types, without what stands below them.
-#[derive(Clone, Copy)]
-pub(super) enum Kind {
-    Null,
-    Bool,
-    Binary,
-    LargeBinary,
-    // Byte strings of so many bytes each.
-    FixedSizeBinary(u32),
-    Utf8,
-    LargeUtf8,
-    Time(TimeUnit),
-    Duration(TimeUnit),
-    // Timestamps in microseconds, with the name of a zone where it is not empty.
-    Timestamp(&'static str),
-    // Lists of the field before.
-    List,
-    LargeList,
-    // Structs of so many fields before.
-    Struct(usize),
-}
-
-// A field: its name, the id of its dictionary, which is ordered where the id is odd, and its type.
-//
-// Several of them stand for columns: each takes from its end what was built so far for what stands
-// below it.
-pub(super) type Step = (&'static str, Option<i64>, Kind);
 
 // A field that may be null.
 pub(super) fn field(rt: &(impl Abort + AllocGlobal), name: &str, data_type: DataType) -> Field {
@@ -47,9 +19,10 @@ fn boxed(rt: &(impl Abort + AllocGlobal), fields: &mut Vec<Field>) -> Box<Field>
     Box::new(rt.alloc(), last(rt, fields)).expect(rt, MEMORY)
 }
 
-fn last_fields(rt: &impl Abort, fields: &mut Vec<Field>, count: usize) -> Vec<Field> {
-    assert!(rt; count <= fields.len());
-    fields.split_off(fields.len() - count).expect(rt, MEMORY)
+fn last_fields(rt: &impl Abort, fields: &mut Vec<Field>, count: u32) -> Vec<Field> {
+    assert!(rt; count as usize <= fields.len());
+    let start = fields.len() - count as usize;
+    fields.split_off(start).expect(rt, MEMORY)
 }
 
 fn zoned(rt: &(impl Abort + AllocGlobal), name: &str) -> Option<String> {
@@ -59,21 +32,39 @@ fn zoned(rt: &(impl Abort + AllocGlobal), name: &str) -> Option<String> {
     Some(String::from_str(rt.alloc(), name).expect(rt, MEMORY))
 }
 
-fn data_type(rt: &(impl Abort + AllocGlobal), before: &mut Vec<Field>, kind: Kind) -> DataType {
-    match kind {
-        Kind::Null => DataType::Null,
-        Kind::Bool => DataType::Bool,
-        Kind::Binary => DataType::Binary,
-        Kind::LargeBinary => DataType::LargeBinary,
-        Kind::FixedSizeBinary(width) => DataType::FixedSizeBinary(width),
-        Kind::Utf8 => DataType::Utf8,
-        Kind::LargeUtf8 => DataType::LargeUtf8,
-        Kind::Time(unit) => DataType::Time(unit),
-        Kind::Duration(unit) => DataType::Duration(unit),
-        Kind::Timestamp(zone) => DataType::Timestamp(TimeUnit::Microsecond, zoned(rt, zone)),
-        Kind::List => DataType::List(boxed(rt, before)),
-        Kind::LargeList => DataType::LargeList(boxed(rt, before)),
-        Kind::Struct(count) => DataType::Struct(last_fields(rt, before, count)),
+fn count_in(rt: &impl Abort, digits: &str) -> u32 {
+    digits.parse::<u32>().ok().expect(rt, "a count")
+}
+
+fn unit_in(rt: &impl Abort, word: &str) -> TimeUnit {
+    match word {
+        "s" => TimeUnit::Second,
+        "ms" => TimeUnit::Millisecond,
+        "us" => TimeUnit::Microsecond,
+        "ns" => TimeUnit::Nanosecond,
+        _ => panic!(rt; "{word} is no unit"),
+    }
+}
+
+// The type that a word names. Behind a dot stand the width of byte strings, the unit of times, the
+// zone of timestamps in microseconds, or how many fields before it a struct takes; a list takes one.
+fn data_type(rt: &(impl Abort + AllocGlobal), before: &mut Vec<Field>, word: &str) -> DataType {
+    let (name, more) = word.split_once('.').unwrap_or((word, ""));
+    match name {
+        "list" => DataType::List(boxed(rt, before)),
+        "large_list" => DataType::LargeList(boxed(rt, before)),
+        "struct" => DataType::Struct(last_fields(rt, before, count_in(rt, more))),
+        "null" => DataType::Null,
+        "bool" => DataType::Bool,
+        "binary" => DataType::Binary,
+        "large_binary" => DataType::LargeBinary,
+        "fixed" => DataType::FixedSizeBinary(count_in(rt, more)),
+        "utf8" => DataType::Utf8,
+        "large_utf8" => DataType::LargeUtf8,
+        "time" => DataType::Time(unit_in(rt, more)),
+        "duration" => DataType::Duration(unit_in(rt, more)),
+        "timestamp" => DataType::Timestamp(TimeUnit::Microsecond, zoned(rt, more)),
+        _ => panic!(rt; "{name} is no type"),
     }
 }
 
@@ -89,31 +80,39 @@ pub(super) fn encoding(id: i64) -> Encoding {
     }
 }
 
-pub(super) fn columns(rt: &(impl Abort + AllocGlobal), steps: &[Step]) -> Vec<Field> {
+// Puts so many fields `NAME:TYPE` or `NAME@ID:TYPE` behind others. A dictionary is ordered where its
+// id is odd.
+fn push_fields(rt: &(impl Abort + AllocGlobal), fields: &mut Vec<Field>, word: &str, count: u32) {
+    let (named, of) = word.split_once(':').expect(rt, "a name and a type");
+    let (name, id) = named.split_once('@').unwrap_or((named, ""));
+    let dictionary = id.parse::<i64>().ok().map(encoding);
+    for _ in 0..count {
+        let of = data_type(rt, fields, of);
+        let mut field = field(rt, name, of);
+        field.dictionary = dictionary;
+        fields.push(field).expect(rt, MEMORY);
+    }
+}
+
+// The columns of fields one behind the other, each of which takes from the end of those before it
+// what stands below it. `:bool*3` is three times `:bool`.
+pub(super) fn columns(rt: &(impl Abort + AllocGlobal), words: &str) -> Vec<Field> {
     let mut columns = Vec::new(rt.alloc());
-    for (name, id, kind) in steps {
-        let of = data_type(rt, &mut columns, *kind);
-        let mut column = field(rt, name, of);
-        column.dictionary = id.map(encoding);
-        columns.push(column).expect(rt, MEMORY);
+    for word in words.split_whitespace() {
+        let (word, times) = word.split_once('*').unwrap_or((word, "1"));
+        push_fields(rt, &mut columns, word, count_in(rt, times));
     }
     columns
 }
 
-pub(super) fn column(rt: &(impl Abort + AllocGlobal), steps: &[Step]) -> Field {
-    last(rt, &mut columns(rt, steps))
+pub(super) fn column(rt: &(impl Abort + AllocGlobal), words: &str) -> Field {
+    last(rt, &mut columns(rt, words))
 }
 
-// The field, with one above it of this name and this kind.
-pub(super) fn below(
-    rt: &(impl Abort + AllocGlobal),
-    name: &str,
-    kind: Kind,
-    child: Field,
-) -> Field {
-    let mut fields = Vec::new(rt.alloc());
-    fields.push(child).expect(rt, MEMORY);
-    let above = data_type(rt, &mut fields, kind);
+// The field, with one above it of this name and this type.
+pub(super) fn below(rt: &(impl Abort + AllocGlobal), name: &str, of: &str, child: Field) -> Field {
+    let mut fields = vec![in rt.alloc(); child].expect(rt, MEMORY);
+    let above = data_type(rt, &mut fields, of);
     field(rt, name, above)
 }
 

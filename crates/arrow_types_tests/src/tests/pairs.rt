@@ -1,6 +1,6 @@
 // Custom metadata of schemas and fields: kept, copied, compared and counted.
 
-use super::fields::{Kind, MEMORY, add_empty, below, encoding, field, number};
+use super::fields::{MEMORY, add_empty, below, encoding, field, number};
 use arrow_types::{BitWidth, DataType, Encoding, Field, IndexType, Schema, SchemaFault};
 use std::process::Abort;
 
@@ -15,7 +15,7 @@ const NO: Pairs = &[];
 
 const NONE: Levels = [(NO, 0), (NO, 0), (NO, 0), (NO, 0)];
 
-const ABOVE: [Kind; 3] = [Kind::List, Kind::LargeList, Kind::Struct(1)];
+const ABOVE: [&str; 3] = ["list", "large_list", "struct.1"];
 
 // These pairs, in memory of their own.
 fn pairs(
@@ -41,27 +41,24 @@ fn are_pairs(pairs: &[(Vec<u8>, Vec<u8>)], want: Pairs) -> bool {
         })
 }
 
-// A column of truth values below a struct below this kind.
-fn column(rt: &(impl Abort + AllocGlobal), above: Kind, levels: &Levels) -> Field {
+// A column of truth values below a struct below this type.
+fn column(rt: &(impl Abort + AllocGlobal), above: &str, levels: &Levels) -> Field {
     let lowest = field(rt, "n", DataType::Bool).with_metadata(pairs(rt, levels[3]));
-    let child = below(rt, "m", Kind::Struct(1), lowest).with_metadata(pairs(rt, levels[2]));
+    let child = below(rt, "m", "struct.1", lowest).with_metadata(pairs(rt, levels[2]));
     below(rt, "f", above, child).with_metadata(pairs(rt, levels[1]))
 }
 
 fn made(
     rt: &(impl Abort + AllocGlobal),
-    columns: [Field; 1],
+    column: Field,
     own: (Pairs, usize),
 ) -> Result<Schema, SchemaFault> {
-    let mut fields = Vec::new(rt.alloc());
-    for column in columns {
-        fields.push(column).expect(rt, MEMORY);
-    }
-    Schema::with_metadata(rt.alloc(), fields, pairs(rt, own))
+    let columns = vec![in rt.alloc(); column].expect(rt, MEMORY);
+    Schema::with_metadata(rt.alloc(), columns, pairs(rt, own))
 }
 
-fn schema(rt: &(impl Abort + AllocGlobal), above: Kind, levels: &Levels) -> Schema {
-    made(rt, [column(rt, above, levels)], levels[0]).expect(rt, "a schema")
+fn schema(rt: &(impl Abort + AllocGlobal), above: &str, levels: &Levels) -> Schema {
+    made(rt, column(rt, above, levels), levels[0]).expect(rt, "a schema")
 }
 
 // The first column, and how equal it is to that of another schema: in all, in its type, and in its
@@ -103,7 +100,7 @@ fn at(place: usize, noted: Pairs) -> Levels {
 }
 
 // Whether schemas with pairs at one place are equal, and what of their columns.
-fn is_equal(rt: &(impl Abort + AllocGlobal), above: Kind, place: usize, i: usize, j: usize) {
+fn is_equal(rt: &(impl Abort + AllocGlobal), above: &str, place: usize, i: usize, j: usize) {
     let one = schema(rt, above, &at(place, row(rt, i)));
     let other = schema(rt, above, &at(place, row(rt, j)));
     assert_eq!(rt; one == other, i == j, "{i} {j} at {place}");
@@ -133,8 +130,8 @@ fn what_is_equal_has_the_same_pairs(rt: HostRuntime) {
 fn pairs_in_other_places_are_others(rt: HostRuntime) {
     for one in 0..4 {
         for other in 0..4 {
-            let first = schema(&rt, Kind::List, &at(one, PAIRS[4]));
-            let is_same = first == schema(&rt, Kind::List, &at(other, PAIRS[4]));
+            let first = schema(&rt, "list", &at(one, PAIRS[4]));
+            let is_same = first == schema(&rt, "list", &at(other, PAIRS[4]));
             assert_eq!(rt; is_same, one == other, "{one} {other}");
         }
     }
@@ -142,10 +139,7 @@ fn pairs_in_other_places_are_others(rt: HostRuntime) {
 
 // Pairs on all levels.
 const NOTED: Levels = [
-    (
-        &[(b"origin", b"here"), (b"", b""), (b"origin", b"there")],
-        0,
-    ),
+    (&[(b"from", b"here"), (b"", b""), (b"from", b"there")], 0),
     (&[(b"\xff\xfe", b"\0\x80")], 0),
     (&[(b"unit", b"m"), (b"unit", b"s"), (b"unit", b"m")], 0),
     (&[(b"deep", b"est")], 0),
@@ -163,14 +157,14 @@ fn is_noted(rt: &impl Abort, schema: &Schema, levels: &Levels) {
 }
 
 // The pairs of the schema itself are none of its fields'.
-fn is_copied(rt: &(impl Abort + AllocGlobal), above: Kind) {
+fn is_copied(rt: &(impl Abort + AllocGlobal), above: &str) {
     let noted = schema(rt, above, &NOTED);
     let copy = noted.copy(rt.alloc()).expect(rt, MEMORY);
     is_noted(rt, &copy, &NOTED);
     assert!(rt; copy == noted);
     let column = noted.fields().first().expect(rt, "a column");
     let copy = column.copy(rt.alloc()).expect(rt, MEMORY);
-    let alone = made(rt, [copy], (&[], 0)).expect(rt, "a schema");
+    let alone = made(rt, copy, (NO, 0)).expect(rt, "a schema");
     is_noted(rt, &alone, &[NONE[0], NOTED[1], NOTED[2], NOTED[3]]);
     let of = column.data_type.copy(rt.alloc()).expect(rt, MEMORY);
     assert!(rt; of == column.data_type && of.same(&column.data_type));
@@ -184,30 +178,30 @@ fn copies_keep_pairs_on_each_level(rt: HostRuntime) {
 }
 
 // A column by dictionary 7, whose values have a field of this name below them, with these pairs.
-fn encoded(rt: &(impl Abort + AllocGlobal), above: Kind, name: &str, noted: Pairs) -> Field {
+fn encoded(rt: &(impl Abort + AllocGlobal), above: &str, name: &str, noted: Pairs) -> Field {
     let child = field(rt, name, DataType::Bool).with_metadata(pairs(rt, (noted, 0)));
     let column = below(rt, "c", above, child).with_metadata(pairs(rt, (noted, 0)));
     column.with_dictionary(encoding(7))
 }
 
-// The number of the fault of two such columns.
-fn fault_of_two(rt: &(impl Abort + AllocGlobal), above: Kind, name: &str, noted: [Pairs; 2]) -> u8 {
-    let mut fields = Vec::new(rt.alloc());
-    for (name, noted) in [("n", noted[0]), (name, noted[1])] {
-        let column = encoded(rt, above, name, noted);
-        fields.push(column).expect(rt, MEMORY);
-    }
-    number(Schema::new(rt.alloc(), fields))
+// The number of the fault of two columns.
+fn two_columns(rt: &(impl Abort + AllocGlobal), first: Field, second: Field) -> u8 {
+    let columns = vec![in rt.alloc(); first, second].expect(rt, MEMORY);
+    number(Schema::new(rt.alloc(), columns))
+}
+
+// The same of two such columns.
+fn fault_of_two(rt: &(impl Abort + AllocGlobal), above: &str, name: &str, noted: [Pairs; 2]) -> u8 {
+    let first = encoded(rt, above, "n", noted[0]);
+    let second = encoded(rt, above, name, noted[1]);
+    two_columns(rt, first, second)
 }
 
 #[test]
 fn value_types_do_not_differ_in_pairs(rt: HostRuntime) {
     for above in ABOVE {
-        for noted in [
-            [PAIRS[4], PAIRS[0]],
-            [PAIRS[0], PAIRS[4]],
-            [PAIRS[4], PAIRS[4]],
-        ] {
+        for [one, other] in [[4, 0], [0, 4], [4, 4]] {
+            let noted = [row(&rt, one), row(&rt, other)];
             assert_eq!(rt; fault_of_two(&rt, above, "n", noted), 0, "{noted:?}");
             assert_eq!(rt; fault_of_two(&rt, above, "m", noted), 4, "{noted:?}");
         }
@@ -240,26 +234,23 @@ fn pairs_of_all_levels_are_counted(rt: HostRuntime) {
         for above in ABOVE {
             let [own, at_column, at_child, at_lowest] = *counts;
             let levels = [(NO, own), (NO, at_column), (NO, at_child), (NO, at_lowest)];
-            let made = made(&rt, [column(&rt, above, &levels)], levels[0]);
+            let made = made(&rt, column(&rt, above, &levels), levels[0]);
             assert_eq!(rt; number(made), *want, "{counts:?}");
         }
     }
 }
 
-// The number of the fault of two columns of half as many pairs each.
-fn fault_of_halves(rt: &(impl Abort + AllocGlobal), second: usize) -> u8 {
-    let mut fields = Vec::new(rt.alloc());
-    for count in [32_768, second] {
-        let column = field(rt, "n", DataType::Null).with_metadata(pairs(rt, (&[], count)));
-        fields.push(column).expect(rt, MEMORY);
-    }
-    number(Schema::new(rt.alloc(), fields))
+// A column of nulls with so many pairs.
+fn with_empty(rt: &(impl Abort + AllocGlobal), count: usize) -> Field {
+    field(rt, "n", DataType::Null).with_metadata(pairs(rt, (NO, count)))
 }
 
 #[test]
 fn pairs_of_columns_side_by_side_are_counted(rt: HostRuntime) {
-    assert_eq!(&rt; fault_of_halves(&rt, 32_768), 0);
-    assert_eq!(&rt; fault_of_halves(&rt, 32_769), 7);
+    for (count, want) in [(32_768, 0), (32_769, 7)] {
+        let (first, second) = (with_empty(&rt, 32_768), with_empty(&rt, count));
+        assert_eq!(&rt; two_columns(&rt, first, second), want, "{count}");
+    }
 }
 
 const SMALL: Encoding = Encoding {
@@ -314,8 +305,8 @@ fn a_field_gets_a_dictionary_and_pairs(rt: HostRuntime) {
 #[test]
 fn a_schema_has_the_pairs_that_it_gets(rt: HostRuntime) {
     let twice: Pairs = &[(b"", b"v"), (b"", b"v")];
-    let plain = made(&rt, [column(&rt, Kind::List, &NOTED)], (&[], 0)).expect(&rt, "a schema");
-    let noted = made(&rt, [column(&rt, Kind::List, &NOTED)], (twice, 0)).expect(&rt, "a schema");
+    let plain = made(&rt, column(&rt, "list", &NOTED), (NO, 0)).expect(&rt, "a schema");
+    let noted = made(&rt, column(&rt, "list", &NOTED), (twice, 0)).expect(&rt, "a schema");
     assert!(&rt; plain.metadata().is_empty());
     assert!(&rt; are_pairs(noted.metadata(), twice));
     assert_eq!(&rt; equal_columns(&rt, &plain, &noted), [true, true, true]);

@@ -1,7 +1,10 @@
 // Limits, widths and faults, and how schemas, fields and types are copied and compared.
 
-use super::fields::{Kind, MEMORY, Step, add_empty, below, column, columns, field, number};
-use arrow_types::{BitWidth, DataType, DateUnit, Field, Limits, Schema, SchemaFault, TimeUnit};
+use super::fields::{MEMORY, add_empty, column, columns, number};
+use arrow_types::SchemaFault::{
+    ByteWidth, Memory, NestedDictionary, SharedIdTypesDiffer, TooDeep, TooManyFields, TooManyPairs,
+};
+use arrow_types::{BitWidth, DateUnit, Field, Limits, Schema, SchemaFault, TimeUnit};
 use std::process::Abort;
 
 // Ceilings of metadata, body and rows.
@@ -52,164 +55,76 @@ fn units_have_their_widths(rt: HostRuntime) {
     }
 }
 
-// A column of `levels` levels: lists of lists, and nulls at the bottom.
-fn nested(rt: &(impl Abort + AllocGlobal), levels: usize) -> Field {
-    let mut column = field(rt, "n", DataType::Null);
-    for _ in 1..levels {
-        column = below(rt, "n", Kind::List, column);
-    }
-    column
-}
-
-// Columns, and behind them so many of truth values and one of so many levels, if any.
-fn columns_and(
-    rt: &(impl Abort + AllocGlobal),
-    steps: &[Step],
-    count: usize,
-    levels: usize,
-) -> Vec<Field> {
-    let mut columns = columns(rt, steps);
-    for _ in 0..count {
-        columns
-            .push(field(rt, "", DataType::Bool))
-            .expect(rt, MEMORY);
-    }
-    if levels > 0 {
-        columns.push(nested(rt, levels)).expect(rt, MEMORY);
-    }
-    columns
-}
-
-// A width at the limit, over it, and further over it.
-const WIDEST: Step = ("f", None, Kind::FixedSizeBinary(2_147_483_647));
-
-const WIDE: Step = ("f", None, Kind::FixedSizeBinary(2_147_483_648));
-
-const WIDE_BY_7: Step = ("f", Some(7), Kind::FixedSizeBinary(2_147_483_648));
-
-const WIDER_BY_7: Step = ("g", Some(7), Kind::FixedSizeBinary(2_147_483_649));
-
-const BY_0: Step = ("k", Some(0), Kind::List);
-
-const BY_1: Step = ("k", Some(1), Kind::Null);
-
-const BOOL_BY_1: Step = ("k", Some(1), Kind::Bool);
-
-const TEXT_BY_7: Step = ("k", Some(7), Kind::Utf8);
-
-const BYTES_BY_7: Step = ("k", Some(7), Kind::Binary);
-
-const TEXT: Step = ("t", None, Kind::Utf8);
-
-const ONE: Step = ("s", None, Kind::Struct(1));
-
-const LARGE: Step = ("l", None, Kind::LargeList);
-
-// Columns; how many of truth values and a column of how many levels behind them, and how many pairs
-// the schema has; and the number of their fault, of several the least.
-static FAULTS: [(&[Step], [usize; 3], u8); 26] = [
-    (&[], [0, 0, 0], 0),
-    (&[], [0, 32, 0], 0),
-    (&[], [0, 33, 0], 1),
-    (&[], [65_536, 0, 0], 0),
-    (&[], [65_537, 0, 0], 2),
-    (&[BY_1, ONE, BY_0], [0, 0, 0], 3),
-    (&[TEXT_BY_7, TEXT, BYTES_BY_7], [0, 0, 0], 4),
-    (&[], [65_536, 33, 0], 1),
-    (&[BY_1, BY_0], [65_536, 0, 0], 2),
-    (&[BY_1, BY_0, BOOL_BY_1], [0, 0, 0], 3),
+// Columns, how many pairs the schema has, and the number of their fault, of several the least.
+static FAULTS: [(&str, usize, u8); 26] = [
+    ("", 0, 0),
+    ("n:null n:list*31", 0, 0),
+    ("n:null n:list*32", 0, 1),
+    (":bool*65536", 0, 0),
+    (":bool*65537", 0, 2),
+    ("k@1:null s:struct.1 k@0:list", 0, 3),
+    ("k@7:utf8 t:utf8 k@7:binary", 0, 4),
+    (":bool*65536 n:null n:list*32", 0, 1),
+    ("k@1:null k@0:list :bool*65536", 0, 2),
+    ("k@1:null k@0:list k@1:bool", 0, 3),
     // A very deep tree.
-    (&[], [0, 1_000_000, 0], 1),
-    (&[("f", None, Kind::FixedSizeBinary(0))], [0, 0, 0], 0),
-    (&[WIDEST], [0, 0, 0], 0),
-    (&[WIDE], [0, 0, 0], 6),
-    (
-        &[("f", Some(1), Kind::FixedSizeBinary(4_294_967_295))],
-        [0, 0, 0],
-        6,
-    ),
-    (
-        &[WIDE, LARGE, TEXT, ("s", None, Kind::Struct(2))],
-        [0, 0, 0],
-        6,
-    ),
-    (&[WIDE_BY_7, WIDER_BY_7], [0, 0, 0], 4),
-    (&[WIDE_BY_7, WIDE_BY_7], [0, 0, 0], 6),
-    (&[WIDE_BY_7, ("k", Some(0), Kind::LargeList)], [0, 0, 0], 3),
-    (&[WIDE], [65_535, 0, 0], 6),
-    (&[WIDE], [65_536, 0, 0], 2),
-    (&[WIDE], [0, 33, 0], 1),
-    (&[WIDE], [0, 0, 65_536], 6),
-    (&[WIDE], [0, 0, 65_537], 6),
-    (&[WIDEST], [0, 0, 65_536], 0),
-    (&[WIDEST], [0, 0, 65_537], 7),
+    ("n:null n:list*99999", 0, 1),
+    ("f:fixed.0", 0, 0),
+    ("f:fixed.2147483647", 0, 0),
+    ("f:fixed.2147483648", 0, 6),
+    ("f@1:fixed.4294967295", 0, 6),
+    ("f:fixed.2147483648 l:large_list t:utf8 s:struct.2", 0, 6),
+    ("f@7:fixed.2147483648 g@7:fixed.2147483649", 0, 4),
+    ("f@7:fixed.2147483648 f@7:fixed.2147483648", 0, 6),
+    ("f@7:fixed.2147483648 k@0:large_list", 0, 3),
+    ("f:fixed.2147483648 :bool*65535", 0, 6),
+    ("f:fixed.2147483648 :bool*65536", 0, 2),
+    ("f:fixed.2147483648 n:null n:list*32", 0, 1),
+    ("f:fixed.2147483648", 65_536, 6),
+    ("f:fixed.2147483648", 65_537, 6),
+    ("f:fixed.2147483647", 65_536, 0),
+    ("f:fixed.2147483647", 65_537, 7),
 ];
 
 #[test]
 fn the_least_fault_is_given(rt: HostRuntime) {
-    for (row, (steps, sizes, want)) in FAULTS.iter().enumerate() {
-        let [count, levels, own] = *sizes;
-        let columns = columns_and(&rt, steps, count, levels);
+    for (words, own, want) in &FAULTS {
+        let columns = columns(&rt, words);
         let mut pairs = Vec::new(rt.alloc());
-        add_empty(&rt, &mut pairs, own);
+        add_empty(&rt, &mut pairs, *own);
         let made = Schema::with_metadata(rt.alloc(), columns, pairs);
-        assert!(rt; number(made) == *want, "number {row}");
+        assert!(rt; number(made) == *want, "{words} and {own} pairs");
     }
 }
 
-// Each fault with its number and what it says.
+// The faults in the order of their numbers, which begin at 1, and what each says.
 static WORDS: [(SchemaFault, &str); 7] = [
-    (SchemaFault::TooDeep, "1 more than 32 levels of fields"),
-    (SchemaFault::TooManyFields, "2 more than 65,536 fields"),
-    (
-        SchemaFault::NestedDictionary,
-        "3 a dictionary below a dictionary",
-    ),
-    (
-        SchemaFault::SharedIdTypesDiffer,
-        "4 two value types for one dictionary id",
-    ),
-    (SchemaFault::Memory, "5 out of memory"),
-    (
-        SchemaFault::ByteWidth,
-        "6 byte strings of more than 2,147,483,647 bytes",
-    ),
-    (
-        SchemaFault::TooManyPairs,
-        "7 more than 65,536 pairs of metadata",
-    ),
+    (TooDeep, "more than 32 levels of fields"),
+    (TooManyFields, "more than 65,536 fields"),
+    (NestedDictionary, "a dictionary below a dictionary"),
+    (SharedIdTypesDiffer, "two value types for one dictionary id"),
+    (Memory, "out of memory"),
+    (ByteWidth, "byte strings of more than 2,147,483,647 bytes"),
+    (TooManyPairs, "more than 65,536 pairs of metadata"),
 ];
 
 #[test]
 fn faults_in_words(rt: HostRuntime) {
-    for (fault, want) in &WORDS {
-        let words = format!(in rt.alloc(); "{} {fault}", fault.number()).expect(&rt, MEMORY);
+    for (place, (fault, want)) in WORDS.iter().enumerate() {
+        let words = format!(in rt.alloc(); "{fault}").expect(&rt, MEMORY);
         assert_eq!(rt; words.as_str(), *want);
+        assert_eq!(rt; usize::from(fault.number()), place + 1, "{words}");
     }
 }
 
-// Columns, the ids of their dictionaries and how many columns there are.
-static IDS: [(&[Step], &[i64], usize); 2] = [
-    (&[("k", Some(0), Kind::Utf8)], &[0], 1),
-    (
-        &[
-            ("k", Some(5), Kind::Utf8),
-            ("k", Some(9), Kind::Bool),
-            ("k", Some(-3), Kind::Null),
-            ("l", None, Kind::List),
-            ("k", Some(5), Kind::Utf8),
-            ("s", None, Kind::Struct(3)),
-            ("k", Some(2), Kind::Utf8),
-            ("k", Some(9), Kind::Bool),
-            ("s", None, Kind::Struct(2)),
-        ],
-        &[5, 9, -3, 2],
-        3,
-    ),
-];
+const TWICE: &str =
+    "k@5:utf8 k@9:bool k@-3:null l:list k@5:utf8 s:struct.3 k@2:utf8 k@9:bool s:struct.2";
 
-fn schema(rt: &(impl Abort + AllocGlobal), steps: &[Step]) -> Schema {
-    Schema::new(rt.alloc(), columns(rt, steps)).expect(rt, "a schema")
+// Columns, the ids of their dictionaries and how many columns there are.
+static IDS: [(&str, &[i64], usize); 2] = [("k@0:utf8", &[0], 1), (TWICE, &[5, 9, -3, 2], 3)];
+
+fn schema(rt: &(impl Abort + AllocGlobal), words: &str) -> Schema {
+    Schema::new(rt.alloc(), columns(rt, words)).expect(rt, "a schema")
 }
 
 fn has_ids(schema: &Schema, ids: &[i64], count: usize) -> bool {
@@ -218,38 +133,20 @@ fn has_ids(schema: &Schema, ids: &[i64], count: usize) -> bool {
 
 #[test]
 fn ids_stand_in_pre_order_once(rt: HostRuntime) {
-    for (row, (steps, ids, count)) in IDS.iter().enumerate() {
-        let schema = schema(&rt, steps);
-        assert!(rt; has_ids(&schema, ids, *count), "number {row}");
+    for (words, ids, count) in &IDS {
+        let schema = schema(&rt, words);
+        assert!(rt; has_ids(&schema, ids, *count), "{words}");
     }
 }
 
-const FLAG: Step = ("", None, Kind::Bool);
-
-const ITEM: Step = ("item", None, Kind::Bool);
-
-const WORD: Step = ("k", Some(0), Kind::Utf8);
-
-const LIST: Step = ("l", None, Kind::List);
-
-const LASTING: Step = ("k", Some(0), Kind::Duration(TimeUnit::Second));
-
 // A column, the names of its children, and whether there is a dictionary below it.
-static CHILDREN: [(&[Step], &[&str], bool); 6] = [
-    (&[ITEM, LIST], &["item"], false),
-    (
-        &[FLAG, FLAG, WORD, ("s", None, Kind::Struct(3))],
-        &["", "", "k"],
-        true,
-    ),
-    (&[TEXT], &[], false),
-    (&[("t", None, Kind::LargeUtf8)], &[], false),
-    (&[LASTING, LARGE], &["k"], true),
-    (
-        &[FLAG, FLAG, WORD, ("item", None, Kind::Struct(3)), LIST],
-        &["item"],
-        true,
-    ),
+static CHILDREN: [(&str, &[&str], bool); 6] = [
+    ("item:bool l:list", &["item"], false),
+    (":bool :bool k@0:utf8 s:struct.3", &["", "", "k"], true),
+    ("t:utf8", &[], false),
+    ("t:large_utf8", &[], false),
+    ("k@0:duration.s l:large_list", &["k"], true),
+    (":bool :bool k@0:utf8 i:struct.3 l:list", &["i"], true),
 ];
 
 fn are_named(fields: &[Field], names: &[&str]) -> bool {
@@ -259,26 +156,15 @@ fn are_named(fields: &[Field], names: &[&str]) -> bool {
 
 #[test]
 fn children_of_lists_and_structs(rt: HostRuntime) {
-    for (row, (steps, names, encoding_below)) in CHILDREN.iter().enumerate() {
-        let of = column(&rt, steps).data_type;
-        assert!(rt; are_named(of.children(), names), "number {row}");
-        assert!(rt; of.has_encoding_below() == *encoding_below, "number {row}");
+    for (words, names, encoding_below) in &CHILDREN {
+        let of = column(&rt, words).data_type;
+        assert!(rt; are_named(of.children(), names), "{words}");
+        assert!(rt; of.has_encoding_below() == *encoding_below, "{words}");
     }
 }
 
-static COPIED: [Step; 11] = [
-    ("k", Some(1), Kind::Utf8),
-    ("z", None, Kind::Timestamp("UTC")),
-    ("i", None, Kind::Time(TimeUnit::Second)),
-    ("l", None, Kind::List),
-    ("d", None, Kind::Duration(TimeUnit::Nanosecond)),
-    ("f", None, Kind::FixedSizeBinary(16)),
-    ("b", None, Kind::LargeBinary),
-    ("t", None, Kind::LargeUtf8),
-    ("m", None, Kind::LargeList),
-    ("n", None, Kind::LargeList),
-    ("s", None, Kind::Struct(6)),
-];
+const COPIED: &str = "k@1:utf8 z:timestamp.UTC i:time.s l:list d:duration.ns f:fixed.16 \
+    b:large_binary t:large_utf8 m:large_list n:large_list s:struct.6";
 
 fn is_copied(rt: &(impl Abort + AllocGlobal), field: &Field) {
     assert!(rt; field.copy(rt.alloc()).expect(rt, MEMORY) == *field);
@@ -288,7 +174,7 @@ fn is_copied(rt: &(impl Abort + AllocGlobal), field: &Field) {
 
 #[test]
 fn copies_are_equal(rt: HostRuntime) {
-    let schema = schema(&rt, &COPIED);
+    let schema = schema(&rt, COPIED);
     for field in schema.fields() {
         is_copied(&rt, field);
     }
@@ -297,29 +183,30 @@ fn copies_are_equal(rt: HostRuntime) {
     assert!(rt; has_ids(&copy, &[1], 2));
 }
 
-// Fields that each differ from `k`, timestamps in UTC by dictionary 0, and whether their type is the
-// same.
-static OTHERS: [(Step, bool); 6] = [
-    (("k", None, Kind::Timestamp("UTC")), true),
-    (("k", Some(1), Kind::Timestamp("UTC")), true),
-    (("k", Some(0), Kind::Timestamp("utc")), false),
-    (("k", Some(0), Kind::Timestamp("")), false),
-    (("k", Some(0), Kind::Time(TimeUnit::Microsecond)), false),
-    (("K", Some(0), Kind::Timestamp("UTC")), true),
+// Fields that each differ from `k@0:timestamp.UTC`, and whether their type is the same.
+static OTHERS: [(&str, bool); 6] = [
+    ("k:timestamp.UTC", true),
+    ("k@1:timestamp.UTC", true),
+    ("k@0:timestamp.utc", false),
+    ("k@0:timestamp", false),
+    ("k@0:time.us", false),
+    ("K@0:timestamp.UTC", true),
 ];
 
-fn is_other(rt: &(impl Abort + AllocGlobal), plain: &Field, step: Step, is_same: bool) {
-    let (name, _, _) = step;
-    let other = column(rt, &[step]);
-    assert!(rt; *plain != other, "{name}");
-    assert!(rt; plain.data_type.same(&other.data_type) == is_same, "{name}");
+fn is_other(rt: &(impl Abort + AllocGlobal), plain: &Field, words: &str, is_same: bool) {
+    let other = column(rt, words);
+    assert!(rt; *plain != other, "{words}");
+    assert!(rt;
+        plain.data_type.same(&other.data_type) == is_same,
+        "{words}"
+    );
 }
 
 #[test]
 fn equality_reads_everything(rt: HostRuntime) {
-    let plain = column(&rt, &[("k", Some(0), Kind::Timestamp("UTC"))]);
-    for (step, is_same) in &OTHERS {
-        is_other(&rt, &plain, *step, *is_same);
+    let plain = column(&rt, "k@0:timestamp.UTC");
+    for (words, is_same) in &OTHERS {
+        is_other(&rt, &plain, words, *is_same);
     }
     let mut other = plain.copy(rt.alloc()).expect(&rt, MEMORY);
     assert!(rt; plain == other);
@@ -328,26 +215,11 @@ fn equality_reads_everything(rt: HostRuntime) {
 }
 
 // Types of which no two are the same; then lists of each width of offsets, of two items.
-static APART: [Step; 14] = [
-    ("c", None, Kind::Binary),
-    ("c", None, Kind::LargeBinary),
-    ("c", None, Kind::FixedSizeBinary(0)),
-    ("c", None, Kind::FixedSizeBinary(3)),
-    ("c", None, Kind::FixedSizeBinary(4)),
-    ("c", None, Kind::Utf8),
-    ("c", None, Kind::LargeUtf8),
-    ("c", None, Kind::Time(TimeUnit::Second)),
-    ("c", None, Kind::Duration(TimeUnit::Second)),
-    ("c", None, Kind::Duration(TimeUnit::Millisecond)),
-    ("c", None, Kind::Duration(TimeUnit::Microsecond)),
-    ("c", None, Kind::Duration(TimeUnit::Nanosecond)),
-    ("c", None, Kind::Struct(0)),
-    ("c", None, Kind::Null),
-];
+const APART: &str = "c:binary c:large_binary c:fixed.0 c:fixed.3 c:fixed.4 c:utf8 c:large_utf8 \
+    c:time.s c:duration.s c:duration.ms c:duration.us c:duration.ns c:struct.0 c:null";
 
-const LARGE_TEXT: Step = ("t", None, Kind::LargeUtf8);
-
-static LISTS: [Step; 8] = [TEXT, LIST, TEXT, LARGE, LARGE_TEXT, LIST, LARGE_TEXT, LARGE];
+const LISTS: &str =
+    "t:utf8 l:list t:utf8 l:large_list t:large_utf8 l:list t:large_utf8 l:large_list";
 
 // That each type is the same as itself alone.
 fn are_apart(rt: &impl Abort, columns: &[Field]) {
@@ -360,6 +232,6 @@ fn are_apart(rt: &impl Abort, columns: &[Field]) {
 
 #[test]
 fn widths_units_items_and_offsets_tell_types_apart(rt: HostRuntime) {
-    are_apart(&rt, &columns(&rt, &APART));
-    are_apart(&rt, &columns(&rt, &LISTS));
+    are_apart(&rt, &columns(&rt, APART));
+    are_apart(&rt, &columns(&rt, LISTS));
 }
