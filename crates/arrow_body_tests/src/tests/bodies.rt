@@ -43,6 +43,13 @@ pub(super) fn nodes_in(rt: &(impl Abort + AllocGlobal), words: &str) -> Vec<Fiel
     nodes
 }
 
+pub(super) fn buffer(rt: &impl Abort, offset: usize, length: usize) -> Buffer {
+    Buffer {
+        offset: i64::try_from(offset).ok().expect(rt, "few bytes"),
+        length: i64::try_from(length).ok().expect(rt, "few bytes"),
+    }
+}
+
 // Where the buffers stand in the body, and the body.
 pub(super) fn laid(rt: &(impl Abort + AllocGlobal), words: &str) -> (Vec<Buffer>, Bytes) {
     let mut buffers = Vec::new(rt.alloc());
@@ -50,10 +57,7 @@ pub(super) fn laid(rt: &(impl Abort + AllocGlobal), words: &str) -> (Vec<Buffer>
     for part in words.split(", ") {
         let start = body.len();
         put(rt, &mut body, part);
-        let buffer = Buffer {
-            offset: start as i64,
-            length: body.len().saturating_sub(start) as i64,
-        };
+        let buffer = buffer(rt, start, body.len().saturating_sub(start));
         buffers.push(buffer).expect(rt, "memory");
     }
     let body = Bytes::copy_from_slice(rt.alloc(), &body).expect(rt, "memory");

@@ -31,13 +31,17 @@ fn field_of(rt: &(impl Abort + AllocGlobal), word: &str, behind: &mut Vec<Field>
         "utf8" => field(rt, DataType::Utf8),
         "large_utf8" => field(rt, DataType::LargeUtf8),
         "binary" => field(rt, DataType::Binary),
-        "fixed" => field(rt, DataType::FixedSizeBinary(number as u32)),
+        "fixed" => field(rt, DataType::FixedSizeBinary(width(rt, number))),
         "list" => field(rt, DataType::List(item(rt, behind))),
         "struct" => structure(rt, number, behind),
         "index" => encoded(number, BitWidth::ThirtyTwo, last(rt, behind)),
         "index8" => encoded(number, BitWidth::Eight, last(rt, behind)),
         _ => panic!(rt; "{name} is no type"),
     }
+}
+
+fn width(rt: &impl Abort, number: i64) -> u32 {
+    u32::try_from(number).ok().expect(rt, "a width")
 }
 
 fn int(bits: BitWidth, signed: bool) -> DataType {

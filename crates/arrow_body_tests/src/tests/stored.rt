@@ -4,7 +4,7 @@
 // that is stored: its alignment, its nodes, its buffers with their places, and how many bytes it has,
 // which are 0 where no buffer is.
 
-use super::bodies::{append, dictionary, loaded, nodes_in, put};
+use super::bodies::{append, buffer, dictionary, loaded, nodes_in, put};
 use super::told::holds;
 use arrow_body_writer::{
     Align, Body, body_size, rest_size, store, store_in, store_rest, store_rest_in,
@@ -48,6 +48,14 @@ static RESTS: [&str; 10] = [
     "nulls have no buffer: null | 3/3 + 4/4 from 2 => 8 | 5/5 |  | 0",
 ];
 
+fn align_in(rt: &impl Abort, word: &str) -> Align {
+    match word {
+        "8" => Align::Eight,
+        "64" => Align::SixtyFour,
+        _ => panic!(rt; "{word} is no alignment"),
+    }
+}
+
 // A body that is to be stored.
 #[derive(Drop)]
 struct Wanted {
@@ -65,11 +73,7 @@ impl Wanted {
         let (buffers, size) = words.split_once(" | ").expect(rt, "a size");
         let size = size.parse::<usize>().ok().expect(rt, "a number");
         let mut wanted = Wanted {
-            align: if align == "64" {
-                Align::SixtyFour
-            } else {
-                Align::Eight
-            },
+            align: align_in(rt, align),
             nodes: nodes_in(rt, nodes),
             buffers: Vec::new(rt.alloc()),
             bytes: vec![in rt.alloc(); 0; size].expect(rt, "memory"),
@@ -90,10 +94,7 @@ impl Wanted {
             let at = place.saturating_add(k);
             *self.bytes.get_mut(at).expect(rt, "a place in the body") = *byte;
         }
-        let buffer = Buffer {
-            offset: place as i64,
-            length: held.len() as i64,
-        };
+        let buffer = buffer(rt, place, held.len());
         self.buffers.push(buffer).expect(rt, "memory");
     }
 

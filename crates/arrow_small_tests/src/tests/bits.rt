@@ -179,8 +179,8 @@ fn add(rt: &impl Abort, bytes: &mut Vec<u8>, width: usize, number: i64) {
     }
 }
 
-// What both forms of the check say of offsets of 4 or 8 bytes: how many slots are asked for, and what
-// top.
+// Whether both forms of the check take bytes as the offsets of so many slots under a top, of 4 bytes
+// each or of 8.
 fn checks(bytes: &[u8], width: usize, len: usize, top: u64) -> (bool, bool) {
     if width == 4 {
         let answer = Offsets::check(bytes, len, top);
@@ -236,7 +236,7 @@ static OFFSETS: [Row; 16] = [
 ];
 
 // Of 64 bits. What rises may fall in the lower 32 bits, be the same there, or have their sign.
-static LARGE_OFFSETS: [Row; 9] = [
+static LARGE_OFFSETS: [Row; 10] = [
     (&[i64::MIN], 0, 0, u64::MAX, false),
     (&[4294967295], 0, 0, 4294967295, true),
     (&[0, 4294967296], 0, 1, 4294967296, true),
@@ -245,6 +245,7 @@ static LARGE_OFFSETS: [Row; 9] = [
     (&[4294967296, 1], 0, 1, 4294967296, false),
     (&[i64::MAX, i64::MAX], 0, 1, 9223372036854775807, true),
     (&[i64::MAX, i64::MAX], 0, 1, 9223372036854775806, false),
+    (&[i64::MAX, i64::MAX], 0, 1, u64::MAX, true),
     (&[i64::MAX, i64::MIN], 0, 1, u64::MAX, false),
 ];
 
@@ -262,7 +263,11 @@ fn assert_row(rt: &(impl Abort + AllocGlobal), width: usize, row: &Row) {
     );
     for i in 0..=offsets.len() {
         let want = match offsets.get(i) {
-            Some(offset) if *answer && i <= *len => Some((*len, *len == 0, *offset as usize)),
+            Some(offset) if *answer && i <= *len => Some((
+                *len,
+                *len == 0,
+                offset.unsigned_abs() as usize,
+            )),
             _ => None,
         };
         assert_eq!(rt; found_at(bytes, width, (*len, *top), i), want, "{row:?}");
@@ -303,6 +308,17 @@ fn steps(rt: &(impl Abort + AllocGlobal), width: usize, len: u8) -> Steps {
     Steps { width, len, bytes }
 }
 
+// Puts a number in the place of another.
+fn put(bytes: &mut [u8], width: usize, place: usize, number: i64) {
+    let number = number.to_le_bytes();
+    let start = width.saturating_mul(place);
+    if let Some(old) = bytes.get_mut(start..start.saturating_add(width)) {
+        for (old, byte) in old.iter_mut().zip(number.iter()) {
+            *old = *byte;
+        }
+    }
+}
+
 // Where one of them is another, both forms of the check give this answer, and false where a byte is
 // missing.
 fn assert_check(
@@ -314,13 +330,7 @@ fn assert_check(
 ) {
     let (width, slots) = (*width, usize::from(*len));
     let mut bytes = Vec::from_slice(rt.alloc(), bytes).expect(rt, "memory");
-    let other_bytes = other.to_le_bytes();
-    let start = width.saturating_mul(usize::from(place));
-    if let Some(old) = bytes.get_mut(start..start.saturating_add(width)) {
-        for (old, byte) in old.iter_mut().zip(other_bytes.iter()) {
-            *old = *byte;
-        }
-    }
+    put(&mut bytes, width, usize::from(place), other);
     let found = checks(&bytes, width, slots, top);
     assert_eq!(rt;
         found,
