@@ -10,9 +10,14 @@ use std::{fs, io};
 /// The name that stands for standard input or output.
 const STANDARD: &str = "-";
 
+/// Whether the name stands for standard input or output.
+pub(crate) fn is_standard(name: &str) -> bool {
+    name == STANDARD
+}
+
 /// What an input is called in a line on it.
 pub(crate) fn input_name(name: &str) -> &str {
-    if name == STANDARD {
+    if is_standard(name) {
         "standard input"
     } else {
         name
@@ -21,7 +26,7 @@ pub(crate) fn input_name(name: &str) -> &str {
 
 /// What an output is called in a line on it.
 pub(crate) fn output_name(name: &str) -> &str {
-    if name == STANDARD {
+    if is_standard(name) {
         "standard output"
     } else {
         name
@@ -53,7 +58,7 @@ pub(crate) fn open<R: Files + Input>(
 where
     R::File: Drop,
 {
-    if name == STANDARD {
+    if is_standard(name) {
         return Ok(Source::Standard(rt.reader()));
     }
     match File::open(rt, name) {
@@ -93,7 +98,7 @@ pub(crate) fn create<'a, R: Files + Print>(
 where
     R::File: Drop,
 {
-    if name == STANDARD {
+    if is_standard(name) {
         return Ok(Destination::Standard(io::writer(rt)));
     }
     match File::create(rt, name) {
@@ -102,10 +107,22 @@ where
     }
 }
 
+/// How many bytes the file of this name has; `None` where the name stands for standard input, or what
+/// has it is no regular file.
+pub(crate) fn size_of<R: Files>(rt: &R, name: &str) -> Option<u64> {
+    if is_standard(name) {
+        return None;
+    }
+    match fs::metadata(rt, name) {
+        Ok(found) if found.is_file() => Some(found.len()),
+        Ok(_) | Err(_) => None,
+    }
+}
+
 /// Whether both names are of one regular file, as far as the system tells. A name that stands for
 /// standard input or output is of none, whatever file has it.
 pub(crate) fn is_same_file<R: Files>(rt: &R, one: &str, other: &str) -> bool {
-    if one == STANDARD || other == STANDARD {
+    if is_standard(one) || is_standard(other) {
         return false;
     }
     let (Ok(one), Ok(other)) = (fs::metadata(rt, one), fs::metadata(rt, other)) else {

@@ -8,10 +8,12 @@ ghost use Rattle.arrowflow.specs.Report.Faults.{status_of as status_by};
 mod drilling;
 mod ends;
 mod pipe;
+mod watched;
 
 use crate::drilling::drill_files;
-use crate::ends::{create, input_name, is_same_file, open, output_name};
+use crate::ends::{create, input_name, is_same_file, is_standard, open, output_name, size_of};
 use crate::pipe::Pipe;
+use crate::watched::{Onlooker, Progress, Watched};
 use arrowflow::{
     ArgFault, Counted, Limits, Options, Plan, Task, ToolFault, check, check_quietly, copy, plan,
     schema_text, show, show_first,
@@ -20,6 +22,7 @@ use std::alloc::Global;
 use std::io::{ErrorKind, Input, Write};
 use std::process::ExitCode;
 use std::rt::{Env, Files};
+use std::time::Clock;
 use std::{env, io};
 
 /// All went well.
@@ -33,7 +36,7 @@ fn main(rt: HostRuntime) -> ExitCode {
 }
 
 /// Does what the command line asks for, and gives the exit status.
-fn run<R: AllocGlobal + Env + Files + Input + Print + Eprint>(rt: &R) -> u8
+fn run<R: AllocGlobal + Env + Files + Input + Print + Eprint + Clock + Onlooker>(rt: &R) -> u8
 where
     R::File: Drop,
 {
@@ -64,8 +67,9 @@ where
 }
 
 /// Makes the call that a plan asks for, and gives the exit status.
-fn carry_out<R: Files + Input + Print + Eprint>(rt: &R, alloc: Global, plan: &Plan) -> u8
+fn carry_out<R>(rt: &R, alloc: Global, plan: &Plan) -> u8
 where
+    R: Files + Input + Print + Eprint + Clock + Onlooker,
     R::File: Drop,
 {
     let limits = &plan.limits;
@@ -143,15 +147,19 @@ where
 }
 
 /// Reads the stream in the file of this name, and prints the line of its fault alone.
-fn check_file<R: Files + Input + Eprint>(rt: &R, alloc: Global, name: &str, limits: &Limits) -> u8
+fn check_file<R>(rt: &R, alloc: Global, name: &str, limits: &Limits) -> u8
 where
+    R: Files + Input + Eprint + Clock + Onlooker,
     R::File: Drop,
 {
-    let mut file = match open(rt, 0, name) {
+    let file = match open(rt, 0, name) {
         Ok(file) => file,
         Err(fault) => return tell(rt, alloc, &fault, name, "-"),
     };
-    match check_quietly(alloc, &mut file, limits) {
+    let mut input = Watched::new(file, progress_of(rt, "check", name, None));
+    let answer = check_quietly(alloc, &mut input, limits);
+    input.clear();
+    match answer {
         Ok(()) => FINE,
         Err(fault) => tell(rt, alloc, &fault, name, "-"),
     }
@@ -181,7 +189,7 @@ where
 }
 
 /// Writes the stream in the file of the first name again, into that of the second.
-fn copy_file<R: Files + Input + Print + Eprint>(
+fn copy_file<R: Files + Input + Print + Eprint + Clock + Onlooker>(
     rt: &R,
     alloc: Global,
     names: (&str, &str),
@@ -192,7 +200,7 @@ where
     R::File: Drop,
 {
     let (from, to) = names;
-    let mut input = match open(rt, 0, from) {
+    let input = match open(rt, 0, from) {
         Ok(input) => input,
         Err(fault) => return tell(rt, alloc, &fault, from, to),
     };
@@ -204,8 +212,29 @@ where
         Ok(output) => Counted::new(Pipe::new(output)),
         Err(fault) => return tell(rt, alloc, &fault, from, to),
     };
+    let mut input = Watched::new(input, progress_of(rt, "copy", from, Some(to)));
     let (output, answer) = copy(alloc, &mut input, output, options, limits);
+    input.clear();
     status_of(rt, alloc, answer, (from, to), &output.into_inner())
+}
+
+/// How far a command has come that reads the file of the first name, and writes that of the second
+/// if it writes one. `None` where standard error is no terminal, or what the command writes may
+/// appear on it.
+fn progress_of<'a, R: Files + Eprint + Clock + Onlooker>(
+    rt: &'a R,
+    command: &'static str,
+    from: &str,
+    to: Option<&str>,
+) -> Option<Progress<'a, R>> {
+    let prints = match to {
+        Some(to) => is_standard(to),
+        None => false,
+    };
+    if prints || !rt.looks_on() {
+        return None;
+    }
+    Progress::new(rt, command, size_of(rt, from))
 }
 
 /// Tells how a call ended that read the input of the first name and wrote the output of the second,
