@@ -1,5 +1,5 @@
-"""Runs the program with a terminal for its standard error, on inputs that come slowly and an output that is taken late, and
-compares what is told there of how far a call has come, and its status, with what is written here.
+"""Runs the program with a terminal for its standard error, and once with a pipe, on inputs that come slowly and an output
+that is taken late, and compares what is told there of how far a call has come, and its status, with what is written here.
 
 Its arguments are the program and a folder with the example streams, where files may be written.
 """
@@ -20,7 +20,7 @@ CLEARED = "\r" + 60 * " " + "\r"
 
 
 def started(words, shown):
-    """A command whose standard error is this terminal, by its two ends, of which the program's is closed."""
+    """A command whose standard error is this terminal or pipe, by its two ends, of which the program's is closed."""
     running = subprocess.Popen(
         [PROGRAM, *words], stdin=subprocess.PIPE, stdout=subprocess.PIPE, stderr=shown[1], cwd=FOLDER
     )
@@ -29,7 +29,7 @@ def started(words, shown):
 
 
 def ended(running, shown):
-    """What was written to the terminal until all have closed it, and the status."""
+    """What was written there until all have closed it, and the status."""
     text = b""
     try:
         while piece := os.read(shown[0], 65536):
@@ -40,9 +40,9 @@ def ended(running, shown):
     return f"{text.decode()}status {running.wait()}"
 
 
-def told(words, *pieces):
-    """What a command tells whose input comes in pieces with a pause between them."""
-    shown = pty.openpty()
+def told(words, *pieces, ends=pty.openpty):
+    """What a command tells whose input comes in pieces with a pause between them, on a terminal or a pipe."""
+    shown = ends()
     running = started(words, shown)
     for number, piece in enumerate(pieces):
         if number:
@@ -82,6 +82,7 @@ def main():
         ),
         ("a copy", told(["copy", "-", "slow.copy"], *slow), f"(\rcopy: 0 MiB)+{CLEARED}status 0"),
         ("a copy of a file", told_late(["copy", "long.arrows"], "late"), f"(\rcopy: [0-2] MiB of 2 MiB)+{CLEARED}status 0"),
+        ("a quiet check without a terminal", told(["check", "-", "--quiet"], *slow, ends=os.pipe), "status 0"),
         ("a copy to standard output", told(["copy", "-", "-"], *slow), "status 0"),
         ("a check", told(["check", "-"], *slow), "status 0"),
         ("rows", told(["show", "-"], *slow), "status 0"),
