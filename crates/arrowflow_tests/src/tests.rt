@@ -5,6 +5,7 @@
 mod command_line;
 mod copying;
 mod drilling;
+mod failures;
 mod fault_lines;
 mod first_rows;
 mod help_pages;

@@ -30,7 +30,7 @@ pub(super) const WIDE: Options = Options {
 };
 
 /// What is written of an input, and the status and the line of the fault, if one came.
-fn copied<R: Read>(
+pub(super) fn copied<R: Read>(
     rt: &impl Abort,
     alloc: Global,
     input: &mut R,
