@@ -6,7 +6,8 @@ ghost use Rattle.clap.specs.Words.{app_of};
 ghost use Rattle.arrowflow_line.specs.CommandLine.{AnswersLine, HasNoGlobals, IsProgram};
 ghost use Rattle.arrowflow_line.specs.CommandLine.{NeedsSubcommand, Offers, check_app, copy_app};
 ghost use Rattle.arrowflow_line.specs.CommandLine.{drill_app, file_app, flag, limit, needed};
-ghost use Rattle.arrowflow_line.specs.CommandLine.{named, needed_some, number, option, schema_app, show_app};
+ghost use Rattle.arrowflow_line.specs.CommandLine.{named, needed_some, number, option, reading_app};
+ghost use Rattle.arrowflow_line.specs.CommandLine.{schema_app, show_app};
 ghost use Rattle.arrowflow_line.specs.CommandLine.{with_delivery, with_limits, with_options};
 
 use crate::fault::ArgFault;
@@ -166,6 +167,7 @@ fn with_limits<'a>(alloc: Global, command: Command<'a>) -> Result<Command<'a>, A
         "67108864",
         METADATA_HELP,
     );
+    let some = command.arg(metadata)?;
     let body = limit(
         alloc,
         "limit-body",
@@ -173,6 +175,7 @@ fn with_limits<'a>(alloc: Global, command: Command<'a>) -> Result<Command<'a>, A
         "68719476736",
         BODY_HELP,
     );
+    let more = some.arg(body)?;
     let rows = limit(
         alloc,
         "limit-rows",
@@ -180,7 +183,7 @@ fn with_limits<'a>(alloc: Global, command: Command<'a>) -> Result<Command<'a>, A
         "2147483647",
         ROWS_HELP,
     );
-    let whole = command.arg(metadata)?.arg(body)?.arg(rows)?;
+    let whole = more.arg(rows)?;
     Ok(whole)
 }
 
@@ -297,6 +300,7 @@ fn with_delivery<'a>(alloc: Global, command: Command<'a>) -> Result<Command<'a>,
         "4611686018427387904",
         "How many bytes of each connection are delivered",
     );
+    let some = command.arg(bytes)?;
     let piece = option(
         alloc,
         "piece",
@@ -304,7 +308,7 @@ fn with_delivery<'a>(alloc: Global, command: Command<'a>) -> Result<Command<'a>,
         "65536",
         "How many bytes are delivered at once",
     );
-    let whole = command.arg(bytes)?.arg(piece)?;
+    let whole = some.arg(piece)?;
     Ok(whole)
 }
 
@@ -325,21 +329,30 @@ fn drill_command<'a>(alloc: Global) -> Result<Command<'a>, AllocError>
     with_limits(alloc, with_options(alloc, with_delivery(alloc, command)?)?)
 }
 
+/// The program's command line with the commands of one file.
+fn reading_command<'a>(alloc: Global) -> Result<Command<'a>, AllocError>
+    ensures globals { IfOk result HasNoGlobals }
+    ensures app { IfOk result (λ c. app_of c ≡ reading_app) }
+{
+    let top = Command::new(alloc, "arrowflow")
+        .bin_name("arrowflow")?
+        .about(ABOUT)
+        .after_help(EXAMPLE);
+    let some = top.subcommand(schema_command(alloc)?)?;
+    let more = some.subcommand(check_command(alloc)?)?;
+    let whole = more.subcommand(show_command(alloc)?)?;
+    Ok(whole)
+}
+
 /// The whole command line.
 fn command<'a>(alloc: Global) -> Result<Command<'a>, AllocError>
     ensures globals { IfOk result HasNoGlobals }
     ensures needs { IfOk result NeedsSubcommand }
     ensures app { IfOk result (λ c. IsProgram (app_of c)) }
 {
-    let whole = Command::new(alloc, "arrowflow")
-        .bin_name("arrowflow")?
-        .about(ABOUT)
-        .after_help(EXAMPLE)
-        .subcommand(schema_command(alloc)?)?
-        .subcommand(check_command(alloc)?)?
-        .subcommand(show_command(alloc)?)?
-        .subcommand(copy_command(alloc)?)?
-        .subcommand(drill_command(alloc)?)?;
+    let reading = reading_command(alloc)?;
+    let more = reading.subcommand(copy_command(alloc)?)?;
+    let whole = more.subcommand(drill_command(alloc)?)?;
     Ok(whole.subcommand_required(true))
 }
 

@@ -11,6 +11,6 @@ returns-clause-app c =
     c.option-bytes.ensures.rule ∙ ap (λ p. option (codes "bytes") p (codes "4611686018427387904")) c.unsigned.ensures in
     let piece : rule_of c.option-piece.result ≡ option (codes "piece") (parsers.Unsigned 1 (2 ^ 30)) (codes "65536") =
     c.option-piece.ensures.rule ∙ ap (λ p. option (codes "piece") p (codes "65536")) c.unsigned-2.ensures in
-    let one : app_of c.in_ok-arg.field-0 ≡ with_rule (app_of c.args.command) (option (codes "bytes") (parsers.Unsigned 0 (2 ^ 62)) (codes "4611686018427387904")) =
-    c.in_ok-arg.ensures.shape c.option-bytes.ensures.local ∙ ap (with_rule (app_of c.args.command)) bytes in
+    let one : app_of c.in_ok-some.some ≡ with_rule (app_of c.args.command) (option (codes "bytes") (parsers.Unsigned 0 (2 ^ 62)) (codes "4611686018427387904")) =
+    c.in_ok-some.ensures.shape c.option-bytes.ensures.local ∙ ap (with_rule (app_of c.args.command)) bytes in
     c.in_ok-whole.ensures.shape c.option-piece.ensures.local ∙ ap₂ with_rule one piece

@@ -9,8 +9,8 @@ returns-clause-app c =
     let metadata : rule_of c.limit-metadata.result ≡ limit (codes "limit-metadata") (2 ^ 30) (codes "67108864") = c.limit-metadata.ensures.rule in
     let body : rule_of c.limit-body.result ≡ limit (codes "limit-body") (2 ^ 40) (codes "68719476736") = c.limit-body.ensures.rule in
     let rows : rule_of c.limit-rows.result ≡ limit (codes "limit-rows") 2147483647 (codes "2147483647") = c.limit-rows.ensures.rule in
-    let one : app_of c.in_ok-arg.field-0 ≡ with_rule (app_of c.args.command) (limit (codes "limit-metadata") (2 ^ 30) (codes "67108864")) =
-    c.in_ok-arg.ensures.shape c.limit-metadata.ensures.local ∙ ap (with_rule (app_of c.args.command)) metadata in
-    let two : app_of c.in_ok-arg-2.field-0 ≡ with_rule (with_rule (app_of c.args.command) (limit (codes "limit-metadata") (2 ^ 30) (codes "67108864"))) (limit (codes "limit-body") (2 ^ 40) (codes "68719476736")) =
-    c.in_ok-arg-2.ensures.shape c.limit-body.ensures.local ∙ ap₂ with_rule one body in
+    let one : app_of c.in_ok-some.some ≡ with_rule (app_of c.args.command) (limit (codes "limit-metadata") (2 ^ 30) (codes "67108864")) =
+    c.in_ok-some.ensures.shape c.limit-metadata.ensures.local ∙ ap (with_rule (app_of c.args.command)) metadata in
+    let two : app_of c.in_ok-more.more ≡ with_rule (with_rule (app_of c.args.command) (limit (codes "limit-metadata") (2 ^ 30) (codes "67108864"))) (limit (codes "limit-body") (2 ^ 40) (codes "68719476736")) =
+    c.in_ok-more.ensures.shape c.limit-body.ensures.local ∙ ap₂ with_rule one body in
     c.in_ok-whole.ensures.shape c.limit-rows.ensures.local ∙ ap₂ with_rule two rows
