@@ -300,7 +300,7 @@ struct Steps {
     bytes: Vec<u8>,
 }
 
-fn steps(rt: &(impl Abort + AllocGlobal), width: usize, len: u8) -> Steps {
+fn stepping(rt: &(impl Abort + AllocGlobal), width: usize, len: u8) -> Steps {
     let mut bytes = Vec::new(rt.alloc());
     for j in 0..u16::from(len) + 1 {
         add(rt, &mut bytes, width, step(width, j));
@@ -377,7 +377,7 @@ fn assert_whole(rt: &(impl Abort + AllocGlobal), steps: &Steps, greatest: i64) {
 
 fn assert_each_length(rt: &(impl Abort + AllocGlobal), width: usize, greatest: i64) {
     for len in 0..131u8 {
-        let steps = steps(rt, width, len);
+        let steps = stepping(rt, width, len);
         assert_whole(rt, &steps, greatest);
         for place in 0..len {
             assert_behind(rt, &steps, place);
