@@ -1,7 +1,7 @@
 """Columns of each kind at each length and with nulls in each place, and sums over how they are laid out: with no Arrow
 library, by frames.py. The tests of arrow_builder build the same columns and store them.
 
-What stands in slot i is told by `value` below, and by the same rules in crates/arrow_builder_tests/src/tests/lengths.rt.
+What stands in slot i is told by KINDS below, and in words by KINDS in crates/arrow_builder_tests/src/tests/lengths.rt.
 """
 import struct
 
