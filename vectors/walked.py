@@ -19,7 +19,7 @@ COPIES = {
     "hidden_bytes": {0: "TIDY", 1: "TIDY"}, "no_columns": {0: "NO_COLUMNS"}, "int32_column": {0: "NUMBERS", 2: "NUMBERS_64"},
     "int32_column_64": {1: "NUMBERS"}, "one_dictionary_of_two_columns": {0: "TWICE_X"}, "list_after_a_gap": {0: "CLOSED_GAP"},
     "list_without_its_gap": {0: "CLOSED_GAP"}, "two_dictionaries": {0: "SHARED"}, "dictionary_below": {0: "NESTED", 1: "NESTED"},
-    "many_types": {0: "MANY_TYPES"}, "custom_metadata": {0: "NOTED", 1: "NOTED", 2: "NOTED_64"},
+    "many_types": {0: "MANY_TYPES"}, "custom_metadata": {0: "NOTED", 1: "NOTED", 2: "NOTED_64"}, "other_letters": {0: "OTHER"},
 }
 
 

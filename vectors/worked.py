@@ -145,12 +145,12 @@ EXAMPLES = {
         "cut_off_in_the_delta": ["take 224 dictionary 0 of 3", "take 168 batch of 3", "take 223 nothing", "hold 223",
             "end Truncated at 592"],
         "cut_off_behind_the_delta": ["take 224 dictionary 0 of 5", "take 0 nothing", "hold 0", *CLEAN]}),
-    "a writer's frames": (["arrowflow_session_tests/calls"], {
+    "a writer's frames": (["arrowflow_session_tests/calls", "arrowflow_session_tests/limits"], {
         "second_batch_left_out": ["take 200 schema", "take 224 dictionary 0 of 3", "take 168 batch of 3",
             "take 232 dictionary 0 of 4", "take 160 batch of 2", "take 8 end"],
         "dictionary_of_no_values": ["take 200 schema", "take 208 dictionary 0 of 0", "take 168 batch of 2", "take 168 batch of 2",
             "take 216 dictionary 0 of 1", "take 160 batch of 1", "take 8 end"]}),
-    "a stream checked, copied, drilled": (["arrowflow_tests/drilling", "arrowflow_session_tests/session"], {
+    "a stream checked, copied, drilled": (["arrowflow_tests/drilling"], {
         "growing_dictionary": ["take 224 dictionary 0 of 5", "take 8 end"], "resent_dictionary": ["take 8 end"],
         "list_after_a_gap": rows("[8]"), "list_without_its_gap": rows("[8]")}),
     "one falling pair of offsets, at each place": (["arrow_small_tests/bits"], {

@@ -68,7 +68,7 @@ static FAULTS: [(&str, usize, u8); 26] = [
     ("k@1:null k@0:list :bool*65536", 0, 2),
     ("k@1:null k@0:list k@1:bool", 0, 3),
     // A very deep tree.
-    ("n:null n:list*99999", 0, 1),
+    ("n:null n:list*999999", 0, 1),
     ("f:fixed.0", 0, 0),
     ("f:fixed.2147483647", 0, 0),
     ("f:fixed.2147483648", 0, 6),
