@@ -141,8 +141,7 @@ impl Output<'_> {
         counts: (u64, u64),
     ) -> Result<(), AllocError> {
         let (failing, left) = sink;
-        let output = Narrow::new(alloc, 100, left, failing);
-        let (output, answer) = self.given_to(alloc, output)?;
+        let (output, answer) = self.given_to(alloc, failing, left)?;
         let fault = if counts.1 == 0 {
             ""
         } else {
@@ -161,8 +160,14 @@ impl Output<'_> {
         )
     }
 
-    /// What the call writes into a sink, and the line of its fault.
-    fn given_to(&self, alloc: Global, output: Narrow) -> Result<(Narrow, String), AllocError> {
+    /// What the call writes into a sink that has room for so many bytes, and the line of its fault.
+    fn given_to(
+        &self,
+        alloc: Global,
+        failing: Failing,
+        left: usize,
+    ) -> Result<(Narrow, String), AllocError> {
+        let output = Narrow::new(alloc, 100, left, failing);
         let (limits, mut input) = (Limits::standard(), self.stream);
         let (output, answer) = match self.what {
             Written::Messages => check(alloc, &mut input, output, &limits),
