@@ -1,10 +1,9 @@
 // The header and the rows of batches of numbers.
 
-use super::columns::{MEMORY, are_records, field, finished, push, schema_of};
-use arrow_builder::ArrayBuilder;
+use super::columns::{MEMORY, are_records, builder, field, finished, push, schema_of};
 use arrow_csv::{BatchRows, header, rows};
 use arrow_data::{Array, Batch, Value};
-use arrow_types::{BitWidth, DataType, Field, Schema};
+use arrow_types::{BitWidth, DataType, Schema};
 use std::process::Abort;
 use std::rc::Rc;
 
@@ -26,8 +25,9 @@ fn schema(rt: &(impl Abort + AllocGlobal), names: &[&str]) -> Rc<Schema> {
     schema_of(rt, fields)
 }
 
-fn column(rt: &(impl Abort + AllocGlobal), field: &Field, numbers: &Numbers) -> Array {
-    let mut column = ArrayBuilder::new(rt.alloc(), field).expect(rt, MEMORY);
+// A column of this name.
+fn column(rt: &(impl Abort + AllocGlobal), name: &str, numbers: &Numbers) -> Array {
+    let mut column = builder(rt, &schema(rt, &[name]));
     for number in numbers {
         push(rt, &mut column, &number.map_or(Value::Null, Value::Int));
     }
@@ -36,12 +36,11 @@ fn column(rt: &(impl Abort + AllocGlobal), field: &Field, numbers: &Numbers) -> 
 
 // A batch of three rows of columns with these names.
 fn batch(rt: &(impl Abort + AllocGlobal), names: &[&str], columns: &[Numbers]) -> Batch {
-    let schema = schema(rt, names);
     let mut arrays = Vec::new(rt.alloc());
-    for (field, numbers) in schema.fields().iter().zip(columns) {
-        arrays.push(column(rt, field, numbers)).expect(rt, MEMORY);
+    for (name, numbers) in names.iter().zip(columns) {
+        arrays.push(column(rt, name, numbers)).expect(rt, MEMORY);
     }
-    Batch::new(schema, arrays, 3).expect(rt, "there is no fault")
+    Batch::new(schema(rt, names), arrays, 3).expect(rt, "there is no fault")
 }
 
 // That the records of the rows from `start` up to `end`, of a batch with number 7, are these, by
