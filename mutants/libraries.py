@@ -55,16 +55,18 @@ class LibrariesBeside(Libraries):
     # What it says of a library that is proved, now or by an earlier run.
     PROVED = re.compile(r"rt: (\w+) (?:proved|is kept:)")
 
-    def __init__(self, crates):
+    def __init__(self, crates, names):
         super().__init__(crates)
         self.room, self.there = tempfile.TemporaryDirectory(prefix="mutants-libraries-"), set()
+        # what the crates of these names stand on
+        self.wanted = {it for name in names for it in below(name, crates)}
         self.reader = threading.Thread(target=self.read, daemon=True)
         self.reader.start()
 
     def read(self):
         for line in sys.stdin:
             told = self.PROVED.match(line)
-            if told and os.path.isdir(rlib(told[1])):
+            if told and told[1] in self.wanted:
                 shutil.copytree(rlib(told[1]), self.place(told[1]), copy_function=linked)
                 self.there.add(told[1])
 
