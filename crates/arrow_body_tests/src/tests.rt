@@ -3,7 +3,6 @@
 mod bodies;
 mod calls;
 mod counts;
-mod fields;
 mod fit;
 mod greatest;
 mod ids;

@@ -2,7 +2,6 @@
 
 mod arrays;
 mod building;
-mod fields;
 mod greatest;
 mod lengths;
 mod limits;

@@ -4,7 +4,6 @@ mod batches;
 mod buffers;
 mod columns;
 mod dictionaries;
-mod fields;
 mod full;
 mod indices;
 mod making;

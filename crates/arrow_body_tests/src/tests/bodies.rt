@@ -2,9 +2,9 @@
 // say: `3/1 4/0 | #5, 1 9 3, 'abc'` are two nodes of a length and a number of nulls each, and buffers
 // of bytes, of numbers of four bytes each, and of a text.
 
-use super::fields::fields_of;
 use arrow_body_reader::{BodyFault, are_fit, load};
 use arrow_data::{Array, Dictionary};
+use arrow_test_fields::fields_of;
 use arrow_types::{Buffer, FieldNode};
 use bytes::Bytes;
 use std::process::Abort;
@@ -83,7 +83,7 @@ pub(super) fn loaded(
     words: &str,
     dictionaries: &[(i64, Dictionary)],
 ) -> Result<Vec<Array>, BodyFault> {
-    let fields = fields_of(rt, of);
+    let fields = fields_of(rt.alloc(), of).expect(rt, "fields");
     let (nodes, buffers, body) = parts_of(rt, words);
     assert!(rt; are_fit(&fields, dictionaries));
     load(rt.alloc(), &fields, &nodes, &buffers, &body, dictionaries)

@@ -1,11 +1,11 @@
 // What `load`, `check` and `load_typed` answer to one body, and to nodes that no stream leads to.
 
 use super::bodies::{dictionary, listed, loaded, parts_of};
-use super::fields::fields_of;
 use super::told::{holds, is_text, told};
 use arrow_body_reader::BodyFault::{Index, Layout, Memory, Text};
 use arrow_body_reader::{BodyFault, are_fit, check, load_typed};
 use arrow_data::{Array, Dictionary, shared_types};
+use arrow_test_fields::fields_of;
 use arrow_types::Field;
 use std::process::Abort;
 use std::slice;
@@ -17,20 +17,24 @@ type Row = (&'static str, &'static str, &'static str);
 static ROWS: [Row; 12] = [
     ("int32", "3/1 | #5, 1 9 3", "3: 1 null 3"),
     (
-        "index.0 utf8 utf8",
+        "by:0:int32 utf8 utf8",
         "3/1 3/0 | #5, 2 9 1, #, 0 1 1 3, 'x\"z'",
         r#"3: 2 -> "c" null 1 -> null; 3: "x" "" "\"z""#,
     ),
     ("list int32", "2/1 2/0 | #2, 0 1 2, #, 7 8", "2: null 1..2"),
     (
-        "struct.2 bool fixed.1",
+        "struct[2] bool fixed_size_binary[1]",
         "2/1 2/0 2/0 | #1, #, #1, #, #4 5",
         "2: struct 0 null",
     ),
     // A number too few, a text that is none, and an index without a value.
     ("int32", "3/0 | #, 1 2", "Layout"),
-    ("index.0 utf8 utf8", "1/0 1/0 | #, 3, #, 0 1, #255", "Text"),
-    ("index.0 utf8", "1/0 | #, 3", "Index"),
+    (
+        "by:0:int32 utf8 utf8",
+        "1/0 1/0 | #, 3, #, 0 1, #255",
+        "Text",
+    ),
+    ("by:0:int32 utf8", "1/0 | #, 3", "Index"),
     // The most nulls, and one more.
     (
         "null",
@@ -55,7 +59,7 @@ fn loaded_typed(
     (of, parts, _): &Row,
     dictionaries: &[(i64, Dictionary)],
 ) -> Result<Vec<Array>, BodyFault> {
-    let fields = fields_of(rt, of);
+    let fields = fields_of(rt.alloc(), of).expect(rt, "fields");
     let (nodes, buffers, body) = parts_of(rt, parts);
     assert!(rt; are_fit(&fields, dictionaries));
     let fault = check(&fields, &nodes, &buffers, &body, dictionaries).err();

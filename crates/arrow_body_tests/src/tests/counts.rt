@@ -1,15 +1,15 @@
 // How many nodes fields take, and how many slots they have.
 
 use super::bodies::nodes_in;
-use super::fields::fields_of;
 use arrow_body_reader::{have_length, nodes_of};
+use arrow_test_fields::fields_of;
 use std::process::Abort;
 
 // A list of numbers and indices: two nodes and one.
-const TWO: &str = "list int32 index.0 utf8";
+const TWO: &str = "list int32 by:0:int32 utf8";
 
 // The same, and a struct of a struct of a truth value: three nodes.
-const THREE: &str = "list int32 index.0 utf8 struct.1 struct.1 bool";
+const THREE: &str = "list int32 by:0:int32 utf8 struct[1] struct[1] bool";
 
 // The nodes of these fields, and two more.
 const NODES: &str = "3/0 8/0 3/0 3/0 4/0 5/0 9/0 9/0";
@@ -18,7 +18,7 @@ const NODES: &str = "3/0 8/0 3/0 3/0 4/0 5/0 9/0 9/0";
 static TAKEN: [(&str, &str, &str); 6] = [
     (THREE, NODES, "3/0 8/0 3/0 3/0 4/0 5/0"),
     ("list int32", NODES, "3/0 8/0"),
-    ("index.0 utf8", NODES, "3/0"),
+    ("by:0:int32 utf8", NODES, "3/0"),
     (THREE, "3/0 8/0 3/0 3/0", "3/0 8/0 3/0 3/0"),
     (THREE, "", ""),
     ("", NODES, ""),
@@ -29,7 +29,7 @@ fn the_nodes_that_fields_take(rt: HostRuntime) {
     for (of, nodes, want) in &TAKEN {
         let (nodes, want) = (nodes_in(&rt, nodes), nodes_in(&rt, want));
         assert_eq!(rt;
-            nodes_of(&fields_of(&rt, of), &nodes),
+            nodes_of(&fields_of(rt.alloc(), of).expect(&rt, "fields"), &nodes),
             want.as_slice(),
             "{of}"
         );
@@ -54,7 +54,11 @@ static LENGTHS: [(&str, &str, usize, bool); 11] = [
 ];
 
 fn has_length(rt: &(impl Abort + AllocGlobal), of: &str, nodes: &str, rows: usize) -> bool {
-    have_length(&fields_of(rt, of), &nodes_in(rt, nodes), rows)
+    have_length(
+        &fields_of(rt.alloc(), of).expect(rt, "fields"),
+        &nodes_in(rt, nodes),
+        rows,
+    )
 }
 
 #[test]

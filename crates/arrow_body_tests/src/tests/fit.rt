@@ -1,32 +1,40 @@
 // Whether dictionaries have the types that fields ask for.
 
 use super::bodies::{dictionary, listed, loaded};
-use super::fields::fields_of;
 use super::told::holds;
 use arrow_body_reader::are_fit;
 use arrow_data::Dictionary;
+use arrow_test_fields::fields_of;
 use std::process::Abort;
 
 // The types of the fields, the type of the values of dictionary 0, or nothing where there is none, and
 // whether both fit.
 static FITTING: [(&str, &str, bool); 16] = [
-    ("index8.0 utf8", "", true),
-    ("index8.0 utf8", "utf8", true),
-    ("index8.0 utf8", "large_utf8", false),
-    ("index8.0 utf8", "binary", false),
-    ("index8.0 utf8", "null", false),
-    ("index8.1 utf8", "binary", true),
-    ("index8.0 int32", "int32", true),
-    ("index8.0 int32", "uint32", false),
-    ("index8.0 int32", "int64", false),
-    ("index8.0 fixed.3", "fixed.3", true),
-    ("index8.0 fixed.3", "fixed.4", false),
-    ("utf8 index8.0 utf8", "binary", false),
-    ("list struct.2 bool index8.0 utf8", "utf8", true),
-    ("list struct.2 bool index8.0 utf8", "binary", false),
+    ("by:0:int8 utf8", "", true),
+    ("by:0:int8 utf8", "utf8", true),
+    ("by:0:int8 utf8", "large_utf8", false),
+    ("by:0:int8 utf8", "binary", false),
+    ("by:0:int8 utf8", "null", false),
+    ("by:1:int8 utf8", "binary", true),
+    ("by:0:int8 int32", "int32", true),
+    ("by:0:int8 int32", "uint32", false),
+    ("by:0:int8 int32", "int64", false),
+    (
+        "by:0:int8 fixed_size_binary[3]",
+        "fixed_size_binary[3]",
+        true,
+    ),
+    (
+        "by:0:int8 fixed_size_binary[3]",
+        "fixed_size_binary[4]",
+        false,
+    ),
+    ("utf8 by:0:int8 utf8", "binary", false),
+    ("list struct[2] bool by:0:int8 utf8", "utf8", true),
+    ("list struct[2] bool by:0:int8 utf8", "binary", false),
     // A dictionary below a dictionary, and below one of lists.
-    ("index8.0 struct.1 index8.1 utf8", "", false),
-    ("index8.0 list struct.1 index8.1 utf8", "", false),
+    ("by:0:int8 struct[1] by:1:int8 utf8", "", false),
+    ("by:0:int8 list struct[1] by:1:int8 utf8", "", false),
 ];
 
 // Dictionary 0 without values, where a type is given.
@@ -39,7 +47,10 @@ fn empty(rt: &(impl Abort + AllocGlobal), of: &str) -> Vec<(i64, Dictionary)> {
 }
 
 fn fit(rt: &(impl Abort + AllocGlobal), of: &str, values: &str) -> bool {
-    are_fit(&fields_of(rt, of), &empty(rt, values))
+    are_fit(
+        &fields_of(rt.alloc(), of).expect(rt, "fields"),
+        &empty(rt, values),
+    )
 }
 
 #[test]

@@ -2,11 +2,11 @@
 // more. Each is one array again and again.
 
 use super::bodies::{append, dictionary, nodes_in};
-use super::fields::fields_of;
 use super::told::holds;
 use arrow_body_reader::{BodyFault, are_fit, load};
 use arrow_body_writer::{Align, rest_size};
 use arrow_data::{Array, Dictionary};
+use arrow_test_fields::fields_of;
 use arrow_types::{Buffer, Field, FieldNode};
 use bytes::Bytes;
 use std::process::Abort;
@@ -58,7 +58,7 @@ struct Loading {
 impl Loading {
     fn of(rt: &(impl Abort + AllocGlobal), (of, node, front, ends): &Piece) -> Loading {
         Loading {
-            fields: fields_of(rt, of),
+            fields: fields_of(rt.alloc(), of).expect(rt, "fields"),
             nodes: nodes_in(rt, node),
             buffers: places(rt, ends),
             body: body_of(rt, front),

@@ -13,7 +13,7 @@ fn single(rt: &(impl Abort + AllocGlobal), value: u8) -> Dictionary {
 
 // What the column of index 0 into the dictionary of this id is.
 fn told_by(rt: &(impl Abort + AllocGlobal), listed: &[(i64, Dictionary)], id: i64) -> String {
-    let of = format!(in rt.alloc(); "index8.{id} int32").expect(rt, "memory");
+    let of = format!(in rt.alloc(); "by:{id}:int8 int32").expect(rt, "memory");
     told(rt, &loaded(rt, &of, "1/0 | #, #0", listed))
 }
 

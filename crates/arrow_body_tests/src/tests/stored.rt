@@ -19,7 +19,7 @@ static COLUMNS: [&str; 4] = [
     "a validity of no nulls: int32 | 2/0 | #255, 1 2 => 64 | 2/0 | # @0, 1 2 @0 | 64",
     "an item under a null: list int32 | 3/1 4/0 | #5, 0 2 3 4, #, 1 2 7 3 \
     => 8 | 3/1 3/0 | #5 @0, 0 2 2 3 @8, # @24, 1 2 3 @24 | 40",
-    "a text under a null: struct.1 utf8 | 2/1 2/0 | #1, #, 0 1 2, 'ab' \
+    "a text under a null: struct[1] utf8 | 2/1 2/0 | #1, #, 0 1 2, 'ab' \
     => 8 | 2/1 2/1 | #1 @0, #1 @8, 0 1 1 @16, 'a' @32 | 40",
 ];
 

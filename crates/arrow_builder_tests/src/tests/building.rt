@@ -1,9 +1,9 @@
 // Builders, and the arrays that they make.
 
-use super::fields::schema_of;
 use super::values::values;
 use arrow_builder::{ArrayBuilder, ArrayFault};
 use arrow_data::{Array, Dictionary};
+use arrow_test_fields::schema_of;
 use arrow_types::Schema;
 use std::process::Abort;
 
@@ -11,7 +11,7 @@ const MEMORY: &str = "memory";
 
 // The builder of a field of these words.
 pub(super) fn builder(rt: &(impl Abort + AllocGlobal), words: &str) -> ArrayBuilder {
-    of_schema(rt, &schema_of(rt, words))
+    of_schema(rt, &schema_of(rt.alloc(), words).expect(rt, "schema"))
 }
 
 fn of_schema(rt: &(impl Abort + AllocGlobal), schema: &Schema) -> ArrayBuilder {

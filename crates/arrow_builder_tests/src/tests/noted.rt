@@ -2,9 +2,9 @@
 // one serve a field of the other.
 
 use super::building::{array, dictionary, pushed};
-use super::fields::schema_of;
 use super::told::is_number;
 use arrow_data::{Array, Batch};
+use arrow_test_fields::schema_of;
 use std::process::Abort;
 use std::rc::Rc;
 
@@ -35,7 +35,11 @@ fn dictionaries_of_types_with_other_pairs(rt: HostRuntime) {
 fn columns_of_types_with_other_pairs(rt: HostRuntime) {
     for (words, other, _) in &TYPES {
         let columns = vec![in rt.alloc(); null(&rt, other)].expect(&rt, "memory");
-        let schema = Rc::new(rt.alloc(), schema_of(&rt, words)).expect(&rt, "memory");
+        let schema = Rc::new(
+            rt.alloc(),
+            schema_of(rt.alloc(), words).expect(&rt, "schema"),
+        )
+        .expect(&rt, "memory");
         let batch = Batch::new(schema, columns, 1).expect(&rt, "a batch");
         is_number(&rt, words, batch.columns().len(), 1);
     }

@@ -1,16 +1,20 @@
 // Batches, and why columns make none.
 
-use super::fields::schema_of;
 use super::making::plain;
 use super::told::is_text;
 use arrow_data::BatchFault::{ColumnCount, ColumnLength, ColumnType, IndexRange, Memory};
 use arrow_data::{Array, Batch, BatchFault};
+use arrow_test_fields::schema_of;
 use arrow_types::Schema;
 use std::process::Abort;
 use std::rc::Rc;
 
 fn shared(rt: &(impl Abort + AllocGlobal), words: &str) -> Rc<Schema> {
-    Rc::new(rt.alloc(), schema_of(rt, words)).expect(rt, "memory")
+    Rc::new(
+        rt.alloc(),
+        schema_of(rt.alloc(), words).expect(rt, "schema"),
+    )
+    .expect(rt, "memory")
 }
 
 fn columns(rt: &(impl Abort + AllocGlobal), texts: &[&str]) -> Vec<Array> {
@@ -46,7 +50,7 @@ fn batches_have_their_columns(rt: HostRuntime) {
         is_of(
             &rt,
             &batch.expect(&rt, "a batch"),
-            &schema_of(&rt, words),
+            &schema_of(rt.alloc(), words).expect(&rt, "schema"),
             texts.len(),
         );
     }
@@ -57,7 +61,12 @@ fn a_batch_of_columns_that_are_known_to_fit(rt: HostRuntime) {
     let none = Schema::new(rt.alloc(), Vec::new(rt.alloc())).expect(&rt, "no fields");
     let schema = Rc::new(rt.alloc(), none).expect(&rt, "memory");
     let batch = Batch::new_unchecked(schema, Vec::new(rt.alloc()), 3);
-    is_of(&rt, &batch, &schema_of(&rt, ""), 0);
+    is_of(
+        &rt,
+        &batch,
+        &schema_of(rt.alloc(), "").expect(&rt, "schema"),
+        0,
+    );
 }
 
 // The schema, the columns, the rows that are asked for, and the fault.

@@ -4,11 +4,11 @@ ghost use Rattle.std.specs.Prelude.{◌≡◌};
 ghost use Rattle.arrow_bits.specs.Numbers.{IsWidth};
 ghost use Rattle.arrow_data.specs.Slots.{index_width};
 
-use super::fields::fields_of;
 use super::making::{column, dictionary, listed};
 use super::told::shows;
 use arrow_data::form::{Form, node_form};
 use arrow_data::layout::{are_indices, has_fixed};
+use arrow_test_fields::fields_of;
 use arrow_types::BitWidth::{self, Eight, Sixteen, SixtyFour, ThirtyTwo};
 use arrow_types::{Field, IndexType};
 use std::process::Abort;
@@ -157,7 +157,7 @@ fn a_node_of_indices_has_their_form(rt: HostRuntime) {
         has_form(
             &rt,
             words,
-            &fields_of(&rt, words),
+            &fields_of(rt.alloc(), words).expect(&rt, "fields"),
             Form::Numbers { bits, signed },
         );
     }

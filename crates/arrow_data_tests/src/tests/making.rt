@@ -1,9 +1,9 @@
 // Columns and dictionaries out of text: the types of the nodes, how many slots each has, and the
 // buffers, as in `list int32; 3 2; 5 / i 0 2 2 2 / / i 1 2`.
 
-use super::fields::fields_of;
 use arrow_body_reader::{are_fit, load};
 use arrow_data::{Array, Dictionary};
+use arrow_test_fields::fields_of;
 use arrow_types::{Buffer, FieldNode};
 use bytes::Bytes;
 use std::process::Abort;
@@ -78,7 +78,7 @@ pub(super) fn column(
 ) -> Option<Array> {
     let (types, rest) = text.split_once("; ").expect(rt, "types and lengths");
     let (lens, parts) = rest.split_once(';').unwrap_or((rest, ""));
-    let fields = fields_of(rt, types);
+    let fields = fields_of(rt.alloc(), types).expect(rt, "fields");
     let nodes = nodes_of(rt, lens);
     let (buffers, body) = laid(rt, parts);
     assert!(rt; are_fit(&fields, listed));

@@ -5,6 +5,7 @@ use crate::foreign::NOTHING;
 use crate::vectors::{PLAIN, ROWS, WORDS};
 use arrow_meta_reader::{BatchKind, Header, Message, MetaFault, RecordBatch, decode, judge, tree};
 use arrow_types::Limits;
+use std::alloc::Global;
 use std::process::Abort;
 
 // A batch: its rows, each node by its length and its nulls, each buffer by its place and its
@@ -34,13 +35,18 @@ fn push_message(rt: &impl Abort, text: &mut String, message: &Message) {
 }
 
 // What bytes mean, or their fault.
-fn meaning(rt: &(impl Abort + AllocGlobal), bytes: &[u8]) -> String {
+fn text_of(rt: &(impl Abort + AllocGlobal), meant: Result<Message, MetaFault>) -> String {
     let mut text = String::new(rt.alloc());
-    match decode(rt.alloc(), bytes, &Limits::standard()) {
+    match meant {
         Ok(message) => push_message(rt, &mut text, &message),
         Err(fault) => write!(text, "{fault:?}").expect(rt, MEMORY),
     }
     text
+}
+
+// The same by the tree that lies in the bytes.
+fn judged(alloc: Global, bytes: &[u8], limits: &Limits) -> Result<Message, MetaFault> {
+    judge(alloc, tree(alloc, bytes, limits)?, limits)
 }
 
 const ALL_ROWS: &str = "4 24 3, 3/1, 0+1 8+12";
@@ -100,9 +106,13 @@ static OF_SCHEMA: [(Edits, &str); 5] = [
 ];
 
 fn all_mean(rt: &(impl Abort + AllocGlobal), bytes: &[u8], rows: &[(Edits, &str)]) {
+    let limits = Limits::standard();
     for (edits, want) in rows {
-        let text = meaning(rt, &edited(rt, rt.alloc(), bytes, edits));
+        let edited = edited(rt, rt.alloc(), bytes, edits);
+        let text = text_of(rt, decode(rt.alloc(), &edited, &limits));
         assert_eq!(rt; text.as_str(), *want, "{edits:?}");
+        let text = text_of(rt, judged(rt.alloc(), &edited, &limits));
+        assert_eq!(rt; text.as_str(), *want, "{edits:?} by its tree");
     }
 }
 
@@ -113,16 +123,6 @@ fn messages_are_read(rt: HostRuntime) {
     all_mean(&rt, PLAIN, &OF_SCHEMA);
     all_mean(&rt, NOTHING, &[("", "4 0 0,,")]);
     all_mean(&rt, &[], &[("", "Metadata")]);
-}
-
-#[test]
-fn a_tree_is_judged(rt: HostRuntime) {
-    let limits = Limits::standard();
-    let tree = tree(rt.alloc(), ROWS, &limits).expect(&rt, "a tree");
-    let message = judge(rt.alloc(), tree, &limits).expect(&rt, "a record batch");
-    let mut text = String::new(rt.alloc());
-    push_message(&rt, &mut text, &message);
-    assert_eq!(rt; text.as_str(), ALL_ROWS);
 }
 
 // The faults, and each with its number and words.

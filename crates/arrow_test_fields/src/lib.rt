@@ -1,0 +1,133 @@
+//! Fields out of text, for tests of several crates: a word for each node that they take, those below
+//! a field behind it, as in `list struct[2] int8! by:7:uint8 utf8~a`: an int8 that is said not to be
+//! null, and texts with a pair of the key `a`, encoded by dictionary 7. Fields have no names.
+//!
+//! Each call answers `None` where a word is none of these, or memory is wanting.
+#![tactic(auto)]
+
+use arrow_types::{BitWidth, DataType, DateUnit, Encoding, Field, IndexType, Schema, TimeUnit};
+use std::alloc::Global;
+
+/// The fields of these words.
+pub fn fields_of(alloc: Global, words: &str) -> Option<Vec<Field>> {
+    let mut fields = Vec::new(alloc);
+    if words.is_empty() {
+        return Some(fields);
+    }
+    for word in words.rsplit(' ') {
+        let field = field_of(alloc, word, &mut fields)?;
+        fields.push(field).ok()?;
+    }
+    fields.reverse();
+    Some(fields)
+}
+
+/// The schema of the fields of these words.
+pub fn schema_of(alloc: Global, words: &str) -> Option<Schema> {
+    Schema::new(alloc, fields_of(alloc, words)?).ok()
+}
+
+// The field of a word, which takes what stands below it from the end of the fields behind it.
+fn field_of(alloc: Global, word: &str, behind: &mut Vec<Field>) -> Option<Field> {
+    match word.strip_prefix("by:") {
+        Some(words) => Some(behind.pop()?.with_dictionary(encoding(words)?)),
+        None => plain(alloc, word, behind),
+    }
+}
+
+fn plain(alloc: Global, word: &str, behind: &mut Vec<Field>) -> Option<Field> {
+    let (word, key) = word.split_once('~').unwrap_or((word, ""));
+    let required = word.strip_suffix('!');
+    let data_type = data_type(alloc, required.unwrap_or(word), behind)?;
+    let field = Field::new(alloc, String::new(alloc), data_type, required.is_none());
+    Some(field.with_metadata(noted(alloc, key)?))
+}
+
+// A pair of this key, and none where it is empty.
+fn noted(alloc: Global, key: &str) -> Option<Vec<(Vec<u8>, Vec<u8>)>> {
+    let mut pairs = Vec::new(alloc);
+    if !key.is_empty() {
+        let key = Vec::from_slice(alloc, key.as_bytes()).ok()?;
+        pairs.push((key, Vec::new(alloc))).ok()?;
+    }
+    Some(pairs)
+}
+
+// The encoding of an id and the type of its indices, and maybe a word for an ordered dictionary.
+fn encoding(words: &str) -> Option<Encoding> {
+    let (id, index) = words.split_once(':')?;
+    let plain = index.strip_suffix(":ordered");
+    Some(Encoding {
+        id: id.parse::<i64>().ok()?,
+        index: integer(plain.unwrap_or(index))?,
+        ordered: plain.is_some(),
+    })
+}
+
+// The type of a word, as `arrowflow schema` prints it.
+fn data_type(alloc: Global, word: &str, behind: &mut Vec<Field>) -> Option<DataType> {
+    let (name, rest) = word.split_once('[').unwrap_or((word, ""));
+    let unit = rest.strip_suffix(']').unwrap_or("");
+    Some(match name {
+        "null" => DataType::Null,
+        "bool" => DataType::Bool,
+        "binary" => DataType::Binary,
+        "large_binary" => DataType::LargeBinary,
+        "fixed_size_binary" => DataType::FixedSizeBinary(count(unit)?),
+        "utf8" => DataType::Utf8,
+        "large_utf8" => DataType::LargeUtf8,
+        "date" if unit == "day" => DataType::Date(DateUnit::Day),
+        "date" => DataType::Date(DateUnit::Millisecond),
+        "time" => DataType::Time(time_unit(unit)?),
+        "timestamp" => DataType::Timestamp(time_unit(unit)?, None),
+        "duration" => DataType::Duration(time_unit(unit)?),
+        "list" => DataType::List(item(alloc, behind)?),
+        "large_list" => DataType::LargeList(item(alloc, behind)?),
+        "struct" => DataType::Struct(parts(alloc, count(unit)?, behind)?),
+        _ => {
+            let IndexType { bits, signed } = integer(name)?;
+            DataType::Int { bits, signed }
+        }
+    })
+}
+
+fn count(word: &str) -> Option<u32> {
+    word.parse::<u32>().ok()
+}
+
+fn integer(word: &str) -> Option<IndexType> {
+    let plain = word.strip_prefix('u');
+    let bits = match plain.unwrap_or(word) {
+        "int8" => BitWidth::Eight,
+        "int16" => BitWidth::Sixteen,
+        "int32" => BitWidth::ThirtyTwo,
+        "int64" => BitWidth::SixtyFour,
+        _ => return None,
+    };
+    Some(IndexType {
+        bits,
+        signed: plain.is_none(),
+    })
+}
+
+fn time_unit(word: &str) -> Option<TimeUnit> {
+    match word {
+        "s" => Some(TimeUnit::Second),
+        "ms" => Some(TimeUnit::Millisecond),
+        "us" => Some(TimeUnit::Microsecond),
+        "ns" => Some(TimeUnit::Nanosecond),
+        _ => None,
+    }
+}
+
+fn item(alloc: Global, behind: &mut Vec<Field>) -> Option<Box<Field>> {
+    Box::new(alloc, behind.pop()?).ok()
+}
+
+fn parts(alloc: Global, count: u32, behind: &mut Vec<Field>) -> Option<Vec<Field>> {
+    let mut parts = Vec::new(alloc);
+    for _ in 0..count {
+        parts.push(behind.pop()?).ok()?;
+    }
+    Some(parts)
+}
