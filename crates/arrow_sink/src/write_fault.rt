@@ -3,6 +3,8 @@
 ghost use Rattle.std.specs.Prelude.{◌≡◌};
 ghost use Rattle.arrow_sink.specs.Refusals.{number_of};
 
+use crate::sink::SinkFault;
+use std::alloc::AllocError;
 use std::error::Error;
 use std::fmt;
 
@@ -41,6 +43,28 @@ impl WriteFault {
             WriteFault::Finished => 6,
             WriteFault::Memory => 7,
         }
+    }
+}
+
+/// A growth that was refused: `Memory`.
+impl From<AllocError> for WriteFault {
+    ghost use Rattle.arrow_sink.specs.declared.write_fault.WriteFault.TheVariants.{Memory};
+
+    ghost from_gives = { λ refused fault. fault ≡ Memory };
+
+    fn from(_refused: AllocError) -> WriteFault {
+        WriteFault::Memory
+    }
+}
+
+/// A sink that failed in the call: `Sink`.
+impl From<SinkFault> for WriteFault {
+    ghost use Rattle.arrow_sink.specs.declared.write_fault.WriteFault.TheVariants.{Sink};
+
+    ghost from_gives = { λ failed fault. fault ≡ Sink };
+
+    fn from(_failed: SinkFault) -> WriteFault {
+        WriteFault::Sink
     }
 }
 

@@ -97,13 +97,9 @@ fn metadata_len(align: Align, message: &Message) -> Option<u64>
         (λ len. IsSome (size_of (message_view message.now))
         × (len ≡ header_size (alignment_of align) (header_view message.now.header))) }
 {
-    match encoded_size(message) {
-        Some(size) => {
-            let align = align.bytes() as u64;
-            Some((8 + size).div_ceil(align) * align - 8)
-        }
-        None => None,
-    }
+    let size = encoded_size(message)?;
+    let align = align.bytes() as u64;
+    Some((8 + size).div_ceil(align) * align - 8)
 }
 
 impl Settings {
@@ -121,21 +117,14 @@ impl Settings {
             out.old.items result out.new.items }
     {
         let (_, max_metadata) = (self.limits.max_body(), self.limits.max_metadata());
-        let len = match metadata_len(self.align, message) {
-            Some(len) => len,
-            None => return Err(WriteFault::TooLarge),
-        };
+        let len = metadata_len(self.align, message).ok_or(WriteFault::TooLarge)?;
         if len > max_metadata {
             return Err(WriteFault::TooLarge);
         }
         // One growth makes room for all of the frame.
-        let Ok(()) = out.reserve(8 + len as usize + body.len()) else {
-            return Err(WriteFault::Memory);
-        };
-        match put_frame(out, self.alloc, self.align.bytes(), message, body) {
-            Ok(()) => Ok(()),
-            Err(_) => Err(WriteFault::Memory),
-        }
+        out.reserve(8 + len as usize + body.len())?;
+        put_frame(out, self.alloc, self.align.bytes(), message, body)?;
+        Ok(())
     }
 
     /// Appends the frame of a batch whose columns were stored. Of what was stored the room alone is
@@ -191,27 +180,17 @@ impl Settings {
         let _ = batch.schema();
         let columns = batch.columns();
         let (max_body, max_rows) = (self.limits.max_body(), self.limits.max_rows());
-        let size = match body_size(columns, self.align) {
-            Some(size) => size,
-            None => return Err(WriteFault::TooLarge),
-        };
+        let size = body_size(columns, self.align).ok_or(WriteFault::TooLarge)?;
         if size > max_body {
             return Err(WriteFault::TooLarge);
         }
         if batch.rows() as u64 > max_rows {
             return Err(WriteFault::TooLarge);
         }
-        let Ok(()) = room.make_room(size as usize) else {
-            return Err(WriteFault::Memory);
-        };
+        room.make_room(size as usize)?;
         let empty = mem::replace(room, Body::new(self.alloc));
-        match store_in(empty, columns, self.align) {
-            Ok(body) => {
-                *room = body;
-                self.put_stored(BatchKind::Record, batch.rows(), room, out)
-            }
-            Err(_) => Err(WriteFault::Memory),
-        }
+        *room = store_in(empty, columns, self.align)?;
+        self.put_stored(BatchKind::Record, batch.rows(), room, out)
     }
 
     /// Appends the frame of the dictionary batch, whose body is stored in a room that is kept. After a
@@ -235,24 +214,14 @@ impl Settings {
         if len as u64 > max_rows {
             return Err(WriteFault::TooLarge);
         }
-        let size = match rest_size(dictionary, update.from, self.align) {
-            Some(size) => size,
-            None => return Err(WriteFault::TooLarge),
-        };
+        let size = rest_size(dictionary, update.from, self.align).ok_or(WriteFault::TooLarge)?;
         if size > max_body {
             return Err(WriteFault::TooLarge);
         }
-        let Ok(()) = room.make_room(size as usize) else {
-            return Err(WriteFault::Memory);
-        };
+        room.make_room(size as usize)?;
         let empty = mem::replace(room, Body::new(self.alloc));
-        match store_rest_in(empty, dictionary, update.from, self.align) {
-            Ok(body) => {
-                *room = body;
-                let kind = BatchKind::Dictionary(update.id, update.is_delta);
-                self.put_stored(kind, len - update.from, room, out)
-            }
-            Err(_) => Err(WriteFault::Memory),
-        }
+        *room = store_rest_in(empty, dictionary, update.from, self.align)?;
+        let kind = BatchKind::Dictionary(update.id, update.is_delta);
+        self.put_stored(kind, len - update.from, room, out)
     }
 }

@@ -45,10 +45,8 @@ impl<'a> BatchLists<'a> {
         // The proof has by it at hand what is known of every batch.
         let _ = batch.schema();
         let mut lists = BatchLists::new(alloc);
-        match lists.add_columns(batch.columns()) {
-            Ok(()) => Ok(lists),
-            Err(fault) => Err(fault),
-        }
+        lists.add_columns(batch.columns())?;
+        Ok(lists)
     }
 
     // The dictionaries of no columns. Takes no memory.
@@ -97,10 +95,7 @@ impl<'a> BatchLists<'a> {
         ensures known { OnOk result (AllByRecursion IsColumn columns.now) }
     {
         for column in columns {
-            match self.add_column(column) {
-                Ok(()) => {}
-                Err(fault) => return Err(fault),
-            }
+            self.add_column(column)?;
         }
         Ok(())
     }

@@ -80,13 +80,10 @@ impl PartBuilder {
         let _ = self.settings.limits.max_metadata();
         let _ = self.settings.schema.metadata();
         self.part.clear();
-        let message = match self.settings.schema.copy(self.settings.alloc) {
-            Ok(copy) => Message {
-                version: 4,
-                header: Header::Schema(copy),
-                body_len: 0,
-            },
-            Err(_) => return Err(WriteFault::Memory),
+        let message = Message {
+            version: 4,
+            header: Header::Schema(self.settings.schema.copy(self.settings.alloc)?),
+            body_len: 0,
         };
         self.settings.put_message(&message, &[], &mut self.part)
     }
@@ -124,14 +121,8 @@ impl PartBuilder {
             return Err(WriteFault::SchemaDiffers);
         }
         let (room, part) = (&mut self.room, &mut self.part);
-        match put_updates(&self.settings, batch, &mut self.tracker, room, part) {
-            Ok(()) => {}
-            Err(fault) => return Err(fault),
-        }
-        match self.settings.put_record(batch, room, part) {
-            Ok(()) => {}
-            Err(fault) => return Err(fault),
-        }
+        put_updates(&self.settings, batch, &mut self.tracker, room, part)?;
+        self.settings.put_record(batch, room, part)?;
         if self.part.len() as u64 > Limits::LAST_PLACE - place {
             return Err(WriteFault::TooLarge);
         }

@@ -54,12 +54,7 @@ pub(crate) fn send_end<S: Sink>(sink: &mut S) -> Result<(), WriteFault>
         (AcceptsBeginning (S.contents sink.old) (S.contents sink.new) marker) }
     ensures failed { OnErr result (S.failed sink.new ≡ S.failed sink.old + 1) }
 {
-    match send(sink, &MARKER) {
-        Ok(()) => {}
-        Err(_) => return Err(WriteFault::Sink),
-    }
-    match sink.flush() {
-        Ok(()) => Ok(()),
-        Err(_) => Err(WriteFault::Sink),
-    }
+    send(sink, &MARKER)?;
+    sink.flush()?;
+    Ok(())
 }

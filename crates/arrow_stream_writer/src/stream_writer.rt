@@ -124,14 +124,8 @@ impl<S: Sink> StreamWriter<S> {
             (shown S.contents S.failed self.new) }
         ensures untouched { IfErr result (λ fault. fault ≢ Sink → self.new.sink ≡ self.old.sink) }
     {
-        match taking(self.status) {
-            Ok(()) => {}
-            Err(fault) => return Err(fault),
-        }
-        match self.builder.build(self.place, batch) {
-            Ok(()) => {}
-            Err(fault) => return Err(fault),
-        }
+        taking(self.status)?;
+        self.builder.build(self.place, batch)?;
         match send_part(
             &mut self.sink,
             &self.builder.part,
@@ -162,10 +156,7 @@ impl<S: Sink> StreamWriter<S> {
         ensures passed { OnOk result (S.is_passed_on self.new.sink) }
         ensures untouched { IfErr result (λ fault. fault ≢ Sink → self.new.sink ≡ self.old.sink) }
     {
-        match taking(self.status) {
-            Ok(()) => {}
-            Err(fault) => return Err(fault),
-        }
+        taking(self.status)?;
         if self.place > Limits::LAST_PLACE - 8 {
             return Err(WriteFault::TooLarge);
         }

@@ -37,10 +37,7 @@ impl<'s, 'l, 'd> Updater<'s, 'l, 'd> {
     {
         let ids = self.settings.schema.dictionary_ids();
         for k in 0..ids.len() {
-            match self.add_one(ids[k], tracker, room, bytes) {
-                Ok(()) => {}
-                Err(fault) => return Err(fault),
-            }
+            self.add_one(ids[k], tracker, room, bytes)?;
         }
         Ok(())
     }
@@ -57,9 +54,8 @@ impl<'s, 'l, 'd> Updater<'s, 'l, 'd> {
             id (work_of bytes.old.items tracker.old) result
             (work_of bytes.new.items tracker.new) }
     {
-        let dictionary = match self.lists.get(id) {
-            Some(dictionary) => dictionary,
-            None => return Ok(()),
+        let Some(dictionary) = self.lists.get(id) else {
+            return Ok(());
         };
         match tracker.plan(id, dictionary, self.settings.updates) {
             Update::None => Ok(()),
@@ -99,13 +95,8 @@ impl<'s, 'l, 'd> Updater<'s, 'l, 'd> {
             (work_of bytes.old.items tracker.old) result
             (work_of bytes.new.items tracker.new) }
     {
-        match self.settings.put_update(update, room, bytes) {
-            Ok(()) => {}
-            Err(fault) => return Err(fault),
-        }
-        match tracker.stage(self.settings.alloc, update.id, update.dictionary) {
-            Ok(()) => Ok(()),
-            Err(_) => Err(WriteFault::Memory),
-        }
+        self.settings.put_update(update, room, bytes)?;
+        tracker.stage(self.settings.alloc, update.id, update.dictionary)?;
+        Ok(())
     }
 }

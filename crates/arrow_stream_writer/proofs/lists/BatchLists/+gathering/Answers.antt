@@ -1,4 +1,5 @@
 use Rattle.std.proofs.Common.{◌≡◌, ◌∷◌, [], ◌++◌, ◌+◌, ◌≤◌, length, ap, sym, ◌∙◌, subst, arith, take, w64, to_z, of_z, rules}
+use Rattle.std.proofs.lemmas.Result.{err_from_is_err_and}
 use Rattle.std.specs.List.{AllByRecursion}
 use Rattle.std.proofs.lemmas.List.{take_all, take_more}
 use Rattle.arrow_data.specs.Column.{IsColumn, listed_of}
@@ -31,10 +32,11 @@ add_column-returns-in-Some-clause-gathers t c =
     c.in-None-default.ensures (c.in-Some.ensures c.in-None-default.ensures) c.add_columns.ensures.gathers
 
 -- a fault at one column
-pub add_columns-returns-in-Err-clause-gathers : goal.add_columns-returns-in-Err-clause-gathers
-add_columns-returns-in-Err-clause-gathers t c =
-    stops_at c.args.columns.now c.loop-column.column-index c.column-item.result c.in-Err.fault (dictionary_in c.args.self.now) (dictionary_in c.loop-column.self) (dictionary_in c.add_column.new.self)
-    c.loop-column-test.true c.column-item.is c.loop-column.invariant.0 c.in-Err.ensures.gathers
+pub add_columns-returns-in_err-add_column-clause-gathers : goal.add_columns-returns-in_err-add_column-clause-gathers
+add_columns-returns-in_err-add_column-clause-gathers t c =
+    let failed = err_from_is_err_and c.from_residual.result c.from_residual.ensures.1 in
+    rw (failed.1, failed.2) (stops_at c.args.columns.now c.loop-column.column-index c.column-item.result c.in_err-add_column.field-0.0 (dictionary_in c.args.self.now) (dictionary_in c.loop-column.self) (dictionary_in c.add_column.new.self)
+    c.loop-column-test.true c.column-item.is c.loop-column.invariant.0 c.in_err-add_column.ensures.gathers)
 
 -- one column more
 pub add_columns-loop-column-preserved : goal.add_columns-loop-column-preserved
@@ -44,8 +46,8 @@ add_columns-loop-column-preserved t c =
     let x = c.column-item.result in
     let next : take (i + 1) cs ≡ take i cs ++ x ∷ [] = take_more cs i x c.loop-column-test.true ∙ ap (λ y. take i cs ++ y ∷ []) (sym c.column-item.is) in (
       more_gathered cs i x (dictionary_in c.args.self.now) (dictionary_in c.loop-column.self) (dictionary_in c.add_column.new.self)
-          c.loop-column-test.true c.column-item.is c.loop-column.invariant.0 c.in-Ok.ensures.gathers,
-      subst (AllByRecursion IsColumn) (sym next) (all_both IsColumn (take i cs) (x ∷ []) c.loop-column.invariant.1 (c.in-Ok.ensures.known, tt)),
+          c.loop-column-test.true c.column-item.is c.loop-column.invariant.0 c.in_ok-add_column.ensures.gathers,
+      subst (AllByRecursion IsColumn) (sym next) (all_both IsColumn (take i cs) (x ∷ []) c.loop-column.invariant.1 (c.in_ok-add_column.ensures.known, tt)),
     )
 
 -- all columns

@@ -1,4 +1,6 @@
-use Rattle.std.proofs.Common.{sym, arith, refl}
+use Rattle.std.proofs.Common.{rules, ◌≡◌, sym, arith, refl}
+use Rattle.std.proofs.lemmas.Result.{err_from_is_err_and}
+use Rattle.arrow_sink.specs.declared.write_fault.WriteFault.TheVariants.{TooLarge}
 use Rattle.arrow_body_writer.specs.Align.{alignment_of}
 use Rattle.arrow_body_writer.specs.Storing.{body_view}
 use Rattle.arrow_stream_writer.specs.Framing.{record_load}
@@ -7,19 +9,23 @@ use Rattle.arrow_stream_writer.proofs.Framed.{long_body, many_rows, never_stored
 use Rattle.arrow_stream_writer.proofs.settings.Settings.put_record.Goals as goal
 
 -- the columns cannot be stored
-pub returns-in-None : goal.returns-in-None
-returns-in-None c =
+pub returns-in_err-size : goal.returns-in_err-size
+returns-in_err-size c =
     let body_limit = c.max_body-max_body.ensures.value in
     let body_ceiling = c.max_body-max_body.ensures.ceiling in
     let row_limit = c.max_rows-max_rows.ensures.value in
     let row_ceiling = c.max_rows-max_rows.ensures.ceiling in
-    never_stored (terms_of c.args.self.now) c.args.batch.now c.columns-columns.result.now c.schema.ensures.known c.columns-columns.ensures.same (omega arith) (omega arith) c.in-None.ensures.size
+    let none = rw c.in_err-size.ensures.ok_part at c.body_size.ensures.size in
+    let failed = err_from_is_err_and c.from_residual.result c.from_residual.ensures.1 in
+    let fault : c.in_err-size.field-0.0 ≡ TooLarge = search rules in
+    rw (failed.1, failed.2, fault) (never_stored (terms_of c.args.self.now) c.args.batch.now c.columns-columns.result.now c.schema.ensures.known c.columns-columns.ensures.same (omega arith) (omega arith) none)
 
 -- their body is too long
 pub returns-then-size-max_body : goal.returns-then-size-max_body
 returns-then-size-max_body c =
     let limit = c.max_body-max_body.ensures.value in
-    let size = c.in-Some.ensures.size.1 in
+    let told = rw c.in_ok-size.ensures.ok_part at c.body_size.ensures.size in
+    let size = told.1 in
     let over = c.if-size-max_body.true in
     long_body (terms_of c.args.self.now) c.args.batch.now c.columns-columns.result.now c.schema.ensures.known c.columns-columns.ensures.same (omega arith)
 
@@ -32,8 +38,10 @@ returns-then-rows-max_rows c =
     many_rows (terms_of c.args.self.now) c.args.batch.now c.columns-columns.result.now c.schema.ensures.known c.columns-columns.ensures.same (omega arith)
 
 -- the columns were stored
-pub returns-in-Ok-store_in : goal.returns-in-Ok-store_in
-returns-in-Ok-store_in c =
-    let stored = stored_of (alignment_of c.args.self.now.align) c.args.batch.now c.columns-columns.result.now (body_view c.in-Ok-store_in.body) c.schema.ensures.known c.columns-columns.ensures.same
-    c.in-Some.ensures.raws c.in-Some.ensures.size.0.told.small c.in-Ok-store_in.ensures.same in
-    c.put_stored.ensures (record_load c.args.batch.now) refl (sym c.rows-in-Ok-store_in.ensures) stored
+pub returns : goal.returns
+returns c =
+    let sized = rw c.in_ok-size.ensures.ok_part at c.body_size.ensures.size in
+    let raws = rw c.in_ok-size.ensures.ok_part at c.body_size.ensures.raws in
+    let stored = stored_of (alignment_of c.args.self.now.align) c.args.batch.now c.columns-columns.result.now (body_view c.in_ok-room.field-0) c.schema.ensures.known c.columns-columns.ensures.same
+    raws sized.0.told.small c.in_ok-room.ensures.same in
+    c.put_stored.ensures (record_load c.args.batch.now) refl (sym c.rows-2.ensures) stored

@@ -1,4 +1,6 @@
-use Rattle.std.proofs.Common.{◌-◌, ap, sym, ◌∙◌, subst, arith, rules, length-drop}
+use Rattle.std.proofs.Common.{◌≡◌, ◌-◌, ap, sym, ◌∙◌, subst, arith, rules, length-drop}
+use Rattle.std.proofs.lemmas.Result.{err_from_is_err_and}
+use Rattle.arrow_sink.specs.declared.write_fault.WriteFault.TheVariants.{TooLarge}
 use Rattle.arrow_body_writer.specs.Storing.{body_view}
 use Rattle.arrow_types.specs.Notes.{SchemaShape}
 use Rattle.arrow_types.specs.Schema.{IsSchema}
@@ -9,8 +11,8 @@ use Rattle.arrow_stream_writer.proofs.Rests.{never_rest, puts_update, stored_res
 use Rattle.arrow_stream_writer.proofs.settings.Settings.put_update.Goals as goal
 
 -- the values cannot be stored
-pub returns-in-None : goal.returns-in-None
-returns-in-None c named =
+pub returns-in_err-size : goal.returns-in_err-size
+returns-in_err-size c named =
     let terms = terms_of c.args.self.now in
     let update = c.args.update.now in
     let body_limit = c.max_body-max_body.ensures.value in
@@ -18,15 +20,20 @@ returns-in-None c named =
     let row_limit = c.max_rows-max_rows.ensures.value in
     let row_ceiling = c.max_rows-max_rows.ensures.ceiling in
     let known = subst (λ (shape : SchemaShape). IsSchema shape.fields) c.deref.ensures c.fields.ensures.limits in
-    never_rest terms update.id update.is_delta update.from update.dictionary.now named (omega arith) (omega arith) known c.in-None.ensures.size
+    let none = rw c.in_err-size.ensures.ok_part at c.rest_size.ensures.size in
+    let failed = err_from_is_err_and c.from_residual.result c.from_residual.ensures.1 in
+    let fault : c.in_err-size.field-0.0 ≡ TooLarge = search rules in
+    rw (failed.1, failed.2, fault) (never_rest terms update.id update.is_delta update.from update.dictionary.now named (omega arith) (omega arith) known none)
 
 -- they were stored
-pub returns-in-Ok-store_rest_in : goal.returns-in-Ok-store_rest_in
-returns-in-Ok-store_rest_in c named =
+pub returns : goal.returns
+returns c named =
     let terms = terms_of c.args.self.now in
     let update = c.args.update.now in
     let d = update.dictionary.now in
-    let stored = stored_rest terms update.id update.is_delta update.from d named (body_view c.in-Ok-store_rest_in.body) c.in-Some.ensures.raws c.in-Some.ensures.size.0.told.small c.in-Ok-store_rest_in.ensures.same in
+    let sized = rw c.in_ok-size.ensures.ok_part at c.rest_size.ensures.size in
+    let raws = rw c.in_ok-size.ensures.ok_part at c.rest_size.ensures.raws in
+    let stored = stored_rest terms update.id update.is_delta update.from d named (body_view c.in_ok-room.field-0) raws sized.0.told.small c.in_ok-room.ensures.same in
     let rows = length-drop update.from d.values ∙ ap (λ n. n - update.from) (sym c.len-len.ensures) in
     let row_limit = c.max_rows-max_rows.ensures.value in
     let long = c.len-len.ensures in

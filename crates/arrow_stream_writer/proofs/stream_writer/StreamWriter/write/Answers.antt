@@ -10,13 +10,13 @@ use Rattle.arrow_stream_writer.proofs.Showing.{HasTerms, part_near, writes_accep
 use Rattle.arrow_stream_writer.proofs.stream_writer.StreamWriter.write.Goals as goal
 
 -- the part was accepted
-pub returns-in-Ok-send_part-clause-answer : goal.returns-in-Ok-send_part-clause-answer
-returns-in-Ok-send_part-clause-answer g c =
+pub returns-in-Ok-clause-answer : goal.returns-in-Ok-clause-answer
+returns-in-Ok-clause-answer g c =
     let old = shown g.S.Sink.contents g.S.Sink.failed c.args.self.now in
     let terms = terms_of c.args.self.now.builder.settings in
     let settings = c.build.new.self.settings in
-    let built = c.in-Ok-build.ensures.built in
-    let kept = ap terms_of c.in-Ok-build.ensures.settings in
+    let built = c.in_ok-build.ensures.built in
+    let kept = ap terms_of c.in_ok-build.ensures.settings in
     let new : WriterView = record {
       limits = settings.limits;
       options = options_of (terms_of settings);
@@ -29,19 +29,19 @@ returns-in-Ok-send_part-clause-answer g c =
     } in
     let was : HasTerms terms old = record { limits = refl; options = refl; shape = refl } in
     let has : HasTerms terms new = record { limits = ap (λ (u : Terms). u.limits) kept; options = ap options_of kept; shape = ap (λ (u : Terms). u.shape) kept } in
-    let open_before = writing old.status (sym c.in-Ok.ensures) in
-    let more = subst (λ (xs : List _). Appends old.contents new.contents xs) (c.deref.ensures.value ∙ sym built.same) c.in-Ok-send_part.ensures.all in
+    let open_before = writing old.status (sym c.in_ok-taking.ensures) in
+    let more = subst (λ (xs : List _). Appends old.contents new.contents xs) (c.deref.ensures.value ∙ sym built.same) c.in-Ok.ensures.all in
     let long = c.len.ensures ∙ sym c.deref.ensures.len ∙ ap length c.deref.ensures.value ∙ built.sized in
-    writes_accepted terms c.args.batch.now old new was has open_before built.frames built.is_part more (c.in-Ok-send_part.ensures.committed ∙ built.staged) (ap (λ n. old.place + n) long) open_before c.in-Ok-send_part.ensures.fine
+    writes_accepted terms c.args.batch.now old new was has open_before built.frames built.is_part more (c.in-Ok.ensures.committed ∙ built.staged) (ap (λ n. old.place + n) long) open_before c.in-Ok.ensures.fine
 
 -- the sink failed in it
-pub returns-in-Err-send_part-clause-answer : goal.returns-in-Err-send_part-clause-answer
-returns-in-Err-send_part-clause-answer g c =
+pub returns-in-Err-clause-answer : goal.returns-in-Err-clause-answer
+returns-in-Err-clause-answer g c =
     let old = shown g.S.Sink.contents g.S.Sink.failed c.args.self.now in
     let terms = terms_of c.args.self.now.builder.settings in
     let settings = c.build.new.self.settings in
-    let built = c.in-Ok-build.ensures.built in
-    let kept = ap terms_of c.in-Ok-build.ensures.settings in
+    let built = c.in_ok-build.ensures.built in
+    let kept = ap terms_of c.in_ok-build.ensures.settings in
     let new : WriterView = record {
       limits = settings.limits;
       options = options_of (terms_of settings);
@@ -54,16 +54,16 @@ returns-in-Err-send_part-clause-answer g c =
     } in
     let was : HasTerms terms old = record { limits = refl; options = refl; shape = refl } in
     let has : HasTerms terms new = record { limits = ap (λ (u : Terms). u.limits) kept; options = ap options_of kept; shape = ap (λ (u : Terms). u.shape) kept } in
-    let open_before = writing old.status (sym c.in-Ok.ensures) in
-    let some = subst (λ (xs : List _). AcceptsBeginning old.contents new.contents xs) (c.deref.ensures.value ∙ sym built.same) c.in-Err-send_part.ensures.beginning in
-    subst (λ k. Writes old c.args.batch.now (Err k) new) (sym c.in-Err-send_part.ensures.fault)
-    (writes_failed terms c.args.batch.now old new was has open_before built.frames built.is_part some (c.in-Err-send_part.ensures.discarded ∙ built.kept) refl refl c.in-Err-send_part.ensures.failed)
+    let open_before = writing old.status (sym c.in_ok-taking.ensures) in
+    let some = subst (λ (xs : List _). AcceptsBeginning old.contents new.contents xs) (c.deref.ensures.value ∙ sym built.same) c.in-Err.ensures.beginning in
+    subst (λ k. Writes old c.args.batch.now (Err k) new) (sym c.in-Err.ensures.fault)
+    (writes_failed terms c.args.batch.now old new was has open_before built.frames built.is_part some (c.in-Err.ensures.discarded ∙ built.kept) refl refl c.in-Err.ensures.failed)
 
 -- the part ends before the last place
-pub invariant_of-self-in-Ok-send_part-clause-near : goal.invariant_of-self-in-Ok-send_part-clause-near
-invariant_of-self-in-Ok-send_part-clause-near g c =
+pub invariant_of-self-in-Ok-clause-near : goal.invariant_of-self-in-Ok-clause-near
+invariant_of-self-in-Ok-clause-near g c =
     let old = c.args.self.now in
     let terms = terms_of old.builder.settings in
-    let built = c.in-Ok-build.ensures.built in
+    let built = c.in_ok-build.ensures.built in
     let long = c.len.ensures ∙ sym c.deref.ensures.len ∙ ap length c.deref.ensures.value ∙ built.sized in
     omega (arith, long, part_near terms old.place c.args.batch.now old.builder.tracker.sent built.frames built.is_part)

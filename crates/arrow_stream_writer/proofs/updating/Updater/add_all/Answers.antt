@@ -1,4 +1,5 @@
 use Rattle.std.proofs.Common.{◌≡◌, ◌<◌, ◌+◌, length, sym, refl, rules, ap, ◌∙◌, subst, Ok, Err, w64, to_z, of_z, slice_index_or, pos, take}
+use Rattle.std.proofs.lemmas.Result.{err_from_is_err_and}
 use Rattle.arrow_types.specs.Notes.{SchemaShape}
 use Rattle.arrow_types.specs.Schema.{dictionary_ids}
 use Rattle.arrow_stream_laws.specs.Plan.{sendings}
@@ -10,8 +11,8 @@ use Rattle.arrow_stream_writer.proofs.Adding.{adds_list, goes_on, refused_at}
 use Rattle.arrow_stream_writer.proofs.updating.Updater.add_all.Goals as goal
 
 -- a refusal at one id is one of all
-pub returns-in-Err : goal.returns-in-Err
-returns-in-Err c t same lists =
+pub returns-in_err-add_one : goal.returns-in_err-add_one
+returns-in_err-add_one c t same lists =
     let settings = c.args.self.now.settings.now in
     let terms = terms_of settings in
     let find = dictionary_in c.args.self.now.lists.now in
@@ -23,10 +24,11 @@ returns-in-Err c t same lists =
     let old = work_of c.loop-k.bytes.items c.loop-k.tracker in
     let new = work_of c.add_one.new.bytes.items c.add_one.new.tracker in
     let so_far = c.loop-k.invariant t same lists in
-    let one = adds_list terms find t ids c.loop-k.k id (to_z w64 (of_z w64 id)) (Err c.in-Err.fault) old new same lists are h refl passed c.in-Err.ensures in
+    let one = adds_list terms find t ids c.loop-k.k id (to_z w64 (of_z w64 id)) (Err c.in_err-add_one.field-0.0) old new same lists are h refl passed c.in_err-add_one.ensures in
     let start = work_of c.args.bytes.now.items c.args.tracker.now in
-    subst (λ xs. AddsAll terms (sendings settings.updates c.args.tracker.now.sent (list_of t) xs) start (Err c.in-Err.fault) new) are
-    (refused_at terms c.args.tracker.now.sent (list_of t) ids c.loop-k.k id c.in-Err.fault start old new h refl refl so_far.sent one)
+    let failed = err_from_is_err_and c.from_residual.result c.from_residual.ensures.1 in
+    rw (failed.1, failed.2) (subst (λ xs. AddsAll terms (sendings settings.updates c.args.tracker.now.sent (list_of t) xs) start (Err c.in_err-add_one.field-0.0) new) are
+    (refused_at terms c.args.tracker.now.sent (list_of t) ids c.loop-k.k id c.in_err-add_one.field-0.0 start old new h refl refl so_far.sent one))
 
 -- one id more
 pub loop-k-preserved : goal.loop-k-preserved
@@ -43,6 +45,6 @@ loop-k-preserved c t same lists =
     let new = work_of c.add_one.new.bytes.items c.add_one.new.tracker in
     let sent = c.args.tracker.now.sent in
     let so_far = subst (λ xs. IsWorkOf terms sent (sendings settings.updates sent (list_of t) (take c.loop-k.k xs)) old) (sym are) (c.loop-k.invariant t same lists) in
-    let one = adds_list terms find t ids c.loop-k.k id (to_z w64 (of_z w64 id)) (Ok tt) old new same lists are h refl passed c.in-Ok.ensures in
+    let one = adds_list terms find t ids c.loop-k.k id (to_z w64 (of_z w64 id)) (Ok tt) old new same lists are h refl passed c.in_ok-add_one.ensures in
     subst (λ xs. IsWorkOf terms sent (sendings settings.updates sent (list_of t) (take (c.loop-k.k + 1) xs)) new) are
     (goes_on terms sent (list_of t) ids c.loop-k.k id old new h refl so_far one)

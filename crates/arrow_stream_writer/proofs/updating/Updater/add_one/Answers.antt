@@ -5,10 +5,10 @@ use Rattle.arrow_stream_writer.proofs.Adding.{delta_inside}
 use Rattle.arrow_stream_writer.proofs.updating.Updater.add_one.Goals as goal
 
 -- the id has a dictionary
-pub returns-in-None : goal.returns-in-None
-returns-in-None c d there named =
+pub returns-in_default : goal.returns-in_default
+returns-in_default c d there named =
     let passed = to_z-of_z w64 c.args.id c.ranges.id in
-    let clash : None ≡ Some d = c.in-None.ensures ∙ ap (dictionary_in c.args.self.now.lists.now) passed ∙ there in
+    let clash : None ≡ Some d = c.in_default.ensures ∙ ap (dictionary_in c.args.self.now.lists.now) passed ∙ there in
     absurd (cc)
 
 -- a delta begins inside of the values
