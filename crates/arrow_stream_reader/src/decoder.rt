@@ -72,17 +72,14 @@ impl Decoder {
         ensures works { Works self.old (self.old.held.items ++ piece.now) result self.new }
     {
         self.phase = Phase::Prefix;
-        let Ok(taken) = self.held.fill(piece, 8) else {
-            return Err(Stop::Memory);
-        };
+        let taken = self.held.fill(piece, 8)?;
         if self.held.len() < 8 {
             return Ok(Step::Short);
         }
         let has_schema = self.state.schema.is_some();
-        match read_prefix(&self.limits, has_schema, self.place, self.held.as_slice()) {
-            Ok(Prefix::Metadata(size)) => self.read_metadata(size, &piece[taken..]),
-            Ok(Prefix::EndMarker) => Ok(Step::EndMarker),
-            Err(refusal) => Err(Stop::Refused(refusal)),
+        match read_prefix(&self.limits, has_schema, self.place, self.held.as_slice())? {
+            Prefix::Metadata(size) => self.read_metadata(size, &piece[taken..]),
+            Prefix::EndMarker => Ok(Step::EndMarker),
         }
     }
 
@@ -96,23 +93,14 @@ impl Decoder {
     {
         self.phase = Phase::Metadata(size);
         let whole = 8 + size as usize;
-        let Ok(taken) = self.held.fill(piece, whole) else {
-            return Err(Stop::Memory);
-        };
+        let taken = self.held.fill(piece, whole)?;
         if self.held.len() < whole {
             return Ok(Step::Short);
         }
         let start = self.place + 8;
-        match read_message(
-            self.alloc,
-            &self.limits,
-            &self.state,
-            start,
-            &self.held.as_slice()[8..],
-        ) {
-            Ok(message) => self.read_body(size, message, &piece[taken..]),
-            Err(stop) => Err(stop),
-        }
+        let metadata = &self.held.as_slice()[8..];
+        let message = read_message(self.alloc, &self.limits, &self.state, start, metadata)?;
+        self.read_body(size, message, &piece[taken..])
     }
 
     /// Goes on where the metadata are known.

@@ -42,6 +42,28 @@ pub(crate) enum Stop {
     Memory,
 }
 
+/// A growth that was refused: `Memory`.
+impl From<AllocError> for Stop {
+    ghost use Rattle.arrow_stream_reader.specs.declared.message.Stop.TheVariants.{Memory};
+
+    ghost from_gives = { λ refused stop. stop ≡ Memory };
+
+    fn from(_refused: AllocError) -> Stop {
+        Stop::Memory
+    }
+}
+
+/// Bytes that are refused so: `Refused`.
+impl From<Refusal> for Stop {
+    ghost use Rattle.arrow_stream_reader.specs.declared.message.Stop.TheVariants.{Refused};
+
+    ghost from_gives = { λ refusal stop. stop ≡ Refused refusal };
+
+    fn from(refusal: Refusal) -> Stop {
+        Stop::Refused(refusal)
+    }
+}
+
 /// What a metadata says that begins at the place `start` of a stream, behind what was read before.
 /// What the message needs to be applied is made here, but for what its body holds.
 pub(crate) fn read_message(
@@ -83,10 +105,8 @@ fn place(
         return Err(Stop::Refused(refusal));
     }
     let body_len = message.body_len;
-    match content_by(alloc, message.header) {
-        Ok(content) => Ok(Message { content, body_len }),
-        Err(_) => Err(Stop::Memory),
-    }
+    let content = content_by(alloc, message.header)?;
+    Ok(Message { content, body_len })
 }
 
 /// What a message with this header holds.

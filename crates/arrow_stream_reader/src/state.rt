@@ -110,20 +110,15 @@ impl State {
         let types = schema.types();
         let schema = schema.shared();
         let dictionaries = self.dictionaries.entries();
-        let arrays = match load_columns(
+        let arrays = load_columns(
             alloc,
             schema.fields(),
             types,
             record_batch,
             body,
             dictionaries,
-        ) {
-            Ok(arrays) => arrays,
-            Err(stop) => return Err(stop),
-        };
-        let Ok(schema) = schema.clone() else {
-            return Err(Stop::Memory);
-        };
+        )?;
+        let schema = schema.clone()?;
         Ok(Batch::new_unchecked(schema, arrays, row_count(record_batch)))
     }
 
@@ -143,19 +138,17 @@ impl State {
         let Some(field) = self.value_field(id) else {
             unreachable!();
         };
-        match load_columns(
+        let mut arrays = load_columns(
             alloc,
             field.fields(),
             field.types(),
             record_batch,
             body,
             &[],
-        ) {
-            Ok(mut arrays) => match arrays.pop() {
-                Some(values) => Ok(values),
-                None => unreachable!(),
-            },
-            Err(stop) => Err(stop),
+        )?;
+        match arrays.pop() {
+            Some(values) => Ok(values),
+            None => unreachable!(),
         }
     }
 
@@ -175,10 +168,7 @@ impl State {
             result (plain self.new) }
         ensures fit { IsFit (plain self.new) }
     {
-        let values = match self.values(alloc, id, record_batch, body) {
-            Ok(values) => values,
-            Err(stop) => return Err(stop),
-        };
+        let values = self.values(alloc, id, record_batch, body)?;
         if is_delta {
             return match self.dictionaries.append(alloc, id, values) {
                 Ok(()) => Ok(()),
@@ -187,13 +177,9 @@ impl State {
                 Err(StoreFault::TooLong) => unreachable!(),
             };
         }
-        let Ok(dictionary) = Dictionary::from_array(alloc, values) else {
-            return Err(Stop::Memory);
-        };
-        match self.dictionaries.replace(id, dictionary) {
-            Ok(()) => Ok(()),
-            Err(_) => Err(Stop::Memory),
-        }
+        let dictionary = Dictionary::from_array(alloc, values)?;
+        self.dictionaries.replace(id, dictionary)?;
+        Ok(())
     }
 }
 

@@ -1,4 +1,5 @@
 use Rattle.std.proofs.Common.{◌≡◌, sym, ap, ◌∙◌, subst, Ok}
+use Rattle.std.proofs.lemmas.Result.{err_from_is_err_and}
 use Rattle.arrow_types.specs.Notes.{SchemaShape}
 use Rattle.arrow_types.specs.Schema.{IsSchema}
 use Rattle.arrow_types.specs.View.{fields_view}
@@ -22,58 +23,60 @@ load_columns-requires-clause-fit c =
     subst (λ x. AreFit x (fields_view c.fields.result.now)) (sym c.entries-dictionaries.ensures.all)
     (subst (λ x. AreFit s.dictionaries x) same (state_fit s c.requires.fit known))
 
-pub returns-in-Err : goal.returns-in-Err
-returns-in-Err c =
+pub returns-in_err-arrays : goal.returns-in_err-arrays
+returns-in_err-arrays c =
     let s = plain c.args.self.now in
     let record_batch = batch_view c.args.record_batch.now in
     let body = c.args.body.now in
     let same : fields_view c.fields.result.now ≡ fields_in s.schema = c.fields.ensures.same ∙ ap (λ (x : SchemaShape). x.fields) (c.deref.ensures ∙ c.shared-schema.ensures.same) ∙ sym (ap fields_in c.in-Some.is) in
-    record {
-      gives = batch_refused s record_batch body c.in-Err.stop
-          (subst (λ x. HasNoColumns body x (fields_in s.schema) record_batch c.in-Err.stop) c.entries-dictionaries.ensures.all
-          (subst (λ x. HasNoColumns body c.entries-dictionaries.result.now x record_batch c.in-Err.stop) same c.in-Err.ensures.held));
-    }
+    let failed = err_from_is_err_and c.from_residual.result c.from_residual.ensures.1 in
+    rw (failed.1, failed.2) (record {
+      gives = batch_refused s record_batch body c.in_err-arrays.field-0.0
+          (subst (λ x. HasNoColumns body x (fields_in s.schema) record_batch c.in_err-arrays.field-0.0) c.entries-dictionaries.ensures.all
+          (subst (λ x. HasNoColumns body c.entries-dictionaries.result.now x record_batch c.in_err-arrays.field-0.0) same c.in_err-arrays.ensures.held));
+    })
 
 pub returns : goal.returns
 returns c =
     let s = plain c.args.self.now in
     let record_batch = batch_view c.args.record_batch.now in
     let body = c.args.body.now in
-    let cs = c.in-Ok.arrays.items in
+    let cs = c.in_ok-arrays.arrays.items in
     let held = ap (λ (x : SchemaShape). x.fields) c.shared-schema.ensures.same ∙ sym (ap fields_in c.in-Some.is) in
     let same : fields_view c.fields.result.now ≡ fields_in s.schema = c.fields.ensures.same ∙ ap (λ (x : SchemaShape). x.fields) c.deref.ensures ∙ held in
     record {
       gives = batch_read s record_batch body cs c.new_unchecked.result
           (subst (λ x. Loads body x (fields_in s.schema) record_batch (Ok cs)) c.entries-dictionaries.ensures.all
-          (subst (λ x. Loads body c.entries-dictionaries.result.now x record_batch (Ok cs)) same c.in-Ok.ensures.held))
+          (subst (λ x. Loads body c.entries-dictionaries.result.now x record_batch (Ok cs)) same c.in_ok-arrays.ensures.held))
           (c.new_unchecked.ensures
-          ∙ ap (λ x. record { schema = x; columns = cs; rows = c.row_count.result }) (c.in-Ok-clone.ensures.cases ∙ c.shared-schema.ensures.same ∙ sym (ap schema_in c.in-Some.is))
+          ∙ ap (λ x. record { schema = x; columns = cs; rows = c.row_count.result }) (c.in_ok-schema.ensures.cases ∙ c.shared-schema.ensures.same ∙ sym (ap schema_in c.in-Some.is))
           ∙ ap (λ n. record { schema = schema_in s.schema; columns = cs; rows = n }) c.row_count.ensures.count);
     }
 
-pub returns-in_default-clone : goal.returns-in_default-clone
-returns-in_default-clone c =
+pub returns-in_err-schema : goal.returns-in_err-schema
+returns-in_err-schema c =
     let s = plain c.args.self.now in
     let record_batch = batch_view c.args.record_batch.now in
     let body = c.args.body.now in
-    let cs = c.in-Ok.arrays.items in
+    let cs = c.in_ok-arrays.arrays.items in
     let held = ap (λ (x : SchemaShape). x.fields) c.shared-schema.ensures.same ∙ sym (ap fields_in c.in-Some.is) in
     let same : fields_view c.fields.result.now ≡ fields_in s.schema = c.fields.ensures.same ∙ ap (λ (x : SchemaShape). x.fields) c.deref.ensures ∙ held in
     let holds : Loads body s.dictionaries (fields_in s.schema) record_batch (Ok cs) =
     subst (λ x. Loads body x (fields_in s.schema) record_batch (Ok cs)) c.entries-dictionaries.ensures.all
-    (subst (λ x. Loads body c.entries-dictionaries.result.now x record_batch (Ok cs)) same c.in-Ok.ensures.held) in
-    record { gives = batch_applicable s record_batch body cs holds }
+    (subst (λ x. Loads body c.entries-dictionaries.result.now x record_batch (Ok cs)) same c.in_ok-arrays.ensures.held) in
+    let failed = err_from_is_err_and c.from_residual-in_err-schema.result c.from_residual-in_err-schema.ensures.1 in
+    rw (failed.1, failed.2) (record { gives = batch_applicable s record_batch body cs holds })
 
 pub new_unchecked-requires : goal.new_unchecked-requires
 new_unchecked-requires c =
     let s = plain c.args.self.now in
     let record_batch = batch_view c.args.record_batch.now in
     let body = c.args.body.now in
-    let cs = c.in-Ok.arrays.items in
+    let cs = c.in_ok-arrays.arrays.items in
     let held = ap (λ (x : SchemaShape). x.fields) c.shared-schema.ensures.same ∙ sym (ap fields_in c.in-Some.is) in
     let same : fields_view c.fields.result.now ≡ fields_in s.schema = c.fields.ensures.same ∙ ap (λ (x : SchemaShape). x.fields) c.deref.ensures ∙ held in
     let holds : Loads body s.dictionaries (fields_in s.schema) record_batch (Ok cs) =
     subst (λ x. Loads body x (fields_in s.schema) record_batch (Ok cs)) c.entries-dictionaries.ensures.all
-    (subst (λ x. Loads body c.entries-dictionaries.result.now x record_batch (Ok cs)) same c.in-Ok.ensures.held) in
+    (subst (λ x. Loads body c.entries-dictionaries.result.now x record_batch (Ok cs)) same c.in_ok-arrays.ensures.held) in
     let fits = held_fits holds in
-    record { typed = subst (λ f. AreOf f cs) (sym (ap (λ (x : SchemaShape). x.fields) c.in-Ok-clone.ensures.cases ∙ held)) fits.0; long = subst (λ n. HaveRows n cs) (sym c.row_count.ensures.count) fits.1 }
+    record { typed = subst (λ f. AreOf f cs) (sym (ap (λ (x : SchemaShape). x.fields) c.in_ok-schema.ensures.cases ∙ held)) fits.0; long = subst (λ n. HaveRows n cs) (sym c.row_count.ensures.count) fits.1 }

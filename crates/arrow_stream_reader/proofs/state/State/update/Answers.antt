@@ -1,4 +1,5 @@
 use Rattle.std.proofs.Common.{◌≡◌, None, refl, sym, ap, subst, w64, Ok, Err}
+use Rattle.std.proofs.lemmas.Result.{err_from_is_err_and}
 use Rattle.std.proofs.lemmas.Int.{to_z-of_z}
 use Rattle.arrow_data.specs.Listed.{listed}
 use Rattle.arrow_dict.specs.Appends.{IsAppended, IsTooLong}
@@ -10,61 +11,62 @@ use Rattle.arrow_stream_reader.specs.Views.{AreValues, HeldValues, Ready, plain}
 use Rattle.arrow_stream_reader.proofs.States.{append_updates, append_fits, base_fits, base_found, replace_updates, replace_fits, update_refused, values_applicable}
 use Rattle.arrow_stream_reader.proofs.state.State.update.Goals as goal
 
-pub returns-in-Err-clause-updates : goal.returns-in-Err-clause-updates
-returns-in-Err-clause-updates c =
+pub returns-in_err-values-clause-updates : goal.returns-in_err-values-clause-updates
+returns-in_err-values-clause-updates c =
     let s = plain c.args.self.now in
     let record_batch = batch_view c.args.record_batch.now in
     let body = c.args.body.now in
     let id = to_z-of_z w64 c.args.id c.ranges.id in
-    update_refused s record_batch body c.args.id c.args.is_delta c.in-Err.stop (subst (λ i. HeldValues s i record_batch body (Err c.in-Err.stop)) id c.in-Err.ensures.values)
+    let failed = err_from_is_err_and c.from_residual.result c.from_residual.ensures.1 in
+    rw (failed.1, failed.2) (update_refused s record_batch body c.args.id c.args.is_delta c.in_err-values.field-0.0 (subst (λ i. HeldValues s i record_batch body (Err c.in_err-values.field-0.0)) id c.in_err-values.ensures.values))
 
-pub returns-in-Ok-append-clause-updates : goal.returns-in-Ok-append-clause-updates
-returns-in-Ok-append-clause-updates c =
+pub returns-in-Ok-clause-updates : goal.returns-in-Ok-clause-updates
+returns-in-Ok-clause-updates c =
     let s = plain c.args.self.now in
     let record_batch = batch_view c.args.record_batch.now in
     let body = c.args.body.now in
     let id = to_z-of_z w64 c.args.id c.ranges.id in
     let new = c.append.new.self in
-    let v = subst (λ i. AreValues s i record_batch body c.in-Ok.values) id c.in-Ok.ensures.values in
-    let a = subst (λ i. IsAppended s.dictionaries i c.in-Ok.values new) id c.in-Ok-append.ensures in
+    let v = subst (λ i. AreValues s i record_batch body c.in_ok-values.values) id c.in_ok-values.ensures.values in
+    let a = subst (λ i. IsAppended s.dictionaries i c.in_ok-values.values new) id c.in-Ok.ensures in
     subst (λ b. BodySays s (dictionary c.args.id b record_batch) body (Ok (record { schema = s.schema; dictionaries = new }, dictionary_given c.args.id))) (sym c.if-is_delta.true)
-    (append_updates s record_batch body c.args.id c.in-Ok.values new c.requires.fit v a)
+    (append_updates s record_batch body c.args.id c.in_ok-values.values new c.requires.fit v a)
 
-pub returns-in-Ok-append-clause-fit : goal.returns-in-Ok-append-clause-fit
-returns-in-Ok-append-clause-fit c =
+pub returns-in-Ok-clause-fit : goal.returns-in-Ok-clause-fit
+returns-in-Ok-clause-fit c =
     let s = plain c.args.self.now in
     let record_batch = batch_view c.args.record_batch.now in
     let body = c.args.body.now in
     let id = to_z-of_z w64 c.args.id c.ranges.id in
     let new = c.append.new.self in
-    append_fits s record_batch body c.args.id c.in-Ok.values new c.requires.fit
-    (subst (λ i. AreValues s i record_batch body c.in-Ok.values) id c.in-Ok.ensures.values)
-    (subst (λ i. IsAppended s.dictionaries i c.in-Ok.values new) id c.in-Ok-append.ensures)
+    append_fits s record_batch body c.args.id c.in_ok-values.values new c.requires.fit
+    (subst (λ i. AreValues s i record_batch body c.in_ok-values.values) id c.in_ok-values.ensures.values)
+    (subst (λ i. IsAppended s.dictionaries i c.in_ok-values.values new) id c.in-Ok.ensures)
 
-pub returns-in-Ok-replace-clause-updates : goal.returns-in-Ok-replace-clause-updates
-returns-in-Ok-replace-clause-updates c =
+pub returns-clause-updates : goal.returns-clause-updates
+returns-clause-updates c =
     let s = plain c.args.self.now in
     let record_batch = batch_view c.args.record_batch.now in
     let body = c.args.body.now in
     let id = to_z-of_z w64 c.args.id c.ranges.id in
     let new = c.replace.new.self in
-    let d = c.in-Ok-from_array.dictionary in
-    let v = subst (λ i. AreValues s i record_batch body c.in-Ok.values) id c.in-Ok.ensures.values in
-    let e = subst (λ i. new ≡ placed i d s.dictionaries) id c.in-Ok-replace.ensures.ok in
+    let d = c.in_ok-dictionary.dictionary in
+    let v = subst (λ i. AreValues s i record_batch body c.in_ok-values.values) id c.in_ok-values.ensures.values in
+    let e = subst (λ i. new ≡ placed i d s.dictionaries) id c.in_ok-replace.ensures.ok in
     subst (λ b. BodySays s (dictionary c.args.id b record_batch) body (Ok (record { schema = s.schema; dictionaries = new }, dictionary_given c.args.id))) (sym c.if-is_delta.false)
-    (replace_updates s record_batch body c.args.id c.in-Ok.values d new v c.in-Ok-from_array.ensures e)
+    (replace_updates s record_batch body c.args.id c.in_ok-values.values d new v c.in_ok-dictionary.ensures e)
 
-pub returns-in-Ok-replace-clause-fit : goal.returns-in-Ok-replace-clause-fit
-returns-in-Ok-replace-clause-fit c =
+pub returns-clause-fit : goal.returns-clause-fit
+returns-clause-fit c =
     let s = plain c.args.self.now in
     let record_batch = batch_view c.args.record_batch.now in
     let body = c.args.body.now in
     let id = to_z-of_z w64 c.args.id c.ranges.id in
     let new = c.replace.new.self in
-    let d = c.in-Ok-from_array.dictionary in
-    let v = subst (λ i. AreValues s i record_batch body c.in-Ok.values) id c.in-Ok.ensures.values in
-    let e = subst (λ i. new ≡ placed i d s.dictionaries) id c.in-Ok-replace.ensures.ok in
-    replace_fits s record_batch body c.args.id c.in-Ok.values d new c.requires.fit v c.in-Ok-from_array.ensures e
+    let d = c.in_ok-dictionary.dictionary in
+    let v = subst (λ i. AreValues s i record_batch body c.in_ok-values.values) id c.in_ok-values.ensures.values in
+    let e = subst (λ i. new ≡ placed i d s.dictionaries) id c.in_ok-replace.ensures.ok in
+    replace_fits s record_batch body c.args.id c.in_ok-values.values d new c.requires.fit v c.in_ok-dictionary.ensures e
 
 pub unreachable-requires : goal.unreachable-requires
 unreachable-requires c =
@@ -83,9 +85,9 @@ unreachable-requires-in-Err-TooLong c =
     let id = to_z-of_z w64 c.args.id c.ranges.id in
     let new = c.append.new.self in
     let long = rw c.in-Err-TooLong.field-0-is at c.in-Err-TooLong.ensures in
-    base_fits s record_batch body c.args.id c.in-Ok.values new (subst (λ d. Ready s (dictionary c.args.id d record_batch)) c.if-is_delta.true c.requires.ready)
-    (subst (λ i. AreValues s i record_batch body c.in-Ok.values) id c.in-Ok.ensures.values)
-    (subst (λ i. IsTooLong s.dictionaries i c.in-Ok.values new) id long)
+    base_fits s record_batch body c.args.id c.in_ok-values.values new (subst (λ d. Ready s (dictionary c.args.id d record_batch)) c.if-is_delta.true c.requires.ready)
+    (subst (λ i. AreValues s i record_batch body c.in_ok-values.values) id c.in_ok-values.ensures.values)
+    (subst (λ i. IsTooLong s.dictionaries i c.in_ok-values.values new) id long)
 
 pub returns-in-Err-Memory-clause-updates : goal.returns-in-Err-Memory-clause-updates
 returns-in-Err-Memory-clause-updates c =
@@ -94,24 +96,27 @@ returns-in-Err-Memory-clause-updates c =
     let body = c.args.body.now in
     let id = to_z-of_z w64 c.args.id c.ranges.id in
     let refused = rw c.in-Err-Memory.field-0-is at c.in-Err-Memory.ensures in (
-      values_applicable s record_batch body c.args.id c.args.is_delta c.in-Ok.values (subst (λ i. AreValues s i record_batch body c.in-Ok.values) id c.in-Ok.ensures.values),
+      values_applicable s record_batch body c.args.id c.args.is_delta c.in_ok-values.values (subst (λ i. AreValues s i record_batch body c.in_ok-values.values) id c.in_ok-values.ensures.values),
       ap (λ ds. record { schema = s.schema; dictionaries = ds }) refused.same,
     )
 
-pub returns-in_default-clause-updates : goal.returns-in_default-clause-updates
-returns-in_default-clause-updates c =
+pub returns-in_err-dictionary-clause-updates : goal.returns-in_err-dictionary-clause-updates
+returns-in_err-dictionary-clause-updates c =
     let s = plain c.args.self.now in
     let record_batch = batch_view c.args.record_batch.now in
     let body = c.args.body.now in
     let id = to_z-of_z w64 c.args.id c.ranges.id in
-    (values_applicable s record_batch body c.args.id c.args.is_delta c.in-Ok.values (subst (λ i. AreValues s i record_batch body c.in-Ok.values) id c.in-Ok.ensures.values), refl)
+    let failed = err_from_is_err_and c.from_residual-in_err-dictionary.result c.from_residual-in_err-dictionary.ensures.1 in
+    rw (failed.1, failed.2) (values_applicable s record_batch body c.args.id c.args.is_delta c.in_ok-values.values (subst (λ i. AreValues s i record_batch body c.in_ok-values.values) id c.in_ok-values.ensures.values), refl)
 
-pub returns-in-Err-replace-clause-updates : goal.returns-in-Err-replace-clause-updates
-returns-in-Err-replace-clause-updates c =
+pub returns-in_err-replace-clause-updates : goal.returns-in_err-replace-clause-updates
+returns-in_err-replace-clause-updates c =
     let s = plain c.args.self.now in
     let record_batch = batch_view c.args.record_batch.now in
     let body = c.args.body.now in
-    let id = to_z-of_z w64 c.args.id c.ranges.id in (
-      values_applicable s record_batch body c.args.id c.args.is_delta c.in-Ok.values (subst (λ i. AreValues s i record_batch body c.in-Ok.values) id c.in-Ok.ensures.values),
-      ap (λ ds. record { schema = s.schema; dictionaries = ds }) c.in-Err-replace.ensures.err,
+    let id = to_z-of_z w64 c.args.id c.ranges.id in
+    let failed = err_from_is_err_and c.from_residual-in_err-replace.result c.from_residual-in_err-replace.ensures.1 in
+    rw (failed.1, failed.2) (
+      values_applicable s record_batch body c.args.id c.args.is_delta c.in_ok-values.values (subst (λ i. AreValues s i record_batch body c.in_ok-values.values) id c.in_ok-values.ensures.values),
+      ap (λ ds. record { schema = s.schema; dictionaries = ds }) c.in_err-replace.ensures.err,
     )

@@ -23,8 +23,8 @@ load_columns-requires-clause-fit c =
     let flat : (t : TypeShape) → o c.args.id ≡ Some t → has_encoding t.children ≡ false = λ t e. c.value_field.ensures.flat t (ap o id ∙ e) in
     subst (AreFit []) (sym c.fields.ensures) (found_fit (o c.args.id) c.in-Some.field.now found flat)
 
-pub returns-in-Some-pop : goal.returns-in-Some-pop
-returns-in-Some-pop c =
+pub returns : goal.returns
+returns c =
     let s = plain c.args.self.now in
     let record_batch = batch_view c.args.record_batch.now in
     let body = c.args.body.now in
@@ -34,6 +34,6 @@ returns-in-Some-pop c =
     let flat : (t : TypeShape) → o c.args.id ≡ Some t → has_encoding t.children ≡ false = λ t e. c.value_field.ensures.flat t (ap o id ∙ e) in
     let fields : fields_view c.fields.result.now ≡ value_fields s.schema c.args.id = c.fields.ensures ∙ one_value_field s.schema c.args.id c.in-Some.field.now found in
     record {
-      values = values_read s record_batch body c.args.id found.type c.in-Ok.arrays.items c.pop.new.self.items c.in-Some-pop.values found.named (flat found.type found.named)
-          (subst (λ x. Loads body [] x record_batch (Ok c.in-Ok.arrays.items)) fields c.in-Ok.ensures.held) c.in-Some-pop.ensures.items;
+      values = values_read s record_batch body c.args.id found.type c.in_ok-arrays.arrays.items c.pop.new.self.items c.in-Some-pop.values found.named (flat found.type found.named)
+          (subst (λ x. Loads body [] x record_batch (Ok c.in_ok-arrays.arrays.items)) fields c.in_ok-arrays.ensures.held) c.in-Some-pop.ensures.items;
     }
