@@ -3,3 +3,4 @@ pub mod Written
 mod Chunked
 mod Digits
 mod Making
+pub mod Naming

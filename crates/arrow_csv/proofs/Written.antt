@@ -5,18 +5,21 @@ use Rattle.std.specs.List.{flat_map, range_with_len}
 use Rattle.std.proofs.Math.Seq.{take-append_seam, drop-append_seam}
 use Rattle.std.proofs.lemmas.Fmt.{decimal_nonempty}
 use Rattle.csv.specs.Writing.{default_writer, field_text, fields_text, is_blank, needs_quotes}
-use Rattle.arrow_data.specs.Batch.{Table}
-use Rattle.arrow_csv.specs.Records.{batch_rows, record_of, row_record}
+use Rattle.arrow_data.specs.Column.{Column}
+use Rattle.arrow_csv.specs.Records.{column_rows, column_texts, record_of}
 
 -- the rows from one on are that one and those behind it
-pub rows_next : (number : ℕ) (batch : Table) (i end : ℕ) → i < end → batch_rows number batch i end ≡ row_record number batch i ++ batch_rows number batch (i + 1) end
-rows_next number batch i end h = by (end - i) refl
+pub rows_next : (number : ℕ) (columns : List Column) (i end : ℕ) → i < end → column_rows number columns i end ≡ record_of (decimal number ∷ column_texts columns i) ++ column_rows number columns (i + 1) end
+rows_next number columns i end h = by (end - i) refl
   where
-    by : (n : ℕ) → end - i ≡ n → batch_rows number batch i end ≡ row_record number batch i ++ batch_rows number batch (i + 1) end
+    record_at : ℕ → List ℕ
+    record_at k = record_of (decimal number ∷ column_texts columns k)
+
+    by : (n : ℕ) → end - i ≡ n → column_rows number columns i end ≡ record_at i ++ column_rows number columns (i + 1) end
     by zero e = absurd (omega arith)
     by (suc n) e =
         let less : n ≡ end - (i + 1) = omega (arith, e) in
-        ap (λ m. flat_map (row_record number batch) (range_with_len i m)) e ∙ ap (λ m. row_record number batch i ++ flat_map (row_record number batch) (range_with_len (i + 1) m)) less
+        ap (λ m. flat_map record_at (range_with_len i m)) e ∙ ap (λ m. record_at i ++ flat_map record_at (range_with_len (i + 1) m)) less
 
 some_if : (b : Bool) (q : ℕ) (qs f : List ℕ) → 0 < length f → (length (if b then q ∷ qs else f) == 0) ≡ false
 some_if true q qs f h = ne_eqb (suc (length qs)) 0 (λ z. cc z)

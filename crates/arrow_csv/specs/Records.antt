@@ -32,7 +32,11 @@ column_texts columns i = map (λ (c : Column). value_text [] c.data_type.childre
 abbrev pub row_record : ℕ → Table → ℕ → List ℕ
 row_record number batch i = record_of (decimal number ∷ column_texts batch.columns i)
 
--- the records of the rows from `start` up to `end`
+-- the records of the rows from `start` up to `end` of these columns
+abbrev pub column_rows : ℕ → List Column → ℕ → ℕ → List ℕ
+column_rows number columns start end = flat_map (λ i. record_of (decimal number ∷ column_texts columns i)) (range_with_len start (end - start))
+
+-- the same of a batch
 abbrev pub batch_rows : ℕ → Table → ℕ → ℕ → List ℕ
 batch_rows number batch start end = flat_map (row_record number batch) (range_with_len start (end - start))
 

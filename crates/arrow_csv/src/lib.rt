@@ -22,6 +22,7 @@
 //! | the text of a value | `specs/Texts.antt`: `value_text` |
 //! | the record of a row, of a schema | `specs/Records.antt`: `row_record`, `header_record` |
 //! | the records of a batch, of a stream | `specs/Records.antt`: `batch_rows`, `stream_text` |
+//! | columns chosen by their names | `specs/Named.antt`: `chosen`, `chosen_shape`, `lacking` |
 //! | fields of a dictionary's values, made before the rows | `specs/Made.antt`: `AreFieldsOf` |
 //! | bytes that call for no quotes, seen by chunks | `specs/Chunks.antt`: `AreAllPlain`, `is_mark` |
 #![tactic(auto)]
@@ -29,7 +30,9 @@
 mod chunks;
 mod column_text;
 mod fields;
+mod named;
 mod records;
 mod texts;
 
-pub use records::{BatchRows, header, rows};
+pub use named::lacking;
+pub use records::{BatchRows, header, header_of, rows};

@@ -1,18 +1,23 @@
 //! The records of a schema and of the rows of batches.
 
-ghost use Rattle.std.specs.Prelude.{◌≡◌, ◌≤◌, ◌<◌, ◌++◌, [], IfOk, OnErr, OnOk, codes, length};
+ghost use Rattle.std.specs.Prelude.{◌≡◌, ◌≤◌, ◌<◌, ◌++◌, [], IfOk, IfSome, OnErr, OnOk, codes, length, map};
 ghost use Rattle.arrow_data.specs.PlainValue.{value_at};
 ghost use Rattle.arrow_data.specs.Same.{HaveSlot};
 ghost use Rattle.arrow_data.specs.Shown.{HoldsValue};
 ghost use Rattle.csv.specs.Writing.{default_writer, field_text, fields_text};
 ghost use Rattle.arrow_csv.specs.Texts.{value_text};
-ghost use Rattle.arrow_csv.specs.Records.{batch_rows, column_texts, header_record};
+ghost use Rattle.csv.specs.Records.{fields_of, partial_of};
+ghost use Rattle.arrow_types.specs.Field.{none};
+ghost use Rattle.arrow_types.specs.View.{fields_view};
+ghost use Rattle.arrow_csv.specs.Named.{HaveSlots, choice_by, chosen, chosen_shape, fields_named, with_field};
+ghost use Rattle.arrow_csv.specs.Records.{batch_rows, column_rows, column_texts, header_record, names};
 
 use crate::column_text::ColumnText;
 use crate::fields::{push_field_text, quote_from};
+use crate::named::{columns_named, place_of};
 use crate::texts::{push_bytes, push_items, push_number, push_parts};
 use arrow_data::{Array, Batch, SlotValue};
-use arrow_types::Schema;
+use arrow_types::{Field, Schema};
 use csv::{ByteRecord, WriterBuilder};
 use itoa::Buffer;
 use std::alloc::{AllocError, Global};
@@ -22,10 +27,24 @@ use std::marker::Model;
 pub fn header(alloc: Global, schema: &Schema) -> Result<Vec<u8>, AllocError>
     ensures { IfOk result (λ text. text.items ≡ header_record schema.now.fields) }
 {
+    header_of(alloc, schema, None)
+}
+
+/// The same with the columns of these names alone, in their order: of each name the first, and none
+/// of a name that no column has. `None` stands for all columns.
+pub fn header_of(
+    alloc: Global,
+    schema: &Schema,
+    choice: Option<&[&str]>,
+) -> Result<Vec<u8>, AllocError>
+    ensures { IfOk result (λ text. text.items
+        ≡ header_record (chosen_shape (choice_by choice.entry) schema.now).fields) }
+{
     let mut record = ByteRecord::new(alloc);
     record.push_field(b"batch")?;
-    for field in schema.fields() {
-        record.push_field(field.name.as_bytes())?;
+    match choice {
+        None => push_names(&mut record, schema.fields())?,
+        Some(names) => push_named(&mut record, schema.fields(), names)?,
     }
     let mut writer = WriterBuilder::new().from_writer(Vec::new(alloc));
     let Ok(()) = writer.write_byte_record(&record) else {
@@ -34,6 +53,50 @@ pub fn header(alloc: Global, schema: &Schema) -> Result<Vec<u8>, AllocError>
     match writer.into_inner() {
         Ok(text) => Ok(text),
         Err(_) => Err(AllocError),
+    }
+}
+
+/// Appends the names of fields.
+fn push_names(line: &mut ByteRecord, fields: &[Field]) -> Result<(), AllocError>
+    requires { partial_of line.old ≡ [] }
+    ensures names { OnOk result
+        (fields_of line.new ≡ fields_of line.old ++ names (fields_view fields.now)) }
+    ensures whole { OnOk result (partial_of line.new ≡ []) }
+{
+    for field in fields {
+        line.push_field(field.name.as_bytes())?;
+    }
+    Ok(())
+}
+
+/// Appends those of these names that a field has.
+fn push_named(line: &mut ByteRecord, fields: &[Field], wanted: &[&str]) -> Result<(), AllocError>
+    requires { partial_of line.old ≡ [] }
+    ensures names { OnOk result (fields_of line.new ≡ fields_of line.old
+        ++ names (fields_named (map (λ name. name.now) wanted.now) (fields_view fields.now))) }
+    ensures whole { OnOk result (partial_of line.new ≡ []) }
+{
+    for name in wanted {
+        push_name(line, fields, place_of(fields, name))?;
+    }
+    Ok(())
+}
+
+/// Appends the name of the field at a place, where there is one.
+fn push_name(
+    line: &mut ByteRecord,
+    fields: &[Field],
+    place: Option<usize>,
+) -> Result<(), AllocError>
+    requires whole { partial_of line.old ≡ [] }
+    requires inside { IfSome place (λ place. place < length fields.now) }
+    ensures name { OnOk result (fields_of line.new ≡ fields_of line.old
+        ++ names (with_field place (fields_view fields.now) none)) }
+    ensures whole { OnOk result (partial_of line.new ≡ []) }
+{
+    match place {
+        Some(place) => line.push_field(fields[place].name.as_bytes()),
+        None => Ok(()),
     }
 }
 
@@ -54,7 +117,7 @@ pub fn rows(
     Ok(out)
 }
 
-/// The rows of a batch that has a number, on their way into text.
+/// The rows of a batch that has a number, or of some of its columns, on their way into text.
 ///
 /// What is the same for all rows is looked up or made with it: where each column's values lie, and
 /// of a dictionary that has few values beside the rows the field of each value.
@@ -62,20 +125,24 @@ pub fn rows(
 pub struct BatchRows<'a> {
     number: u64,
     batch: &'a Batch,
+    choice: Option<&'a [&'a str]>,
     columns: Vec<ColumnText<'a>>,
 }
 
 impl<'a> Model for BatchRows<'a> {
     ghost use Rattle.std.specs.Prelude.{◌≡◌};
+    ghost use Rattle.arrow_csv.specs.Named.{choice_by, chosen};
     ghost use Rattle.arrow_csv.specs.Records.{NumberedBatch, numbered_code};
 
     ghost Value = { NumberedBatch };
 
     ghost coded = { numbered_code };
 
-    ghost view = { λ r. record { number = r.number; batch = r.batch.now } };
+    ghost view = { λ r.
+        record { number = r.number; batch = chosen (choice_by r.choice) r.batch.now } };
 
-    ghost invariant = { λ r. r.columns.items ≡ r.batch.now.columns };
+    ghost invariant = { λ r.
+        r.columns.items ≡ (chosen (choice_by r.choice) r.batch.now).columns };
 }
 
 impl<'a> BatchRows<'a> {
@@ -83,13 +150,27 @@ impl<'a> BatchRows<'a> {
     pub fn new(alloc: Global, number: u64, batch: &'a Batch) -> Result<BatchRows<'a>, AllocError>
         ensures { IfOk result (λ rows. rows ≡ record { number = number; batch = batch.now }) }
     {
-        let mut columns = Vec::with_capacity(alloc, batch.columns().len())?;
-        for column in batch.columns() {
-            columns.push(ColumnText::new(alloc, column)?)?;
-        }
+        BatchRows::of(alloc, number, batch, None)
+    }
+
+    /// The same with the columns of these names alone, as [`header_of`] has them.
+    pub fn of(
+        alloc: Global,
+        number: u64,
+        batch: &'a Batch,
+        choice: Option<&'a [&'a str]>,
+    ) -> Result<BatchRows<'a>, AllocError>
+        ensures { IfOk result (λ rows. rows
+            ≡ record { number = number; batch = chosen (choice_by choice.entry) batch.now }) }
+    {
+        let columns = match choice {
+            None => all_columns(alloc, batch)?,
+            Some(names) => columns_named(alloc, batch, names)?,
+        };
         Ok(BatchRows {
             number,
             batch,
+            choice,
             columns,
         })
     }
@@ -134,15 +215,9 @@ impl<'a> BatchRows<'a> {
             (out.new.items ≡ batch_rows self.now.number self.now.batch start end) }
         ensures err { OnErr result (out.new.items ≡ []) }
     {
-        let Ok(()) = push_records(
-            alloc,
-            out,
-            self.number,
-            self.batch,
-            &self.columns,
-            start,
-            end,
-        ) else {
+        // Called for what it says of every batch.
+        self.batch.schema();
+        let Ok(()) = push_records(alloc, out, self.number, &self.columns, start, end) else {
             out.clear();
             return Err(AllocError);
         };
@@ -150,24 +225,32 @@ impl<'a> BatchRows<'a> {
     }
 }
 
-/// Appends the records of the rows from `start` up to `end` of a batch of these columns that has
+/// The texts of all columns.
+fn all_columns<'a>(alloc: Global, batch: &'a Batch) -> Result<Vec<ColumnText<'a>>, AllocError>
+    ensures { IfOk result (λ columns. columns.items ≡ batch.now.columns) }
+{
+    let mut columns = Vec::with_capacity(alloc, batch.columns().len())?;
+    for column in batch.columns() {
+        columns.push(ColumnText::new(alloc, column)?)?;
+    }
+    Ok(columns)
+}
+
+/// Appends the records of the rows from `start` up to `end` of these columns of the batch that has
 /// this number.
 fn push_records(
     alloc: Global,
     out: &mut Vec<u8>,
     number: u64,
-    batch: &Batch,
     columns: &[ColumnText],
     start: usize,
     end: usize,
 ) -> Result<(), AllocError>
-    requires columns { columns.now ≡ batch.now.columns }
     requires order { start ≤ end }
-    requires inside { end ≤ batch.now.rows }
-    ensures { OnOk result (out.new.items ≡ out.old.items ++ batch_rows number batch.now start end) }
+    requires inside { HaveSlots end columns.now }
+    ensures { OnOk result (out.new.items
+        ≡ out.old.items ++ column_rows number columns.now start end) }
 {
-    // Called for what it says of every batch.
-    batch.columns();
     let mut buffer = Buffer::new();
     let head = buffer.format(number);
     for i in start..end {

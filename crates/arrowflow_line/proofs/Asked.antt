@@ -1,12 +1,12 @@
 -- What clap finds in words.
-use Rattle.std.proofs.Common.{◌≡◌, ◌<◌, ◌^◌, ℕ, List, [], Option, Some, None, Result, Ok, Err, option_map, unwrap_or, ap, refl, arith}
+use Rattle.std.proofs.Common.{◌≡◌, ℕ, List, [], Option, Some, None, Result, Ok, Err, option_map, unwrap_or, ap, refl}
 use Rattle.std.specs.Prelude.{Box}
 use Rattle.std.specs.Box.{box_value}
 use Rattle.std.specs.Str.Parse.{ParsesUnsigned, digits_value, without_leading_plus}
 use Rattle.clap.specs.Matches.{ReadsOne}
 use Rattle.clap.specs.Simple.{subcommand_rows}
 use Rattle.clap.specs.Values.{IsUnsignedIn}
-use Rattle.clap.specs.Words.{Row, Text, all_of, first_value, matched_of, raw_values, rows_of, subcommand_name_of, subcommand_rows_of}
+use Rattle.clap.specs.Words.{Row, Text, first_value, matched_of, raw_values, rows_of, subcommand_name_of, subcommand_rows_of}
 use Rattle.clap.proofs.WalkLemmas.{first_value-rows, raw_values-rows}
 use Rattle.clap.specs.declared.parser.matches.ArgMatches.{ArgMatches}
 use Rattle.clap.specs.declared.parser.matches.ArgMatches.TheViews.{out-ArgMatches, out-SubCommand}

@@ -1,5 +1,6 @@
 -- What the words of a command line ask for, in the terms of clap: what it reads of a command, and what it finds in words.
-use Rattle.std.specs.Prelude.{◌≡◌, ◌≤◌, ◌-◌, ◌^◌, ◌⊎◌, ℕ, List, [], ◌∷◌, Bool, true, false, codes, map, if◌then◌else◌, Option, None, Some, Result, Ok, Err, ⊤, string_bytes, unwrap_or}
+use Rattle.std.specs.Prelude.{◌≡◌, ◌≤◌, ◌-◌, ◌^◌, ◌⊎◌, ℕ, List, [], ◌∷◌, Bool, true, false, codes, ◌==◌, map, option_map, if◌then◌else◌, Option, None, Some, Result, Ok, Err, ⊤, string_bytes, unwrap_or}
+use Rattle.std.specs.List.{slice_split}
 use Rattle.std.specs.Str.{bytes_eq}
 use Rattle.std.specs.Str.Parse.{digits_value, without_leading_plus}
 use Rattle.std.specs.Borrow.{Bor}
@@ -55,6 +56,10 @@ option name parser default = record (named name) { parser = Some parser; default
 abbrev pub flag : Text → Rule
 flag name = record (named name) { action = Some SetTrue }
 
+-- an option of this name with a text, for which nothing stands where it is not given; help has one word for the text
+abbrev pub text : Text → Rule
+text name = record (named name) { value_names = 1 }
+
 -- an option of this name with a number of 64 bits, for which nothing stands where it is not given; help has one word for
 -- the number
 abbrev pub number : Text → Rule
@@ -97,7 +102,7 @@ check_app = with_limits (with_rule (file_app (codes "check")) (flag (codes "quie
 
 -- the command that shows rows
 abbrev pub show_app : App
-show_app = with_limits (with_rule (file_app (codes "show")) (number (codes "rows")))
+show_app = with_limits (with_rule (with_rule (file_app (codes "show")) (text (codes "columns"))) (number (codes "rows")))
 
 -- the command that copies
 abbrev pub copy_app : Choices → Choices → App
@@ -150,6 +155,14 @@ name_in id rows = unwrap_or (first_of id rows) []
 abbrev pub names_in : Text → List Row → List Text
 names_in id rows = unwrap_or (all_of id rows) []
 
+-- the names in a text, with commas between them
+abbrev pub names_by : Text → List Text
+names_by names = slice_split (λ b. b == 44) names
+
+-- the names in the text that clap found, if it found one
+abbrev pub names_if_any : Text → List Row → Option (List Text)
+names_if_any id rows = option_map names_by (first_of id rows)
+
 -- the text of a number
 abbrev pub number_text : Text → List Row → Option Text
 number_text id rows = one_of id rows
@@ -195,8 +208,10 @@ pub record AreLimitsIn (rows : List Row) (limits : LimitNumbers) : Type 0 where
 abbrev pub IsTask : Text → List Row → Task → Type 0
 IsTask name rows (Schema file) = (name ≡ codes "schema") × (string_bytes file ≡ name_in (codes "FILE") rows)
 IsTask name rows (Check file quiet) = (name ≡ codes "check") × (string_bytes file ≡ name_in (codes "FILE") rows) × (quiet ≡ is_given (codes "quiet") rows)
-IsTask name rows (Show file first) =
-    (name ≡ codes "show") × (string_bytes file ≡ name_in (codes "FILE") rows) × IsNumberIfAny (number_text (codes "rows") rows) first
+IsTask name rows (Show file columns first) =
+    (name ≡ codes "show") × (string_bytes file ≡ name_in (codes "FILE") rows)
+    × (option_map (λ names. map string_bytes names.items) columns ≡ names_if_any (codes "columns") rows)
+    × IsNumberIfAny (number_text (codes "rows") rows) first
 IsTask name rows (Copy input output options) =
     (name ≡ codes "copy") × (string_bytes input ≡ name_in (codes "IN") rows) × (string_bytes output ≡ name_in (codes "OUT") rows) × (options ≡ options_in rows)
 IsTask name rows (Drill files options bytes piece) =

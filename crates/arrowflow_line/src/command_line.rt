@@ -8,7 +8,7 @@ ghost use Rattle.arrowflow_line.specs.CommandLine.{NeedsSubcommand, Offers, chec
 ghost use Rattle.arrowflow_line.specs.CommandLine.{drill_app, file_app, flag, limit, needed};
 ghost use Rattle.arrowflow_line.specs.CommandLine.{named, needed_some, number, option, reading_app};
 ghost use Rattle.arrowflow_line.specs.CommandLine.{schema_app, show_app};
-ghost use Rattle.arrowflow_line.specs.CommandLine.{with_delivery, with_limits, with_options};
+ghost use Rattle.arrowflow_line.specs.CommandLine.{with_delivery, text, with_limits, with_options};
 
 use crate::fault::ArgFault;
 use crate::plans::Plan;
@@ -44,7 +44,7 @@ const SHOW_ABOUT: &str = "Prints the rows of a stream as comma-separated values"
 
 /// What it says behind it.
 const SHOW_EXAMPLE: &str =
-    "The first record has the names of the columns, and each row begins with the number of its batch, counted from\n0. The exit status is 0, 1 where the stream is refused or ends too early, and 2 where the file cannot be\nread, the output cannot be written or memory is wanting.\n\nExample:\n  arrowflow show examples/growing_dictionary.arrows";
+    "The first record has the names of the columns, and each row begins with the number of its batch, counted from\n0. The exit status is 0, 1 where the stream is refused or ends too early, and 2 where the file cannot be\nread, the output cannot be written, memory is wanting or a column is not there.\n\nExample:\n  arrowflow show examples/growing_dictionary.arrows";
 
 /// What the help of `copy` says before its arguments.
 const COPY_ABOUT: &str =
@@ -126,6 +126,14 @@ fn flag<'a>(alloc: Global, name: &'a str, help: &'a str) -> Arg<'a>
     ensures local { result.global ≡ false }
 {
     named(alloc, name, help).action(ArgAction::SetTrue)
+}
+
+/// An option with a text, for which nothing stands where it is not given.
+fn text<'a>(alloc: Global, name: &'a str, word: &'a str, help: &'a str) -> Arg<'a>
+    ensures rule { rule_of result ≡ text name.now }
+    ensures local { result.global ≡ false }
+{
+    named(alloc, name, help).value_name(word)
 }
 
 /// An option with a number, for which nothing stands where it is not given.
@@ -236,8 +244,16 @@ fn show_command<'a>(alloc: Global) -> Result<Command<'a>, AllocError>
     ensures globals { IfOk result HasNoGlobals }
     ensures app { IfOk result (λ c. app_of c ≡ show_app) }
 {
+    let columns = text(
+        alloc,
+        "columns",
+        "NAMES",
+        "Print the columns of these names alone, with commas between them, in this order",
+    );
     let rows = number(alloc, "rows", "N", "Print the first N rows alone");
-    let command = file_command(alloc, "show", SHOW_ABOUT, SHOW_EXAMPLE)?.arg(rows)?;
+    let command = file_command(alloc, "show", SHOW_ABOUT, SHOW_EXAMPLE)?
+        .arg(columns)?
+        .arg(rows)?;
     with_limits(alloc, command)
 }
 

@@ -21,8 +21,9 @@ pub enum Task {
     /// Print a line for each message of the stream in the file of this name; none where it is to be
     /// quiet.
     Check(String, bool),
-    /// Print the rows of the stream in the file of this name: the first so many, or all.
-    Show(String, Option<u64>),
+    /// Print the rows of the stream in the file of this name, with the columns of these names or
+    /// with all: the first so many, or all.
+    Show(String, Option<Vec<String>>, Option<u64>),
     /// Write the stream in the file of the first name again, into that of the second.
     Copy(String, String, Options),
     /// Write the streams in these files again, each over a connection of its own that breaks after

@@ -1,11 +1,12 @@
 //! What clap found behind a command's name, as the parts of a plan.
 
-ghost use Rattle.std.specs.Prelude.{◌≡◌, ◌≤◌, IfOk, MatchOption, codes, map};
+ghost use Rattle.std.specs.Prelude.{◌≡◌, ◌≤◌, IfOk, MatchOption, codes, map, option_map};
 ghost use Rattle.std.specs.Prelude.{string_bytes};
 ghost use Rattle.clap.specs.Words.{found_of, rows_of};
 ghost use Rattle.arrowflow_line.specs.CommandLine.{AreLimitsIn, IsCommand, IsNumberIfAny, IsNumberOf};
 ghost use Rattle.arrowflow_line.specs.CommandLine.{IsPlan, IsTask, align_by, is_given, name_in, names_in};
-ghost use Rattle.arrowflow_line.specs.CommandLine.{number_text, options_in, updates_by};
+ghost use Rattle.arrowflow_line.specs.CommandLine.{names_by, names_if_any, number_text};
+ghost use Rattle.arrowflow_line.specs.CommandLine.{options_in, updates_by};
 
 use crate::plans::{Plan, Task};
 use arrow_body_writer::Align;
@@ -55,6 +56,36 @@ fn names_of(
         names.push(String::from_str(alloc, name)?)?;
     }
     Ok(names)
+}
+
+/// The names in the text that an argument was given, with commas between them, None where it was
+/// given none.
+fn names_if_any(
+    alloc: Global,
+    matches: &ArgMatches<'_>,
+    argument: &str,
+) -> Result<Option<Vec<String>>, AllocError>
+    ensures { IfOk result (λ names. option_map (λ v. map string_bytes v.items) names
+        ≡ names_if_any argument.now (rows_of (found_of matches.now))) }
+{
+    match matches.get_str(argument) {
+        Some(names) => Ok(Some(parts_of(alloc, names)?)),
+        None => Ok(None),
+    }
+}
+
+/// The parts of a text between its commas.
+fn parts_of(alloc: Global, text: &str) -> Result<Vec<String>, AllocError>
+    ensures { IfOk result (λ v. map string_bytes v.items ≡ names_by text.now) }
+{
+    let mut parts = Vec::new(alloc);
+    let mut rest = text;
+    while let Some((part, behind)) = rest.split_once(',') {
+        parts.push(String::from_str(alloc, part)?)?;
+        rest = behind;
+    }
+    parts.push(String::from_str(alloc, rest)?)?;
+    Ok(parts)
 }
 
 /// The number that an argument was given, in these bounds: clap takes no other.
@@ -155,12 +186,21 @@ fn task_of(alloc: Global, command: &str, given: &ArgMatches<'_>) -> Result<Optio
     Ok(Some(match command {
         "schema" => Task::Schema(name_of(alloc, given, "FILE")?),
         "check" => Task::Check(name_of(alloc, given, "FILE")?, is_given(given, "quiet")),
-        "show" => Task::Show(name_of(alloc, given, "FILE")?, number_if_any(given, "rows")),
+        "show" => show_of(alloc, given)?,
         "copy" => copy_of(alloc, given)?,
         "drill" => drill_of(alloc, given)?,
         // a text that names no command
         _ => return Ok(None),
     }))
+}
+
+/// What is shown.
+fn show_of(alloc: Global, given: &ArgMatches<'_>) -> Result<Task, AllocError>
+    ensures { IfOk result (λ t. IsTask (codes "show") (rows_of (found_of given.now)) t) }
+{
+    let file = name_of(alloc, given, "FILE")?;
+    let columns = names_if_any(alloc, given, "columns")?;
+    Ok(Task::Show(file, columns, number_if_any(given, "rows")))
 }
 
 /// What is copied, and how.

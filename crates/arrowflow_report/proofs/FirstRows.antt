@@ -4,22 +4,24 @@ use Rattle.std.proofs.lemmas.Bool.{false≢true}
 use Rattle.arrow_types.specs.Limits.{LimitNumbers}
 use Rattle.arrow_types.specs.Notes.{SchemaShape}
 use Rattle.arrow_data.specs.Batch.{Table}
+use Rattle.arrow_csv.specs.Named.{Choice, chosen, chosen_schema, chosen_shape, chosen_tables}
 use Rattle.arrow_csv.specs.Records.{batch_rows, batches_text, header_record, stream_text}
 use Rattle.arrow_stream_reader.specs.declared.reader.Verdict.TheVariants.{Open}
 use Rattle.arrow_stream_reader.specs.Front.{Entry, Standing, FrontOf}
 use Rattle.arrow_stream_reader.specs.State.{Given, schema_given, dictionary_given, batch_given, ended}
 use Rattle.arrow_stream_reader.specs.Tables.{table_in, tables_of}
-use Rattle.arrowflow_report.specs.FirstRows.{AreLeft, AreRowsIn, HasLast, HasMore, HaveFirst, ToldSo, first_rows, first_text, last_in, left_behind, rows_of}
+use Rattle.arrowflow_report.specs.Chosen.{AreRows, HaveChosen, IsChosenAt, choice_of, chosen_given, chosen_text}
+use Rattle.arrowflow_report.specs.FirstRows.{AreLeft, AreRowsIn, HasLast, HasMore, HaveFirst, ToldSo, first_chosen, first_rows, first_text, last_in, left_behind, rows_of}
 use Rattle.arrowflow_report.specs.Reports.{IsAdded, IsTextOf, SendsText}
 use Rattle.arrowflow_report.specs.Shown.{text_in}
 use Rattle.arrowflow_report.specs.declared.progress.Progress.{Progress}
-use Rattle.arrowflow_report.specs.declared.progress.Progress.TheVariants.{GoesOn, Marker, Enough}
+use Rattle.arrowflow_report.specs.declared.progress.Progress.TheVariants.{GoesOn, Marker, Enough, Lacks}
 use Rattle.arrowflow_report.specs.declared.report.Report.{Report}
 use Rattle.arrowflow_report.specs.declared.report.Report.TheVariants.{Messages, Rows}
 use Rattle.arrowflow_report.specs.declared.tool_fault.ToolFault.{ToolFault}
 use Rattle.arrowflow_report.specs.declared.tool_fault.ToolFault.TheVariants.{Input, Output, Stream, Refused, Memory}
 use Rattle.arrowflow_report.proofs.First.{state_stays}
-use Rattle.arrowflow_report.proofs.Growing.{one_table, text_grows}
+use Rattle.arrowflow_report.proofs.Growing.{chosen_join, chosen_length, one_table, shape_shown, text_grows}
 use Rattle.arrowflow_report.proofs.Schemas.{front_begins, front_behind, front_keeps}
 use Rattle.arrowflow_report.proofs.Sent.{begun_longer, rows_join}
 
@@ -42,9 +44,22 @@ first_all n number (t ∷ ts) h =
     ap (λ k. batch_rows number t 0 k ++ first_rows (n - t.rows) (number + 1) ts) least
     ∙ ap (λ x. batch_rows number t 0 t.rows ++ x) (first_all (n - t.rows) (number + 1) ts rest)
 
-pub first_text_all : (n : ℕ) (schema : Option SchemaShape) (ts : List Table) → rows_of ts ≤ n → first_text n schema ts ≡ stream_text schema ts
+first_text_all : (n : ℕ) (schema : Option SchemaShape) (ts : List Table) → rows_of ts ≤ n → first_text n schema ts ≡ stream_text schema ts
 first_text_all n None ts h = refl
 first_text_all n (Some shape) ts h = ap (λ x. header_record shape.fields ++ x) (first_all n 0 ts h)
+
+-- the chosen columns have as many rows
+chosen_one : (choice : Choice) (t : Table) → (chosen choice t).rows ≡ t.rows
+chosen_one None t = refl
+chosen_one (Some names) t = refl
+
+chosen_rows : (choice : Choice) (ts : List Table) → rows_of (chosen_tables choice ts) ≡ rows_of ts
+chosen_rows None ts = refl
+chosen_rows (Some names) [] = refl
+chosen_rows (Some names) (t ∷ ts) = ap (λ n. t.rows + n) (chosen_rows (Some names) ts)
+
+pub first_chosen_all : (choice : Choice) (n : ℕ) (schema : Option SchemaShape) (ts : List Table) → rows_of ts ≤ n → first_chosen choice n schema ts ≡ chosen_text choice schema ts
+first_chosen_all choice n schema ts h = first_text_all n (chosen_schema choice schema) (chosen_tables choice ts) (omega (arith, h, chosen_rows choice ts))
 
 -- the batch with the last row
 first_then : (n number : ℕ) (ts : List Table) (b : Table) (left : ℕ) → n ≡ rows_of ts + left → left ≤ b.rows
@@ -125,6 +140,13 @@ last_longer rows schema number (dictionary_given id) h = ([], refl)
 last_longer rows schema number (batch_given b) h = (batch_rows number b rows b.rows, rows_join number b rows b.rows 0 (omega arith) h)
 last_longer rows schema number ended h = ([], refl)
 
+rows_chosen : (choice : Choice) (g : Given) (rows : ℕ) → AreRowsIn g rows → AreRowsIn (chosen_given choice g) rows
+rows_chosen None g rows h = h
+rows_chosen (Some names) schema_given rows h = h
+rows_chosen (Some names) (dictionary_given id) rows h = h
+rows_chosen (Some names) (batch_given b) rows h = h
+rows_chosen (Some names) ended rows h = h
+
 -- what was not sent to its end of a beginning, was not of the whole
 cut_longer : (f : ToolFault) (a c : Option (List ℕ)) (n k : ℕ) (s t : List ℕ) → SendsText a n s (Err f) c k → SendsText a n (s ++ t) (Err f) c k
 cut_longer (Input x) a c n k s t sent = absurd sent
@@ -133,10 +155,11 @@ cut_longer (Stream x) a c n k s t sent = absurd sent
 cut_longer Output a c n k s t sent = (begun_longer a c s t sent.0, sent.1)
 cut_longer Memory a c n k s t sent = (begun_longer a c s t sent.0, sent.1)
 
-pub last_cut : (f : ToolFault) (a c : Option (List ℕ)) (n k rows : ℕ) (schema : Option SchemaShape) (number : ℕ) (g : Given) → AreRowsIn g rows → SendsText a n (last_in rows schema number g) (Err f) c k
-    → SendsText a n (text_in schema number g) (Err f) c k
-last_cut f a c n k rows schema number g within sent =
-    let longer = last_longer rows schema number g within in
+pub last_cut : (choice : Choice) (f : ToolFault) (a c : Option (List ℕ)) (n k rows : ℕ) (schema : Option SchemaShape) (number : ℕ) (h : Given) → AreRowsIn h rows → SendsText a n (last_in rows schema number (chosen_given choice h)) (Err f) c k
+    → SendsText a n (text_in schema number (chosen_given choice h)) (Err f) c k
+last_cut choice f a c n k rows schema number h within sent =
+    let g = chosen_given choice h in
+    let longer = last_longer rows schema number g (rows_chosen choice h rows within) in
     subst (λ t. SendsText a n t (Err f) c k) longer.1 (cut_longer f a c n k (last_in rows schema number g) longer.0 sent)
 
 -- with it all are there
@@ -155,53 +178,81 @@ last_there n (Some k) rows es x new a last =
     by ended h = absurd h
 
 -- the text with so many of the last message's rows
-abbrev IsLastText : ℕ → ℕ → List Entry → Entry → Standing → Standing → Type 0
-IsLastText n rows es x e f = first_text n f.state.schema (tables_of (es ++ x ∷ [])) ≡ stream_text e.state.schema (tables_of es) ++ last_in rows f.state.schema (length (tables_of es)) x.given
+abbrev IsLastText : Choice → ℕ → ℕ → List Entry → Entry → Standing → Standing → Type 0
+IsLastText choice n rows es x e f =
+    first_chosen choice n f.state.schema (tables_of (es ++ x ∷ [])) ≡ chosen_text choice e.state.schema (tables_of es) ++ last_in rows (chosen_schema choice f.state.schema) (length (tables_of es)) (chosen_given choice x.given)
+
+-- a schema's message has no rows
+last_schema : (choice : Choice) (rows : ℕ) (schema : Option SchemaShape) (number : ℕ) → text_in schema number (chosen_given choice schema_given) ≡ last_in rows schema number (chosen_given choice schema_given)
+last_schema None rows schema number = refl
+last_schema (Some names) rows schema number = refl
+
+last_batch : (choice : Choice) (rows : ℕ) (schema : Option SchemaShape) (number : ℕ) (t : Table) → batch_rows number (chosen choice t) 0 rows ≡ last_in rows schema number (chosen_given choice (batch_given t))
+last_batch None rows schema number t = refl
+last_batch (Some names) rows schema number t = refl
+
+tables_in : (choice : Choice) (t : Table) → chosen_tables choice (table_in (batch_given t)) ≡ chosen choice t ∷ []
+tables_in None t = refl
+tables_in (Some names) t = refl
 
 -- the first rows are those before it, and as many of its own as are left
-pub last_text : (n : ℕ) (left : Option ℕ) (rows : ℕ) {l : LimitNumbers} {b : List ℕ} (c : List ℕ) (es : List Entry) {e f : Standing} (x : Entry) → FrontOf l b es e → e.verdict ≡ Open → FrontOf l (b ++ c) (es ++ x ∷ []) f
-    → AreLeft n left es → HasLast left x.given rows → first_text n f.state.schema (tables_of (es ++ x ∷ [])) ≡ stream_text e.state.schema (tables_of es) ++ last_in rows f.state.schema (length (tables_of es)) x.given
-last_text n None rows c es x old o new a last = absurd a
-last_text n (Some k) rows {l} {b} c es {e} {f} x old o new a last = by x.given refl last
+pub last_text : (choice : Choice) (n : ℕ) (left : Option ℕ) (rows : ℕ) {l : LimitNumbers} {b : List ℕ} (c : List ℕ) (es : List Entry) {e f : Standing} (x : Entry) → FrontOf l b es e → e.verdict ≡ Open → FrontOf l (b ++ c) (es ++ x ∷ []) f
+    → AreLeft n left es → HasLast left x.given rows → IsLastText choice n rows es x e f
+last_text choice n None rows c es x old o new a last = absurd a
+last_text choice n (Some k) rows {l} {b} c es {e} {f} x old o new a last = by x.given refl last
   where
-    behind : (t : Table) → x.given ≡ batch_given t → rows ≡ k → k ≤ t.rows → (shape : SchemaShape) → e.state.schema ≡ Some shape → IsLastText n rows es x e f
+    behind : (t : Table) → x.given ≡ batch_given t → rows ≡ k → k ≤ t.rows → (shape : SchemaShape) → e.state.schema ≡ Some shape → IsLastText choice n rows es x e f
     behind t is r h shape s =
         let keep = front_keeps (front_behind c old o new).behind shape s in
         let ts = tables_of es in
-        let head = header_record shape.fields in
-        let own = batch_rows (length ts) t 0 k in
-        let zero_plus : 0 + length ts ≡ length ts = omega arith in
-        let texts : first_rows n 0 (tables_of (es ++ x ∷ [])) ≡ batches_text 0 ts ++ own =
-        ap (first_rows n 0) (one_table es x ∙ ap (λ g. ts ++ table_in g) is) ∙ first_then n 0 ts t k a.0 h ∙ ap (λ m. batches_text 0 ts ++ batch_rows m t 0 k) zero_plus in
-        ap (λ s. first_text n s (tables_of (es ++ x ∷ []))) keep.schema ∙ ap (λ y. head ++ y) texts ∙ sym (append_assoc head (batches_text 0 ts) own)
-        ∙ ap (λ s. stream_text s ts ++ own) (sym s) ∙ ap (λ m. stream_text e.state.schema ts ++ batch_rows (length ts) t 0 m) (sym r)
-        ∙ ap (λ g. stream_text e.state.schema ts ++ last_in rows f.state.schema (length ts) g) (sym is)
+        let seen = chosen_tables choice ts in
+        let head = header_record (chosen_shape choice shape).fields in
+        let own = batch_rows (length ts) (chosen choice t) 0 k in
+        let count : 0 + length seen ≡ length ts = omega (arith, chosen_length choice ts) in
+        let wanted : n ≡ rows_of seen + k = omega (arith, a.0, chosen_rows choice ts) in
+        let within : k ≤ (chosen choice t).rows = omega (arith, h, chosen_one choice t) in
+        let schema = chosen_schema choice f.state.schema in
+        let tables : chosen_tables choice (tables_of (es ++ x ∷ [])) ≡ seen ++ chosen choice t ∷ [] =
+        ap (chosen_tables choice) (one_table es x ∙ ap (λ g. ts ++ table_in g) is) ∙ chosen_join choice ts (table_in (batch_given t)) ∙ ap (λ us. seen ++ us) (tables_in choice t) in
+        let texts : first_rows n 0 (chosen_tables choice (tables_of (es ++ x ∷ []))) ≡ batches_text 0 seen ++ own =
+        ap (first_rows n 0) tables ∙ first_then n 0 seen (chosen choice t) k wanted within ∙ ap (λ m. batches_text 0 seen ++ batch_rows m (chosen choice t) 0 k) count in
+        ap (λ s. first_text n s (chosen_tables choice (tables_of (es ++ x ∷ [])))) (ap (chosen_schema choice) keep.schema ∙ shape_shown choice shape)
+        ∙ ap (λ y. head ++ y) texts ∙ sym (append_assoc head (batches_text 0 seen) own)
+        ∙ ap (λ s. stream_text s seen ++ own) (sym (ap (chosen_schema choice) s ∙ shape_shown choice shape))
+        ∙ ap (λ m. chosen_text choice e.state.schema ts ++ batch_rows (length ts) (chosen choice t) 0 m) (sym r)
+        ∙ ap (λ z. chosen_text choice e.state.schema ts ++ z) (last_batch choice rows schema (length ts) t)
+        ∙ ap (λ g. chosen_text choice e.state.schema ts ++ last_in rows schema (length ts) (chosen_given choice g)) (sym is)
 
     schema_before : (t : Table) → x.given ≡ batch_given t → (s : Option SchemaShape) → e.state.schema ≡ s → (fs : List Entry) → es ≡ fs → (shape : SchemaShape) × (e.state.schema ≡ Some shape)
     schema_before t is (Some shape) s fs q = (shape, s)
     schema_before t is None s [] q = let z : batch_given t ≡ schema_given = sym is ∙ first_is_schema es x new q in absurd (cc)
     schema_before t is None s (y ∷ ys) q = let w = front_begins old refl (λ z. let p : y ∷ ys ≡ [] = sym q ∙ z in cc) in let z : Some w.shape ≡ None = sym w.schema ∙ s in absurd (cc)
 
-    by : (g : Given) → x.given ≡ g → HasLast (Some k) g rows → IsLastText n rows es x e f
+    by : (g : Given) → x.given ≡ g → HasLast (Some k) g rows → IsLastText choice n rows es x e f
     by schema_given is h =
         let total = rows_more es x ∙ ap (λ g. rows_of (tables_of es) + rows_of (table_in g)) is in
         let within : rows_of (tables_of (es ++ x ∷ [])) ≤ n = omega (arith, total, a.0) in
-        first_text_all n f.state.schema (tables_of (es ++ x ∷ [])) within ∙ text_grows c x old o new
-        ∙ ap (λ g. stream_text e.state.schema (tables_of es) ++ text_in f.state.schema (length (tables_of es)) g) is
-        ∙ ap (λ g. stream_text e.state.schema (tables_of es) ++ last_in rows f.state.schema (length (tables_of es)) g) (sym is)
+        let schema = chosen_schema choice f.state.schema in
+        let number = length (tables_of es) in
+        let before = chosen_text choice e.state.schema (tables_of es) in
+        first_chosen_all choice n f.state.schema (tables_of (es ++ x ∷ [])) within ∙ text_grows choice c x old o new
+        ∙ ap (λ g. before ++ text_in schema number (chosen_given choice g)) is ∙ ap (λ z. before ++ z) (last_schema choice rows schema number)
+        ∙ ap (λ g. before ++ last_in rows schema number (chosen_given choice g)) (sym is)
     by (dictionary_given id) is h = absurd h
     by (batch_given t) is h = let w = schema_before t is e.state.schema refl es refl in behind t is h.0 h.1 w.0 w.1
     by ended is h = absurd h
 
 -- ---- of reports of rows alone
 
-pub rows_text : (report : Report) → report ≡ Rows → (schema : Option SchemaShape) (es : List Entry) (text : List ℕ) → IsTextOf report schema es text → text ≡ stream_text schema (tables_of es)
-rows_text Rows e schema es text is = is
-rows_text Messages e schema es text is = absurd (cc)
+pub rows_text : (report : Report) → AreRows report → (schema : Option SchemaShape) (es : List Entry) (text : List ℕ) → IsTextOf report schema es text
+    → HaveChosen (choice_of report) schema × (text ≡ chosen_text (choice_of report) schema (tables_of es))
+rows_text (Rows choice) e schema es text is = is
+rows_text Messages e schema es text is = absurd e
 
-pub rows_added : (report : Report) → report ≡ Rows → (schema : Option SchemaShape) (place number : ℕ) (g : Given) → IsAdded report schema place number g (text_in schema number g)
-rows_added Rows e schema place number g = refl
-rows_added Messages e schema place number g = absurd (cc)
+pub rows_added : (report : Report) → AreRows report → (schema : Option SchemaShape) (place number : ℕ) (g : Given) → IsChosenAt (choice_of report) schema g
+    → IsAdded report schema place number g (text_in (chosen_schema (choice_of report) schema) number (chosen_given (choice_of report) g))
+rows_added (Rows choice) e schema place number g has = (has, refl)
+rows_added Messages e schema place number g has = absurd e
 
 -- a number of rows is wanted of them alone
 pub rows_alone : {P : Type 0} (left : Option ℕ) (g : Given) (rows : ℕ) → HasLast left g rows → (left ≡ None) ⊎ P → P
@@ -228,8 +279,18 @@ pub told_marker : (P : Result Bool ToolFault → Type 0) (a : Progress) → a �
 told_marker P Marker e h = h
 told_marker P GoesOn e h = absurd (cc)
 told_marker P Enough e h = absurd (cc)
+told_marker P Lacks e h = absurd (cc)
 
 pub told_goes_on : (P : Result Bool ToolFault → Type 0) (a : Progress) → a ≡ GoesOn → ToldSo P (Ok a) → P (Ok false)
 told_goes_on P GoesOn e h = h
 told_goes_on P Marker e h = absurd (cc)
 told_goes_on P Enough e h = absurd (cc)
+told_goes_on P Lacks e h = absurd (cc)
+
+abbrev progress_in : Result Progress ToolFault → Progress
+progress_in (Ok a) = a
+progress_in (Err f) = Lacks
+
+-- what is no lack
+pub not_lacking : (a : Progress) → (a ≡ Lacks → ⊥) → ◌≡◌ {A = Result Progress ToolFault} (Ok a) (Ok Lacks) → ⊥
+not_lacking a other e = other (ap progress_in e)

@@ -2,7 +2,7 @@
 use Rattle.std.proofs.Common.{◌≡◌, ℕ, ◌+◌, List, [], ◌∷◌, ◌++◌, length, take, drop, Option, Ok, Err, ◌⊎◌, inl, inr, refl, sym, ap, ◌∙◌, subst, append_assoc, append-nil, take-append-drop}
 use Rattle.std.specs.Io.KnownBytes.{Appends}
 use Rattle.std.proofs.KnownBytes.{Appends-trans}
-use Rattle.arrow_csv.specs.Records.{stream_text}
+use Rattle.arrow_csv.specs.Named.{chosen_schema}
 use Rattle.arrow_sink.specs.Sinks.{AcceptsBeginning}
 use Rattle.arrow_stream_reader.specs.declared.fault.Fault.{Fault}
 use Rattle.arrow_stream_reader.specs.declared.item.Item.{Item}
@@ -13,17 +13,18 @@ use Rattle.arrow_stream_reader.specs.State.{ended}
 use Rattle.arrow_stream_reader.specs.Stream.{ReaderView, ReaderStands, GivesNext, TakesOn, RefusesMessage, WantsMemory}
 use Rattle.arrow_stream_reader.specs.Tables.{table_in, tables_of}
 use Rattle.arrow_stream_reader.specs.Views.{given}
+use Rattle.arrowflow_report.specs.Chosen.{AreRows, HaveChosen, IsChosenAt, choice_of, chosen_given, chosen_text}
 use Rattle.arrowflow_report.specs.Faults.{told}
-use Rattle.arrowflow_report.specs.FirstRows.{AreLeft, FirstTold, HasLast, HasMore, IsEnoughTold, IsFirstCut, IsFirstTold, first_text, last_in, left_behind, rows_of}
+use Rattle.arrowflow_report.specs.FirstRows.{AreLeft, FirstTold, HasLast, HasMore, IsEnoughTold, IsFirstCut, IsFirstTold, first_chosen, last_in, left_behind, rows_of}
 use Rattle.arrowflow_report.specs.Reports.{IsAdded, IsTold, SendsSome, SendsText}
 use Rattle.arrowflow_report.specs.declared.progress.Progress.TheVariants.{GoesOn, Marker}
 use Rattle.arrowflow_report.specs.declared.report.Report.{Report}
-use Rattle.arrowflow_report.specs.declared.report.Report.TheVariants.{Rows}
 use Rattle.arrowflow_report.specs.declared.tool_fault.ToolFault.{ToolFault}
 use Rattle.arrowflow_report.specs.declared.tool_fault.ToolFault.TheVariants.{Input, Output, Stream, Refused, Memory}
 use Rattle.arrowflow_report.proofs.Feeding.{taken_all}
-use Rattle.arrowflow_report.proofs.FirstRows.{first_text_all, last_text, last_there, left_next, left_rows, rows_text}
+use Rattle.arrowflow_report.proofs.FirstRows.{first_chosen_all, last_text, last_there, left_next, left_rows, rows_text}
 use Rattle.arrowflow_report.proofs.Found.{told_refusal}
+use Rattle.arrowflow_report.proofs.Growing.{have_next}
 use Rattle.arrowflow_report.proofs.Sent.{begun_all, begun_behind}
 use Rattle.arrowflow_report.proofs.Told.{IsTelling, end_is_done, new_text, telling_next, telling_nothing, told_at, told_ended, told_next, told_still}
 
@@ -40,10 +41,11 @@ first_nothing report old before number left piece = record {
 }
 
 -- a text that is all that a reader's stream has, where that is no more than is wanted
-pub all_text : (m : ℕ) (report : Report) (first held : Option (List ℕ)) (number : ℕ) (left : Option ℕ) (r : ReaderView) (t : List ℕ) → report ≡ Rows → (x : IsFirstTold m report first held number left r t)
-    → x.told.text ≡ first_text m r.at.state.schema (tables_of x.entries)
+pub all_text : (m : ℕ) (report : Report) (first held : Option (List ℕ)) (number : ℕ) (left : Option ℕ) (r : ReaderView) (t : List ℕ) → AreRows report → (x : IsFirstTold m report first held number left r t)
+    → HaveChosen (choice_of report) r.at.state.schema × (x.told.text ≡ first_chosen (choice_of report) m r.at.state.schema (tables_of x.entries))
 all_text m report first held number left r t e x =
-    rows_text report e r.at.state.schema x.entries x.told.text x.told.is ∙ sym (first_text_all m r.at.state.schema (tables_of x.entries) (left_rows m left x.entries x.left_are))
+    let is = rows_text report e r.at.state.schema x.entries x.told.text x.told.is in
+    (is.0, is.1 ∙ sym (first_chosen_all (choice_of report) m r.at.state.schema (tables_of x.entries) (left_rows m left x.entries x.left_are)))
 
 module _ (report : Report) (old : ReaderView) (before : Option (List ℕ)) (number : ℕ) (left : Option ℕ) (piece : List ℕ) (now : ReaderView) (held : Option (List ℕ)) (number' : ℕ) (left' : Option ℕ) (rest : List ℕ)
     (i : IsTellingFirst report old before number left piece now held number' left' rest) (new : ReaderView) (limits : new.limits ≡ now.limits) where
@@ -102,7 +104,7 @@ module _ (report : Report) (old : ReaderView) (before : Option (List ℕ)) (numb
           d,
         )
 
-    module _ (m : ℕ) (first : Option (List ℕ)) (t : List ℕ) (x : IsFirstTold m report first before number left old t) (is_rows : report ≡ Rows) where
+    module _ (m : ℕ) (first : Option (List ℕ)) (t : List ℕ) (x : IsFirstTold m report first before number left old t) (is_rows : AreRows report) where
       abbrev y : IsFirstTold m report first held number' left' now (t ++ i.telling.taken)
       y = i.firsts m first t x
 
@@ -119,21 +121,24 @@ module _ (report : Report) (old : ReaderView) (before : Option (List ℕ)) (numb
       stands_behind = subst (λ z. ReaderStands new z fs) (append_assoc t i.telling.taken (take n rest)) g.stands
 
       -- a beginning of the rows stands there
-      cut_at : (held' : Option (List ℕ)) (text : List ℕ) → text ≡ first_text m new.at.state.schema (tables_of fs) → AcceptsBeginning first held' text → IsFirstCut m first held' new t piece
-      cut_at held' text e h = record {
+      cut_at : (held' : Option (List ℕ)) (text : List ℕ) → HaveChosen (choice_of report) new.at.state.schema × (text ≡ first_chosen (choice_of report) m new.at.state.schema (tables_of fs)) → AcceptsBeginning first held' text
+          → IsFirstCut (choice_of report) m first held' new t piece
+      cut_at held' text is h = record {
         taken = behind n;
         rest = drop n rest;
         whole = all_behind;
         entries = fs;
         stands = stands_behind;
-        wrote = subst (AcceptsBeginning first held') e h;
+        has = is.0;
+        wrote = subst (AcceptsBeginning first held') is.1 h;
       }
 
       -- a message that does not have the last row was not told to its end
-      next_text : (added : List ℕ) → IsAdded report new.at.state.schema place number' (given item) added → HasMore left' (given item) → y.told.text ++ added ≡ first_text m new.at.state.schema (tables_of fs)
+      next_text : (added : List ℕ) → IsAdded report new.at.state.schema place number' (given item) added → HasMore left' (given item)
+          → HaveChosen (choice_of report) new.at.state.schema × (y.told.text ++ added ≡ first_chosen (choice_of report) m new.at.state.schema (tables_of fs))
       next_text added h more =
-          rows_text report is_rows new.at.state.schema fs (y.told.text ++ added) (new_text report first held number' now new u rest y.entries n item is_open limits y.told g added (added_here added h))
-          ∙ sym (first_text_all m new.at.state.schema (tables_of fs) (left_rows m _ fs (left_next m left' y.entries (came u) g.stands.front y.left_are more)))
+          let is = rows_text report is_rows new.at.state.schema fs (y.told.text ++ added) (new_text report first held number' now new u rest y.entries n item is_open limits y.told g added (added_here added h)) in
+          (is.0, is.1 ∙ sym (first_chosen_all (choice_of report) m new.at.state.schema (tables_of fs) (left_rows m _ fs (left_next m left' y.entries (came u) g.stands.front y.left_are more))))
 
       pub first_cut : (f : ToolFault) (held' : Option (List ℕ)) (number'' : ℕ) (left'' : Option ℕ) (failed failed' : ℕ) → SendsSome (IsAdded report new.at.state.schema place number' (given item)) held failed (Err f) held' failed'
           → HasMore left' (given item) → FirstTold m report first failed t piece (Err f) held' failed' number'' left'' new
@@ -146,18 +151,27 @@ module _ (report : Report) (old : ReaderView) (before : Option (List ℕ)) (numb
           (cut_at held' (y.told.text ++ sent.0) (next_text sent.0 sent.1 more) (begun_behind first held held' y.told.text sent.0 y.told.wrote sent.2.0), sent.2.1)
 
       -- the text with the message that has the last row
-      module _ (rows : ℕ) (last : HasLast left' (given item) rows) where
+      module _ (rows : ℕ) (last : HasLast left' (given item) rows) (has : IsChosenAt (choice_of report) new.at.state.schema (given item)) where
         abbrev added : List ℕ
-        added = last_in rows new.at.state.schema number' (given item)
+        added = last_in rows (chosen_schema (choice_of report) new.at.state.schema) number' (chosen_given (choice_of report) (given item))
 
-        all_added : y.told.text ++ added ≡ first_text m new.at.state.schema (tables_of fs)
+        abbrev standing : Standing
+        standing = record { state = new.at.state; place = new.at.place; rest = g.stands.rest; verdict = new.at.verdict }
+
+        abbrev front_now : FrontOf now.limits (u ++ take n rest) fs standing
+        front_now = subst (λ l. FrontOf l (u ++ take n rest) fs standing) limits g.stands.front
+
+        all_added : HaveChosen (choice_of report) new.at.state.schema × (y.told.text ++ added ≡ first_chosen (choice_of report) m new.at.state.schema (tables_of fs))
         all_added =
-            let standing : Standing = record { state = new.at.state; place = new.at.place; rest = g.stands.rest; verdict = new.at.verdict } in
-            ap (λ z. z ++ added) (rows_text report is_rows now.at.state.schema y.entries y.told.text y.told.is)
-            ∙ ap (λ k. stream_text now.at.state.schema (tables_of y.entries) ++ last_in rows new.at.state.schema k (given item)) y.told.counted
-            ∙ sym (last_text m left' rows (take n rest) y.entries (came u) y.told.stands.front is_open (subst (λ l. FrontOf l (u ++ take n rest) fs standing) limits g.stands.front) y.left_are last)
+            let choice = choice_of report in
+            let is = rows_text report is_rows now.at.state.schema y.entries y.told.text y.told.is in (
+              have_next choice (take n rest) (came u) y.told.stands.front is_open front_now is.0 has,
+              ap (λ z. z ++ added) is.1
+                  ∙ ap (λ k. chosen_text choice now.at.state.schema (tables_of y.entries) ++ last_in rows (chosen_schema choice new.at.state.schema) k (chosen_given choice (given item))) y.told.counted
+                  ∙ sym (last_text choice m left' rows (take n rest) y.entries (came u) y.told.stands.front is_open front_now y.left_are last),
+            )
 
-        pub first_enough : (held' : Option (List ℕ)) (failed failed' : ℕ) → SendsText held failed added (Ok tt) held' failed' → IsEnoughTold m first held' new t piece × (failed' ≡ failed)
+        pub first_enough : (held' : Option (List ℕ)) (failed failed' : ℕ) → SendsText held failed added (Ok tt) held' failed' → IsEnoughTold (choice_of report) m first held' new t piece × (failed' ≡ failed)
         first_enough held' failed failed' sent = (
           record {
             taken = behind n;
@@ -166,7 +180,8 @@ module _ (report : Report) (old : ReaderView) (before : Option (List ℕ)) (numb
             entries = fs;
             stands = stands_behind;
             there = last_there m left' rows y.entries (came u) g.stands.front y.left_are last;
-            wrote = subst (Appends first held') all_added (Appends-trans first held held' y.told.text added y.told.wrote sent.0);
+            has = all_added.0;
+            wrote = subst (Appends first held') all_added.1 (Appends-trans first held held' y.told.text added y.told.wrote sent.0);
           },
           sent.1,
         )
@@ -190,7 +205,7 @@ module _ (report : Report) (old : ReaderView) (before : Option (List ℕ)) (numb
       (record { entries = y.entries; told = told_at report first held number' new (u ++ rest) (t ++ piece) y.entries whole (told_still report first held number' now new u rest y.entries limits y.told at); left_are = y.left_are }, refl)
 
   -- a fault came: the rest is refused, or a growth was
-  pub first_refused : (fault : Fault) (failed : ℕ) → ((t : List ℕ) (es : List Entry) → ReaderStands now t es → WantsMemory now fault new ⊎ RefusesMessage rest fault new t es) → report ≡ Rows
+  pub first_refused : (fault : Fault) (failed : ℕ) → ((t : List ℕ) (es : List Entry) → ReaderStands now t es → WantsMemory now fault new ⊎ RefusesMessage rest fault new t es) → AreRows report
       → (m : ℕ) (first : Option (List ℕ)) (t : List ℕ) → IsFirstTold m report first before number left old t → FirstTold m report first failed t piece (Err (told fault)) held failed number' left' new
   first_refused fault failed refuses is_rows m first t x =
       let y = i.firsts m first t x in
@@ -204,8 +219,9 @@ module _ (report : Report) (old : ReaderView) (before : Option (List ℕ)) (numb
             whole = i.telling.whole;
             entries = y.entries;
             stands = subst (λ r. ReaderStands r u y.entries) (sym w.same) y.told.stands;
-            wrote = subst (λ (r : ReaderView). AcceptsBeginning first held (first_text m r.at.state.schema (tables_of y.entries))) (sym w.same)
-                (subst (AcceptsBeginning first held) (all_text m report first held number' left' now u is_rows y) (begun_all first held y.told.text y.told.wrote));
+            has = subst (λ (r : ReaderView). HaveChosen (choice_of report) r.at.state.schema) (sym w.same) (all_text m report first held number' left' now u is_rows y).0;
+            wrote = subst (λ (r : ReaderView). AcceptsBeginning first held (first_chosen (choice_of report) m r.at.state.schema (tables_of y.entries))) (sym w.same)
+                (subst (AcceptsBeginning first held) (all_text m report first held number' left' now u is_rows y).1 (begun_all first held y.told.text y.told.wrote));
           },
           refl,
         )

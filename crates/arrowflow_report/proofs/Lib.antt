@@ -8,6 +8,7 @@ mod Indented
 pub mod Feeding
 pub mod Schemas
 pub mod Growing
+mod Lacking
 pub mod Sent
 pub mod Lined
 pub mod Told

@@ -3,6 +3,7 @@ use Rattle.std.proofs.Common.{◌≡◌, ℕ, ◌+◌, List, [], ◌∷◌, ◌+
 use Rattle.arrow_types.specs.Limits.{LimitNumbers}
 use Rattle.arrow_types.specs.Notes.{SchemaShape}
 use Rattle.arrow_data.specs.Batch.{Table}
+use Rattle.arrow_csv.specs.Named.{Choice, choice_by, chosen_schema, chosen_tables}
 use Rattle.arrow_csv.specs.Records.{batches_text, header_record, stream_text}
 use Rattle.arrow_sink.specs.Sinks.{AcceptsBeginning}
 use Rattle.arrow_stream_reader.specs.Front.{Entry, Standing, Front, FrontOf, rests, fails, closes, goes_on}
@@ -11,6 +12,7 @@ use Rattle.arrow_stream_reader.specs.Tables.{table_in, tables_of}
 use Rattle.arrow_stream_reader.proofs.Beginnings.{whole_gives}
 use Rattle.arrow_stream_reader.proofs.Firsts.{First-append}
 use Rattle.arrow_stream_reader.proofs.Fronts.{at_bytes, front_follows, more_bytes, one_front}
+use Rattle.arrowflow_report.specs.Chosen.{HaveChosen, choice_of, chosen_text}
 use Rattle.arrowflow_report.specs.Lines.{AreLines, message_line}
 use Rattle.arrowflow_report.specs.OfFront.{IsBegunOf, TextOfFront}
 use Rattle.arrowflow_report.specs.Reports.{IsEnding, IsTextOf}
@@ -18,7 +20,7 @@ use Rattle.arrowflow_report.specs.declared.report.Report.{Report}
 use Rattle.arrowflow_report.specs.declared.report.Report.TheVariants.{Messages, Rows}
 use Rattle.arrowflow_report.proofs.Feeding.{tables-append}
 use Rattle.arrowflow_report.proofs.First.{not_marker, state_stays}
-use Rattle.arrowflow_report.proofs.Growing.{batches_join}
+use Rattle.arrowflow_report.proofs.Growing.{batches_join, chosen_join, text_before}
 use Rattle.arrowflow_report.proofs.Schemas.{front_keeps}
 use Rattle.arrowflow_report.proofs.Sent.{begun_longer}
 
@@ -52,43 +54,51 @@ lines_behind schema p n (x ∷ es) more text (first, rest, own, others, whole) =
     (w.0, (first, rest ++ w.0, own, w.1, ap (λ t. t ++ w.0) whole ∙ append_assoc first rest w.0))
 
 -- the rows of batches behind others
-rows_behind : (schema : Option SchemaShape) (ts us : List Table) → (added : List ℕ) × (stream_text schema (ts ++ us) ≡ stream_text schema ts ++ added)
-rows_behind None ts us = ([], refl)
-rows_behind (Some shape) ts us =
+some_rows : (schema : Option SchemaShape) (ts us : List Table) → (added : List ℕ) × (stream_text schema (ts ++ us) ≡ stream_text schema ts ++ added)
+some_rows None ts us = ([], refl)
+some_rows (Some shape) ts us =
     let head = header_record shape.fields in
     let added = batches_text (0 + length ts) us in
     (added, ap (λ t. head ++ t) (batches_join 0 ts us) ∙ sym (append_assoc head (batches_text 0 ts) added))
 
+-- the same of the chosen columns
+rows_behind : (choice : Choice) (schema : Option SchemaShape) (ts us : List Table) → (added : List ℕ) × (chosen_text choice schema (ts ++ us) ≡ chosen_text choice schema ts ++ added)
+rows_behind choice schema ts us =
+    let w = some_rows (chosen_schema choice schema) (chosen_tables choice ts) (chosen_tables choice us) in
+    (w.0, ap (stream_text (chosen_schema choice schema)) (chosen_join choice ts us) ∙ w.1)
+
 -- the text of messages behind others, by one schema
 more_text : (report : Report) (schema : Option SchemaShape) (es more : List Entry) (text : List ℕ) → IsTextOf report schema es text → (added : List ℕ) × IsTextOf report schema (es ++ more) (text ++ added)
 more_text Messages schema es more text is = lines_behind schema 0 0 es more text is
-more_text Rows schema es more text is =
-    let w = rows_behind schema (tables_of es) (tables_of more) in
-    (w.0, ap (λ t. t ++ w.0) is ∙ sym w.1 ∙ ap (stream_text schema) (sym (tables-append es more)))
+more_text (Rows chosen) schema es more text is =
+    let choice = choice_by chosen in
+    let w = rows_behind choice schema (tables_of es) (tables_of more) in
+    (w.0, (is.0, ap (λ t. t ++ w.0) is.1 ∙ sym w.1 ∙ ap (chosen_text choice schema) (sym (tables-append es more))))
 
 -- the text of a beginning of bytes goes on to one of all
-text_behind : (report : Report) {l : LimitNumbers} {b : List ℕ} {es fs : List Entry} {e f : Standing} (c text : List ℕ) → FrontOf l b es e → FrontOf l (b ++ c) fs f → IsTextOf report e.state.schema es text
+text_behind : (report : Report) {l : LimitNumbers} {b : List ℕ} {es fs : List Entry} {e f : Standing} (c text : List ℕ) → FrontOf l b es e → FrontOf l (b ++ c) fs f → HaveChosen (choice_of report) f.state.schema → IsTextOf report e.state.schema es text
     → (added : List ℕ) × IsTextOf report f.state.schema fs (text ++ added)
-text_behind Messages {es = []} {fs = fs} {f = f} c text x y is = more_text Messages f.state.schema [] fs text is
-text_behind Rows {es = []} {fs = fs} {e = e} {f = f} c text x y is =
-    let none : text ≡ [] = is ∙ ap (λ (s : StreamState). stream_text s.schema []) (state_stays x refl) in
-    let all = stream_text f.state.schema (tables_of fs) in
-    (all, ap (λ t. t ++ all) none)
-text_behind report {es = z ∷ zs} {fs = fs} {e = e} {f = f} c text x y is =
+text_behind Messages {es = []} {fs = fs} {f = f} c text x y has is = more_text Messages f.state.schema [] fs text is
+text_behind (Rows chosen) {es = []} {fs = fs} {e = e} {f = f} c text x y has is =
+    let choice = choice_by chosen in
+    let none : text ≡ [] = is.1 ∙ ap (λ (s : StreamState). chosen_text choice s.schema []) (state_stays x refl) ∙ text_before choice [] in
+    let all = chosen_text choice f.state.schema (tables_of fs) in
+    (all, (has, ap (λ t. t ++ all) none))
+text_behind report {es = z ∷ zs} {fs = fs} {e = e} {f = f} c text x y has is =
     let m = (more_bytes c x y).0 in
     let w = more_text report e.state.schema (z ∷ zs) m.0 text is in
     (w.0, subst (λ s. IsTextOf report s fs (text ++ w.0)) (sym (schema_kept c x y refl (λ q. cc))) (subst (λ r. IsTextOf report e.state.schema r (text ++ w.0)) (sym m.1) w.1))
 
 -- what is begun of a beginning of bytes is begun of the front of all
 pub text_of_front : TextOfFront
-text_of_front report limits bytes before after es e y x = by x.is_last
+text_of_front report limits bytes before after es e y has x = by x.is_last
   where
     all : FrontOf limits (x.taken ++ x.rest) es e
     all = at_bytes (sym x.whole) y
 
     by : (x.last ≡ []) ⊎ ((x.rest ≡ []) × IsEnding report x.standing.place x.last) → IsBegunOf report es e before after
     by (inl none) =
-        let w = text_behind report x.rest x.text x.front all x.is in
+        let w = text_behind report x.rest x.text x.front all has x.is in
         let begun : AcceptsBeginning before after x.text = subst (AcceptsBeginning before after) (ap (λ t. x.text ++ t) none ∙ append-nil x.text) x.wrote in
         record {
           text = x.text ++ w.0;

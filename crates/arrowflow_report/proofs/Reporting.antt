@@ -3,6 +3,7 @@ use Rattle.std.proofs.Common.{◌≡◌, ℕ, ◌+◌, List, [], ◌++◌, Optio
 use Rattle.std.specs.Io.KnownBytes.{Appends, IsAtEnd}
 use Rattle.std.proofs.KnownBytes.{Appends-kept, Appends-nil, Appends-trans}
 use Rattle.arrow_types.specs.Limits.{LimitNumbers}
+use Rattle.arrow_csv.specs.Named.{choice_by}
 use Rattle.arrow_sink.specs.Sinks.{AcceptsBeginning}
 use Rattle.arrow_stream_reader.specs.Front.{Entry, Standing, FrontOf}
 use Rattle.arrow_stream_reader.specs.Stream.{ReaderView, ReaderStands, ended_by, ended_so}
@@ -16,6 +17,7 @@ use Rattle.arrowflow_report.specs.declared.tool_fault.ToolFault.{ToolFault}
 use Rattle.arrowflow_report.specs.declared.tool_fault.ToolFault.TheVariants.{Input, Output, Stream, Refused, Memory}
 use Rattle.arrowflow_report.proofs.Feeding.{ended_same}
 use Rattle.arrowflow_report.proofs.First.{state_stays}
+use Rattle.arrowflow_report.proofs.Growing.{have_before, text_before}
 use Rattle.arrowflow_report.proofs.Sent.{begun_behind}
 
 -- where a reader's stream has come to, with this rest
@@ -37,7 +39,9 @@ told_nothing report held r at = record { text = []; stands = at; is = by report;
   where
     by : (p : Report) → IsTextOf p r.at.state.schema [] []
     by Messages = refl
-    by Rows = subst (λ s. IsTextOf Rows s.schema [] []) (sym (state_stays at.front refl)) refl
+    by (Rows chosen) =
+        let choice = choice_by chosen in
+        subst (λ s. IsTextOf (Rows chosen) s.schema [] []) (sym (state_stays at.front refl)) (have_before choice, sym (text_before choice []))
 
 module _ (report : Report) (limits : LimitNumbers) (bytes : List ℕ) (left first : Option (List ℕ)) (start : ℕ) where
   -- what is left of a text that was told

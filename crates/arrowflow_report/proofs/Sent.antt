@@ -6,11 +6,13 @@ use Rattle.std.proofs.KnownBytes.{Appends-nil, Appends-trans}
 use Rattle.std.proofs.Math.Seq.{take-append-add}
 use Rattle.std.proofs.lemmas.List.{length-append, take-append-le, take_all}
 use Rattle.arrow_data.specs.Batch.{Table}
+use Rattle.arrow_csv.specs.Named.{choice_by, chosen_schema}
 use Rattle.arrow_csv.specs.Records.{batch_rows, row_record}
 use Rattle.arrow_csv.proofs.Written.{rows_next}
 use Rattle.arrow_sink.specs.Sinks.{AcceptsBeginning}
 use Rattle.arrow_stream_reader.specs.State.{StreamState, Given}
 use Rattle.arrow_types.specs.Notes.{SchemaShape}
+use Rattle.arrowflow_report.specs.Chosen.{IsChosenAt, choice_of, chosen_given}
 use Rattle.arrowflow_report.specs.Lines.{message_line}
 use Rattle.arrowflow_report.specs.Reports.{IsAdded, SendsText}
 use Rattle.arrowflow_report.specs.Shown.{text_in}
@@ -30,10 +32,10 @@ rows_join number batch mid end i low high = by (mid - i) i refl low
     by (suc k) i e low =
         let row = row_record number batch i in
         let next : mid - (i + 1) ≡ k = omega (arith, e) in
-        ap (λ x. x ++ batch_rows number batch mid end) (rows_next number batch i mid (omega (arith, e)))
+        ap (λ x. x ++ batch_rows number batch mid end) (rows_next number batch.columns i mid (omega (arith, e)))
         ∙ append_assoc row (batch_rows number batch (i + 1) mid) (batch_rows number batch mid end)
         ∙ ap (λ x. row ++ x) (by k (i + 1) next (omega (arith, e)))
-        ∙ sym (rows_next number batch i end (omega (arith, e)))
+        ∙ sym (rows_next number batch.columns i end (omega (arith, e)))
 
 -- all of a text is a beginning of it
 pub begun_all : (a b : Option (List ℕ)) (text : List ℕ) → Appends a b text → AcceptsBeginning a b text
@@ -63,8 +65,8 @@ cut_between Memory a b c n m k s t u whole h same e sent =
     (subst (AcceptsBeginning a c) e (begun_longer a c (s ++ t) u (begun_behind a b c s t h sent.0)), sent.1 ∙ same)
 
 -- each message has a text
-pub some_added : (report : Report) (schema : Option SchemaShape) (place number : ℕ) (given : Given) → (text : List ℕ) × IsAdded report schema place number given text
-some_added Messages schema place number given =
+pub some_added : (report : Report) (schema : Option SchemaShape) (place number : ℕ) (given : Given) → IsChosenAt (choice_of report) schema given → (text : List ℕ) × IsAdded report schema place number given text
+some_added Messages schema place number given has =
     let state : StreamState = record { schema = schema; dictionaries = [] } in
     (message_line place number state given, (state, refl, refl))
-some_added Rows schema place number given = (text_in schema number given, refl)
+some_added (Rows chosen) schema place number given has = (text_in (chosen_schema (choice_by chosen) schema) number (chosen_given (choice_by chosen) given), (has, refl))

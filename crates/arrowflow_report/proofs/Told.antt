@@ -5,7 +5,7 @@ use Rattle.std.proofs.KnownBytes.{Appends-trans}
 use Rattle.std.proofs.lemmas.Bool.{false≢true}
 use Rattle.std.proofs.lemmas.List.{length-append}
 use Rattle.arrow_types.specs.Limits.{LimitNumbers}
-use Rattle.arrow_csv.specs.Records.{stream_text}
+use Rattle.arrow_csv.specs.Named.{choice_by, chosen_schema}
 use Rattle.arrow_sink.specs.Sinks.{AcceptsBeginning}
 use Rattle.arrow_stream_reader.specs.declared.fault.Fault.{Fault}
 use Rattle.arrow_stream_reader.specs.declared.item.Item.{Item}
@@ -22,6 +22,7 @@ use Rattle.arrow_stream_reader.specs.Views.{given}
 use Rattle.arrow_stream_reader.proofs.Firsts.{whole_says}
 use Rattle.arrow_stream_reader.proofs.Fronts.{more_bytes}
 use Rattle.arrow_stream_reader.proofs.Streams.{ended_stands}
+use Rattle.arrowflow_report.specs.Chosen.{chosen_given, chosen_text}
 use Rattle.arrowflow_report.specs.Faults.{told}
 use Rattle.arrowflow_report.specs.Lines.{IsLine}
 use Rattle.arrowflow_report.specs.Reports.{IsTextOf, IsAdded, SendsSome, IsTold, IsCutOff, PieceTold}
@@ -34,7 +35,7 @@ use Rattle.arrowflow_report.specs.declared.tool_fault.ToolFault.TheVariants.{Inp
 use Rattle.arrowflow_report.proofs.Feeding.{taken_all}
 use Rattle.arrowflow_report.proofs.First.{state_stays}
 use Rattle.arrowflow_report.proofs.Found.{told_refusal}
-use Rattle.arrowflow_report.proofs.Growing.{one_table, text_grows}
+use Rattle.arrowflow_report.proofs.Growing.{have_next, one_table, text_grows}
 use Rattle.arrowflow_report.proofs.Lined.{end_of, front_end, lines_kept, lines_more}
 use Rattle.arrowflow_report.proofs.Schemas.{front_behind, given_in}
 use Rattle.arrowflow_report.proofs.Sent.{begun_all, begun_behind}
@@ -121,8 +122,12 @@ text_more Messages c {es} {e} {f} x number text added old o new k is more =
     let count : number ≡ 0 + length (tables_of es) = omega (arith, k) in
     lines_more f.state.schema 0 0 es x text added (lines_kept c x text es old o new is)
     (subst (λ m. IsLine f.state.schema (end_of 0 es) m x.given added) count (subst (λ p. IsLine f.state.schema p number x.given added) (front_end old) more))
-text_more Rows c {es} {e} {f} x number text added old o new k is more =
-    ap (λ y. y ++ added) is ∙ ap (λ y. stream_text e.state.schema (tables_of es) ++ y) (more ∙ ap (λ m. text_in f.state.schema m x.given) k) ∙ sym (text_grows c x old o new)
+text_more (Rows chosen) c {es} {e} {f} x number text added old o new k is more =
+    let choice = choice_by chosen in (
+      have_next choice c x old o new is.0 more.0,
+      ap (λ y. y ++ added) is.1 ∙ ap (λ y. chosen_text choice e.state.schema (tables_of es) ++ y) (more.1 ∙ ap (λ m. text_in (chosen_schema choice f.state.schema) m (chosen_given choice x.given)) k)
+          ∙ sym (text_grows choice c x old o new),
+    )
 
 module _ (report : Report) (first held : Option (List ℕ)) (number : ℕ) (now new : ReaderView) (u rest : List ℕ) (es : List Entry) (n : ℕ) (item : Item) (is_open : now.at.verdict ≡ Open) (limits : new.limits ≡ now.limits)
     (x : IsTold report first held number now u es) (gives : GivesNext rest n item new u es) (added : List ℕ) (is_added : IsAdded report new.at.state.schema now.at.place number (given item) added) where

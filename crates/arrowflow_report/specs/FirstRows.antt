@@ -4,6 +4,7 @@ use Rattle.std.specs.Io.KnownBytes.{Appends, Consumes}
 use Rattle.arrow_types.specs.Limits.{LimitNumbers}
 use Rattle.arrow_types.specs.Notes.{SchemaShape}
 use Rattle.arrow_data.specs.Batch.{Table}
+use Rattle.arrow_csv.specs.Named.{Choice, chosen_schema, chosen_tables}
 use Rattle.arrow_csv.specs.Records.{batch_rows, header_record}
 use Rattle.arrow_sink.specs.Sinks.{AcceptsBeginning}
 use Rattle.arrow_stream_reader.specs.declared.reader.Verdict.TheVariants.{Done, Open}
@@ -11,13 +12,13 @@ use Rattle.arrow_stream_reader.specs.Front.{Entry, Standing, FrontOf}
 use Rattle.arrow_stream_reader.specs.State.{Given, schema_given, dictionary_given, batch_given, ended}
 use Rattle.arrow_stream_reader.specs.Stream.{ReaderView, ReaderStands}
 use Rattle.arrow_stream_reader.specs.Tables.{tables_of}
+use Rattle.arrowflow_report.specs.Chosen.{AreRows, HaveChosen, choice_of}
 use Rattle.arrowflow_report.specs.Reads.{IsReadWhile}
 use Rattle.arrowflow_report.specs.Reports.{EndsBadly, EndsWell, IsBadBy, IsOpenAt, IsTold}
 use Rattle.arrowflow_report.specs.Shown.{header_in}
 use Rattle.arrowflow_report.specs.declared.progress.Progress.{Progress}
-use Rattle.arrowflow_report.specs.declared.progress.Progress.TheVariants.{GoesOn, Marker, Enough}
+use Rattle.arrowflow_report.specs.declared.progress.Progress.TheVariants.{GoesOn, Marker, Enough, Lacks}
 use Rattle.arrowflow_report.specs.declared.report.Report.{Report}
-use Rattle.arrowflow_report.specs.declared.report.Report.TheVariants.{Rows}
 use Rattle.arrowflow_report.specs.declared.tool_fault.ToolFault.{ToolFault}
 use Rattle.arrowflow_report.specs.declared.tool_fault.ToolFault.TheVariants.{Input, Output, Stream, Refused, Memory}
 
@@ -36,52 +37,58 @@ abbrev pub first_text : ℕ → Option SchemaShape → List Table → List ℕ
 first_text n None batches = []
 first_text n (Some shape) batches = header_record shape.fields ++ first_rows n 0 batches
 
+-- the same with the chosen columns alone
+abbrev pub first_chosen : Choice → ℕ → Option SchemaShape → List Table → List ℕ
+first_chosen choice n schema batches = first_text n (chosen_schema choice schema) (chosen_tables choice batches)
+
 -- n rows stand there, behind their schema
 abbrev pub HaveFirst : ℕ → Option SchemaShape → List Entry → Type 0
 HaveFirst n schema entries = (is_some schema ≡ true) × (n ≤ rows_of (tables_of entries))
 
 -- the first n rows of the messages at the front of these bytes were written
-pub record IsFirstWritten (n : ℕ) (limits : LimitNumbers) (bytes : List ℕ) (e : Standing) (before after : Option (List ℕ)) : Type 0 where
+pub record IsFirstWritten (choice : Choice) (n : ℕ) (limits : LimitNumbers) (bytes : List ℕ) (e : Standing) (before after : Option (List ℕ)) : Type 0 where
   pub entries : List Entry
   pub front : FrontOf limits bytes entries e
-  pub wrote : Appends before after (first_text n e.state.schema (tables_of entries))
+  pub has : HaveChosen choice e.state.schema
+  pub wrote : Appends before after (first_chosen choice n e.state.schema (tables_of entries))
 
 -- the same of bytes in which they are not all there
-pub record IsShortOf (n : ℕ) (limits : LimitNumbers) (bytes : List ℕ) (e : Standing) (before after : Option (List ℕ)) : Type 0 where
-  pub written : IsFirstWritten n limits bytes e before after
+pub record IsShortOf (choice : Choice) (n : ℕ) (limits : LimitNumbers) (bytes : List ℕ) (e : Standing) (before after : Option (List ℕ)) : Type 0 where
+  pub written : IsFirstWritten choice n limits bytes e before after
   pub short : HaveFirst n e.state.schema written.entries → ⊥
 
 -- the same of a beginning of these bytes in which they are
-pub record IsEnoughOf (n : ℕ) (limits : LimitNumbers) (bytes : List ℕ) (before after : Option (List ℕ)) : Type 0 where
+pub record IsEnoughOf (choice : Choice) (n : ℕ) (limits : LimitNumbers) (bytes : List ℕ) (before after : Option (List ℕ)) : Type 0 where
   pub taken : List ℕ
   pub rest : List ℕ
   pub whole : taken ++ rest ≡ bytes
   pub standing : Standing
-  pub written : IsFirstWritten n limits taken standing before after
+  pub written : IsFirstWritten choice n limits taken standing before after
   pub there : HaveFirst n standing.state.schema written.entries
 
 -- a beginning was written of the first n rows of the messages at the front of a beginning of these bytes
-pub record IsFirstBegun (n : ℕ) (limits : LimitNumbers) (bytes : List ℕ) (before after : Option (List ℕ)) : Type 0 where
+pub record IsFirstBegun (choice : Choice) (n : ℕ) (limits : LimitNumbers) (bytes : List ℕ) (before after : Option (List ℕ)) : Type 0 where
   pub taken : List ℕ
   pub rest : List ℕ
   pub whole : taken ++ rest ≡ bytes
   pub standing : Standing
   pub entries : List Entry
   pub front : FrontOf limits taken entries standing
-  pub wrote : AcceptsBeginning before after (first_text n standing.state.schema (tables_of entries))
+  pub has : HaveChosen choice standing.state.schema
+  pub wrote : AcceptsBeginning before after (first_chosen choice n standing.state.schema (tables_of entries))
 
 -- What was written of the first n rows, and why the call ended, when these bytes were read of an input of which this is
 -- left. It ends well once they are there, whatever comes behind them, and where the stream ends well with fewer.
-abbrev pub ShowsFirst : ℕ → LimitNumbers → List ℕ → Option (List ℕ) → Option (List ℕ) → ℕ → Result (Unit {0}) ToolFault → Option (List ℕ) → ℕ → Type 0
-ShowsFirst n limits bytes left before failed (Ok done) after failed' =
-    (IsEnoughOf n limits bytes before after ⊎ ((e : Standing) × IsShortOf n limits bytes e before after × EndsWell left e)) × (failed' ≡ failed)
-ShowsFirst n limits bytes left before failed (Err (Stream fault)) after failed' =
-    ((e : Standing) × IsShortOf n limits bytes e before after × EndsBadly left e fault) × (failed' ≡ failed)
-ShowsFirst n limits bytes left before failed (Err (Input number)) after failed' =
-    (number ≡ 0) × ((e : Standing) × (e.verdict ≡ Open) × IsShortOf n limits bytes e before after) × (failed' ≡ failed)
-ShowsFirst n limits bytes left before failed (Err Output) after failed' = IsFirstBegun n limits bytes before after × (failed' ≡ failed + 1)
-ShowsFirst n limits bytes left before failed (Err Memory) after failed' = IsFirstBegun n limits bytes before after × (failed' ≡ failed)
-ShowsFirst n limits bytes left before failed (Err (Refused what kind)) after failed' = ⊥
+abbrev pub ShowsFirst : Choice → ℕ → LimitNumbers → List ℕ → Option (List ℕ) → Option (List ℕ) → ℕ → Result (Unit {0}) ToolFault → Option (List ℕ) → ℕ → Type 0
+ShowsFirst choice n limits bytes left before failed (Ok done) after failed' =
+    (IsEnoughOf choice n limits bytes before after ⊎ ((e : Standing) × IsShortOf choice n limits bytes e before after × EndsWell left e)) × (failed' ≡ failed)
+ShowsFirst choice n limits bytes left before failed (Err (Stream fault)) after failed' =
+    ((e : Standing) × IsShortOf choice n limits bytes e before after × EndsBadly left e fault) × (failed' ≡ failed)
+ShowsFirst choice n limits bytes left before failed (Err (Input number)) after failed' =
+    (number ≡ 0) × ((e : Standing) × (e.verdict ≡ Open) × IsShortOf choice n limits bytes e before after) × (failed' ≡ failed)
+ShowsFirst choice n limits bytes left before failed (Err Output) after failed' = IsFirstBegun choice n limits bytes before after × (failed' ≡ failed + 1)
+ShowsFirst choice n limits bytes left before failed (Err Memory) after failed' = IsFirstBegun choice n limits bytes before after × (failed' ≡ failed)
+ShowsFirst choice n limits bytes left before failed (Err (Refused what kind)) after failed' = ⊥
 
 -- at these bytes the stream goes on, and n rows are not there
 pub record IsShortAt (n : ℕ) (limits : LimitNumbers) (bytes : List ℕ) : Type 0 where
@@ -90,18 +97,19 @@ pub record IsShortAt (n : ℕ) (limits : LimitNumbers) (bytes : List ℕ) : Type
 
 -- The same of an input that had these bytes before the call and has these behind it, and that no piece was read behind the
 -- one in which the rows are there, the stream is refused or it ends with its marker.
-abbrev pub ShowsFirstOf : ℕ → LimitNumbers → Option (List ℕ) → Option (List ℕ) → Option (List ℕ) → ℕ → Result (Unit {0}) ToolFault → Option (List ℕ) → ℕ → Type 0
-ShowsFirstOf n limits had left before failed answer after failed' =
+abbrev pub ShowsFirstOf : Choice → ℕ → LimitNumbers → Option (List ℕ) → Option (List ℕ) → Option (List ℕ) → ℕ → Result (Unit {0}) ToolFault → Option (List ℕ) → ℕ → Type 0
+ShowsFirstOf choice n limits had left before failed answer after failed' =
     (bytes : List ℕ) × Consumes had left bytes × IsReadWhile (IsShortAt n limits) bytes
-    × ShowsFirst n limits bytes left before failed answer after failed'
+    × ShowsFirst choice n limits bytes left before failed answer after failed'
 
 -- ---- a stream told message by message
 
--- a piece was told so, where no more is said of one with the last of the rows
+-- a piece was told so, where no more is said of one with the last of the rows, or with a schema that lacks a column
 abbrev pub ToldSo : (Result Bool ToolFault → Type 0) → Result Progress ToolFault → Type 0
 ToldSo P (Ok GoesOn) = P (Ok false)
 ToldSo P (Ok Marker) = P (Ok true)
 ToldSo P (Ok Enough) = ⊤
+ToldSo P (Ok Lacks) = ⊤
 ToldSo P (Err fault) = P (Err fault)
 
 -- of so many rows that are still wanted, if not all are, this message has the last; then so many of its rows are told
@@ -151,32 +159,35 @@ pub record IsFirstTold (n : ℕ) (report : Report) (first held : Option (List �
   pub left_are : AreLeft n left entries
 
 -- The reader stands at a beginning of the bytes behind t, and the first n rows of all that stand in the output.
-pub record IsEnoughTold (n : ℕ) (first held : Option (List ℕ)) (r : ReaderView) (t bytes : List ℕ) : Type 0 where
+pub record IsEnoughTold (choice : Choice) (n : ℕ) (first held : Option (List ℕ)) (r : ReaderView) (t bytes : List ℕ) : Type 0 where
   pub taken : List ℕ
   pub rest : List ℕ
   pub whole : taken ++ rest ≡ bytes
   pub entries : List Entry
   pub stands : ReaderStands r (t ++ taken) entries
   pub there : HaveFirst n r.at.state.schema entries
-  pub wrote : Appends first held (first_text n r.at.state.schema (tables_of entries))
+  pub has : HaveChosen choice r.at.state.schema
+  pub wrote : Appends first held (first_chosen choice n r.at.state.schema (tables_of entries))
 
 -- the same, and a beginning of these rows stands there
-pub record IsFirstCut (n : ℕ) (first held : Option (List ℕ)) (r : ReaderView) (t bytes : List ℕ) : Type 0 where
+pub record IsFirstCut (choice : Choice) (n : ℕ) (first held : Option (List ℕ)) (r : ReaderView) (t bytes : List ℕ) : Type 0 where
   pub taken : List ℕ
   pub rest : List ℕ
   pub whole : taken ++ rest ≡ bytes
   pub entries : List Entry
   pub stands : ReaderStands r (t ++ taken) entries
-  pub wrote : AcceptsBeginning first held (first_text n r.at.state.schema (tables_of entries))
+  pub has : HaveChosen choice r.at.state.schema
+  pub wrote : AcceptsBeginning first held (first_chosen choice n r.at.state.schema (tables_of entries))
 
 -- what came of a piece behind the bytes t, of a stream of which n rows are wanted
 abbrev pub FirstTold : ℕ → Report → Option (List ℕ) → ℕ → List ℕ → List ℕ → Result Progress ToolFault → Option (List ℕ) → ℕ → ℕ → Option ℕ → ReaderView → Type 0
 FirstTold n report first failed t piece (Ok GoesOn) held failed' number left r = IsFirstTold n report first held number left r (t ++ piece) × (failed' ≡ failed)
 FirstTold n report first failed t piece (Ok Marker) held failed' number left r =
     IsFirstTold n report first held number left r (t ++ piece) × (failed' ≡ failed) × (r.at.verdict ≡ Done)
-FirstTold n report first failed t piece (Ok Enough) held failed' number left r = IsEnoughTold n first held r t piece × (failed' ≡ failed)
-FirstTold n report first failed t piece (Err Output) held failed' number left r = IsFirstCut n first held r t piece × (failed' ≡ failed + 1)
-FirstTold n report first failed t piece (Err Memory) held failed' number left r = IsFirstCut n first held r t piece × (failed' ≡ failed)
+FirstTold n report first failed t piece (Ok Enough) held failed' number left r = IsEnoughTold (choice_of report) n first held r t piece × (failed' ≡ failed)
+FirstTold n report first failed t piece (Ok Lacks) held failed' number left r = ⊤
+FirstTold n report first failed t piece (Err Output) held failed' number left r = IsFirstCut (choice_of report) n first held r t piece × (failed' ≡ failed + 1)
+FirstTold n report first failed t piece (Err Memory) held failed' number left r = IsFirstCut (choice_of report) n first held r t piece × (failed' ≡ failed)
 FirstTold n report first failed t piece (Err (Stream fault)) held failed' number left r =
     IsFirstTold n report first held number left r (t ++ piece) × (failed' ≡ failed) × IsBadBy r.at.verdict r.at.place fault
 FirstTold n report first failed t piece (Err (Input k)) held failed' number left r = ⊥
@@ -186,5 +197,5 @@ FirstTold n report first failed t piece (Err (Refused what kind)) held failed' n
 -- are left
 abbrev pub TellsFirst : Report → ReaderView → Option (List ℕ) → ℕ → ℕ → Option ℕ → List ℕ → Result Progress ToolFault → ReaderView → Option (List ℕ) → ℕ → ℕ → Option ℕ → Type 0
 TellsFirst report old before failed number left piece answer new after failed' number' left' =
-    report ≡ Rows → (n : ℕ) (first : Option (List ℕ)) (t : List ℕ) → IsFirstTold n report first before number left old t
+    AreRows report → (n : ℕ) (first : Option (List ℕ)) (t : List ℕ) → IsFirstTold n report first before number left old t
     → FirstTold n report first failed t piece answer after failed' number' left' new

@@ -13,3 +13,5 @@ pub mod OfFront
 pub mod TypeNames
 pub mod Shown
 pub mod Calls
+pub mod Chosen
+pub mod Columns

@@ -3,7 +3,7 @@ use Rattle.std.specs.Prelude.{◌≡◌, ℕ, ◌+◌, ◌⊎◌, List, [], ◌+
 use Rattle.std.specs.Io.KnownBytes.{Appends, Consumes, IsAtEnd, Keeps}
 use Rattle.arrow_types.specs.Limits.{LimitNumbers}
 use Rattle.arrow_types.specs.Notes.{SchemaShape}
-use Rattle.arrow_csv.specs.Records.{stream_text}
+use Rattle.arrow_csv.specs.Named.{choice_by, chosen_schema}
 use Rattle.arrow_sink.specs.Sinks.{AcceptsBeginning}
 use Rattle.arrow_stream_reader.specs.declared.fault.Fault.{Fault}
 use Rattle.arrow_stream_reader.specs.declared.kind.Refusal.{Refusal}
@@ -15,6 +15,7 @@ use Rattle.arrow_stream_reader.specs.State.{Given}
 use Rattle.arrow_stream_reader.specs.Stream.{ReaderView, ReaderStands, ended_so}
 use Rattle.arrowflow_report.specs.Reads.{IsReadWhile}
 use Rattle.arrow_stream_reader.specs.Tables.{tables_of}
+use Rattle.arrowflow_report.specs.Chosen.{HaveChosen, IsChosenAt, chosen_given, chosen_text}
 use Rattle.arrowflow_report.specs.Lines.{AreLines, IsLine, end_line}
 use Rattle.arrowflow_report.specs.Shown.{text_in}
 use Rattle.arrowflow_report.specs.declared.report.Report.{Report}
@@ -22,20 +23,22 @@ use Rattle.arrowflow_report.specs.declared.report.Report.TheVariants.{Messages, 
 use Rattle.arrowflow_report.specs.declared.tool_fault.ToolFault.{ToolFault}
 use Rattle.arrowflow_report.specs.declared.tool_fault.ToolFault.TheVariants.{Input, Output, Stream, Refused, Memory}
 
--- the text of a stream's messages by the schema that they left: their lines, or the records of their rows
+-- the text of a stream's messages by the schema that they left: their lines, or the records of their rows, of which there
+-- are none where the schema lacks a column that is chosen
 abbrev pub IsTextOf : Report → Option SchemaShape → List Entry → List ℕ → Type 0
 IsTextOf Messages schema entries text = AreLines schema 0 0 entries text
-IsTextOf Rows schema entries text = text ≡ stream_text schema (tables_of entries)
+IsTextOf (Rows choice) schema entries text = HaveChosen (choice_by choice) schema × (text ≡ chosen_text (choice_by choice) schema (tables_of entries))
 
 -- what one message adds to it that begins at this place, behind so many batches
 abbrev pub IsAdded : Report → Option SchemaShape → ℕ → ℕ → Given → List ℕ → Type 0
 IsAdded Messages schema place number given text = IsLine schema place number given text
-IsAdded Rows schema place number given text = text ≡ text_in schema number given
+IsAdded (Rows choice) schema place number given text =
+    IsChosenAt (choice_by choice) schema given × (text ≡ text_in (chosen_schema (choice_by choice) schema) number (chosen_given (choice_by choice) given))
 
 -- what stands behind the text of the messages where the input ends at this place: a line, nothing behind rows
 abbrev pub IsEnding : Report → ℕ → List ℕ → Type 0
 IsEnding Messages place text = text ≡ end_line place
-IsEnding Rows place text = text ≡ []
+IsEnding (Rows choice) place text = text ≡ []
 
 -- what stands there at the end of a call that ends well: nothing behind an end marker
 abbrev pub IsLast : Report → Verdict → ℕ → List ℕ → Type 0

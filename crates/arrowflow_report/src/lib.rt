@@ -55,7 +55,7 @@ mod tool_fault;
 mod type_names;
 mod what;
 
-pub use reports::{check, check_quietly, show, show_first};
+pub use reports::{ColumnsFault, Selection, check, check_quietly, show, show_columns, show_first};
 pub use schema_call::schema_text;
 pub use schema_lines::schema_lines_of;
 pub use tool_fault::ToolFault;

@@ -9,4 +9,6 @@ pub(crate) enum Progress {
     Marker,
     /// The rows asked for are there.
     Enough,
+    /// Its schema came, and lacks a column that is asked for.
+    Lacks,
 }

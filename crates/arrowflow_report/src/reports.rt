@@ -1,8 +1,10 @@
 //! Streams told as they come: their messages, or their rows.
 
-ghost use Rattle.std.specs.Prelude.{◌≡◌, ◌<◌, ◌-◌, ◌^◌, ◌⊎◌, ℕ, [], IfOk, OnOk, length};
+ghost use Rattle.std.specs.Prelude.{◌≡◌, ◌<◌, ◌-◌, ◌^◌, ◌⊎◌, ℕ, None, Some, [], IfOk, OnOk, length};
 ghost use Rattle.arrow_stream_reader.specs.declared.reader.Verdict.TheVariants.{Open};
 ghost use Rattle.arrow_stream_reader.specs.Stream.{ReaderStands};
+ghost use Rattle.arrowflow_report.specs.Chosen.{AreRows, choice_of};
+ghost use Rattle.arrowflow_report.specs.Columns.{LacksInput, ShowsColumns, columns_answer};
 ghost use Rattle.arrowflow_report.specs.FirstRows.{ShowsFirstOf};
 ghost use Rattle.arrowflow_report.specs.Quiet.{ChecksInput};
 ghost use Rattle.arrowflow_report.specs.Reads.{BlamesNoInput, answer_by};
@@ -45,7 +47,15 @@ pub fn check<R: Read, S: Sink>(
     ensures passed { OnOk result.1 (S.is_passed_on result.0) }
 {
     let mut output = output;
-    let answer = report(alloc, Report::Messages, None, input, &mut output, limits);
+    let mut teller = Teller::new(alloc, None);
+    let answer = report(
+        alloc,
+        Report::Messages,
+        &mut teller,
+        input,
+        &mut output,
+        limits,
+    );
     (output, answer)
 }
 
@@ -63,7 +73,15 @@ pub fn check_quietly<R: Read>(
 ) -> Result<(), ToolFault>
     ensures { ChecksInput limits.now (R.remaining input.old) (R.remaining input.new) result }
 {
-    report(alloc, Report::Messages, None, input, &mut Nowhere, limits)
+    let mut teller = Teller::new(alloc, None);
+    report(
+        alloc,
+        Report::Messages,
+        &mut teller,
+        input,
+        &mut Nowhere,
+        limits,
+    )
 }
 
 /// Writes the rows of a stream as records of comma-separated values, and hands the output back.
@@ -85,13 +103,21 @@ pub fn show<R: Read, S: Sink>(
     limits: &Limits,
 ) -> (S, Result<(), ToolFault>)
     requires { S.failed output < 2 ^ 64 - 1 }
-    ensures written { ReportsInput Rows limits.now (R.remaining input.old)
+    ensures written { ReportsInput (Rows None) limits.now (R.remaining input.old)
         (R.remaining input.new) (S.contents output) (S.failed output) result.1
         (S.contents result.0) (S.failed result.0) }
     ensures passed { OnOk result.1 (S.is_passed_on result.0) }
 {
     let mut output = output;
-    let answer = report(alloc, Report::Rows, None, input, &mut output, limits);
+    let mut teller = Teller::new(alloc, None);
+    let answer = report(
+        alloc,
+        Report::Rows(None),
+        &mut teller,
+        input,
+        &mut output,
+        limits,
+    );
     (output, answer)
 }
 
@@ -110,40 +136,113 @@ pub fn show_first<R: Read, S: Sink>(
     limits: &Limits,
 ) -> (S, Result<(), ToolFault>)
     requires { S.failed output < 2 ^ 64 - 1 }
-    ensures written { ShowsFirstOf rows limits.now (R.remaining input.old)
+    ensures written { ShowsFirstOf None rows limits.now (R.remaining input.old)
         (R.remaining input.new) (S.contents output) (S.failed output) result.1
         (S.contents result.0) (S.failed result.0) }
     ensures passed { OnOk result.1 (S.is_passed_on result.0) }
 {
     let mut output = output;
-    let answer = report(alloc, Report::Rows, Some(rows), input, &mut output, limits);
+    let mut teller = Teller::new(alloc, Some(rows));
+    let answer = report(
+        alloc,
+        Report::Rows(None),
+        &mut teller,
+        input,
+        &mut output,
+        limits,
+    );
     (output, answer)
 }
 
-/// Tells a stream from its beginning, so many of its rows, or all.
+/// Which columns of a stream are shown, and how many of its rows.
+#[derive(Clone, Copy)]
+pub struct Selection<'a> {
+    /// The names of the columns, in the order in which they are shown. Of a name that several have
+    /// the first is meant. Names are compared byte for byte.
+    pub columns: &'a [&'a str],
+    /// How many rows, or all.
+    pub rows: Option<u64>,
+}
+
+/// Why columns are not shown, or not to the end.
+#[derive(Debug, Drop)]
+pub enum ColumnsFault {
+    /// The schema has no column of the name at this place among those that were asked for, and one
+    /// of each name before it.
+    Lacks(usize),
+    /// As of [`show`].
+    Tool(ToolFault),
+}
+
+/// Writes the rows of a stream, or the first of them, with some of its columns alone, and hands the
+/// output back.
+///
+/// What is written is what [`show`], or [`show_first`], writes of a stream that has just these
+/// columns in this order; the call ends, and the input is read, as there. Where the schema lacks one
+/// of the columns, `Lacks` is answered once it came: nothing was written then, and no piece was read
+/// behind the one in which the schema's last byte stands.
+pub fn show_columns<R: Read, S: Sink>(
+    alloc: Global,
+    input: &mut R,
+    output: S,
+    selection: &Selection,
+    limits: &Limits,
+) -> (S, Result<(), ColumnsFault>)
+    requires { S.failed output < 2 ^ 64 - 1 }
+    ensures written { ShowsColumns selection.now limits.now (R.remaining input.old)
+        (R.remaining input.new) (S.contents output) (S.failed output) result.1
+        (S.contents result.0) (S.failed result.0) }
+    ensures passed { OnOk result.1 (S.is_passed_on result.0) }
+{
+    let mut output = output;
+    let mut teller = Teller::new(alloc, selection.rows);
+    let rows = Report::Rows(Some(selection.columns));
+    let answer = report(alloc, rows, &mut teller, input, &mut output, limits);
+    (output, columns_answer(teller.lacks(), answer))
+}
+
+/// What is answered where columns were asked for, of which the schema lacks one.
+fn columns_answer(lacks: Option<usize>, answer: Result<(), ToolFault>) -> Result<(), ColumnsFault>
+    ensures { result ≡ columns_answer lacks answer }
+{
+    match (lacks, answer) {
+        (Some(column), _) => Err(ColumnsFault::Lacks(column)),
+        (None, Ok(())) => Ok(()),
+        (None, Err(fault)) => Err(ColumnsFault::Tool(fault)),
+    }
+}
+
+/// Tells a stream from its beginning, as many of its rows as the teller is to tell.
 fn report<R: Read, S: Sink>(
     alloc: Global,
     report: Report,
-    rows: Option<u64>,
+    teller: &mut Teller,
     input: &mut R,
     output: &mut S,
     limits: &Limits,
 ) -> Result<(), ToolFault>
     requires failed { S.failed output.old < 2 ^ 64 - 1 }
-    requires limited { (rows ≡ None) ⊎ (report ≡ Rows) }
-    ensures written { rows ≡ None → ReportsInput report limits.now (R.remaining input.old)
-        (R.remaining input.new) (S.contents output.old) (S.failed output.old) result
-        (S.contents output.new) (S.failed output.new) }
-    ensures first { report ≡ Rows → (n : ℕ) → rows ≡ Some n → ShowsFirstOf n limits.now
+    requires none { teller.old.number ≡ 0 }
+    requires has { teller.old.lacks ≡ None }
+    requires limited { (teller.old.left ≡ None) ⊎ AreRows report }
+    ensures written { teller.new.lacks ≡ None → teller.old.left ≡ None
+        → ReportsInput report.entry limits.now (R.remaining input.old) (R.remaining input.new)
+        (S.contents output.old) (S.failed output.old) result (S.contents output.new)
+        (S.failed output.new) }
+    ensures first { teller.new.lacks ≡ None → AreRows report.entry → (n : ℕ)
+        → teller.old.left ≡ Some n → ShowsFirstOf (choice_of report.entry) n limits.now
         (R.remaining input.old) (R.remaining input.new) (S.contents output.old)
         (S.failed output.old) result (S.contents output.new) (S.failed output.new) }
-    ensures passed { OnOk result (S.is_passed_on output.new) }
+    ensures lacks { (k : ℕ) → teller.new.lacks ≡ Some k → LacksInput (choice_of report.entry)
+        limits.now (R.remaining input.old) (R.remaining input.new) (S.contents output.old)
+        (S.failed output.old) k (S.contents output.new) (S.failed output.new) }
+    ensures all { choice_of report.entry ≡ None → teller.new.lacks ≡ None }
+    ensures passed { teller.new.lacks ≡ None → OnOk result (S.is_passed_on output.new) }
 {
     let mut reader = StreamReader::new(alloc, *limits);
-    let mut teller = Teller::new(alloc, rows);
     match room_for_a_piece(alloc) {
         Ok(mut room) => {
-            answer_of(report_pieces(report, &mut reader, &mut teller, input, output, &mut room))
+            answer_of(report_pieces(report, &mut reader, teller, input, output, &mut room))
         }
         Err(_) => Err(ToolFault::Memory),
     }
@@ -163,17 +262,24 @@ fn report_pieces<R: Read, S: Sink>(
     requires start { ReaderStands reader.old [] [] }
     requires open { reader.old.at.verdict ≡ Open }
     requires none { teller.old.number ≡ 0 }
-    requires limited { (teller.old.left ≡ None) ⊎ (report ≡ Rows) }
+    requires has { teller.old.lacks ≡ None }
+    requires limited { (teller.old.left ≡ None) ⊎ AreRows report }
     requires room { length room.old ≡ 65536 }
-    ensures written { teller.old.left ≡ None → ReportsInput report reader.old.limits
+    ensures written { teller.new.lacks ≡ None → teller.old.left ≡ None
+        → ReportsInput report.entry reader.old.limits (R.remaining input.old)
+        (R.remaining input.new) (S.contents output.old) (S.failed output.old) (answer_by result)
+        (S.contents output.new) (S.failed output.new) }
+    ensures first { teller.new.lacks ≡ None → AreRows report.entry → (n : ℕ)
+        → teller.old.left ≡ Some n → ShowsFirstOf (choice_of report.entry) n reader.old.limits
         (R.remaining input.old) (R.remaining input.new) (S.contents output.old)
         (S.failed output.old) (answer_by result) (S.contents output.new) (S.failed output.new) }
-    ensures first { report ≡ Rows → (n : ℕ) → teller.old.left ≡ Some n
-        → ShowsFirstOf n reader.old.limits (R.remaining input.old) (R.remaining input.new)
-        (S.contents output.old) (S.failed output.old) (answer_by result) (S.contents output.new)
+    ensures lacks { (k : ℕ) → teller.new.lacks ≡ Some k → LacksInput (choice_of report.entry)
+        reader.old.limits (R.remaining input.old) (R.remaining input.new)
+        (S.contents output.old) (S.failed output.old) k (S.contents output.new)
         (S.failed output.new) }
     ensures blameless { IfOk result BlamesNoInput }
-    ensures passed { OnOk (answer_by result) (S.is_passed_on output.new) }
+    ensures passed { teller.new.lacks ≡ None
+        → OnOk (answer_by result) (S.is_passed_on output.new) }
 {
     loop {
         let count = read_piece(input, room)?;
@@ -187,6 +293,7 @@ fn report_pieces<R: Read, S: Sink>(
             Ok(Progress::GoesOn) => {}
             Ok(Progress::Marker) => return Ok(flush(output)),
             Ok(Progress::Enough) => return Ok(flush(output)),
+            Ok(Progress::Lacks) => return Ok(Ok(())),
             Err(fault) => return Ok(Err(fault)),
         }
     }

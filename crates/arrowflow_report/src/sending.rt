@@ -6,7 +6,6 @@ ghost use Rattle.arrowflow_report.specs.Reports.{SendsText};
 
 use crate::tool_fault::ToolFault;
 use arrow_csv::BatchRows;
-use arrow_data::Batch;
 use arrow_sink::{Sink, send};
 use std::alloc::Global;
 
@@ -25,24 +24,21 @@ pub(crate) fn send_text<S: Sink>(output: &mut S, text: &[u8]) -> Result<(), Tool
     }
 }
 
-/// Sends the records of the rows up to `end` of the batch that has this number, some of them at a
-/// time, which are made in the room of a text.
+/// Sends the records of these rows up to `end`, some of them at a time, which are made in the room
+/// of a text.
 pub(crate) fn send_rows<S: Sink>(
     alloc: Global,
     text: &mut Vec<u8>,
-    number: u64,
-    batch: &Batch,
+    rows: &BatchRows,
     end: usize,
     output: &mut S,
 ) -> Result<(), ToolFault>
     requires failed { S.failed output.old < 2 ^ 64 - 1 }
-    requires within { end ≤ batch.now.rows }
+    requires within { end ≤ rows.now.batch.rows }
     ensures { SendsText (S.contents output.old) (S.failed output.old)
-        (batch_rows number batch.now 0 end) result (S.contents output.new) (S.failed output.new) }
+        (batch_rows rows.now.number rows.now.batch 0 end) result (S.contents output.new)
+        (S.failed output.new) }
 {
-    let Ok(rows) = BatchRows::new(alloc, number, batch) else {
-        return Err(ToolFault::Memory);
-    };
     let mut start = 0;
     while start < end {
         let next = start + ROWS.min(end - start);

@@ -1,7 +1,7 @@
 use Rattle.std.proofs.Common.{◌≡◌, ap, ap₂, sym, subst, ◌∙◌, map}
 use Rattle.std.specs.Option.{MatchOption}
 use Rattle.clap.specs.Words.{App, app_of, fault_of, found_of, is_simple, is_simple_and_free, rows_of, subcommand_of, subcommand_rows_of}
-use Rattle.arrowflow_line.specs.CommandLine.{IsAskedFor, IsCommand, IsPlan, IsProgram, copy_app, drill_app, program_app}
+use Rattle.arrowflow_line.specs.CommandLine.{IsAskedFor, IsCommand, IsPlan, IsProgram, program_app}
 use Rattle.arrowflow_line.proofs.Asked.{met_as, name_met}
 use Rattle.arrowflow_line.proofs.Named.{command_found, line}
 use Rattle.arrowflow_line.proofs.command_line.plan.Goals as goal

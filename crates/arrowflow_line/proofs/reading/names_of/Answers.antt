@@ -1,7 +1,6 @@
-use Rattle.std.proofs.Common.{◌≡◌, ◌≤◌, rules, arith, List, [], length, map, take, Some, option_map, unwrap_or, ap, sym, ◌∙◌, string_bytes}
+use Rattle.std.proofs.Common.{◌≡◌, rules, arith, [], map, take, Some, option_map, unwrap_or, ap, ◌∙◌}
 use Rattle.std.proofs.lemmas.List.{take_all}
 use Rattle.clap.specs.Words.{found_of, matched_of, raw_values}
-use Rattle.arrowflow_line.specs.CommandLine.{names_in}
 use Rattle.arrowflow_line.proofs.Asked.{names_found}
 use Rattle.arrowflow_line.proofs.reading.names_of.Goals as goal
 

@@ -9,7 +9,7 @@ use Rattle.arrowflow_report.proofs.reports.report.Goals as goal
 
 -- nothing was read
 pub returns-clause-first : goal.returns-clause-first
-returns-clause-first g c rows n some =
+returns-clause-first g c has rows n some =
     let r = c.new-reader.result in
     let limits = c.args.limits.now in
     let held = g.S.Sink.contents c.args.output.now in

@@ -4,7 +4,7 @@ use Rattle.arrow_stream_reader.specs.declared.reader.Verdict.TheVariants.{Open}
 use Rattle.arrow_stream_reader.specs.Front.{Entry}
 use Rattle.arrowflow_report.specs.FirstRows.{IsFirstTold}
 use Rattle.arrowflow_report.specs.Reports.{IsTold}
-use Rattle.arrowflow_report.specs.declared.report.Report.TheVariants.{Rows}
+use Rattle.arrowflow_report.specs.Chosen.{AreRows}
 use Rattle.arrowflow_report.proofs.Reading.{reached}
 use Rattle.arrowflow_report.proofs.reports.report_pieces.Given as goal
 
@@ -17,8 +17,9 @@ invariant-loop-count g l = (bytes : List ℕ)
     × (l.reader.limits ≡ l.initial.reader.limits)
     × (l.reader.at.verdict ≡ Open)
     × (l.initial.teller.left ≡ None → l.teller.left ≡ None)
-    × ((l.teller.left ≡ None) ⊎ (l.report ≡ Rows))
-    × (l.report ≡ Rows → (n : ℕ) → l.initial.teller.left ≡ Some n → IsFirstTold n l.report (g.S.Sink.contents l.initial.output) (g.S.Sink.contents l.output) l.teller.number l.teller.left l.reader bytes)
+    × ((l.teller.left ≡ None) ⊎ AreRows l.report)
+    × (AreRows l.report → (n : ℕ) → l.initial.teller.left ≡ Some n → IsFirstTold n l.report (g.S.Sink.contents l.initial.output) (g.S.Sink.contents l.output) l.teller.number l.teller.left l.reader bytes)
+    × (l.teller.lacks ≡ None)
 
 -- how much of a stream may still come
 abbrev pub decreases-loop-count : goal.decreases-loop-count

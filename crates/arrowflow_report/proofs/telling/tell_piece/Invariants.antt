@@ -1,6 +1,6 @@
 use Rattle.std.proofs.Common.{◌≡◌, ◌⊎◌, None, length}
 use Rattle.arrow_stream_reader.specs.declared.reader.Verdict.TheVariants.{Open}
-use Rattle.arrowflow_report.specs.declared.report.Report.TheVariants.{Rows}
+use Rattle.arrowflow_report.specs.Chosen.{AreRows}
 use Rattle.arrowflow_report.proofs.FirstTold.{IsTellingFirst}
 use Rattle.arrowflow_report.proofs.telling.tell_piece.Given as goal
 
@@ -10,7 +10,8 @@ invariant-loop-taken g l = IsTellingFirst l.report l.initial.reader (g.S.Sink.co
     × (g.S.Sink.failed l.output ≡ g.S.Sink.failed l.initial.output)
     × (l.initial.reader.at.verdict ≡ Open → l.reader.at.verdict ≡ Open)
     × (l.initial.teller.left ≡ None → l.teller.left ≡ None)
-    × ((l.teller.left ≡ None) ⊎ (l.report ≡ Rows))
+    × ((l.teller.left ≡ None) ⊎ AreRows l.report)
+    × (l.teller.lacks ≡ l.initial.teller.lacks)
 
 abbrev pub decreases-loop-taken : goal.decreases-loop-taken
 decreases-loop-taken g l = length l.rest

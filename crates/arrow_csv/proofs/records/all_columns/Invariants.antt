@@ -1,5 +1,5 @@
 use Rattle.std.proofs.Common.{◌≡◌, ◌++◌, drop}
-use Rattle.arrow_csv.proofs.records.BatchRows.new.Given as goal
+use Rattle.arrow_csv.proofs.records.all_columns.Given as goal
 
 -- the columns that were taken, and those to come, are all
 abbrev pub invariant-loop-column : goal.invariant-loop-column

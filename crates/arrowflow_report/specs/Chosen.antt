@@ -1,0 +1,57 @@
+-- The rows of a stream with a choice of its columns.
+use Rattle.std.specs.Prelude.{◌≡◌, ℕ, List, Option, None, Some, ⊤}
+use Rattle.arrow_types.specs.Notes.{SchemaShape}
+use Rattle.arrow_data.specs.Batch.{Table}
+use Rattle.arrow_csv.specs.Named.{Choice, HasChosen, choice_by, chosen, chosen_schema, chosen_tables, lacking}
+use Rattle.arrow_csv.specs.Records.{stream_text}
+use Rattle.arrow_stream_reader.specs.State.{Given, schema_given, dictionary_given, batch_given, ended}
+use Rattle.arrowflow_report.specs.declared.report.Report.{Report}
+use Rattle.arrowflow_report.specs.declared.report.Report.TheVariants.{Messages, Rows}
+
+-- which columns are told
+abbrev pub choice_of : Report → Choice
+choice_of Messages = None
+choice_of (Rows choice) = choice_by choice
+
+-- rows are told, and not messages
+abbrev pub AreRows : Report → Type 0
+AreRows Messages = ⊥
+AreRows (Rows choice) = ⊤
+
+-- the schema of a stream has all columns that are chosen, once it is there
+abbrev pub HaveChosen : Choice → Option SchemaShape → Type 0
+HaveChosen None schema = ⊤
+HaveChosen (Some names) None = ⊤
+HaveChosen (Some names) (Some shape) = HasChosen (Some names) shape
+
+-- it has them if this message gave it
+abbrev pub IsChosenAt : Choice → Option SchemaShape → Given → Type 0
+IsChosenAt choice schema schema_given = HaveChosen choice schema
+IsChosenAt choice schema (dictionary_given id) = ⊤
+IsChosenAt choice schema (batch_given batch) = ⊤
+IsChosenAt choice schema ended = ⊤
+
+-- it lacks the column at this place of the choice, and none before
+abbrev pub LacksColumn : Choice → Option SchemaShape → ℕ → Type 0
+LacksColumn None schema place = ⊥
+LacksColumn (Some names) None place = ⊥
+LacksColumn (Some names) (Some shape) place = lacking names shape.fields ≡ Some place
+
+-- this message gave such a schema
+abbrev pub LacksAt : Choice → Option SchemaShape → Given → ℕ → Type 0
+LacksAt choice schema schema_given place = LacksColumn choice schema place
+LacksAt choice schema (dictionary_given id) place = ⊥
+LacksAt choice schema (batch_given batch) place = ⊥
+LacksAt choice schema ended place = ⊥
+
+-- what a message gave, of a batch the chosen columns alone
+abbrev pub chosen_given : Choice → Given → Given
+chosen_given None given = given
+chosen_given (Some names) schema_given = schema_given
+chosen_given (Some names) (dictionary_given id) = dictionary_given id
+chosen_given (Some names) (batch_given batch) = batch_given (chosen (Some names) batch)
+chosen_given (Some names) ended = ended
+
+-- the records of a stream with the chosen columns alone
+abbrev pub chosen_text : Choice → Option SchemaShape → List Table → List ℕ
+chosen_text choice schema batches = stream_text (chosen_schema choice schema) (chosen_tables choice batches)
