@@ -34,19 +34,12 @@ pub fn schema_text<R: Read>(
     ensures { AnswersInput limits.now (R.remaining input.old) (R.remaining input.new) result }
 {
     let mut reader = StreamReader::new(alloc, *limits);
-    let Ok(mut room) = room_for_a_piece(alloc) else {
-        return Err(ToolFault::Memory);
-    };
-    if let Err(fault) = answer_of(read_first(&mut reader, input, &mut room)) {
-        return Err(fault);
-    }
+    let mut room = room_for_a_piece(alloc)?;
+    answer_of(read_first(&mut reader, input, &mut room))?;
     let Some(schema) = reader.schema() else {
         unreachable!();
     };
-    match schema_lines_of(alloc, schema) {
-        Ok(text) => Ok(text),
-        Err(_) => Err(ToolFault::Memory),
-    }
+    Ok(schema_lines_of(alloc, schema)?)
 }
 
 /// Reads the input piece by piece until the reader has the first message. No message is longer than
@@ -80,8 +73,6 @@ fn read_first<R: Read>(
 fn end_of(reader: &StreamReader) -> Result<(), ToolFault>
     ensures { result ≡ told_end (ended_so reader.now.at) }
 {
-    match reader.end() {
-        Ok(()) => Ok(()),
-        Err(fault) => Err(ToolFault::from(fault)),
-    }
+    reader.end()?;
+    Ok(())
 }

@@ -18,10 +18,8 @@ pub(crate) fn send_text<S: Sink>(output: &mut S, text: &[u8]) -> Result<(), Tool
     ensures { SendsText (S.contents output.old) (S.failed output.old) text.now result
         (S.contents output.new) (S.failed output.new) }
 {
-    match send(output, text) {
-        Ok(()) => Ok(()),
-        Err(_) => Err(ToolFault::Output),
-    }
+    send(output, text)?;
+    Ok(())
 }
 
 /// Sends the records of these rows up to `end`, some of them at a time, which are made in the room
@@ -43,13 +41,9 @@ pub(crate) fn send_rows<S: Sink>(
     while start < end {
         let next = start + ROWS.min(end - start);
         text.clear();
-        let Ok(()) = rows.push(alloc, text, start, next) else {
-            return Err(ToolFault::Memory);
-        };
-        match send_text(output, text) {
-            Ok(()) => start = next,
-            Err(fault) => return Err(fault),
-        }
+        rows.push(alloc, text, start, next)?;
+        send_text(output, text)?;
+        start = next;
     }
     Ok(())
 }
@@ -61,8 +55,6 @@ pub(crate) fn flush<S: Sink>(output: &mut S) -> Result<(), ToolFault>
         (S.contents output.new) (S.failed output.new) }
     ensures passed { OnOk result (S.is_passed_on output.new) }
 {
-    match output.flush() {
-        Ok(()) => Ok(()),
-        Err(_) => Err(ToolFault::Output),
-    }
+    output.flush()?;
+    Ok(())
 }

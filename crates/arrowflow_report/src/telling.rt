@@ -209,10 +209,10 @@ fn tell_last<S: Sink>(
 {
     match item {
         Item::Schema => tell_header(teller.alloc, choice, reader, output),
-        Item::Batch(batch) => match BatchRows::of(teller.alloc, teller.number, batch, choice) {
-            Ok(texts) => send_rows(teller.alloc, &mut teller.text, &texts, rows, output),
-            Err(_) => Err(ToolFault::Memory),
-        },
+        Item::Batch(batch) => {
+            let texts = BatchRows::of(teller.alloc, teller.number, batch, choice)?;
+            send_rows(teller.alloc, &mut teller.text, &texts, rows, output)
+        }
         Item::Dictionary(_) | Item::End => Ok(()),
     }
 }
@@ -230,10 +230,7 @@ fn tell_header<S: Sink>(
         (S.contents output.new) (S.failed output.new) }
 {
     match reader.schema() {
-        Some(schema) => match header_of(alloc, schema, choice) {
-            Ok(text) => send_text(output, &text),
-            Err(_) => Err(ToolFault::Memory),
-        },
+        Some(schema) => send_text(output, &header_of(alloc, schema, choice)?),
         None => Ok(()),
     }
 }
@@ -253,10 +250,8 @@ fn tell_message<S: Sink>(
         (S.failed output.new) }
 {
     text.clear();
-    match push_line(text, reader, place, number, item) {
-        Ok(()) => send_text(output, text),
-        Err(_) => Err(ToolFault::Memory),
-    }
+    push_line(text, reader, place, number, item)?;
+    send_text(output, text)
 }
 
 /// Sends what a message adds to the text of the rows, which is made in the room of a text.
@@ -277,10 +272,10 @@ fn tell_rows<S: Sink>(
 {
     match item {
         Item::Schema => tell_header(teller.alloc, choice, reader, output),
-        Item::Batch(batch) => match BatchRows::of(teller.alloc, number, batch, choice) {
-            Ok(texts) => send_rows(teller.alloc, &mut teller.text, &texts, batch.rows(), output),
-            Err(_) => Err(ToolFault::Memory),
-        },
+        Item::Batch(batch) => {
+            let texts = BatchRows::of(teller.alloc, number, batch, choice)?;
+            send_rows(teller.alloc, &mut teller.text, &texts, batch.rows(), output)
+        }
         Item::Dictionary(_) | Item::End => Ok(()),
     }
 }
@@ -296,14 +291,9 @@ pub(crate) fn tell_end<S: Sink>(
     ensures { EndTold report.entry reader.now.at (S.contents output.old) (S.failed output.old) result
         (S.contents output.new) (S.failed output.new) }
 {
-    if let Err(fault) = reader.end() {
-        return Err(ToolFault::from(fault));
-    }
+    reader.end()?;
     match report {
-        Report::Messages => match end_line(teller.alloc, reader.place()) {
-            Ok(line) => send_text(output, &line),
-            Err(_) => Err(ToolFault::Memory),
-        },
+        Report::Messages => send_text(output, &end_line(teller.alloc, reader.place())?),
         Report::Rows(_) => Ok(()),
     }
 }

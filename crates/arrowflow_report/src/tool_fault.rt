@@ -3,9 +3,10 @@
 ghost use Rattle.std.specs.Prelude.{◌≡◌, ◌++◌, IfOk, OnOk, string_bytes};
 ghost use Rattle.arrowflow_report.specs.Faults.{fault_line, is_memory, refusal_name, status_of};
 ghost use Rattle.arrowflow_report.specs.Faults.{told, what_text};
+ghost use Rattle.arrowflow_report.specs.declared.tool_fault.ToolFault.TheVariants.{Memory, Output};
 
 use crate::what::What;
-use arrow_sink::WriteFault;
+use arrow_sink::{SinkFault, WriteFault};
 use arrow_stream_reader::{Fault, Kind};
 use std::alloc::{AllocError, Global};
 use std::fmt::Write;
@@ -42,6 +43,24 @@ impl From<Fault> for ToolFault {
         } else {
             ToolFault::Stream(fault)
         }
+    }
+}
+
+/// A growth that was refused: `Memory`.
+impl From<AllocError> for ToolFault {
+    ghost from_gives = { λ refused tool. tool ≡ Memory };
+
+    fn from(_refused: AllocError) -> ToolFault {
+        ToolFault::Memory
+    }
+}
+
+/// An output that failed: `Output`.
+impl From<SinkFault> for ToolFault {
+    ghost from_gives = { λ failed tool. tool ≡ Output };
+
+    fn from(_failed: SinkFault) -> ToolFault {
+        ToolFault::Output
     }
 }
 
