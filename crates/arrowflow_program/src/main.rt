@@ -15,8 +15,8 @@ use crate::ends::{create, input_name, is_same_file, is_standard, open, output_na
 use crate::pipe::Pipe;
 use crate::watched::{Onlooker, Progress, Watched};
 use arrowflow::{
-    ArgFault, Counted, Limits, Options, Plan, Task, ToolFault, check, check_quietly, copy, plan,
-    schema_text, show, show_first,
+    ArgFault, ColumnsFault, Counted, Limits, Options, Plan, Selection, Task, ToolFault, check,
+    check_quietly, copy, plan, schema_text, show, show_columns, show_first,
 };
 use std::alloc::Global;
 use std::io::{ErrorKind, Input, Write};
@@ -77,7 +77,10 @@ where
         Task::Schema(name) => print_schema(rt, alloc, name, limits),
         Task::Check(name, false) => print_messages(rt, alloc, name, limits),
         Task::Check(name, true) => check_file(rt, alloc, name, limits),
-        Task::Show(name, rows) => print_rows(rt, alloc, name, *rows, limits),
+        Task::Show(name, None, rows) => print_rows(rt, alloc, name, *rows, limits),
+        Task::Show(name, Some(columns), rows) => {
+            print_columns(rt, alloc, name, columns, *rows, limits)
+        }
         Task::Copy(input, output, options) => {
             copy_file(rt, alloc, (input, output), *options, limits)
         }
@@ -186,6 +189,52 @@ where
         None => show(alloc, &mut file, output, limits),
     };
     status_of(rt, alloc, answer, (name, "-"), &output.into_inner())
+}
+
+/// Prints the columns of these names alone, of the rows of the stream in the file of this name.
+fn print_columns<R: Files + Input + Print + Eprint>(
+    rt: &R,
+    alloc: Global,
+    name: &str,
+    columns: &[String],
+    rows: Option<u64>,
+    limits: &Limits,
+) -> u8
+where
+    R::File: Drop,
+{
+    let Ok(columns) = columns
+        .iter()
+        .map(|column| column.as_str())
+        .collect::<Vec<&str>>(alloc)
+    else {
+        return out_of_memory(rt);
+    };
+    let selection = Selection {
+        columns: &columns,
+        rows,
+    };
+    let mut file = match open(rt, 0, name) {
+        Ok(file) => file,
+        Err(fault) => return tell(rt, alloc, &fault, name, "-"),
+    };
+    let output = Counted::new(Pipe::new(io::writer(rt)));
+    let (output, answer) = show_columns(alloc, &mut file, output, &selection, limits);
+    let answer = match answer {
+        Ok(()) => Ok(()),
+        Err(ColumnsFault::Tool(fault)) => Err(fault),
+        Err(ColumnsFault::Lacks(place)) => return no_column(rt, columns.get(place)),
+    };
+    status_of(rt, alloc, answer, (name, "-"), &output.into_inner())
+}
+
+/// Tells of a column that the schema lacks.
+fn no_column<R: Eprint>(rt: &R, name: Option<&&str>) -> u8
+    ensures { result ≡ FAILED }
+{
+    let name = name.copied().unwrap_or("");
+    let _ = eprintln!(rt; "no column {name}");
+    FAILED
 }
 
 /// Writes the stream in the file of the first name again, into that of the second.

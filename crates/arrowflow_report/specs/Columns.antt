@@ -13,9 +13,9 @@ use Rattle.arrowflow_report.specs.Reports.{IsTold, ReportsInput}
 use Rattle.arrowflow_report.specs.SchemaCall.{AreNoMessage, BeginWithSchema}
 use Rattle.arrowflow_report.specs.declared.report.Report.{Report}
 use Rattle.arrowflow_report.specs.declared.report.Report.TheVariants.{Rows}
-use Rattle.arrowflow_report.specs.declared.reports.ColumnsFault.{ColumnsFault}
-use Rattle.arrowflow_report.specs.declared.reports.ColumnsFault.TheVariants.{Lacks, Tool}
-use Rattle.arrowflow_report.specs.declared.reports.Selection.{Selection}
+use Rattle.arrowflow_report.specs.declared.columns.ColumnsFault.{ColumnsFault}
+use Rattle.arrowflow_report.specs.declared.columns.ColumnsFault.TheVariants.{Lacks, Tool}
+use Rattle.arrowflow_report.specs.declared.columns.Selection.{Selection}
 use Rattle.arrowflow_report.specs.declared.telling.Teller.{Teller}
 use Rattle.arrowflow_report.specs.declared.tool_fault.ToolFault.{ToolFault}
 
@@ -41,10 +41,10 @@ ShowsColumns s limits had left before failed (Err (Tool fault)) after failed' = 
 ShowsColumns s limits had left before failed (Err (Lacks place)) after failed' = LacksInput (choice_of (Rows (Some s.columns))) limits had left before failed place after failed'
 
 -- the answer of a call by what the schema was found to lack
-abbrev pub columns_answer : Option ℕ → Result (Unit {0}) ToolFault → Result (Unit {0}) ColumnsFault
-columns_answer (Some place) answer = Err (Lacks place)
-columns_answer None (Ok done) = Ok done
-columns_answer None (Err fault) = Err (Tool fault)
+abbrev pub answer_by_lack : Option ℕ → Result (Unit {0}) ToolFault → Result (Unit {0}) ColumnsFault
+answer_by_lack (Some place) answer = Err (Lacks place)
+answer_by_lack None (Ok done) = Ok done
+answer_by_lack None (Err fault) = Err (Tool fault)
 
 -- ---- a stream told message by message
 

@@ -13,7 +13,8 @@
 //! said of a fault by `specs/Faults.antt`. [`show`] writes the rows of a stream and [`check`] a
 //! line for each of its messages, as they come: what is written, and how that ends, is said by
 //! `ReportsInput` (`specs/Reports.antt`); [`show_first`] writes the first rows alone, and
-//! `ShowsFirstOf` (`specs/FirstRows.antt`) says the same of it. What the answer of
+//! `ShowsFirstOf` (`specs/FirstRows.antt`) says the same of it, as `ShowsColumns`
+//! (`specs/Columns.antt`) does of [`show_columns`], which writes some columns alone. What the answer of
 //! [`check_quietly`], which writes nothing, says of its input, is said by `ChecksInput`
 //! (`specs/Quiet.antt`). How far they read their input is said by `specs/Reads.antt`. What each
 //! message adds to the text of a stream's rows is said by `specs/Shown.antt`, and that the text
@@ -27,6 +28,7 @@
 //! | what is written of a stream | `specs/Reports.antt`: `ReportsInput`; `specs/OfFront.antt`: `IsBegunOf`; `specs/Shown.antt`: `text_at` |
 //! | what a check that writes nothing says of an input | `specs/Quiet.antt`: `ChecksInput` |
 //! | the first rows of a stream | `specs/FirstRows.antt`: `ShowsFirstOf`, `first_text` |
+//! | columns chosen by their names | `specs/Columns.antt`: `ShowsColumns`, `LacksInput`; `specs/Chosen.antt`: `chosen_text` |
 //! | the lines of messages | `specs/Lines.antt`: `message_line`, `AreLines` |
 //! | how far an input is read | `specs/Reads.antt`: `IsReadWhile` |
 //! | what is said of a fault | `specs/Faults.antt`: `fault_line`, `status_of` |
@@ -35,9 +37,10 @@
 //! how a text grows, `Sent` what of it was sent, `Reporting` how that ends, `OfFront` that it is so
 //! by the front of all bytes, and `Reading` that the loops over an input end. `FirstRows`,
 //! `FirstTold` and `FirstReported` go beside `Growing`, `Told` and `Reporting` where the first rows
-//! alone are wanted.
+//! alone are wanted, and `Lacking` where the schema lacks a column that is asked for.
 #![tactic(auto)]
 
+mod columns;
 mod escapes;
 pub mod laws;
 mod lines;
@@ -55,7 +58,8 @@ mod tool_fault;
 mod type_names;
 mod what;
 
-pub use reports::{ColumnsFault, Selection, check, check_quietly, show, show_columns, show_first};
+pub use columns::{ColumnsFault, Selection};
+pub use reports::{check, check_quietly, show, show_columns, show_first};
 pub use schema_call::schema_text;
 pub use schema_lines::schema_lines_of;
 pub use tool_fault::ToolFault;

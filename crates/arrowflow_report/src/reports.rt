@@ -4,13 +4,14 @@ ghost use Rattle.std.specs.Prelude.{◌≡◌, ◌<◌, ◌-◌, ◌^◌, ◌⊎
 ghost use Rattle.arrow_stream_reader.specs.declared.reader.Verdict.TheVariants.{Open};
 ghost use Rattle.arrow_stream_reader.specs.Stream.{ReaderStands};
 ghost use Rattle.arrowflow_report.specs.Chosen.{AreRows, choice_of};
-ghost use Rattle.arrowflow_report.specs.Columns.{LacksInput, ShowsColumns, columns_answer};
+ghost use Rattle.arrowflow_report.specs.Columns.{LacksInput, ShowsColumns};
 ghost use Rattle.arrowflow_report.specs.FirstRows.{ShowsFirstOf};
 ghost use Rattle.arrowflow_report.specs.Quiet.{ChecksInput};
 ghost use Rattle.arrowflow_report.specs.Reads.{BlamesNoInput, answer_by};
 ghost use Rattle.arrowflow_report.specs.Reports.{ReportsInput};
 ghost use Rattle.arrowflow_report.specs.declared.report.Report.TheVariants.{Messages, Rows};
 
+use crate::columns::{ColumnsFault, Selection, answer_by_lack};
 use crate::nowhere::Nowhere;
 use crate::pieces::{ReadFailed, answer_of, read_piece, room_for_a_piece};
 use crate::progress::Progress;
@@ -47,15 +48,9 @@ pub fn check<R: Read, S: Sink>(
     ensures passed { OnOk result.1 (S.is_passed_on result.0) }
 {
     let mut output = output;
+    let messages = Report::Messages;
     let mut teller = Teller::new(alloc, None);
-    let answer = report(
-        alloc,
-        Report::Messages,
-        &mut teller,
-        input,
-        &mut output,
-        limits,
-    );
+    let answer = report(alloc, messages, &mut teller, input, &mut output, limits);
     (output, answer)
 }
 
@@ -73,15 +68,9 @@ pub fn check_quietly<R: Read>(
 ) -> Result<(), ToolFault>
     ensures { ChecksInput limits.now (R.remaining input.old) (R.remaining input.new) result }
 {
+    let messages = Report::Messages;
     let mut teller = Teller::new(alloc, None);
-    report(
-        alloc,
-        Report::Messages,
-        &mut teller,
-        input,
-        &mut Nowhere,
-        limits,
-    )
+    report(alloc, messages, &mut teller, input, &mut Nowhere, limits)
 }
 
 /// Writes the rows of a stream as records of comma-separated values, and hands the output back.
@@ -109,15 +98,9 @@ pub fn show<R: Read, S: Sink>(
     ensures passed { OnOk result.1 (S.is_passed_on result.0) }
 {
     let mut output = output;
+    let rows = Report::Rows(None);
     let mut teller = Teller::new(alloc, None);
-    let answer = report(
-        alloc,
-        Report::Rows(None),
-        &mut teller,
-        input,
-        &mut output,
-        limits,
-    );
+    let answer = report(alloc, rows, &mut teller, input, &mut output, limits);
     (output, answer)
 }
 
@@ -143,35 +126,9 @@ pub fn show_first<R: Read, S: Sink>(
 {
     let mut output = output;
     let mut teller = Teller::new(alloc, Some(rows));
-    let answer = report(
-        alloc,
-        Report::Rows(None),
-        &mut teller,
-        input,
-        &mut output,
-        limits,
-    );
+    let rows = Report::Rows(None);
+    let answer = report(alloc, rows, &mut teller, input, &mut output, limits);
     (output, answer)
-}
-
-/// Which columns of a stream are shown, and how many of its rows.
-#[derive(Clone, Copy)]
-pub struct Selection<'a> {
-    /// The names of the columns, in the order in which they are shown. Of a name that several have
-    /// the first is meant. Names are compared byte for byte.
-    pub columns: &'a [&'a str],
-    /// How many rows, or all.
-    pub rows: Option<u64>,
-}
-
-/// Why columns are not shown, or not to the end.
-#[derive(Debug, Drop)]
-pub enum ColumnsFault {
-    /// The schema has no column of the name at this place among those that were asked for, and one
-    /// of each name before it.
-    Lacks(usize),
-    /// As of [`show`].
-    Tool(ToolFault),
 }
 
 /// Writes the rows of a stream, or the first of them, with some of its columns alone, and hands the
@@ -196,20 +153,9 @@ pub fn show_columns<R: Read, S: Sink>(
 {
     let mut output = output;
     let mut teller = Teller::new(alloc, selection.rows);
-    let rows = Report::Rows(Some(selection.columns));
-    let answer = report(alloc, rows, &mut teller, input, &mut output, limits);
-    (output, columns_answer(teller.lacks(), answer))
-}
-
-/// What is answered where columns were asked for, of which the schema lacks one.
-fn columns_answer(lacks: Option<usize>, answer: Result<(), ToolFault>) -> Result<(), ColumnsFault>
-    ensures { result ≡ columns_answer lacks answer }
-{
-    match (lacks, answer) {
-        (Some(column), _) => Err(ColumnsFault::Lacks(column)),
-        (None, Ok(())) => Ok(()),
-        (None, Err(fault)) => Err(ColumnsFault::Tool(fault)),
-    }
+    let columns = Report::Rows(Some(selection.columns));
+    let answer = report(alloc, columns, &mut teller, input, &mut output, limits);
+    (output, answer_by_lack(teller.lacks(), answer))
 }
 
 /// Tells a stream from its beginning, as many of its rows as the teller is to tell.

@@ -1,7 +1,7 @@
 // The header and the rows of batches of numbers.
 
 use super::columns::{MEMORY, are_records, builder, field, finished, push, schema_of};
-use arrow_csv::{BatchRows, header, rows};
+use arrow_csv::{BatchRows, header, header_of, lacking, rows};
 use arrow_data::{Array, Batch, Value};
 use arrow_types::{BitWidth, DataType, Schema};
 use std::process::Abort;
@@ -91,4 +91,39 @@ fn rows_of_two_columns(rt: HostRuntime) {
     are_rows(&rt, &batch, (0, 3), "7,1,\n7,,-128\n7,3,127\n");
     are_rows(&rt, &batch, (1, 3), "7,,-128\n7,3,127\n");
     are_rows(&rt, &batch, (1, 2), "7,,-128\n");
+}
+
+// That the header of the chosen columns is the first of these texts, and all rows are the second.
+fn are_chosen(
+    rt: &(impl Abort + AllocGlobal),
+    batch: &Batch,
+    choice: Option<&[&str]>,
+    (names, want): (&str, &str),
+) {
+    let header = header_of(rt.alloc(), batch.schema(), choice).expect(rt, MEMORY);
+    are_records(rt, &header, names);
+    let mut out = Vec::new(rt.alloc());
+    let rows = BatchRows::of(rt.alloc(), 7, batch, choice).expect(rt, MEMORY);
+    let pushed = rows.push(rt.alloc(), &mut out, 0, batch.rows());
+    pushed.expect(rt, MEMORY);
+    are_records(rt, &out, want);
+}
+
+#[test]
+fn columns_by_their_names(rt: HostRuntime) {
+    let columns = [
+        [Some(1), None, Some(3)],
+        [None, Some(5), Some(6)],
+        [Some(7), Some(8), Some(9)],
+    ];
+    let batch = batch(&rt, &["n", "m", "n"], &columns);
+    let whole = ("batch,n,m,n\n", "7,1,,7\n7,,5,8\n7,3,6,9\n");
+    are_chosen(&rt, &batch, None, whole);
+    let turned = ("batch,m,n\n", "7,,1\n7,5,\n7,6,3\n");
+    are_chosen(&rt, &batch, Some(&["m", "n"]), turned);
+    let twice = ("batch,n,n\n", "7,1,1\n7,,\n7,3,3\n");
+    are_chosen(&rt, &batch, Some(&["n", "N", "n"]), twice);
+    are_chosen(&rt, &batch, Some(&[]), ("batch\n", "7\n7\n7\n"));
+    assert_eq!(&rt; lacking(batch.schema(), &["n", "m", "n"]), None);
+    assert_eq!(&rt; lacking(batch.schema(), &["m", "", "N"]), Some(1));
 }

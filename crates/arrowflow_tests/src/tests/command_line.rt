@@ -16,9 +16,9 @@ static TASKS: [(&[&str], &str); 20] = [
         &["arrowflow", "check", "two words é"],
         "Check(\"two words é\", false)",
     ),
-    (&["arrowflow", "show", ""], "Show(\"\", None)"),
-    (&["arrowflow", "show", "--", "-x"], "Show(\"-x\", None)"),
-    (&["arrowflow", "show", "-"], "Show(\"-\", None)"),
+    (&["arrowflow", "show", ""], "Show(\"\", None, None)"),
+    (&["arrowflow", "show", "--", "-x"], "Show(\"-x\", None, None)"),
+    (&["arrowflow", "show", "-"], "Show(\"-\", None, None)"),
     (
         &["arrowflow", "copy", "a", "b"],
         "Copy(\"a\", \"b\", Options { updates: Delta, align: SixtyFour })",
@@ -102,19 +102,31 @@ static TASKS: [(&[&str], &str); 20] = [
     ),
     (
         &["arrowflow", "show", "a", "--rows", "0"],
-        "Show(\"a\", Some(0))",
+        "Show(\"a\", None, Some(0))",
     ),
     (
         &["arrowflow", "show", "--rows=10", "a"],
-        "Show(\"a\", Some(10))",
+        "Show(\"a\", None, Some(10))",
     ),
     (
         &["arrowflow", "show", "--rows", "18446744073709551615", "a"],
-        "Show(\"a\", Some(18446744073709551615))",
+        "Show(\"a\", None, Some(18446744073709551615))",
     ),
     (
         &["arrowflow", "show", "--", "--rows"],
-        "Show(\"--rows\", None)",
+        "Show(\"--rows\", None, None)",
+    ),
+    (
+        &["arrowflow", "show", "a", "--columns", "k"],
+        "Show(\"a\", Some([\"k\"]), None)",
+    ),
+    (
+        &["arrowflow", "show", "--columns=k,,a b,é,k", "a", "--rows=2"],
+        "Show(\"a\", Some([\"k\", \"\", \"a b\", \"é\", \"k\"]), Some(2))",
+    ),
+    (
+        &["arrowflow", "show", "a", "--columns", ","],
+        "Show(\"a\", Some([\"\", \"\"]), None)",
     ),
 ];
 
@@ -322,6 +334,13 @@ static OTHERS: [(&[&str], i32, &str); 51] = [
     ),
     (&["arrowflow", "show", "a", "--rows", "-1"], 2, ""),
     (&["arrowflow", "show", "a", "--rows"], 2, ""),
+    (&["arrowflow", "show", "a", "--columns"], 2, ""),
+    (&["arrowflow", "check", "a", "--columns", "k"], 2, ""),
+    (
+        &["arrowflow", "show", "a", "--columns", "k", "--columns", "l"],
+        2,
+        "",
+    ),
     (&["arrowflow", "check", "a", "--rows", "1"], 2, ""),
 ];
 

@@ -1,4 +1,4 @@
-//! What `show_first` writes of streams, and what a check that writes nothing tells.
+//! What `show_first` and `show_columns` write of streams, and what a check that writes nothing tells.
 
 use super::told::{Call, LETTERS, NUMBERS, assert_told};
 use arrow_test_streams::streams::{GROWING, ONE_BATCH};
@@ -65,5 +65,34 @@ fn first_rows_of_a_stream_cut_off(rt: HostRuntime) {
     for (rows, place, text) in &FIRST_NUMBERS {
         let bytes = &stream[..(*place).min(stream.len())];
         assert_told(&rt, rt.alloc(), Call::First(*rows), bytes, text);
+    }
+}
+
+// Which columns of the growing dictionary are asked for, how many rows, how far its bytes go, and
+// what is shown of it then.
+type Asked = (
+    &'static [&'static str],
+    Option<u64>,
+    usize,
+    &'static str,
+);
+
+static COLUMNS: [Asked; 8] = [
+    (&["k"], None, 1376, LETTERS),
+    (&["k"], Some(1), 1376, "batch,k\n0,a\n"),
+    (&["k", "k"], Some(2), 1376, "batch,k,k\n0,a,a\n0,b,b\n"),
+    (&[], Some(4), 1376, "batch\n0\n0\n0\n1\n"),
+    (&["k", "K", ""], None, 200, "lacks 1"),
+    (&[""], Some(0), 201, "lacks 0"),
+    (&["l"], None, 199, "1 fault at byte 0: NoSchema"),
+    (&["k"], Some(4), 600, "batch,k\n0,a\n0,b\n0,c\n1 fault at byte 592: Truncated"),
+];
+
+#[test]
+fn columns_of_a_stream(rt: HostRuntime) {
+    let stream = GROWING.as_slice();
+    for (columns, rows, place, text) in &COLUMNS {
+        let bytes = &stream[..(*place).min(stream.len())];
+        assert_told(&rt, rt.alloc(), Call::Columns(*columns, *rows), bytes, text);
     }
 }

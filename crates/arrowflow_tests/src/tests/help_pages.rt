@@ -77,6 +77,7 @@ Arguments:
   <FILE>  A file with an Arrow IPC stream; - is standard input
 
 Options:
+      --columns <NAMES>         Print the columns of these names alone, with commas between them, in this order
       --rows <N>                Print the first N rows alone
       --limit-metadata <BYTES>  The most bytes of one message's metadata [default: 67108864]
       --limit-body <BYTES>      The most bytes of one message's body [default: 68719476736]
@@ -85,7 +86,7 @@ Options:
 
 The first record has the names of the columns, and each row begins with the number of its batch, counted from
 0. The exit status is 0, 1 where the stream is refused or ends too early, and 2 where the file cannot be
-read, the output cannot be written or memory is wanting.
+read, the output cannot be written, memory is wanting or a column is not there.
 
 Example:
   arrowflow show examples/growing_dictionary.arrows

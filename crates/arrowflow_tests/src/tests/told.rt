@@ -4,7 +4,8 @@
 use arrow_sink::Counted;
 use arrow_sink::probe::Trickle;
 use arrow_types::Limits;
-use arrowflow_report::{ToolFault, check, check_quietly, schema_text, show, show_first};
+use arrowflow_report::{ColumnsFault, Selection, ToolFault, check, check_quietly};
+use arrowflow_report::{schema_text, show, show_columns, show_first};
 use std::alloc::{AllocError, Global};
 use std::io::Read;
 use std::process::Abort;
@@ -24,6 +25,8 @@ pub(super) enum Call {
     Show,
     /// The first rows, so many.
     First(u64),
+    /// The columns of these names alone, of so many rows or of all.
+    Columns(&'static [&'static str], Option<u64>),
 }
 
 /// Appends the status and the line of a fault.
@@ -83,8 +86,34 @@ pub(super) fn told<R: Read>(
             let (output, answer) = show_first(alloc, input, output, rows, limits);
             (output.into_inner(), answer)
         }
+        Call::Columns(columns, rows) => {
+            let selection = Selection { columns, rows };
+            return columns_told(rt, alloc, input, &selection, limits);
+        }
     };
     written(rt, alloc, &taken, &answer)
+}
+
+/// What is shown of columns, and behind it the place of the one that the schema lacks.
+fn columns_told<R: Read>(
+    rt: &impl Abort,
+    alloc: Global,
+    input: &mut R,
+    selection: &Selection,
+    limits: &Limits,
+) -> String {
+    let output = Counted::new(Vec::new(alloc));
+    let (output, answer) = show_columns(alloc, input, output, selection, limits);
+    let taken = output.into_inner();
+    match answer {
+        Ok(()) => written(rt, alloc, &taken, &Ok(())),
+        Err(ColumnsFault::Tool(fault)) => written(rt, alloc, &taken, &Err(fault)),
+        Err(ColumnsFault::Lacks(place)) => {
+            let mut text = written(rt, alloc, &taken, &Ok(()));
+            write!(text, "lacks {place}").expect(rt, "memory");
+            text
+        }
+    }
 }
 
 /// A call tells this text of an input.
