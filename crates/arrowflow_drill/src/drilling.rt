@@ -47,13 +47,8 @@ pub fn drill<R: Read>(
         deliver: bytes,
     };
     let mut connections = read_all(&terms, inputs)?;
-    let Ok(reports) = rehearse(alloc, limits, &mut connections, piece) else {
-        return Err(ToolFault::Memory);
-    };
-    match text_of(alloc, &connections, &reports, piece) {
-        Ok(text) => Ok(text),
-        Err(_) => Err(ToolFault::Memory),
-    }
+    let reports = rehearse(alloc, limits, &mut connections, piece)?;
+    Ok(text_of(alloc, &connections, &reports, piece)?)
 }
 
 /// Runs connections in pieces of this length. A first run, in one piece, tells how many there are

@@ -43,13 +43,8 @@ pub(crate) fn read_all<R: Read>(
 {
     let mut connections = Vec::new(terms.alloc);
     for (number, input) in inputs.iter_mut().enumerate() {
-        match read_one(terms, number as u64, input) {
-            Ok(connection) => match connections.push(connection) {
-                Ok(()) => {}
-                Err(_) => return Err(ToolFault::Memory),
-            },
-            Err(fault) => return Err(fault),
-        }
+        let connection = read_one(terms, number as u64, input)?;
+        connections.push(connection)?;
     }
     Ok(connections)
 }
@@ -60,9 +55,7 @@ fn read_one<R: Read>(terms: &Terms, number: u64, input: &mut R) -> Result<Connec
         (asked_in result) }
 {
     let mut reader = StreamReader::new(terms.alloc, terms.limits);
-    let Ok(mut room) = room_for_a_piece(terms.alloc) else {
-        return Err(ToolFault::Memory);
-    };
+    let mut room = room_for_a_piece(terms.alloc)?;
     let mut batches = Vec::new(terms.alloc);
     match read_pieces(&mut reader, &mut batches, input, &mut room) {
         Ok(Ok(())) => connection_of(terms, &reader, batches),
@@ -84,11 +77,8 @@ fn connection_of(
     let Some(schema) = reader.schema() else {
         unreachable!();
     };
-    let Ok(schema) = schema.copy(terms.alloc) else {
-        return Err(ToolFault::Memory);
-    };
     Ok(Connection {
-        schema,
+        schema: schema.copy(terms.alloc)?,
         options: terms.options,
         batches,
         finish: true,
@@ -113,10 +103,7 @@ fn read_pieces<R: Read>(
         reader.new.at.state.schema batches.new.items }
 {
     loop {
-        let count = match read_piece(input, room) {
-            Ok(count) => count,
-            Err(failed) => return Err(failed),
-        };
+        let count = read_piece(input, room)?;
         if count == 0 {
             return Ok(end(reader));
         }
@@ -173,8 +160,6 @@ fn keep(batches: &mut Vec<Batch>, item: Item) -> Result<bool, AllocError>
 fn end(reader: &StreamReader) -> Result<(), ToolFault>
     ensures { result ≡ told_end (ended_so reader.now.at) }
 {
-    match reader.end() {
-        Ok(()) => Ok(()),
-        Err(fault) => Err(ToolFault::from(fault)),
-    }
+    reader.end()?;
+    Ok(())
 }
