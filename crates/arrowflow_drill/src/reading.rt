@@ -44,7 +44,10 @@ pub(crate) fn read_all<R: Read>(
     let mut connections = Vec::new(terms.alloc);
     for (number, input) in inputs.iter_mut().enumerate() {
         let connection = read_one(terms, number as u64, input)?;
-        connections.push(connection)?;
+        match connections.push(connection) {
+            Ok(()) => {}
+            Err(_) => return Err(ToolFault::Memory),
+        }
     }
     Ok(connections)
 }

@@ -11,7 +11,7 @@ loop-number-preserved g c =
     let long : length l.inputs ≡ length c.args.inputs.now = omega arith in
     let rem = g.R.Read.remaining in
     let asks = asks_of c.args.terms.now in (
-      read_next rem asks l.number c.args.inputs.now l.inputs c.index-inputs-number.result c.read_one.new.input low long l.invariant.1 l.connections.items c.push.new.self.items c.in_ok-connection.connection c.in_ok-push.ensures.items l.invariant.0 c.in_ok-connection.ensures,
+      read_next rem asks l.number c.args.inputs.now l.inputs c.index-inputs-number.result c.read_one.new.input low long l.invariant.1 l.connections.items c.push.new.self.items c.in_ok-connection.connection c.in-Ok.ensures.items l.invariant.0 c.in_ok-connection.ensures,
       rest_same rem asks l.number c.args.inputs.now l.inputs c.index-inputs-number.result c.read_one.new.input low long l.invariant.1,
     )
 
@@ -20,5 +20,5 @@ returns-in_err-connection g c =
     let l = c.loop-number in
     let low : l.number < length l.inputs = omega arith in
     let long : length l.inputs ≡ length c.args.inputs.now = omega arith in
-    let failed = err_from_is_err_and c.from_residual-in_err-connection.result c.from_residual-in_err-connection.ensures.1 in
+    let failed = err_from_is_err_and c.from_residual.result c.from_residual.ensures.1 in
     rw (failed.1, failed.2) (stopped_here g.R.Read.remaining (asks_of c.args.terms.now) l.number c.args.inputs.now l.inputs c.index-inputs-number.result c.read_one.new.input low long l.invariant.1 _ c.in_err-connection.field-0.0 l.invariant.0 c.in_err-connection.ensures)
