@@ -1,5 +1,5 @@
 -- The columns of fields, one by one.
-use Rattle.std.proofs.Common.{rules, ◌≡◌, ◌+◌, ℕ, ℤ, List, ◌∷◌, length, drop, map, Option, Some, None, IsTrue, is_some, false, refl, sym, ap, ◌∙◌}
+use Rattle.std.proofs.Common.{rules, ◌≡◌, ◌+◌, ℕ, ℤ, List, [], ◌∷◌, length, drop, map, Option, Some, None, IsTrue, is_some, false, refl, sym, ap, ◌∙◌}
 use Rattle.arrow_types.specs.Field.{Fields, Head, none, more, TypeShape}
 use Rattle.arrow_types.specs.Schema.{has_encoding}
 use Rattle.arrow_types.specs.View.{field_view, type_view}
@@ -71,6 +71,12 @@ pub columns_step : (body : List ℕ) (ds : List (ℤ × ValueList)) (h : Head) (
 columns_step body ds h c rest ns ns' bs bs' is is' = λ i.
     node_column (record { tag = h.tag; children = c }) h.encoding (slots_at ns) (own_bytes body h bs) (columns_below body ds h.encoding c (drop 1 ns) (drop (own_buffers h) bs) i) (values_in (dictionary_for ds h.encoding))
     ∷ columns_of body ds rest (sym (node_after h c ns ns' is) i) (sym (buffer_after h c bs bs' is') i)
+
+-- a leaf has no columns below it, and no dictionary
+pub leaf_column : (body : List ℕ) (ds : List (ℤ × ValueList)) (t : TypeShape) (e : Option Encoding) (c : Fields) (len : ℕ) (b : List (List ℕ)) (ns : List FieldNode) (bs : List Buffer) → e ≡ None → c ≡ none
+    → node_column t e len b [] [] ≡ node_column t e len b (columns_of body ds (below e c) ns bs) (values_in (dictionary_for ds e))
+leaf_column body ds t None c len b ns bs own bare = ap (λ f. node_column t None len b (columns_of body ds f ns bs) []) (sym bare)
+leaf_column body ds t (Some e) c len b ns bs own bare = absurd cc
 
 -- the columns below a node are its children
 pub are_children : (t : TypeShape) (e : Option Encoding) (cs : List Column) → AreOf (below e t.children) cs → (IsTrue (is_some e) → has_encoding t.children ≡ false) → AreChildren t e cs
