@@ -1,5 +1,5 @@
 -- The columns of fields, one by one.
-use Rattle.std.proofs.Common.{rules, ◌≡◌, ◌+◌, ℕ, ℤ, List, ◌∷◌, length, drop, map, Option, Some, None, IsTrue, is_some, false, refl, sym}
+use Rattle.std.proofs.Common.{rules, ◌≡◌, ◌+◌, ℕ, ℤ, List, [], ◌∷◌, length, drop, map, Option, Some, None, IsTrue, is_some, false, refl, sym, ap, ◌∙◌}
 use Rattle.arrow_types.specs.Field.{Fields, Head, none, more, TypeShape}
 use Rattle.arrow_types.specs.Schema.{has_encoding}
 use Rattle.arrow_types.specs.View.{field_view, type_view}
@@ -8,7 +8,8 @@ use Rattle.arrow_types.specs.declared.field.Field.{Field, the_lemmas}
 use Rattle.arrow_types.specs.declared.node.FieldNode.{FieldNode}
 use Rattle.arrow_types.specs.declared.node.Buffer.{Buffer}
 use Rattle.arrow_data.specs.Column.{Column, ValueList, AreOf, counts_of}
-use Rattle.arrow_data.specs.Form.{form_of}
+use Rattle.arrow_data.specs.Form.{form_of, node_form}
+use Rattle.arrow_data.specs.declared.form.Form.{Form}
 use Rattle.arrow_data.specs.Parts.{node_column, value_slot, index_slot, values_in, AreChildren}
 use Rattle.arrow_data.specs.PlainValue.{PlainValue}
 use Rattle.arrow_data.proofs.Shown.{length_slots}
@@ -36,6 +37,10 @@ node_encoding t (Some e) len b cs values = refl
 node_length : (t : TypeShape) (e : Option Encoding) (len : ℕ) (b : List (List ℕ)) (cs : List Column) (values : List PlainValue) → length (node_column t e len b cs values).raw ≡ len
 node_length t None len b cs values = length_slots len (λ j. value_slot (form_of t.tag) b (map (λ (c : Column). c.raw) cs) j)
 node_length t (Some e) len b cs values = length_slots len (λ j. index_slot e b j)
+
+-- the form of the field's own node
+pub form_is : (f : Field) (form : Form) → form ≡ node_form (type_view f.data_type).tag f.dictionary → form ≡ node_form (field_view f).head.tag (field_view f).head.encoding
+form_is f form is = is ∙ ap (λ (t : TypeShape). node_form t.tag f.dictionary) (field_type f) ∙ ap (node_form (field_view f).head.tag) (field_encoding f)
 
 -- the columns have the types of the fields
 pub columns_typed : (body : List ℕ) (ds : List (ℤ × ValueList)) (fields : Fields) (ns : List FieldNode) (bs : List Buffer) → AreOf fields (columns_of body ds fields ns bs)
@@ -66,6 +71,12 @@ pub columns_step : (body : List ℕ) (ds : List (ℤ × ValueList)) (h : Head) (
 columns_step body ds h c rest ns ns' bs bs' is is' = λ i.
     node_column (record { tag = h.tag; children = c }) h.encoding (slots_at ns) (own_bytes body h bs) (columns_below body ds h.encoding c (drop 1 ns) (drop (own_buffers h) bs) i) (values_in (dictionary_for ds h.encoding))
     ∷ columns_of body ds rest (sym (node_after h c ns ns' is) i) (sym (buffer_after h c bs bs' is') i)
+
+-- a leaf has no columns below it, and no dictionary
+pub leaf_column : (body : List ℕ) (ds : List (ℤ × ValueList)) (t : TypeShape) (e : Option Encoding) (c : Fields) (len : ℕ) (b : List (List ℕ)) (ns : List FieldNode) (bs : List Buffer) → e ≡ None → c ≡ none
+    → node_column t e len b [] [] ≡ node_column t e len b (columns_of body ds (below e c) ns bs) (values_in (dictionary_for ds e))
+leaf_column body ds t None c len b ns bs own bare = ap (λ f. node_column t None len b (columns_of body ds f ns bs) []) (sym bare)
+leaf_column body ds t (Some e) c len b ns bs own bare = absurd cc
 
 -- the columns below a node are its children
 pub are_children : (t : TypeShape) (e : Option Encoding) (cs : List Column) → AreOf (below e t.children) cs → (IsTrue (is_some e) → has_encoding t.children ≡ false) → AreChildren t e cs

@@ -7,6 +7,7 @@ ghost use Rattle.arrow_data.specs.Listed.{IsNodeFit, dictionary_for};
 ghost use Rattle.arrow_data.specs.Shared.{node_type};
 ghost use Rattle.arrow_types.specs.View.{field_view};
 ghost use Rattle.arrow_body_reader.specs.Held.{AreRangesOf};
+ghost use Rattle.arrow_body_reader.specs.Leaf.{IsLeafNode};
 ghost use Rattle.arrow_body_reader.specs.Sound.{IsNodeIndexed, IsNodeLaid, IsNodeText};
 ghost use Rattle.arrow_body_reader.specs.Sound.{columns_of, own_bytes, slots_at};
 ghost use Rattle.arrow_body_reader.specs.Taken.{below, own_buffers};
@@ -15,6 +16,7 @@ use crate::listed::Listed;
 use crate::look::Node;
 use crate::source::Source;
 use crate::taken::Left;
+use arrow_data::form::{Form, form_of};
 use arrow_data::{Array, Dictionary};
 use arrow_types::{Encoding, Field};
 use bytes::Bytes;
@@ -114,7 +116,84 @@ pub(crate) fn with_node<'a>(
     if !node.seen.texts || !node.seen.indices {
         return None;
     }
-    with_array(builder, inner, field, own, left, node, source)
+    if is_leaf(field) {
+        with_leaf(builder, field, own, left, node, source)
+    } else {
+        with_array(builder, inner, field, own, left, node, source)
+    }
+}
+
+// Whether the field's node has neither children nor a dictionary.
+#[inline(always)]
+fn is_leaf(field: &Field) -> bool
+    ensures { IsTrue result → IsLeafNode (field_view field.now).head
+        (field_view field.now).children }
+{
+    field.dictionary.is_none()
+        && match form_of(&field.data_type) {
+            Form::Lists(_) | Form::Structs => false,
+            Form::Nulls
+            | Form::Bits
+            | Form::Numbers { .. }
+            | Form::Bytes(_)
+            | Form::Texts(_)
+            | Form::FixedBytes(_) => true,
+        }
+}
+
+// The same of a node whose texts are as they should be, and which has neither children nor a
+// dictionary.
+#[inline(always)]
+fn with_leaf<'a>(
+    builder: Builder<'a>,
+    field: &Field,
+    own: usize,
+    left: Left<'_>,
+    node: &Node,
+    source: Source<'_>,
+) -> Option<Builder<'a>>
+    requires leaf { IsLeafNode (field_view field.now).head (field_view field.now).children }
+    requires own { own ≡ own_buffers (field_view field.now).head }
+    requires laid { IsNodeLaid source.body.now (field_view field.now).head
+        (field_view field.now).children left.nodes.now left.buffers.now }
+    requires text { IsNodeText source.body.now (field_view field.now).head
+        (field_view field.now).children left.nodes.now left.buffers.now }
+    requires len { node.now.len ≡ slots_at left.nodes.now }
+    requires lies { AreRangesOf source.body.now
+        (take (own_buffers (field_view field.now).head) left.buffers.now)
+        (take (own_buffers (field_view field.now).head) node.now.ranges) }
+    requires same { builder.body.now ≡ source.body.now }
+    requires typed { slice_get left.types.now 0
+        ≡ Some (node_type (field_view field.now).head (field_view field.now).children) }
+    ensures { IfSome result
+        (λ new. (new.body.now ≡ builder.entry.body.now)
+        × (new.arrays.items ≡ builder.entry.arrays.items ++ node_column
+        (node_type (field_view field.now).head (field_view field.now).children).data_type
+        (field_view field.now).head.encoding (slots_at left.entry.nodes.now)
+        (own_bytes source.entry.body.now (field_view field.now).head left.entry.buffers.now)
+        (columns_of source.entry.body.now source.entry.dictionaries.entries.now
+        (below (field_view field.now).head.encoding (field_view field.now).children)
+        (drop 1 left.entry.nodes.now)
+        (drop (own_buffers (field_view field.now).head) left.entry.buffers.now))
+        (values_in (dictionary_for source.entry.dictionaries.entries.now
+        (field_view field.now).head.encoding)) ∷ [])) }
+{
+    let Some((shared, _)) = left.types.split_first() else {
+        unreachable!();
+    };
+    let Ok(array) = Array::from_leaf_parts(shared, node.len, builder.body, &node.ranges[..own])
+    else {
+        return None;
+    };
+    let mut arrays = builder.arrays;
+    if arrays.push(array).is_err() {
+        return None;
+    }
+    Some(Builder {
+        alloc: builder.alloc,
+        body: builder.body,
+        arrays,
+    })
 }
 
 // The same of a node whose texts and indices are as they should be.

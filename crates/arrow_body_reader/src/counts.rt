@@ -2,9 +2,9 @@
 
 ghost use Rattle.std.specs.Prelude.{◌≡◌, ◌↔◌, IsTrue, drop, take};
 ghost use Rattle.std.specs.List.{AllByRecursion};
-ghost use Rattle.arrow_types.specs.View.{fields_view};
+ghost use Rattle.arrow_types.specs.View.{field_view, fields_view};
 ghost use Rattle.arrow_body_reader.specs.Sound.{lengths_of};
-ghost use Rattle.arrow_body_reader.specs.Taken.{taken_nodes};
+ghost use Rattle.arrow_body_reader.specs.Taken.{below, taken_nodes};
 
 use crate::laid::slots;
 use crate::taken::below;
@@ -31,7 +31,7 @@ pub fn have_length(fields: &[Field], nodes: &[FieldNode], rows: usize) -> bool
         if slots(rest) != rows {
             return false;
         }
-        rest = behind(below(field), without_first(rest));
+        rest = behind_one(field, rest);
     }
     true
 }
@@ -43,12 +43,31 @@ fn behind<'a>(fields: &[Field], nodes: &'a [FieldNode]) -> &'a [FieldNode]
 {
     let mut rest = nodes;
     for field in fields {
-        rest = behind(below(field), without_first(rest));
+        rest = behind_one(field, rest);
     }
     rest
 }
 
+// The nodes behind those that one field takes. Mostly nothing stands below it, and nothing is
+// called.
+#[inline(always)]
+#[cycle(behind)]
+fn behind_one<'a>(field: &Field, nodes: &'a [FieldNode]) -> &'a [FieldNode]
+    ensures { result.now
+        ≡ drop (taken_nodes (below (field_view field.now).head.encoding
+        (field_view field.now).children)) (drop 1 nodes.now) }
+{
+    let rest = without_first(nodes);
+    let under = below(field);
+    if under.is_empty() {
+        rest
+    } else {
+        behind(under, rest)
+    }
+}
+
 // The nodes behind the first.
+#[inline(always)]
 fn without_first(nodes: &[FieldNode]) -> &[FieldNode]
     ensures { result.now ≡ drop 1 nodes.now }
 {

@@ -28,14 +28,24 @@ fn all_fit(fields: &[Field], dictionaries: Listed<'_>) -> bool
         if !is_node_fit(field, dictionaries) {
             return false;
         }
-        if !all_fit(below(field), dictionaries) {
+        if !all_below_fit(below(field), dictionaries) {
             return false;
         }
     }
     true
 }
 
+// The same of the fields below one, of which there mostly are none: then nothing is called.
+#[inline(always)]
+#[cycle(fit)]
+fn all_below_fit(fields: &[Field], dictionaries: Listed<'_>) -> bool
+    ensures { IsTrue result ↔ AreFit dictionaries.entry.entries.now (fields_view fields.now) }
+{
+    fields.is_empty() || all_fit(fields, dictionaries)
+}
+
 // The same of the field alone.
+#[inline(always)]
 fn is_node_fit(field: &Field, dictionaries: Listed<'_>) -> bool
     ensures { IsTrue result
         ↔ IsNodeFit dictionaries.entry.entries.now (field_view field.now).head

@@ -16,7 +16,7 @@ use crate::held::bytes_at;
 use arrow_bits::Bits;
 use arrow_data::ByteRange;
 use arrow_data::form::Form;
-use arrow_data::layout::is_laid;
+use arrow_data::layout::{has_bits, has_bools, has_fixed, has_lists, has_strings};
 use arrow_types::{Field, FieldNode};
 
 // How many slots the first node has, 0 where a number stands there that is none.
@@ -75,25 +75,35 @@ pub(crate) fn are_buffers_laid(
         nodes.now) }
 {
     match form {
-        Form::Lists(_) => is_laid(
-            &field.data_type,
-            field.dictionary,
+        Form::Nulls => true,
+        Form::Bits => has_bools(len, bytes_at(body, ranges, 0), bytes_at(body, ranges, 1)),
+        Form::Numbers { bits, .. } => has_fixed(
             len,
-            body,
-            ranges,
-            &[slots(nodes)],
+            (bits.bits() / 8) as usize,
+            bytes_at(body, ranges, 0),
+            bytes_at(body, ranges, 1),
         ),
-        Form::Structs => {
-            is_laid(&field.data_type, field.dictionary, len, body, ranges, &[]) && len <= least
-        }
-        Form::Nulls
-        | Form::Bits
-        | Form::Numbers { .. }
-        | Form::Bytes(_)
-        | Form::Texts(_)
-        | Form::FixedBytes(_) => {
-            is_laid(&field.data_type, field.dictionary, len, body, ranges, &[])
-        }
+        Form::FixedBytes(width) => has_fixed(
+            len,
+            width as usize,
+            bytes_at(body, ranges, 0),
+            bytes_at(body, ranges, 1),
+        ),
+        Form::Bytes(width) | Form::Texts(width) => has_strings(
+            width,
+            len,
+            bytes_at(body, ranges, 0),
+            bytes_at(body, ranges, 1),
+            bytes_at(body, ranges, 2),
+        ),
+        Form::Lists(width) => has_lists(
+            width,
+            len,
+            bytes_at(body, ranges, 0),
+            bytes_at(body, ranges, 1),
+            slots(nodes),
+        ),
+        Form::Structs => has_bits(len, bytes_at(body, ranges, 0)) && len <= least,
     }
 }
 

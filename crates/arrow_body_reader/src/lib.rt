@@ -20,6 +20,7 @@
 //! |---|---|
 //! | nodes and buffers that fields take | `specs/Taken.antt`: `taken_nodes`, `taken_buffers` |
 //! | that nodes have these types | `specs/Types.antt`: `HaveTypes` |
+//! | a node without children and dictionary | `specs/Leaf.antt`: `IsLeafNode` |
 //! | how long the shortest of some columns is | `specs/Least.antt`: `IsLeast` |
 //! | where a buffer lies | `specs/Held.antt`: `IsHeld`, `bytes_in` |
 //! | a body that is sound, its columns | `specs/Sound.antt`: `IsSound`, `columns_of` |

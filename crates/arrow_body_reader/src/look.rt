@@ -191,11 +191,14 @@ fn has_values(
 #[inline(always)]
 fn look_at(
     field: &Field,
+    form: Form,
     own: usize,
     left: Left<'_>,
     least: usize,
     source: Source<'_>,
 ) -> Option<Node>
+    requires form { form
+        ≡ node_form (field_view field.now).head.tag (field_view field.now).head.encoding }
     requires own { own ≡ own_buffers (field_view field.now).head }
     requires there { AreThere
         (fields_of (field_view field.now ∷ [])) left.nodes.now left.buffers.now }
@@ -219,7 +222,6 @@ fn look_at(
         (take (own_buffers (field_view field.now).head) node.ranges)) }
 {
     let body = source.body;
-    let form = node_form(&field.data_type, field.dictionary);
     let Place { len, ranges } = laid(field, form, own, left, least, body)?;
     let held = &ranges[..own];
     let seen = Seen {
@@ -277,18 +279,19 @@ pub(crate) fn look<'a>(
     let mut rest = left;
     let mut making = builder;
     for field in fields {
-        let own = own_buffers(field);
+        let form = node_form(&field.data_type, field.dictionary);
+        let own = own_buffers(form);
         if rest.nodes.is_empty() || rest.buffers.len() < own {
             return None;
         }
         let under = below(field);
-        let inner = look(
+        let inner = look_below(
             under,
             inside(own, rest),
             source,
             builder_below(&making, under.len()),
         )?;
-        let node = look_at(field, own, rest, inner.least, source)?;
+        let node = look_at(field, form, own, rest, inner.least, source)?;
         seen = seen.and(node.seen).and(inner.seen);
         least = least.min(node.len);
         making = with_node(making, inner.builder, field, own, rest, &node, source);
@@ -300,4 +303,58 @@ pub(crate) fn look<'a>(
         rest,
         builder: making,
     })
+}
+
+// The same of the fields below one, of which there mostly are none: then nothing is called.
+#[inline(always)]
+#[cycle(look)]
+fn look_below<'a>(
+    fields: &[Field],
+    left: Left<'a>,
+    source: Source<'_>,
+    builder: Option<Builder<'a>>,
+) -> Option<Found<'a>>
+    requires building { IfSome builder (λ b. (b.body.now ≡ source.body.now)
+        × (b.arrays.items ≡ [])
+        × HaveTypes (fields_view fields.now) left.types.now
+        × AreFit source.dictionaries.entries.now (fields_view fields.now)) }
+    ensures seen { MatchOption result
+        (AreThere (fields_view fields.now) left.entry.nodes.now left.entry.buffers.now
+        × AreLaid source.entry.body.now (fields_view fields.now)
+        left.entry.nodes.now left.entry.buffers.now
+        → ⊥)
+        (λ look. AreThere (fields_view fields.now) left.entry.nodes.now left.entry.buffers.now
+        × AreLaid source.entry.body.now (fields_view fields.now)
+        left.entry.nodes.now left.entry.buffers.now
+        × (IsTrue look.seen.texts ↔ AreText source.entry.body.now (fields_view fields.now)
+        left.entry.nodes.now left.entry.buffers.now)
+        × (IsTrue look.seen.indices
+        ↔ AreIndexed source.entry.body.now source.entry.dictionaries.entries.now
+        (fields_view fields.now) left.entry.nodes.now left.entry.buffers.now)
+        × (look.rest.nodes.now ≡ drop (taken_nodes (fields_view fields.now)) left.entry.nodes.now)
+        × (look.rest.buffers.now
+        ≡ drop (taken_buffers (fields_view fields.now)) left.entry.buffers.now)) }
+    ensures least { IfSome result
+        (λ look. IsLeast look.least (lengths_of (fields_view fields.now) left.entry.nodes.now)) }
+    ensures types { IfSome result (λ look. look.rest.types.now
+        ≡ drop (taken_nodes (fields_view fields.now)) left.entry.types.now) }
+    ensures building { IfSome result (λ look. IfSome look.builder
+        (λ b. (b.body.now ≡ source.entry.body.now)
+        × (b.arrays.items
+        ≡ columns_of source.entry.body.now source.entry.dictionaries.entries.now
+        (fields_view fields.now) left.entry.nodes.now left.entry.buffers.now))) }
+{
+    if fields.is_empty() {
+        Some(Found {
+            seen: Seen {
+                texts: true,
+                indices: true,
+            },
+            least: usize::MAX,
+            rest: left,
+            builder,
+        })
+    } else {
+        look(fields, left, source, builder)
+    }
 }

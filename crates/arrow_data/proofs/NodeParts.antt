@@ -12,7 +12,7 @@ use Rattle.arrow_types.specs.Field.{Fields, none, more, TypeShape}
 use Rattle.arrow_types.specs.declared.data_type.BitWidth.{BitWidth}
 use Rattle.arrow_types.specs.declared.field.Encoding.{Encoding}
 use Rattle.arrow_data.specs.Column.{Column, AreOf, IsColumn, counts_of, listed_of, plain_column, slots_of}
-use Rattle.arrow_data.specs.Form.{IsOneField, form_of, node_form, offset_bytes}
+use Rattle.arrow_data.specs.Form.{HasFieldsOf, IsLeaf, IsOneField, form_of, node_form, offset_bytes}
 use Rattle.arrow_data.specs.Layout.{buffer, HasStrings, HoldsSlots}
 use Rattle.arrow_data.specs.Node.{column_by, AreLists, AreStrings, AreStructs, bytes_of, IsInside, IsFormat}
 use Rattle.arrow_data.specs.Parts.{node_column, node_offsets, value_slot}
@@ -35,6 +35,28 @@ buffer_read body bs k d h = get_or-map (bytes_of body) bs k d [] h
 -- it lies inside the body
 pub inside_read : (body : List ℕ) (bs : List ByteRange) (k : ℕ) (d : ByteRange) → AllByRecursion (IsInside body) bs → k < length bs → IsInside body (slice_index_or bs k d)
 inside_read body bs k d all h = All-from_recursion (IsInside body) bs all k d h
+
+-- below a leaf's type stand no fields
+pub leaf_bare : (form : Form) (fields : Fields) → IsLeaf form → HasFieldsOf form fields → fields ≡ none
+leaf_bare forms.Nulls fields leaf own = own
+leaf_bare forms.Bits fields leaf own = own
+leaf_bare (forms.Numbers bits signed) fields leaf own = own
+leaf_bare (forms.Bytes width) fields leaf own = own
+leaf_bare (forms.Texts width) fields leaf own = own
+leaf_bare (forms.FixedBytes width) fields leaf own = own
+leaf_bare (forms.Lists width) fields leaf own = absurd leaf
+leaf_bare forms.Structs fields leaf own = absurd leaf
+
+-- whether a leaf's buffers hold its slots does not depend on children
+pub leaf_laid : (form : Form) (len : ℕ) (b : List (List ℕ)) (counts others : List ℕ) → IsLeaf form → HoldsSlots form len b counts → HoldsSlots form len b others
+leaf_laid forms.Nulls len b counts others leaf laid = laid
+leaf_laid forms.Bits len b counts others leaf laid = laid
+leaf_laid (forms.Numbers bits signed) len b counts others leaf laid = laid
+leaf_laid (forms.Bytes width) len b counts others leaf laid = laid
+leaf_laid (forms.Texts width) len b counts others leaf laid = laid
+leaf_laid (forms.FixedBytes width) len b counts others leaf laid = laid
+leaf_laid (forms.Lists width) len b counts others leaf laid = absurd leaf
+leaf_laid forms.Structs len b counts others leaf laid = absurd leaf
 
 -- arrays of one field are one array
 pub one_child : (fields : Fields) (cs : List Column) → IsOneField fields → AreOf fields cs → length cs ≡ 1

@@ -81,3 +81,14 @@ IsLists (forms.Texts width) = ⊥
 IsLists (forms.FixedBytes width) = ⊥
 IsLists (forms.Lists width) = ⊤
 IsLists forms.Structs = ⊥
+
+-- no fields stand below a type of the form
+abbrev pub IsLeaf : Form → Type 0
+IsLeaf forms.Nulls = ⊤
+IsLeaf forms.Bits = ⊤
+IsLeaf (forms.Numbers bits signed) = ⊤
+IsLeaf (forms.Bytes width) = ⊤
+IsLeaf (forms.Texts width) = ⊤
+IsLeaf (forms.FixedBytes width) = ⊤
+IsLeaf (forms.Lists width) = ⊥
+IsLeaf forms.Structs = ⊥

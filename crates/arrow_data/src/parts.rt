@@ -1,11 +1,12 @@
 //! Arrays out of the parts of a node: its buffers in a body, its children, its dictionary.
 
-ghost use Rattle.std.specs.Prelude.{◌≡◌, ◌≤◌, IfOk, None, Some, length, map, false, [], ◌∷◌};
+ghost use Rattle.std.specs.Prelude.{◌≡◌, ◌≤◌, IfOk, List, None, Some, length, map, false, [], ◌∷◌};
 ghost use Rattle.std.specs.Prelude.{slice_index_or};
 ghost use Rattle.std.specs.List.{AllByRecursion};
 ghost use Rattle.arrow_types.specs.Schema.{has_encoding};
 ghost use Rattle.arrow_types.specs.View.{type_view};
-ghost use Rattle.arrow_data.specs.Column.{AreOf, IsColumn, IsValueList, counts_of};
+ghost use Rattle.arrow_data.specs.Column.{AreOf, Column, IsColumn, IsValueList, counts_of};
+ghost use Rattle.arrow_data.specs.Form.{IsLeaf, form_of};
 ghost use Rattle.arrow_data.specs.Layout.{buffer_count, IsLaid, IsText, IsIndexed};
 ghost use Rattle.arrow_data.specs.Node.{bytes_of, column_by, AreBytes, AreRanges, IsFormat};
 ghost use Rattle.arrow_data.specs.Node.{IsInside};
@@ -104,6 +105,35 @@ impl Array {
                 of_ranges(shared, None, len, body, ranges)
             }
         }
+    }
+
+    /// As `from_shared_parts`, of a type that no fields stand below, and whose slots hold the
+    /// values themselves: it has no children and no dictionary.
+    #[inline(always)]
+    pub fn from_leaf_parts(
+        shared: &SharedType,
+        len: usize,
+        body: &Bytes,
+        buffers: &[ByteRange],
+    ) -> Result<Array, AllocError>
+        requires few { len ≤ 2147483647 }
+        requires own { shared.now.encoding ≡ None }
+        requires leaf { IsLeaf (form_of shared.now.data_type.tag) }
+        requires count { buffer_count shared.now.data_type.tag None ≤ length buffers.now }
+        requires inside { AllByRecursion (IsInside body.now) buffers.now }
+        requires layout { IsLaid shared.now.data_type.tag None
+            len (map (bytes_of body.now) buffers.now) [] }
+        requires text { IsText shared.now.data_type.tag None
+            len (map (bytes_of body.now) buffers.now) }
+        ensures { IfOk result (λ a. a ≡ node_column shared.now.data_type shared.now.encoding
+            len (map (bytes_of body.now) buffers.now) [] []) }
+    {
+        let shared = shared.data_type();
+        let data_type: &DataType = shared;
+        // Called for what it says of every type.
+        form_of(data_type);
+        let ranges = leaf_ranges(data_type, len, body, buffers);
+        of_ranges(shared, None, len, body, ranges)
     }
 }
 
@@ -259,12 +289,6 @@ fn value_ranges(
 {
     opened(&children);
     match form_of(data_type) {
-        Form::Nulls => Ok(Ranges::Nulls),
-        Form::Bits => Ok(Ranges::Bools(bools(buffers))),
-        Form::Numbers { bits, signed } => Ok(Ranges::Ints(numbers(bits, signed, buffers))),
-        Form::Bytes(width) => Ok(Ranges::Binaries(strings(width, buffers))),
-        Form::Texts(width) => Ok(Ranges::Texts(strings(width, buffers))),
-        Form::FixedBytes(width) => Ok(Ranges::FixedBytes(fixed(width, buffers))),
         Form::Lists(width) => Ok(Ranges::Lists {
             width,
             validity: buffers[0],
@@ -275,6 +299,39 @@ fn value_ranges(
             validity: buffers[0],
             children,
         }),
+        Form::Nulls
+        | Form::Bits
+        | Form::Numbers { .. }
+        | Form::Bytes(_)
+        | Form::Texts(_)
+        | Form::FixedBytes(_) => Ok(leaf_ranges(data_type, len, body, buffers)),
+    }
+}
+
+// The ranges of a node of values that has no children.
+#[inline(always)]
+fn leaf_ranges(data_type: &DataType, len: usize, body: &Bytes, buffers: &[ByteRange]) -> Ranges
+    requires leaf { IsLeaf (form_of (type_view data_type.now).tag) }
+    requires count { buffer_count (type_view data_type.now).tag None ≤ length buffers.now }
+    requires inside { AllByRecursion (IsInside body.now) buffers.now }
+    requires layout { IsLaid (type_view data_type.now).tag None
+        len (map (bytes_of body.now) buffers.now) [] }
+    requires text { IsText (type_view data_type.now).tag None
+        len (map (bytes_of body.now) buffers.now) }
+    ensures lies { AreRanges len (type_view data_type.now) None body.now result }
+    ensures same { (children : List Column) → AreOf (type_view data_type.now).children children
+        → column_by (type_view data_type.now) None len body.now result
+        ≡ node_column (type_view data_type.now) None
+        len (map (bytes_of body.now) buffers.now) children [] }
+{
+    match form_of(data_type) {
+        Form::Nulls => Ranges::Nulls,
+        Form::Bits => Ranges::Bools(bools(buffers)),
+        Form::Numbers { bits, signed } => Ranges::Ints(numbers(bits, signed, buffers)),
+        Form::Bytes(width) => Ranges::Binaries(strings(width, buffers)),
+        Form::Texts(width) => Ranges::Texts(strings(width, buffers)),
+        Form::FixedBytes(width) => Ranges::FixedBytes(fixed(width, buffers)),
+        Form::Lists(_) | Form::Structs => unreachable!(),
     }
 }
 

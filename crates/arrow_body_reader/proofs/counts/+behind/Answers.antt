@@ -1,25 +1,23 @@
 use Rattle.std.proofs.Common.{◌+◌, drop, ap, sym, ◌∙◌, arith}
-use Rattle.arrow_types.specs.Field.{count}
 use Rattle.arrow_types.specs.View.{field_view, fields_view}
 use Rattle.arrow_body_reader.specs.Taken.{taken_nodes}
 use Rattle.arrow_body_reader.proofs.Taking.{fewer_taken, nodes_left}
 use Rattle.arrow_types.proofs.Fields.{fields_from}
 use Rattle.arrow_body_reader.proofs.counts.+behind.Goals as goal
 
-pub behind-rest-requires : goal.behind-rest-requires
-behind-rest-requires t c =
+pub behind-behind_one-rest-requires : goal.behind-behind_one-rest-requires
+behind-behind_one-rest-requires t c =
     let f = c.field-item.result in
     let step = fields_from c.args.fields.now c.loop-field.field-index f c.loop-field-test.true c.field-item.is in
     let fewer = fewer_taken c.args.fields.now c.loop-field.field-index f c.loop-field-test.true c.field-item.is in
-    (omega (arith, c.decreases, fewer, ap count c.below.ensures), tt)
+    (omega (arith, c.decreases, fewer), tt)
 
-pub loop-field-preserved : goal.loop-field-preserved
-loop-field-preserved t c =
+pub behind-loop-field-preserved : goal.behind-loop-field-preserved
+behind-loop-field-preserved t c =
     let f = c.field-item.result in
     let h = (field_view f).head in
     let ch = (field_view f).children in
     let rest = fields_view (drop (c.loop-field.field-index + 1) c.args.fields.now) in
     let ns = c.loop-field.rest.now in
     let step = fields_from c.args.fields.now c.loop-field.field-index f c.loop-field-test.true c.field-item.is in
-    let taken = rw (c.below.ensures, c.without_first.ensures) at c.behind-rest.ensures in
-    nodes_left h ch rest ns c.behind-rest.result.now taken ∙ ap (λ v. drop (taken_nodes v) ns) (sym step) ∙ c.loop-field.invariant
+    nodes_left h ch rest ns c.behind_one-rest.result.now c.behind_one-rest.ensures ∙ ap (λ v. drop (taken_nodes v) ns) (sym step) ∙ c.loop-field.invariant

@@ -13,11 +13,10 @@ loop-field-preserved c =
     let ch = (field_view f).children in
     let rest = fields_view (drop (c.loop-field.field-index + 1) c.args.fields.now) in
     let ns = c.loop-field.rest.now in
-    let ns' = c.behind-rest.result.now in
+    let ns' = c.behind_one-rest.result.now in
     let inv = c.loop-field.invariant in
     let step = fields_from c.args.fields.now c.loop-field.field-index f c.loop-field-test.true c.field-item.is in
-    let taken = rw (c.below.ensures, c.without_first.ensures) at c.behind-rest.ensures in
-    let next = node_after h ch ns ns' taken in
+    let next = node_after h ch ns ns' c.behind_one-rest.ensures in
     let here : slots_at ns ≡ c.args.rows = omega (arith, c.slots.ensures, c.if-slots-rows.false) in (
       λ x. inv.0 (subst (λ v. AllByRecursion (λ n. n ≡ c.args.rows) (lengths_of v ns)) (sym step) (here, subst (λ y. AllByRecursion (λ n. n ≡ c.args.rows) (lengths_of rest y)) next x)),
       λ w. subst (λ y. AllByRecursion (λ n. n ≡ c.args.rows) (lengths_of rest y)) (sym next) ((subst (λ v. AllByRecursion (λ n. n ≡ c.args.rows) (lengths_of v ns)) step (inv.1 w)).1),

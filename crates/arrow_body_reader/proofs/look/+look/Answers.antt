@@ -5,6 +5,7 @@ use Rattle.std.proofs.lemmas.List.{at_drop_all}
 use Rattle.arrow_types.specs.Field.{count, none}
 use Rattle.arrow_types.specs.View.{field_view, fields_view}
 use Rattle.arrow_types.proofs.Fields.{fields_from}
+use Rattle.arrow_data.specs.Form.{buffers_of}
 use Rattle.arrow_data.specs.Listed.{dictionary_for}
 use Rattle.arrow_data.specs.Parts.{node_column, values_in}
 use Rattle.arrow_data.specs.Shared.{node_type}
@@ -13,14 +14,14 @@ use Rattle.arrow_body_reader.specs.Taken.{AreThere, below, own_buffers, taken_no
 use Rattle.arrow_body_reader.specs.Types.{HaveTypes}
 use Rattle.arrow_body_reader.specs.declared.build.Builder.{Builder}
 use Rattle.arrow_body_reader.proofs.Building.{inner_building, last_building, next_building}
-use Rattle.arrow_body_reader.proofs.Columns.{columns_step, fit_inside}
+use Rattle.arrow_body_reader.proofs.Columns.{columns_step, fit_inside, form_is}
 use Rattle.arrow_body_reader.proofs.Least.{least_next}
 use Rattle.arrow_body_reader.proofs.Taking.{all_after, all_told, fewer_taken, there_after}
 use Rattle.arrow_body_reader.proofs.Types.{typed_inside, typed_next, types_left}
 use Rattle.arrow_body_reader.proofs.look.+look.Goals as goal
 
-pub look-requires : goal.look-requires
-look-requires t c =
+pub look-look_below-requires : goal.look-look_below-requires
+look-look_below-requires t c =
     let f = c.field-item.result in
     let h = (field_view f).head in
     let ch = (field_view f).children in
@@ -42,19 +43,20 @@ look-requires t c =
           (λ fit. rw c.below-under.ensures (fit_inside ds h.encoding ch (subst (AreFit ds) step fit).1)) c.builder_below.ensures,
     )
 
-pub look_at-requires-clause-there : goal.look_at-requires-clause-there
-look_at-requires-clause-there t c =
+pub look-look_at-requires-clause-there : goal.look-look_at-requires-clause-there
+look-look_at-requires-clause-there t c =
     let f = c.field-item.result in
     let h = (field_view f).head in
     let ns = c.loop-field.rest.nodes.now in
     let bs = c.loop-field.rest.buffers.now in
-    let found = rw (c.below-under.ensures, c.inside.ensures.nodes, c.inside.ensures.buffers, c.own_buffers-own.ensures) at c.in_ok-inner.ensures.seen in
+    let own : c.own_buffers-own.result ≡ own_buffers h = c.own_buffers-own.ensures ∙ ap buffers_of (form_is f c.node_form-form.result c.node_form-form.ensures) in
+    let found = rw (c.below-under.ensures, c.inside.ensures.nodes, c.inside.ensures.buffers, own) at c.in_ok-inner.ensures.seen in
     let one : 1 ≤ length ns = search rules in
-    let room : own_buffers h ≤ length bs = omega (arith, c.own_buffers-own.ensures, c.if-rest-own.false) in
+    let room : own_buffers h ≤ length bs = omega (arith, own, c.if-rest-own.false) in
     (there_after h (field_view f).children none ns c.in_ok-inner.inner.rest.nodes.now bs c.in_ok-inner.inner.rest.buffers.now one room found.0 found.4 found.5).0.0 (omega arith, omega arith)
 
-pub loop-field-preserved : goal.loop-field-preserved
-loop-field-preserved t c =
+pub look-loop-field-preserved : goal.look-loop-field-preserved
+look-loop-field-preserved t c =
     let f = c.field-item.result in
     let h = (field_view f).head in
     let ch = (field_view f).children in
@@ -71,15 +73,16 @@ loop-field-preserved t c =
     let ts' = c.in_ok-inner.inner.rest.types.now in
     let inv = c.loop-field.invariant in
     let step = fields_from c.args.fields.now c.loop-field.field-index f c.loop-field-test.true c.field-item.is in
-    let found = rw (c.below-under.ensures, c.inside.ensures.nodes, c.inside.ensures.buffers, c.own_buffers-own.ensures) at c.in_ok-inner.ensures.seen in
+    let own : c.own_buffers-own.result ≡ own_buffers h = c.own_buffers-own.ensures ∙ ap buffers_of (form_is f c.node_form-form.result c.node_form-form.ensures) in
+    let found = rw (c.below-under.ensures, c.inside.ensures.nodes, c.inside.ensures.buffers, own) at c.in_ok-inner.ensures.seen in
     let behind = rw (c.below-under.ensures, c.inside.ensures.types) at c.in_ok-inner.ensures.types in
-    let own = c.in_ok-node.ensures.seen in
+    let here_seen = c.in_ok-node.ensures.seen in
     let one : 1 ≤ length ns = search rules in
-    let room : own_buffers h ≤ length bs = omega (arith, c.own_buffers-own.ensures, c.if-rest-own.false) in
+    let room : own_buffers h ≤ length bs = omega (arith, own, c.if-rest-own.false) in
     let after = there_after h ch rest ns ns' bs bs' one room found.0 found.4 found.5 in
-    let laid = all_after (IsNodeLaid body) h ch rest ns ns' bs bs' own.0 found.1 found.4 found.5 in
-    let texts = all_told (IsNodeText body) (IsTrue c.in_ok-node.node.seen.texts) (IsTrue c.in_ok-inner.inner.seen.texts) h ch rest ns ns' bs bs' own.1 found.2 found.4 found.5 in
-    let indices = all_told (IsNodeIndexed body ds) (IsTrue c.in_ok-node.node.seen.indices) (IsTrue c.in_ok-inner.inner.seen.indices) h ch rest ns ns' bs bs' own.2 found.3 found.4 found.5 in
+    let laid = all_after (IsNodeLaid body) h ch rest ns ns' bs bs' here_seen.0 found.1 found.4 found.5 in
+    let texts = all_told (IsNodeText body) (IsTrue c.in_ok-node.node.seen.texts) (IsTrue c.in_ok-inner.inner.seen.texts) h ch rest ns ns' bs bs' here_seen.1 found.2 found.4 found.5 in
+    let indices = all_told (IsNodeIndexed body ds) (IsTrue c.in_ok-node.node.seen.indices) (IsTrue c.in_ok-inner.inner.seen.indices) h ch rest ns ns' bs bs' here_seen.2 found.3 found.4 found.5 in
     let seen = c.and.ensures in
     let both_seen = c.and-seen.ensures in
     let column = node_column (node_type h ch).data_type h.encoding (slots_at ns) (own_bytes body h bs) (columns_of body ds (below h.encoding ch) (drop 1 ns) (drop (own_buffers h) bs)) (values_in (dictionary_for ds h.encoding)) in
@@ -128,8 +131,8 @@ loop-field-preserved t c =
           (λ typed. typed_next h ch rest ts ts' (subst (λ v. HaveTypes v ts) step typed) behind) (λ fit. (subst (AreFit ds) step fit).2) c.with_node-making.ensures;
     }
 
-pub returns-clause-least : goal.returns-clause-least
-returns-clause-least t c =
+pub look-returns-clause-least : goal.look-returns-clause-least
+look-returns-clause-least t c =
     let fields = c.args.fields.now in
     let ns = c.loop-field.rest.nodes.now in
     let end = at_drop_all fields_view fields c.loop-field.field-index (omega (arith, c.loop-field-test.false)) in
@@ -140,8 +143,8 @@ returns-clause-least t c =
       );
     }
 
-pub returns-clause-building : goal.returns-clause-building
-returns-clause-building t c =
+pub look-returns-clause-building : goal.look-returns-clause-building
+look-returns-clause-building t c =
     let fields = c.args.fields.now in
     let here = fields_view (drop c.loop-field.field-index fields) in
     let body = c.args.source.body.now in

@@ -1,4 +1,4 @@
-use Rattle.std.proofs.Common.{◌≡◌, ◌↔◌, ◌≤◌, ◌++◌, ℕ, IfSome, drop}
+use Rattle.std.proofs.Common.{◌≡◌, ◌+◌, ◌*◌, ◌↔◌, ◌≤◌, ◌++◌, ℕ, IfSome, drop}
 use Rattle.std.specs.Prelude.{IsTrue}
 use Rattle.std.specs.List.{AllByRecursion}
 use Rattle.arrow_types.specs.Field.{count}
@@ -9,11 +9,14 @@ use Rattle.arrow_body_reader.specs.Types.{HaveTypes}
 use Rattle.arrow_body_reader.proofs.look.+look.Given as goal
 
 abbrev pub decreases-look : goal.decreases-look
-decreases-look l = count (fields_view l.fields.now)
+decreases-look l = 2 * count (fields_view l.fields.now)
+
+abbrev pub decreases-look_below : goal.decreases-look_below
+decreases-look_below l = 2 * count (fields_view l.fields.now) + 1
 
 -- what was seen and made, with what is to come, is what there is to see and to make
-abbrev pub invariant-loop-field : goal.invariant-loop-field
-invariant-loop-field l = record {
+abbrev pub invariant-look-loop-field : goal.invariant-look-loop-field
+invariant-look-loop-field l = record {
   there : AreThere (fields_view (drop l.field-index l.fields)) l.rest.nodes.now l.rest.buffers.now ↔ AreThere (fields_view l.fields) l.left.nodes.now l.left.buffers.now;
   laid : AreLaid l.source.body.now (fields_view (drop l.field-index l.fields)) l.rest.nodes.now l.rest.buffers.now ↔ AreLaid l.source.body.now (fields_view l.fields) l.left.nodes.now l.left.buffers.now;
   texts : (IsTrue l.seen.texts × AreText l.source.body.now (fields_view (drop l.field-index l.fields)) l.rest.nodes.now l.rest.buffers.now) ↔ AreText l.source.body.now (fields_view l.fields) l.left.nodes.now l.left.buffers.now;
