@@ -35,9 +35,8 @@
 //! Of the proofs, `Sending` says what nodes are sent, `Passing`, `RunPasses` and `Sources` what a
 //! pass takes of that, `Levels` goes from what is said level by level to the numbers of nodes,
 //! `Chunks` shows that a body to which all columns were added is the stored one, `Wholes` when
-//! children are sent whole, `Marking` what a bitmap says of slots, `Bytewise` how its bytes are
-//! added to bits, `Numbering` that numbers are cleared under nulls, `Holding` what lies between
-//! offsets, `Moving` what is added to them, and `Spanning` that they are then those of the slots.
+//! children are sent whole, `Marking` and `Bytewise` speak of bitmaps, `Numbering` of numbers that
+//! are cleared under nulls, `Holding`, `Moving` and `Spanning` of offsets.
 #![tactic(auto)]
 
 pub(crate) mod align;
