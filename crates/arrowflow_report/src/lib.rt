@@ -13,12 +13,11 @@
 //! said of a fault by `specs/Faults.antt`. [`show`] writes the rows of a stream and [`check`] a
 //! line for each of its messages, as they come: what is written, and how that ends, is said by
 //! `ReportsInput` (`specs/Reports.antt`); [`show_first`] writes the first rows alone, and
-//! `ShowsFirstOf` (`specs/FirstRows.antt`) says the same of it, as `ShowsColumns`
-//! (`specs/Columns.antt`) does of [`show_columns`], which writes some columns alone. What the answer of
-//! [`check_quietly`], which writes nothing, says of its input, is said by `ChecksInput`
-//! (`specs/Quiet.antt`). How far they read their input is said by `specs/Reads.antt`. What each
-//! message adds to the text of a stream's rows is said by `specs/Shown.antt`, and that the text
-//! grows so by [`laws`].
+//! `ShowsFirstOf` says the same of it, as `ShowsColumns` does of [`show_columns`], which writes some
+//! columns alone. What the answer of [`check_quietly`], which writes nothing, says of its input, is
+//! said by `ChecksInput`. How far they read their input is said by `specs/Reads.antt`, what each
+//! message adds to the text of a stream's rows by `specs/Shown.antt`, and that the text grows so by
+//! [`laws`].
 //!
 //! | Notion | Definition |
 //! |---|---|
