@@ -39,7 +39,7 @@ class Columns:
 
     def column(self):
         """The values of the next column, and what lays such values out."""
-        (kind, _, count), (length, _) = self.kinds.pop(0).partition("."), self.nodes.pop(0)
+        (kind, _, count), (length, _) = self.kinds.pop(0).rstrip("]").partition("["), self.nodes.pop(0)
         if kind == "null":
             return [None] * length, lambda values: frames.nulls(len(values))
         validity = self.buffers.pop(0)

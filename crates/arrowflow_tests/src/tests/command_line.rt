@@ -17,7 +17,10 @@ static TASKS: [(&[&str], &str); 20] = [
         "Check(\"two words é\", false)",
     ),
     (&["arrowflow", "show", ""], "Show(\"\", None, None)"),
-    (&["arrowflow", "show", "--", "-x"], "Show(\"-x\", None, None)"),
+    (
+        &["arrowflow", "show", "--", "-x"],
+        "Show(\"-x\", None, None)",
+    ),
     (&["arrowflow", "show", "-"], "Show(\"-\", None, None)"),
     (
         &["arrowflow", "copy", "a", "b"],
