@@ -70,12 +70,7 @@ fn first_rows_of_a_stream_cut_off(rt: HostRuntime) {
 
 // Which columns of the growing dictionary are asked for, how many rows, how far its bytes go, and
 // what is shown of it then.
-type Asked = (
-    &'static [&'static str],
-    Option<u64>,
-    usize,
-    &'static str,
-);
+type Asked = (&'static [&'static str], Option<u64>, usize, &'static str);
 
 static COLUMNS: [Asked; 8] = [
     (&["k"], None, 1376, LETTERS),
@@ -85,7 +80,12 @@ static COLUMNS: [Asked; 8] = [
     (&["k", "K", ""], None, 200, "lacks 1"),
     (&[""], Some(0), 201, "lacks 0"),
     (&["l"], None, 199, "1 fault at byte 0: NoSchema"),
-    (&["k"], Some(4), 600, "batch,k\n0,a\n0,b\n0,c\n1 fault at byte 592: Truncated"),
+    (
+        &["k"],
+        Some(4),
+        600,
+        "batch,k\n0,a\n0,b\n0,c\n1 fault at byte 592: Truncated",
+    ),
 ];
 
 #[test]

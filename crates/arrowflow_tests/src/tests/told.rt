@@ -4,8 +4,10 @@
 use arrow_sink::Counted;
 use arrow_sink::probe::Trickle;
 use arrow_types::Limits;
-use arrowflow_report::{ColumnsFault, Selection, ToolFault, check, check_quietly};
-use arrowflow_report::{schema_text, show, show_columns, show_first};
+use arrowflow_report::{
+    ColumnsFault, Selection, ToolFault, check, check_quietly, schema_text, show, show_columns,
+    show_first,
+};
 use std::alloc::{AllocError, Global};
 use std::io::Read;
 use std::process::Abort;
