@@ -6,7 +6,7 @@ use std::alloc::Global;
 use std::process::Abort;
 
 // The words of a line, and what they ask for, within the limits that stand where none is given.
-static TASKS: [(&[&str], &str); 20] = [
+static TASKS: [(&[&str], &str); 23] = [
     (&["arrowflow", "schema", "a.arrows"], "Schema(\"a.arrows\")"),
     (
         &["any name", "schema", "/dev/stdin"],
@@ -214,7 +214,7 @@ fn limits_are_those_of_the_line(rt: HostRuntime) {
 }
 
 // The words of a line without a plan, the exit status, and a part of what is printed.
-static OTHERS: [(&[&str], i32, &str); 51] = [
+static OTHERS: [(&[&str], i32, &str); 54] = [
     (&["arrowflow"], 2, ""),
     (&["arrowflow", "schema"], 2, ""),
     (&["arrowflow", "schema", "a", "b"], 2, ""),
