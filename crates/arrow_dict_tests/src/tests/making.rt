@@ -17,13 +17,13 @@ use std::alloc::Global;
 use std::process::Abort;
 
 // Signed numbers of 8 bits.
-pub(super) const INT8: DataType = DataType::Int {
+const INT8: DataType = DataType::Int {
     bits: BitWidth::Eight,
     signed: true,
 };
 
 // A nullable field without a name and an encoding.
-pub(super) fn field(alloc: Global, data_type: DataType) -> Field
+fn field(alloc: Global, data_type: DataType) -> Field
     ensures { (result.dictionary ≡ None) × (type_view result.data_type ≡ type_view data_type) }
 {
     Field::new(alloc, String::new(alloc), data_type, true)

@@ -1,44 +1,27 @@
 // The fields of values that a schema names.
 
-use super::making::{INT8, field};
 use arrow_dict::ValueFields;
-use arrow_types::{BitWidth, DataType, Encoding, Field, IndexType, Schema};
-use std::alloc::Global;
+use arrow_test_fields::fields_of;
+use arrow_types::{Field, Schema};
 use std::process::Abort;
-
-// A named field whose values stand in the dictionary `id`.
-fn encoded(rt: &impl Abort, alloc: Global, id: i64, data_type: DataType) -> Field {
-    let name = String::from_str(alloc, "k").expect(rt, "memory");
-    Field::new(alloc, name, data_type, false).with_dictionary(Encoding {
-        id,
-        index: IndexType {
-            bits: BitWidth::Sixteen,
-            signed: false,
-        },
-        ordered: true,
-    })
-}
-
-fn list(rt: &impl Abort, alloc: Global, items: DataType) -> DataType {
-    DataType::List(Box::new(alloc, field(alloc, items)).expect(rt, "memory"))
-}
 
 // A column of texts of id 5, a list of structs of numbers of id -2 and of texts of id 5, lists of id
 // 9, and truths.
-fn columns(rt: &impl Abort, alloc: Global) -> Vec<Field> {
-    let numbers = encoded(rt, alloc, -2, INT8);
-    let texts = encoded(rt, alloc, 5, DataType::Utf8);
-    let rows = DataType::Struct(vec![in alloc; numbers, texts].expect(rt, "memory"));
-    let rows = field(alloc, list(rt, alloc, rows));
-    let texts = encoded(rt, alloc, 5, DataType::Utf8);
-    let lists = encoded(rt, alloc, 9, list(rt, alloc, INT8));
-    let truths = field(alloc, DataType::Bool);
-    vec![in alloc; texts, rows, lists, truths].expect(rt, "memory")
+const COLUMNS: &str =
+    "by:5:uint16:ordered utf8! list struct[2] by:-2:uint16 int8! by:5:uint16 utf8! \
+    by:9:uint16 list int8 bool";
+
+// The fields of these words, of which the first has a name.
+fn columns(rt: &(impl Abort + AllocGlobal), words: &str) -> Vec<Field> {
+    let mut columns = fields_of(rt.alloc(), words).expect(rt, "fields");
+    let name = String::from_str(rt.alloc(), "k").expect(rt, "memory");
+    columns.first_mut().expect(rt, "a field").name = name;
+    columns
 }
 
 // The fields of the values of these columns' dictionaries.
-fn value_fields(rt: &(impl Abort + AllocGlobal), columns: Vec<Field>) -> ValueFields {
-    let schema = Schema::new(rt.alloc(), columns).expect(rt, "a schema");
+fn value_fields(rt: &(impl Abort + AllocGlobal), words: &str) -> ValueFields {
+    let schema = Schema::new(rt.alloc(), columns(rt, words)).expect(rt, "a schema");
     ValueFields::of(rt.alloc(), &schema).expect(rt, "memory")
 }
 
@@ -48,24 +31,24 @@ fn is_of(
     rt: &(impl Abort + AllocGlobal),
     fields: &ValueFields,
     (id, nodes): (i64, usize),
-    of: DataType,
+    of: &str,
 ) {
     let found = fields.get(id).expect(rt, "a field of the id");
+    let want = fields_of(rt.alloc(), of).expect(rt, "fields");
     assert_eq!(rt;
         (found.types().len(), found.fields().len()),
         (nodes, 1),
         "of {id}"
     );
-    let want = field(rt.alloc(), of);
-    assert!(rt; found.fields().first() == Some(&want), "of {id}");
+    assert!(rt; found.fields().first() == want.first(), "of {id}");
 }
 
 #[test]
 fn types_on_every_level(rt: HostRuntime) {
-    let fields = value_fields(&rt, columns(&rt, rt.alloc()));
-    is_of(&rt, &fields, (5, 1), DataType::Utf8);
-    is_of(&rt, &fields, (-2, 1), INT8);
-    is_of(&rt, &fields, (9, 2), list(&rt, rt.alloc(), INT8));
+    let fields = value_fields(&rt, COLUMNS);
+    is_of(&rt, &fields, (5, 1), "utf8");
+    is_of(&rt, &fields, (-2, 1), "int8");
+    is_of(&rt, &fields, (9, 2), "list int8");
     for id in [0, 2, -5, i64::MIN, i64::MAX] {
         assert!(rt; fields.get(id).is_none(), "of {id}");
     }
@@ -73,7 +56,5 @@ fn types_on_every_level(rt: HostRuntime) {
 
 #[test]
 fn a_schema_without_dictionaries(rt: HostRuntime) {
-    let columns = vec![in rt.alloc(); field(rt.alloc(), DataType::Utf8)];
-    let fields = value_fields(&rt, columns.expect(&rt, "memory"));
-    assert!(rt; fields.get(0).is_none());
+    assert!(rt; value_fields(&rt, "utf8").get(0).is_none());
 }
