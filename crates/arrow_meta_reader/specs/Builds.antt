@@ -8,7 +8,6 @@ use Rattle.arrow_types.specs.Notes.{Notes, SchemaShape}
 use Rattle.arrow_types.specs.Schema.{fault_of as schema_fault_of}
 use Rattle.arrow_types.specs.View.{field_view, fields_view, type_view, field_notes, notes_view, type_notes}
 use Rattle.arrow_types.specs.declared.data_type.DataType.{DataType}
-use Rattle.arrow_types.specs.declared.field.Encoding.{Encoding}
 use Rattle.arrow_types.specs.declared.field.Field.{Field}
 use Rattle.arrow_types.specs.declared.schema.SchemaFault.{SchemaFault}
 use Rattle.arrow_types.specs.declared.schema.SchemaFault.TheVariants as schema_faults

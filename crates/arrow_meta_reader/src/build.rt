@@ -43,23 +43,20 @@ pub(crate) fn version_of(number: u64) -> i16
 pub(crate) fn message(
     alloc: Global,
     kind: HeaderKind,
-    parts: Vec<Tree>,
+    mut parts: Vec<Tree>,
 ) -> Result<Message, MetaFault>
     requires read { is_read_version (version_of (plain_all parts.items)) ≡ true }
     ensures built { BuildsMessage result kind (plain_all parts.items) }
 {
-    let mut parts = parts;
     let version = version_of(number_at(&parts, 0, 0));
     let body_len = number_at(&parts, 3, 0);
     let table = into_parts(alloc, take(&mut parts, 2));
-    match header(alloc, kind, table, body_len) {
-        Ok(header) => Ok(Message {
-            version,
-            header,
-            body_len,
-        }),
-        Err(fault) => Err(fault),
-    }
+    let header = header(alloc, kind, table, body_len)?;
+    Ok(Message {
+        version,
+        header,
+        body_len,
+    })
 }
 
 /// The header that the table with these fields says, by what it is.
@@ -72,30 +69,18 @@ fn header(
     ensures built { BuildsHeader result kind body_len (plain_all parts.items) }
 {
     match kind {
-        HeaderKind::Schema => match schema(alloc, parts, body_len) {
-            Ok(schema) => Ok(Header::Schema(schema)),
-            Err(fault) => Err(fault),
-        },
-        HeaderKind::DictionaryBatch => match dictionary(alloc, parts) {
-            Ok(header) => Ok(header),
-            Err(_) => Err(MetaFault::Memory),
-        },
-        HeaderKind::RecordBatch => match batch(alloc, parts) {
-            Ok(batch) => Ok(Header::Batch(batch)),
-            Err(_) => Err(MetaFault::Memory),
-        },
+        HeaderKind::Schema => Ok(Header::Schema(schema(alloc, parts, body_len)?)),
+        HeaderKind::DictionaryBatch => Ok(dictionary(alloc, parts)?),
+        HeaderKind::RecordBatch => Ok(Header::Batch(batch(alloc, parts)?)),
     }
 }
 
 /// The schema that a Schema table with these fields says.
 #[tactic(auto, using(crate::proofs::Misfits::any_nth, crate::proofs::FieldTables::encoded_width))]
-fn schema(alloc: Global, parts: Vec<Tree>, body_len: u64) -> Result<Schema, MetaFault>
+fn schema(alloc: Global, mut parts: Vec<Tree>, body_len: u64) -> Result<Schema, MetaFault>
     ensures built { BuildsSchema result body_len (plain_all parts.items) }
 {
-    let mut parts = parts;
-    let Ok(metadata) = metadata(alloc, take(&mut parts, 2)) else {
-        return Err(MetaFault::Memory);
-    };
+    let metadata = metadata(alloc, take(&mut parts, 2))?;
     match fields(alloc, take(&mut parts, 1)) {
         Ok(fields) => match Schema::with_metadata(alloc, fields, metadata) {
             Ok(schema) => Ok(schema),
@@ -122,13 +107,12 @@ fn meta_fault(body_len: u64, fault: SchemaFault) -> MetaFault
 }
 
 /// The dictionary batch that a DictionaryBatch table with these fields says.
-fn dictionary(alloc: Global, parts: Vec<Tree>) -> Result<Header, AllocError>
+fn dictionary(alloc: Global, mut parts: Vec<Tree>) -> Result<Header, AllocError>
     ensures built { let xs = plain_all parts.items in IfOk result (λ h. header_view h
         ≡ dictionary (cast_signed w64 (number_at 0 0 xs)) (flag_at 2 xs)
         (batch_of (data_of xs))) }
     ensures some { IfErr result (λ _. HasNodeOrBuffer (data_of (plain_all parts.items))) }
 {
-    let mut parts = parts;
     let id = number_at(&parts, 0, 0).cast_signed();
     let delta = flag_at(&parts, 2);
     let data = into_parts(alloc, take(&mut parts, 1));
@@ -136,11 +120,10 @@ fn dictionary(alloc: Global, parts: Vec<Tree>) -> Result<Header, AllocError>
 }
 
 /// The record batch that a RecordBatch table with these fields says.
-fn batch(alloc: Global, parts: Vec<Tree>) -> Result<RecordBatch, AllocError>
+fn batch(alloc: Global, mut parts: Vec<Tree>) -> Result<RecordBatch, AllocError>
     ensures built { IfOk result (λ b. batch_view b ≡ batch_of (plain_all parts.items)) }
     ensures some { IfErr result (λ _. HasNodeOrBuffer (plain_all parts.items)) }
 {
-    let mut parts = parts;
     let length = number_at(&parts, 0, 0).cast_signed();
     let buffers = buffers(alloc, &into_pairs(alloc, take(&mut parts, 2)))?;
     let nodes = nodes(alloc, &into_pairs(alloc, take(&mut parts, 1)))?;

@@ -1,5 +1,7 @@
 //! Why the metadata of a message are refused.
 
+use arrow_flatbuf::Unreadable;
+use std::alloc::{AllocError, AllocFailed};
 use thiserror::Error;
 
 /// Which message holds a record batch.
@@ -73,5 +75,41 @@ impl MetaFault {
             } => 10,
             MetaFault::Memory => 19,
         }
+    }
+}
+
+/// Something that is not readable: `Metadata`.
+impl From<Unreadable> for MetaFault {
+    ghost use Rattle.std.specs.Prelude.{◌≡◌};
+    ghost use Rattle.arrow_meta_reader.specs.declared.fault.MetaFault.TheVariants.{Metadata};
+
+    ghost from_gives = { λ _ fault. fault ≡ Metadata };
+
+    fn from(_unreadable: Unreadable) -> MetaFault {
+        MetaFault::Metadata
+    }
+}
+
+/// A growth that was refused: `Memory`.
+impl From<AllocError> for MetaFault {
+    ghost use Rattle.std.specs.Prelude.{◌≡◌};
+    ghost use Rattle.arrow_meta_reader.specs.declared.fault.MetaFault.TheVariants.{Memory};
+
+    ghost from_gives = { λ _ fault. fault ≡ Memory };
+
+    fn from(_refused: AllocError) -> MetaFault {
+        MetaFault::Memory
+    }
+}
+
+/// The same, of a value that was to be kept.
+impl<T: Drop> From<AllocFailed<T>> for MetaFault {
+    ghost use Rattle.std.specs.Prelude.{◌≡◌};
+    ghost use Rattle.arrow_meta_reader.specs.declared.fault.MetaFault.TheVariants.{Memory};
+
+    ghost from_gives = { λ _ fault. fault ≡ Memory };
+
+    fn from(_refused: AllocFailed<T>) -> MetaFault {
+        MetaFault::Memory
     }
 }

@@ -3,7 +3,7 @@
 //! Names, zones, keys and values are moved out of the tree, so they are copied only once, where the
 //! tree is read.
 ghost use Rattle.std.specs.Prelude.{◌≡◌, ◌<◌, ◌==◌, false, not, length, string_bytes, MatchResult};
-ghost use Rattle.std.specs.Prelude.{MatchOption, IfOk, IfErr, OnOk, Some, [], ◌∷◌, ◌++◌};
+ghost use Rattle.std.specs.Prelude.{MatchOption, IfErr, Some, [], ◌∷◌};
 ghost use Rattle.arrow_meta_reader.specs.Builds.{Builds, BuildsAll, BuildsType, Refuses, leaf_type};
 ghost use Rattle.arrow_types.specs.Field.{field_by};
 ghost use Rattle.arrow_meta_reader.specs.Conditions.{any, any_in, is_misfit};
@@ -27,7 +27,7 @@ use crate::message_tree::Tree;
 use crate::metadata::metadata;
 use crate::parts::{flag_at, into_parts, into_some_text, into_text, number_at, part, take};
 use arrow_types::{BitWidth, DataType, DateUnit, Encoding, Field, IndexType, TimeUnit};
-use std::alloc::{AllocError, Global};
+use std::alloc::{AllocError, AllocFailed, Global};
 
 /// Why there are no fields.
 #[derive(Clone, Copy)]
@@ -36,6 +36,28 @@ pub(crate) enum FieldFault {
     Misfit,
     /// A growth was refused.
     Memory,
+}
+
+/// A growth that was refused: `Memory`.
+impl From<AllocError> for FieldFault {
+    ghost use Rattle.arrow_meta_reader.specs.declared.fields.FieldFault.TheVariants.{Memory};
+
+    ghost from_gives = { λ _ fault. fault ≡ Memory };
+
+    fn from(_refused: AllocError) -> FieldFault {
+        FieldFault::Memory
+    }
+}
+
+/// The same, of a value that was to be kept.
+impl<T: Drop> From<AllocFailed<T>> for FieldFault {
+    ghost use Rattle.arrow_meta_reader.specs.declared.fields.FieldFault.TheVariants.{Memory};
+
+    ghost from_gives = { λ _ fault. fault ≡ Memory };
+
+    fn from(_refused: AllocFailed<T>) -> FieldFault {
+        FieldFault::Memory
+    }
 }
 
 /// The fields of a vector of Field tables, none of anything else.
@@ -62,14 +84,8 @@ fn fields_of(alloc: Global, tables: Vec<Tree>) -> Result<Vec<Field>, FieldFault>
     let mut fields = Vec::new(alloc);
     for table in tables {
         if let Some(parts) = into_field_parts(table) {
-            let field = match field(alloc, parts) {
-                Ok(field) => field,
-                Err(fault) => return Err(fault),
-            };
-            match add(&mut fields, field) {
-                Ok(()) => (),
-                Err(_) => return Err(FieldFault::Memory),
-            }
+            let field = field(alloc, parts)?;
+            fields.push(field)?;
         }
     }
     Ok(fields)
@@ -84,19 +100,10 @@ fn field(alloc: Global, parts: Vec<Tree>) -> Result<Field, FieldFault>
     let code = type_code(number_at(&parts, 2, 0));
     let dictionary = encoding_at(&parts, 4);
     let moved = move_out(parts);
-    let children = match fields(alloc, moved.children) {
-        Ok(children) => children,
-        Err(fault) => return Err(fault),
-    };
+    let children = fields(alloc, moved.children)?;
     let table = into_parts(alloc, moved.table);
-    let data_type = match data_type(alloc, code, table, children) {
-        Ok(data_type) => data_type,
-        Err(fault) => return Err(fault),
-    };
-    let metadata = match metadata(alloc, moved.metadata) {
-        Ok(metadata) => metadata,
-        Err(_) => return Err(FieldFault::Memory),
-    };
+    let data_type = data_type(alloc, code, table, children)?;
+    let metadata = metadata(alloc, moved.metadata)?;
     Ok(joined(
         into_text(alloc, moved.name),
         nullable,
@@ -127,13 +134,6 @@ fn joined(
     }
 }
 
-fn add(fields: &mut Vec<Field>, field: Field) -> Result<(), AllocError>
-    ensures last { OnOk result (fields.new.items ≡ fields.old.items ++ field ∷ []) }
-{
-    fields.push(field)?;
-    Ok(())
-}
-
 /// The fields of a Field table, None of anything else.
 fn into_field_parts(tree: Tree) -> Option<Vec<Tree>>
     ensures parts { MatchOption result (is_field (plain tree) ≡ false)
@@ -156,13 +156,12 @@ struct Moved {
     metadata: Tree,
 }
 
-fn move_out(parts: Vec<Tree>) -> Moved
+fn move_out(mut parts: Vec<Tree>) -> Moved
     ensures name { plain result.name ≡ nth 0 (plain_all parts.items) }
     ensures table { plain result.table ≡ nth 3 (plain_all parts.items) }
     ensures children { plain result.children ≡ nth 5 (plain_all parts.items) }
     ensures metadata { plain result.metadata ≡ nth 6 (plain_all parts.items) }
 {
-    let mut parts = parts;
     let metadata = take(&mut parts, 6);
     let children = take(&mut parts, 5);
     let table = take(&mut parts, 3);
@@ -223,44 +222,28 @@ fn childless(data_type: DataType, children: Vec<Field>) -> Result<DataType, Fiel
 fn list_type(alloc: Global, children: Vec<Field>) -> Result<DataType, FieldFault>
     ensures built { BuildsType result (Some TypeCode.List) none children.items }
 {
-    match only(alloc, children) {
-        Ok(item) => Ok(DataType::List(item)),
-        Err(fault) => Err(fault),
-    }
+    Ok(DataType::List(only(alloc, children)?))
 }
 
 /// The same between offsets of 64 bits.
 fn large_list_type(alloc: Global, children: Vec<Field>) -> Result<DataType, FieldFault>
     ensures built { BuildsType result (Some TypeCode.LargeList) none children.items }
 {
-    match only(alloc, children) {
-        Ok(item) => Ok(DataType::LargeList(item)),
-        Err(fault) => Err(fault),
-    }
+    Ok(DataType::LargeList(only(alloc, children)?))
 }
 
 /// The one child, if there is just one.
-fn only(alloc: Global, children: Vec<Field>) -> Result<Box<Field>, FieldFault>
+fn only(alloc: Global, mut children: Vec<Field>) -> Result<Box<Field>, FieldFault>
     ensures one { MatchResult result (λ item. children.items ≡ item.value ∷ [])
         (λ e. Refuses e (not (length children.items == 1))) }
 {
-    let mut children = children;
     if children.len() != 1 {
         return Err(FieldFault::Misfit);
     }
     match children.pop() {
         None => Err(FieldFault::Misfit),
-        Some(item) => match boxed(alloc, item) {
-            Ok(item) => Ok(item),
-            Err(_) => Err(FieldFault::Memory),
-        },
+        Some(item) => Ok(Box::new(alloc, item)?),
     }
-}
-
-fn boxed(alloc: Global, item: Field) -> Result<Box<Field>, AllocError>
-    ensures same { IfOk result (λ boxed. boxed.value ≡ item) }
-{
-    Ok(Box::new(alloc, item)?)
 }
 
 fn int_type(parts: &[Tree]) -> DataType
@@ -290,12 +273,11 @@ fn time_type(parts: &[Tree]) -> DataType
     DataType::Time(time_in(parts, 1))
 }
 
-fn timestamp_type(parts: Vec<Tree>) -> DataType
+fn timestamp_type(mut parts: Vec<Tree>) -> DataType
     ensures timestamp { type_view result
         ≡ leaf_type (tag_by (Some TypeCode.Timestamp) (plain_all parts.items)) }
     ensures notes { type_notes result ≡ unnoted }
 {
-    let mut parts = parts;
     let unit = time_in(&parts, 0);
     let zone = into_some_text(take(&mut parts, 1));
     DataType::Timestamp(unit, zone)

@@ -53,10 +53,9 @@ fn into_pair(alloc: Global, tree: Tree) -> Option<(Vec<u8>, Vec<u8>)>
 }
 
 /// The pair of a KeyValue table with these fields.
-fn pair(alloc: Global, parts: Vec<Tree>) -> (Vec<u8>, Vec<u8>)
+fn pair(alloc: Global, mut parts: Vec<Tree>) -> (Vec<u8>, Vec<u8>)
     ensures pair { pair_view result ≡ pair_of (plain_all parts.items) }
 {
-    let mut parts = parts;
     let value = into_bytes(alloc, take(&mut parts, 1));
     let key = into_bytes(alloc, take(&mut parts, 0));
     (key, value)

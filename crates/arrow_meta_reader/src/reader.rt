@@ -77,10 +77,7 @@ pub fn tree_counted(
     };
     let found = reader.root(bytes);
     *work = reader.counter.work;
-    match found {
-        Ok(root) => Ok(MessageTree { root }),
-        Err(fault) => Err(fault),
-    }
+    Ok(MessageTree { root: found? })
 }
 
 /// Reads trees, and counts what it read. However the bytes share their tables and texts, no more is
@@ -170,10 +167,7 @@ impl Reader {
         let mut trees = Vec::new(self.alloc);
         for field in 0..forms.len() as u16 {
             let tree = self.field(table, field, forms[field as usize], levels)?;
-            match trees.push(tree) {
-                Err(_) => return Err(MetaFault::Memory),
-                Ok(()) => {}
-            }
+            trees.push(tree)?;
         }
         Ok(trees)
     }
@@ -229,10 +223,9 @@ impl Reader {
     {
         match kind {
             None => Ok(Tree::Leaf(Leaf::Absent)),
-            Some(opened) => match table.table(field) {
-                Err(_) => Err(MetaFault::Metadata),
-                Ok(None) => Ok(Tree::Leaf(Leaf::Absent)),
-                Ok(Some(child)) => self.table(opened, &child, levels),
+            Some(opened) => match table.table(field)? {
+                None => Ok(Tree::Leaf(Leaf::Absent)),
+                Some(child) => self.table(opened, &child, levels),
             },
         }
     }
@@ -252,10 +245,9 @@ impl Reader {
             levels (room self.old) (room self.new) }
         ensures max { self.new.counter.max_bytes ≡ self.old.counter.max_bytes }
     {
-        match table.vector(field, 4) {
-            Err(_) => Err(MetaFault::Metadata),
-            Ok(None) => Ok(Tree::Leaf(Leaf::Absent)),
-            Ok(Some(vector)) => Ok(Tree::Tables(self.elements(kind, &vector, levels)?)),
+        match table.vector(field, 4)? {
+            None => Ok(Tree::Leaf(Leaf::Absent)),
+            Some(vector) => Ok(Tree::Tables(self.elements(kind, &vector, levels)?)),
         }
     }
 
@@ -276,10 +268,7 @@ impl Reader {
         let mut trees = Vec::new(self.alloc);
         for index in 0..vector.len() {
             let tree = self.element(kind, vector, index, levels)?;
-            match trees.push(tree) {
-                Err(_) => return Err(MetaFault::Memory),
-                Ok(()) => {}
-            }
+            trees.push(tree)?;
         }
         Ok(trees)
     }
@@ -301,9 +290,7 @@ impl Reader {
         ensures max { self.new.counter.max_bytes ≡ self.old.counter.max_bytes }
     {
         let below = self.enter(kind, levels)?;
-        let Ok(table) = vector.table(index) else {
-            return Err(MetaFault::Metadata);
-        };
+        let table = vector.table(index)?;
         let fields = self.fields(kind, &table, below)?;
         Ok(joined(kind, fields))
     }
@@ -320,10 +307,9 @@ impl Reader {
             most (room self.old) (room self.new) }
         ensures max { self.new.counter.max_bytes ≡ self.old.counter.max_bytes }
     {
-        match table.scalar(field, width) {
-            Err(_) => Err(MetaFault::Metadata),
-            Ok(None) => Ok(Tree::Leaf(Leaf::Absent)),
-            Ok(Some(number)) => Ok(Tree::Leaf(Leaf::Number(number))),
+        match table.scalar(field, width)? {
+            None => Ok(Tree::Leaf(Leaf::Absent)),
+            Some(number) => Ok(Tree::Leaf(Leaf::Number(number))),
         }
     }
 
@@ -335,15 +321,12 @@ impl Reader {
             most (room self.old) (room self.new) }
         ensures max { self.new.counter.max_bytes ≡ self.old.counter.max_bytes }
     {
-        match table.text(field) {
-            Err(_) => Err(MetaFault::Metadata),
-            Ok(None) => Ok(Tree::Leaf(Leaf::Absent)),
-            Ok(Some(text)) => match self.copied(text.as_bytes()) {
-                Err(fault) => Err(fault),
-                Ok(copy) => Ok(Tree::Leaf(Leaf::Text(unsafe {
-                    String::from_utf8_unchecked(copy)
-                }))),
-            },
+        match table.text(field)? {
+            None => Ok(Tree::Leaf(Leaf::Absent)),
+            Some(text) => {
+                let copy = self.copied(text.as_bytes())?;
+                Ok(Tree::Leaf(Leaf::Text(unsafe { String::from_utf8_unchecked(copy) })))
+            }
         }
     }
 
@@ -355,13 +338,9 @@ impl Reader {
             most (room self.old) (room self.new) }
         ensures max { self.new.counter.max_bytes ≡ self.old.counter.max_bytes }
     {
-        match table.bytes(field) {
-            Err(_) => Err(MetaFault::Metadata),
-            Ok(None) => Ok(Tree::Leaf(Leaf::Absent)),
-            Ok(Some(bytes)) => match self.copied(bytes) {
-                Err(fault) => Err(fault),
-                Ok(copy) => Ok(Tree::Leaf(Leaf::Bytes(copy))),
-            },
+        match table.bytes(field)? {
+            None => Ok(Tree::Leaf(Leaf::Absent)),
+            Some(bytes) => Ok(Tree::Leaf(Leaf::Bytes(self.copied(bytes)?))),
         }
     }
 
@@ -379,10 +358,7 @@ impl Reader {
             return Err(MetaFault::Metadata);
         }
         self.counter.work.bytes += length;
-        match Vec::from_slice(self.alloc, bytes) {
-            Err(_) => Err(MetaFault::Memory),
-            Ok(copy) => Ok(copy),
-        }
+        Ok(Vec::from_slice(self.alloc, bytes)?)
     }
 
     /// Reads the pairs of numbers in a field.
@@ -393,13 +369,9 @@ impl Reader {
             most (room self.old) (room self.new) }
         ensures max { self.new.counter.max_bytes ≡ self.old.counter.max_bytes }
     {
-        match table.vector(field, 16) {
-            Err(_) => Err(MetaFault::Metadata),
-            Ok(None) => Ok(Tree::Leaf(Leaf::Absent)),
-            Ok(Some(vector)) => match pairs_of(self.alloc, &vector) {
-                Err(_) => Err(MetaFault::Memory),
-                Ok(pairs) => Ok(Tree::Leaf(Leaf::Pairs(pairs))),
-            },
+        match table.vector(field, 16)? {
+            None => Ok(Tree::Leaf(Leaf::Absent)),
+            Some(vector) => Ok(Tree::Leaf(Leaf::Pairs(pairs_of(self.alloc, &vector)?))),
         }
     }
 

@@ -1,4 +1,5 @@
 use Rattle.std.proofs.Common.{◌≡◌, ℕ, ◌≤◌, ◌-◌, List, subst, arith}
+use Rattle.std.proofs.lemmas.Result.{err_from_is_err_and}
 use Rattle.arrow_meta_reader.specs.Lies.{Stands, LiesAtRoot}
 use Rattle.arrow_meta_reader.specs.Trees.{Tree}
 use Rattle.arrow_meta_reader.specs.Views.{plain}
@@ -43,17 +44,18 @@ all_left max_metadata =
     let same : max_metadata - 0 ≡ max_metadata = omega arith in
     λ i. record { visits = 65536; entries = 65536; text = same i }
 
-pub returns-in-Ok-clause-found : goal.returns-in-Ok-clause-found
-returns-in-Ok-clause-found c =
-    let x = plain c.in-Ok.root in
+pub returns-clause-found : goal.returns-clause-found
+returns-clause-found c =
+    let x = plain c.in_ok-found.field-0 in
     let n = c.max_metadata.result in
     let P : Room → Type 0 = λ left. Stands c.args.bytes.now root x × (levels x ≤ 32) × Spends left (room c.root-found.new.self) (visits x) (entries x) (text_bytes x) in
     rw (← c.max_metadata.ensures.value)
-    (lies_within c.args.bytes.now n x (room c.root-found.new.self) (subst P (all_left n) c.in-Ok.ensures.read))
+    (lies_within c.args.bytes.now n x (room c.root-found.new.self) (subst P (all_left n) c.in_ok-found.ensures.read))
 
-pub returns-in-Err-clause-none : goal.returns-in-Err-clause-none
-returns-in-Err-clause-none c =
+pub returns-in_err-found-clause-none : goal.returns-in_err-found-clause-none
+returns-in_err-found-clause-none c =
     let n = c.max_metadata.result in
-    let P : Room → Type 0 = λ left. Faulty c.in-Err.fault (NoneFits c.args.bytes.now root 32 left) (Grows c.args.bytes.now root 32 left) in
-    rw (← c.max_metadata.ensures.value)
-    (faulty_so c.in-Err.fault _ _ _ _ (none_within c.args.bytes.now n) (λ g. g) (subst P (all_left n) c.in-Err.ensures.read))
+    let P : Room → Type 0 = λ left. Faulty c.in_err-found.field-0.0 (NoneFits c.args.bytes.now root 32 left) (Grows c.args.bytes.now root 32 left) in
+    let failed = err_from_is_err_and c.from_residual.result c.from_residual.ensures.1 in
+    rw (← c.max_metadata.ensures.value, failed.1, failed.2)
+    (faulty_so c.in_err-found.field-0.0 _ _ _ _ (none_within c.args.bytes.now n) (λ g. g) (subst P (all_left n) c.in_err-found.ensures.read))

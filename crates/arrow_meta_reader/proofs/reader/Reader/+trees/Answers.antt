@@ -30,33 +30,35 @@ fields-loop-field-preserved t c =
     let h = c.in_ok-tree.ensures.read in
     let at = field_get c.args.kind c.args.table.now c.forms-forms.result.now c.loop-field.field forms.Byte c.forms-forms.ensures.value (omega arith) in
     let next = further c.args.table.now.bytes (spots_of c.args.kind c.args.table.now) c.args.levels (room c.args.self.now) (room c.loop-field.self) (room c.field.new.self) c.loop-field.field _ (plain_all c.loop-field.trees.items) (plain c.in_ok-tree.tree) c.loop-field.invariant.0 at h in
-    rw (add-one, c.in-Ok.ensures.items, plain_all-push c.loop-field.trees.items c.in_ok-tree.tree) (next, c.in_ok-tree.ensures.max ∙ c.loop-field.invariant.1)
+    rw (add-one, c.in_ok-push.ensures.items, plain_all-push c.loop-field.trees.items c.in_ok-tree.tree) (next, c.in_ok-tree.ensures.max ∙ c.loop-field.invariant.1)
 
 pub elements-returns-clause-read : goal.elements-returns-clause-read
 elements-returns-clause-read t c =
     finished _ _ _ _ _ c.loop-index.index _ c.loop-index.invariant.0 (omega (arith, length-elements c.args.kind c.args.vector.now.place c.args.vector.now.count))
 
-pub child-returns-in-Err-clause-read : goal.child-returns-in-Err-clause-read
-child-returns-in-Err-clause-read t c =
-    let there = c.in-Err.ensures in
-    unreadable_child c.args.table.now.bytes c.args.kind c.in-Some.opened (field_place c.args.table.now c.args.field) c.args.levels (room c.args.self.now) there.answer.0 c.in-Some.is there.answer.1 there.answer.2
+pub child-returns-in_err-table-in-Some-clause-read : goal.child-returns-in_err-table-in-Some-clause-read
+child-returns-in_err-table-in-Some-clause-read t c =
+    let there = c.in_err-table-in-Some.ensures in
+    let failed = err_from_is_err_and c.from_residual.result c.from_residual.ensures.1 in
+    rw (failed.1, failed.2) (unreadable_child c.args.table.now.bytes c.args.kind c.in-Some.opened (field_place c.args.table.now c.args.field) c.args.levels (room c.args.self.now) there.answer.0 c.in-Some.is there.answer.1 there.answer.2)
 
-pub children-returns-in-Err-clause-read : goal.children-returns-in-Err-clause-read
-children-returns-in-Err-clause-read t c =
-    let there = c.in-Err.ensures in
-    unreadable c.args.table.now.bytes (forms.Tables c.args.kind) (field_place c.args.table.now c.args.field) c.args.levels (room c.args.self.now) there.answer.0 there.answer.1
-    (ap (option_map (λ v. tables_layer (elements c.args.kind v.place v.count))) there.answer.2)
+pub children-returns-in_err-vector-clause-read : goal.children-returns-in_err-vector-clause-read
+children-returns-in_err-vector-clause-read t c =
+    let there = c.in_err-vector.ensures in
+    let failed = err_from_is_err_and c.from_residual.result c.from_residual.ensures.1 in
+    rw (failed.1, failed.2) (unreadable c.args.table.now.bytes (forms.Tables c.args.kind) (field_place c.args.table.now c.args.field) c.args.levels (room c.args.self.now) there.answer.0 there.answer.1
+    (ap (option_map (λ v. tables_layer (elements c.args.kind v.place v.count))) there.answer.2))
 
-pub children-returns-in_err-elements-in-Ok-Some-clause-read : goal.children-returns-in_err-elements-in-Ok-Some-clause-read
-children-returns-in_err-elements-in-Ok-Some-clause-read t c =
-    let h = c.in_err-elements-in-Ok-Some.ensures.read in
-    let v = c.in-Ok-Some.vector in
-    let there : (p : ℕ) × (field_place c.args.table.now c.args.field ≡ Some p) × (behind (vector_at 4) c.args.table.now.bytes p ≡ Some v) = rw c.in-Ok-Some.field-0-is at c.in-Ok-Some.ensures.answer in
-    let same : (v.bytes ≡ c.args.table.now.bytes) × (v.size ≡ 4) = rw c.in-Ok-Some.field-0-is at c.in-Ok-Some.ensures.bytes in
-    let p = err_from_is_err_and c.from_residual.result c.from_residual.ensures.1 in
-    let P : List ℕ → Type 0 = λ bytes. Faulty c.in_err-elements-in-Ok-Some.field-0.0 (NoRowFits bytes (elements c.args.kind v.place v.count) c.args.levels (room c.args.self.now)) (RowGrows bytes (elements c.args.kind v.place v.count) c.args.levels (room c.args.self.now)) in
+pub children-returns-in_err-elements-in-Some-clause-read : goal.children-returns-in_err-elements-in-Some-clause-read
+children-returns-in_err-elements-in-Some-clause-read t c =
+    let h = c.in_err-elements-in-Some.ensures.read in
+    let v = c.in-Some.vector in
+    let there : (p : ℕ) × (field_place c.args.table.now c.args.field ≡ Some p) × (behind (vector_at 4) c.args.table.now.bytes p ≡ Some v) = rw c.in-Some.is at c.in_ok-vector.ensures.answer in
+    let same : (v.bytes ≡ c.args.table.now.bytes) × (v.size ≡ 4) = rw c.in-Some.is at c.in_ok-vector.ensures.bytes in
+    let p = err_from_is_err_and c.from_residual-in_err-elements-in-Some.result c.from_residual-in_err-elements-in-Some.ensures.1 in
+    let P : List ℕ → Type 0 = λ bytes. Faulty c.in_err-elements-in-Some.field-0.0 (NoRowFits bytes (elements c.args.kind v.place v.count) c.args.levels (room c.args.self.now)) (RowGrows bytes (elements c.args.kind v.place v.count) c.args.levels (room c.args.self.now)) in
     let at = vector_layer c.args.table.now.bytes c.args.kind (field_place c.args.table.now c.args.field) there.0 v there.1 there.2 in
-    rw (p.1, p.2) (faulty_so c.in_err-elements-in-Ok-Some.field-0.0 _ _ _ _
+    rw (p.1, p.2) (faulty_so c.in_err-elements-in-Some.field-0.0 _ _ _ _
     (no_elements c.args.table.now.bytes (record { form = forms.Tables c.args.kind; place = field_place c.args.table.now c.args.field }) (elements c.args.kind v.place v.count) c.args.levels (room c.args.self.now) at)
     (λ g. tables_grow at g) (subst P same.0 h))
 
@@ -76,12 +78,13 @@ table-returns-in_err-fields-clause-read t c =
     (no_fields c.args.table.now.bytes s c.args.kind (spots_of c.args.kind c.args.table.now) c.args.levels _ (room c.args.self.now) _ e paid.0 paid.1)
     (λ g. table_grows e paid.0 paid.1 g) h)
 
-pub fields-returns-in-Err-clause-read : goal.fields-returns-in-Err-clause-read
-fields-returns-in-Err-clause-read t c =
+pub fields-returns-in_err-push-clause-read : goal.fields-returns-in_err-push-clause-read
+fields-returns-in_err-push-clause-read t c =
     let h = c.in_ok-tree.ensures.read in
     let at = field_get c.args.kind c.args.table.now c.forms-forms.result.now c.loop-field.field forms.Byte c.forms-forms.ensures.value (omega arith) in
     let next = further c.args.table.now.bytes (spots_of c.args.kind c.args.table.now) c.args.levels (room c.args.self.now) (room c.loop-field.self) (room c.field.new.self) c.loop-field.field _ (plain_all c.loop-field.trees.items) (plain c.in_ok-tree.tree) c.loop-field.invariant.0 at h in
-    begun _ _ _ _ _ _ _ _ next at
+    let failed = err_from_is_err_and c.from_residual-in_err-push.result c.from_residual-in_err-push.ensures.1 in
+    rw (failed.1, failed.2) (begun _ _ _ _ _ _ _ _ next at)
 
 pub element-returns-in_err-below-clause-read : goal.element-returns-in_err-below-clause-read
 element-returns-in_err-below-clause-read t c =
@@ -90,19 +93,20 @@ element-returns-in_err-below-clause-read t c =
     let q = c.args.vector.now.place + c.args.index * 4 in
     rw (p.1, p.2, h.0) (no_room_at c.args.vector.now.bytes c.args.kind q c.args.levels (room c.args.self.now) h.1)
 
-pub element-returns-in_default-clause-read : goal.element-returns-in_default-clause-read
-element-returns-in_default-clause-read t c =
+pub element-returns-in_err-table-clause-read : goal.element-returns-in_err-table-clause-read
+element-returns-in_err-table-clause-read t c =
     let q = c.args.vector.now.place + c.args.index * 4 in
-    unreadable c.args.vector.now.bytes (forms.Table c.args.kind) (Some q) c.args.levels (room c.args.self.now) q refl (ap (option_map (λ t. table_layer c.args.kind (spots_of c.args.kind t))) (sym c.in_default.ensures.value))
+    let failed = err_from_is_err_and c.from_residual-in_err-table.result c.from_residual-in_err-table.ensures.1 in
+    rw (failed.1, failed.2) (unreadable c.args.vector.now.bytes (forms.Table c.args.kind) (Some q) c.args.levels (room c.args.self.now) q refl (ap (option_map (λ t. table_layer c.args.kind (spots_of c.args.kind t))) (sym c.in_err-table.ensures.value)))
 
 pub element-returns-in_err-fields-clause-read : goal.element-returns-in_err-fields-clause-read
 element-returns-in_err-fields-clause-read t c =
     let q = c.args.vector.now.place + c.args.index * 4 in
     let b = c.args.vector.now.bytes in
-    let ss = spots_of c.args.kind c.in-Ok.table in
-    let there = c.in-Ok.ensures in
+    let ss = spots_of c.args.kind c.in_ok-table.table in
+    let there = c.in_ok-table.ensures in
     let paid = c.in_ok-below.ensures.paid in
-    let at = element_layer b c.args.kind q c.in-Ok.table (sym there.value) in
+    let at = element_layer b c.args.kind q c.in_ok-table.table (sym there.value) in
     let P : List ℕ → Type 0 = λ bytes. Faulty c.in_err-fields.field-0.0 (NoRowFits bytes ss c.in_ok-below.below (room c.enter.new.self)) (RowGrows bytes ss c.in_ok-below.below (room c.enter.new.self)) in
     let h = subst P there.bytes c.in_err-fields.ensures.read in
     let p = err_from_is_err_and c.from_residual-in_err-fields.result c.from_residual-in_err-fields.ensures.1 in
@@ -114,14 +118,14 @@ pub element-returns-clause-read : goal.element-returns-clause-read
 element-returns-clause-read t c =
     let q = c.args.vector.now.place + c.args.index * 4 in
     let b = c.args.vector.now.bytes in
-    let ss = spots_of c.args.kind c.in-Ok.table in
+    let ss = spots_of c.args.kind c.in_ok-table.table in
     let xs = plain_all c.in_ok-fields.fields.items in
-    let there = c.in-Ok.ensures in
+    let there = c.in_ok-table.ensures in
     let paid = c.in_ok-below.ensures.paid in
     let P : List ℕ → Type 0 = λ bytes. AllStand bytes ss xs × (levels_all xs ≤ c.in_ok-below.below) × Spends (room c.enter.new.self) (room c.fields.new.self) (visits_all xs) (entries_all xs) (text_bytes_all xs) in
     let h = subst P there.bytes c.in_ok-fields.ensures.read in
     let x : Tree = table c.args.kind xs in
-    let stands : Stands b (record { form = forms.Table c.args.kind; place = Some q }) x = (ss, element_layer b c.args.kind q c.in-Ok.table (sym there.value), h.0) in
+    let stands : Stands b (record { form = forms.Table c.args.kind; place = Some q }) x = (ss, element_layer b c.args.kind q c.in_ok-table.table (sym there.value), h.0) in
     let deep : levels x ≤ c.args.levels = omega (arith, h.1, paid.0) in
     let paid_all : Spends (room c.args.self.now) (room c.fields.new.self) (visits x) (entries x) (text_bytes x) = record {
       visits_paid = omega (arith, h.2.visits_paid, paid.1.visits_paid);
@@ -138,14 +142,15 @@ elements-returns-in_err-tree-clause-read t c =
     (stuck c.args.vector.now.bytes (elements c.args.kind c.args.vector.now.place c.args.vector.now.count) c.args.levels (room c.args.self.now) (room c.loop-index.self) c.loop-index.index _ (plain_all c.loop-index.trees.items) c.loop-index.invariant.0 at)
     (grown c.args.vector.now.bytes (elements c.args.kind c.args.vector.now.place c.args.vector.now.count) c.args.levels (room c.args.self.now) (room c.loop-index.self) c.loop-index.index _ (plain_all c.loop-index.trees.items) c.loop-index.invariant.0 at) c.in_err-tree.ensures.read)
 
-pub elements-returns-in-Err-clause-read : goal.elements-returns-in-Err-clause-read
-elements-returns-in-Err-clause-read t c =
+pub elements-returns-in_err-push-clause-read : goal.elements-returns-in_err-push-clause-read
+elements-returns-in_err-push-clause-read t c =
     let at = element_get c.args.kind c.args.vector.now.place c.args.vector.now.count c.loop-index.index (omega arith) in
     let next = further c.args.vector.now.bytes (elements c.args.kind c.args.vector.now.place c.args.vector.now.count) c.args.levels (room c.args.self.now) (room c.loop-index.self) (room c.element.new.self) c.loop-index.index _ (plain_all c.loop-index.trees.items) (plain c.in_ok-tree.tree) c.loop-index.invariant.0 at c.in_ok-tree.ensures.read in
-    begun _ _ _ _ _ _ _ _ next at
+    let failed = err_from_is_err_and c.from_residual-in_err-push.result c.from_residual-in_err-push.ensures.1 in
+    rw (failed.1, failed.2) (begun _ _ _ _ _ _ _ _ next at)
 
 pub elements-loop-index-preserved : goal.elements-loop-index-preserved
 elements-loop-index-preserved t c =
     let at = element_get c.args.kind c.args.vector.now.place c.args.vector.now.count c.loop-index.index (omega arith) in
     let next = further c.args.vector.now.bytes (elements c.args.kind c.args.vector.now.place c.args.vector.now.count) c.args.levels (room c.args.self.now) (room c.loop-index.self) (room c.element.new.self) c.loop-index.index _ (plain_all c.loop-index.trees.items) (plain c.in_ok-tree.tree) c.loop-index.invariant.0 at c.in_ok-tree.ensures.read in
-    rw (add-one, c.in-Ok.ensures.items, plain_all-push c.loop-index.trees.items c.in_ok-tree.tree) (next, c.in_ok-tree.ensures.max ∙ c.loop-index.invariant.1)
+    rw (add-one, c.in_ok-push.ensures.items, plain_all-push c.loop-index.trees.items c.in_ok-tree.tree) (next, c.in_ok-tree.ensures.max ∙ c.loop-index.invariant.1)

@@ -1,4 +1,5 @@
 use Rattle.std.proofs.Common.{◌≡◌, ℕ, Some, ap, ◌∙◌, option_map}
+use Rattle.std.proofs.lemmas.Result.{err_from_is_err_and}
 use Rattle.arrow_flatbuf.specs.Place.{behind}
 use Rattle.arrow_flatbuf.specs.Table.{field_place}
 use Rattle.arrow_flatbuf.specs.Text.{bytes_at}
@@ -10,17 +11,19 @@ use Rattle.arrow_meta_reader.proofs.Layers.{layer_there, none_fits, too_long}
 use Rattle.arrow_meta_reader.proofs.Spots.{faulty_so}
 use Rattle.arrow_meta_reader.proofs.reader.Reader.byte_string.Goals as goal
 
-pub returns-in-Err-clause-read : goal.returns-in-Err-clause-read
-returns-in-Err-clause-read c =
-    λ most. let there = c.in-Err.ensures.answer in
-    none_fits _ _ _ _ (layer_there c.args.table.now.bytes forms.Bytes _ there.0 there.1 ∙ ap (option_map (λ t. leaf_layer (byte_string t))) there.2)
+pub returns-in_err-bytes-clause-read : goal.returns-in_err-bytes-clause-read
+returns-in_err-bytes-clause-read c =
+    λ most. let there = c.in_err-bytes.ensures.answer in
+    let failed = err_from_is_err_and c.from_residual.result c.from_residual.ensures.1 in
+    rw (failed.1, failed.2) (none_fits _ _ _ _ (layer_there c.args.table.now.bytes forms.Bytes _ there.0 there.1 ∙ ap (option_map (λ t. leaf_layer (byte_string t))) there.2))
 
 -- no room for the bytes, or a refused growth for bytes that there is room for
-pub returns-in-Err-copied-clause-read : goal.returns-in-Err-copied-clause-read
-returns-in-Err-copied-clause-read c =
-    λ most. let bytes = c.in-Ok-Some.bytes.now in
-    let there : (p : ℕ) × (field_place c.args.table.now c.args.field ≡ Some p) × (behind bytes_at c.args.table.now.bytes p ≡ Some bytes) = rw c.in-Ok-Some.field-0-is at c.in-Ok-Some.ensures.answer in
+pub returns-in_err-copied-in-Some-clause-read : goal.returns-in_err-copied-in-Some-clause-read
+returns-in_err-copied-in-Some-clause-read c =
+    λ most. let bytes = c.in-Some.bytes.now in
+    let there : (p : ℕ) × (field_place c.args.table.now c.args.field ≡ Some p) × (behind bytes_at c.args.table.now.bytes p ≡ Some bytes) = rw c.in-Some.is at c.in_ok-bytes.ensures.answer in
     let layered = layer_there c.args.table.now.bytes forms.Bytes _ there.0 there.1 ∙ ap (option_map (λ t. leaf_layer (byte_string t))) there.2 in
-    faulty_so c.in-Err-copied.fault _ _ _ _
+    let failed = err_from_is_err_and c.from_residual-in_err-copied-in-Some.result c.from_residual-in_err-copied-in-Some.ensures.1 in
+    rw (failed.1, failed.2) (faulty_so c.in_err-copied-in-Some.field-0.0 _ _ _ _
     (λ short. too_long _ _ (byte_string bytes) _ _ layered short)
-    (λ long. field_grows layered long) c.in-Err-copied.ensures.copied
+    (λ long. field_grows layered long) c.in_err-copied-in-Some.ensures.copied)

@@ -1,4 +1,5 @@
 use Rattle.std.proofs.Common.{◌≡◌, ℕ, Some, ap, ◌∙◌, option_map}
+use Rattle.std.proofs.lemmas.Result.{err_from_is_err_and}
 use Rattle.arrow_flatbuf.specs.Place.{behind}
 use Rattle.arrow_flatbuf.specs.Table.{field_place}
 use Rattle.arrow_flatbuf.specs.Vector.{vector_at}
@@ -11,16 +12,18 @@ use Rattle.arrow_meta_reader.proofs.Layers.{layer_there, unreadable}
 use Rattle.arrow_meta_reader.proofs.Pairs.{some_pairs}
 use Rattle.arrow_meta_reader.proofs.reader.Reader.pairs.Goals as goal
 
-pub returns-in-Err-clause-read : goal.returns-in-Err-clause-read
-returns-in-Err-clause-read c =
-    λ most. let there = c.in-Err.ensures.answer in
-    unreadable c.args.table.now.bytes forms.Pairs (field_place c.args.table.now c.args.field) most (room c.args.self.now) there.0 there.1
-    (ap (option_map (λ v. leaf_layer (pairs (pairs_from c.args.table.now.bytes v.place v.count)))) there.2)
+pub returns-in_err-vector-clause-read : goal.returns-in_err-vector-clause-read
+returns-in_err-vector-clause-read c =
+    λ most. let there = c.in_err-vector.ensures.answer in
+    let failed = err_from_is_err_and c.from_residual.result c.from_residual.ensures.1 in
+    rw (failed.1, failed.2) (unreadable c.args.table.now.bytes forms.Pairs (field_place c.args.table.now c.args.field) most (room c.args.self.now) there.0 there.1
+    (ap (option_map (λ v. leaf_layer (pairs (pairs_from c.args.table.now.bytes v.place v.count)))) there.2))
 
-pub returns-in-Err-pairs_of-clause-read : goal.returns-in-Err-pairs_of-clause-read
-returns-in-Err-pairs_of-clause-read c =
+pub returns-in_err-pairs_of-in-Some-clause-read : goal.returns-in_err-pairs_of-in-Some-clause-read
+returns-in_err-pairs_of-in-Some-clause-read c =
     λ most. let b = c.args.table.now.bytes in
-    let v = c.in-Ok-Some.vector in
-    let there : (p : ℕ) × (field_place c.args.table.now c.args.field ≡ Some p) × (behind (vector_at 16) b p ≡ Some v) = rw c.in-Ok-Some.field-0-is at c.in-Ok-Some.ensures.answer in
-    field_grows (layer_there b forms.Pairs _ there.0 there.1 ∙ ap (option_map (λ v. leaf_layer (pairs (pairs_from b v.place v.count)))) there.2)
-    (some_pairs b v.place v.count c.in-Err-pairs_of.ensures.some)
+    let v = c.in-Some.vector in
+    let there : (p : ℕ) × (field_place c.args.table.now c.args.field ≡ Some p) × (behind (vector_at 16) b p ≡ Some v) = rw c.in-Some.is at c.in_ok-vector.ensures.answer in
+    let failed = err_from_is_err_and c.from_residual-in_err-pairs_of-in-Some.result c.from_residual-in_err-pairs_of-in-Some.ensures.1 in
+    rw (failed.1, failed.2) (field_grows (layer_there b forms.Pairs _ there.0 there.1 ∙ ap (option_map (λ v. leaf_layer (pairs (pairs_from b v.place v.count)))) there.2)
+    (some_pairs b v.place v.count c.in_err-pairs_of-in-Some.ensures.some))
