@@ -1,4 +1,4 @@
--- The numbers that stand for headers, types, widths and units (Message.fbs, Schema.fbs).
+-- The numbers that stand for versions, headers, types, widths and units (Message.fbs, Schema.fbs).
 use Rattle.std.specs.Prelude.{ℕ, Option, Some, None, ◌==◌, nat_lt, if◌then◌else◌}
 use Rattle.arrow_types.specs.declared.data_type.BitWidth.{BitWidth}
 use Rattle.arrow_types.specs.declared.data_type.BitWidth.TheVariants as widths
@@ -10,6 +10,14 @@ use Rattle.arrow_meta_reader.specs.declared.codes.HeaderKind.{HeaderKind}
 use Rattle.arrow_meta_reader.specs.declared.codes.HeaderKind.TheVariants as headers
 use Rattle.arrow_meta_reader.specs.declared.codes.TypeCode.{TypeCode}
 use Rattle.arrow_meta_reader.specs.declared.codes.TypeCode.TheVariants as codes
+
+-- the number of V4 (Schema.fbs, enum "MetadataVersion")
+abbrev pub v4 : ℕ
+v4 = 3
+
+-- the number of V5 (Schema.fbs, enum "MetadataVersion")
+abbrev pub v5 : ℕ
+v5 = 4
 
 -- the header's code of a schema (Message.fbs, union "MessageHeader")
 abbrev pub schema_code : ℕ

@@ -14,6 +14,7 @@ use Rattle.arrow_meta_reader.specs.Codes.{type_code, bit_width, byte_width, date
 use Rattle.arrow_meta_reader.specs.Kinds.{type_table}
 use Rattle.arrow_meta_reader.specs.Parts.{nth, number_at, is_table}
 use Rattle.arrow_meta_reader.specs.SchemaMeaning.{fields_in}
+use Rattle.arrow_meta_reader.specs.Slots as slots
 use Rattle.arrow_meta_reader.specs.Trees.{Tree, leaf, table, tables, Trees, none, more}
 
 abbrev mutual
@@ -33,10 +34,10 @@ abbrev mutual
 abbrev pub lacks_table : TableKind → Trees → Bool
 lacks_table kinds.Message xs = false
 lacks_table kinds.Schema xs = false
-lacks_table kinds.Field xs = is_some (type_table (number_at 2 0 xs)) && not (is_table (nth 3 xs))
+lacks_table kinds.Field xs = is_some (type_table (number_at slots.field_type_type 0 xs)) && not (is_table (nth slots.field_type xs))
 lacks_table kinds.DictionaryEncoding xs = false
 lacks_table kinds.RecordBatch xs = false
-lacks_table kinds.DictionaryBatch xs = not (is_table (nth 1 xs))
+lacks_table kinds.DictionaryBatch xs = not (is_table (nth slots.dictionary_batch_data xs))
 lacks_table kinds.Int xs = false
 lacks_table kinds.Date xs = false
 lacks_table kinds.Time xs = false
@@ -48,9 +49,9 @@ lacks_table kinds.KeyValue xs = false
 -- Unsupported: an endianness other than Little, a type outside the profile, a dictionary kind other than DenseArray.
 abbrev pub is_unsupported : TableKind → Trees → Bool
 is_unsupported kinds.Message xs = false
-is_unsupported kinds.Schema xs = not (number_at 0 0 xs == 0)
-is_unsupported kinds.Field xs = is_none (type_code (number_at 2 0 xs))
-is_unsupported kinds.DictionaryEncoding xs = not (number_at 3 0 xs == 0)
+is_unsupported kinds.Schema xs = not (number_at slots.schema_endianness 0 xs == 0)
+is_unsupported kinds.Field xs = is_none (type_code (number_at slots.field_type_type 0 xs))
+is_unsupported kinds.DictionaryEncoding xs = not (number_at slots.dictionary_encoding_dictionary_kind 0 xs == 0)
 is_unsupported kinds.RecordBatch xs = false
 is_unsupported kinds.DictionaryBatch xs = false
 is_unsupported kinds.Int xs = false
@@ -91,16 +92,16 @@ children_fit (Some codes.LargeList) n = n == 1
 abbrev pub is_misfit : TableKind → Trees → Bool
 is_misfit kinds.Message xs = false
 is_misfit kinds.Schema xs = false
-is_misfit kinds.Field xs = not (children_fit (type_code (number_at 2 0 xs)) (width (fields_in (nth 5 xs))))
+is_misfit kinds.Field xs = not (children_fit (type_code (number_at slots.field_type_type 0 xs)) (width (fields_in (nth slots.field_children xs))))
 is_misfit kinds.DictionaryEncoding xs = false
 is_misfit kinds.RecordBatch xs = false
 is_misfit kinds.DictionaryBatch xs = false
-is_misfit kinds.Int xs = is_none (bit_width (number_at 0 0 xs))
-is_misfit kinds.Date xs = is_none (date_unit (number_at 0 1 xs))
-is_misfit kinds.Time xs = not (is_time (time_unit (number_at 0 1 xs)) (number_at 1 32 xs))
-is_misfit kinds.Timestamp xs = is_none (time_unit (number_at 0 0 xs))
-is_misfit kinds.FixedSizeBinary xs = is_none (byte_width (number_at 0 0 xs))
-is_misfit kinds.Duration xs = is_none (time_unit (number_at 0 1 xs))
+is_misfit kinds.Int xs = is_none (bit_width (number_at slots.int_bit_width 0 xs))
+is_misfit kinds.Date xs = is_none (date_unit (number_at slots.date_unit 1 xs))
+is_misfit kinds.Time xs = not (is_time (time_unit (number_at slots.time_unit 1 xs)) (number_at slots.time_bit_width 32 xs))
+is_misfit kinds.Timestamp xs = is_none (time_unit (number_at slots.timestamp_unit 0 xs))
+is_misfit kinds.FixedSizeBinary xs = is_none (byte_width (number_at slots.fixed_size_binary_byte_width 0 xs))
+is_misfit kinds.Duration xs = is_none (time_unit (number_at slots.duration_unit 1 xs))
 is_misfit kinds.KeyValue xs = false
 
 -- what a test of the program looks for

@@ -7,31 +7,32 @@ use Rattle.arrow_meta_reader.specs.declared.codes.HeaderKind.TheVariants as head
 use Rattle.arrow_meta_reader.specs.declared.fault.BatchKind.TheVariants as batches
 use Rattle.arrow_meta_reader.specs.declared.fault.MetaFault.{MetaFault}
 use Rattle.arrow_meta_reader.specs.declared.fault.MetaFault.TheVariants.{Metadata, Version, Header, BodyLength, Unsupported, Schema, Compressed, Memory}
-use Rattle.arrow_meta_reader.specs.Codes.{header_kind}
+use Rattle.arrow_meta_reader.specs.Codes.{header_kind, v4, v5}
 use Rattle.arrow_meta_reader.specs.Conditions.{any, any_in, lacks_table, is_unsupported, is_misfit}
 use Rattle.arrow_meta_reader.specs.Parts.{nth, parts, number_at, pairs_in, is_table, is_there}
 use Rattle.arrow_meta_reader.specs.SchemaMeaning.{schema_fields, schema_pairs}
+use Rattle.arrow_meta_reader.specs.Slots as slots
 use Rattle.arrow_meta_reader.specs.Trees.{Tree, Trees}
 
 -- the version of a Message table (Message.fbs, table "Message"; so the next three)
 abbrev pub version_of : Trees → ℕ
-version_of xs = number_at 0 0 xs
+version_of xs = number_at slots.message_version 0 xs
 
 -- whether a version is one that is read: V4 or V5 (Schema.fbs, enum "MetadataVersion")
 abbrev pub is_read_version : ℕ → Bool
-is_read_version n = n == 3 || n == 4
+is_read_version n = n == v4 || n == v5
 
 -- the header's table
 abbrev pub header_of : Trees → Tree
-header_of xs = nth 2 xs
+header_of xs = nth slots.message_header xs
 
 -- which header there is: the one that the code before it names, where a table stands for it
 abbrev pub header_in : Trees → Option HeaderKind
-header_in xs = if is_table (header_of xs) then header_kind (number_at 1 0 xs) else None
+header_in xs = if is_table (header_of xs) then header_kind (number_at slots.message_header_type 0 xs) else None
 
 -- the body's length in bytes, as the standard counts it
 abbrev pub body_of : Trees → ℕ
-body_of xs = number_at 3 0 xs
+body_of xs = number_at slots.message_body_length 0 xs
 
 -- a length that is negative, as a signed number of 64 bits, or over the limit
 abbrev pub is_bad_length : ℕ → ℕ → Bool
@@ -47,11 +48,11 @@ shares_an_id x = types_differ (dictionary_fields (schema_fields (parts x)))
 
 -- the fields of the RecordBatch table that a DictionaryBatch table has for its data (Message.fbs, table "DictionaryBatch")
 abbrev pub data_of : Trees → Trees
-data_of xs = parts (nth 1 xs)
+data_of xs = parts (nth slots.dictionary_batch_data xs)
 
 -- whether a RecordBatch table with these fields is compressed (Message.fbs, table "RecordBatch", field "compression")
 abbrev pub is_compressed : Trees → Bool
-is_compressed xs = is_there (nth 3 xs)
+is_compressed xs = is_there (nth slots.record_batch_compression xs)
 
 -- A Schema table with these fields has a field, or a pair of metadata, so that memory is asked for where it is built.
 abbrev pub HasFieldOrPair : Trees → Type 0
@@ -59,7 +60,7 @@ HasFieldOrPair xs = 0 < width (schema_fields xs) + length (schema_pairs xs)
 
 -- A RecordBatch table with these fields has a field node or a buffer, so that memory is asked for where it is built.
 abbrev pub HasNodeOrBuffer : Trees → Type 0
-HasNodeOrBuffer xs = 0 < length (pairs_in (nth 1 xs)) + length (pairs_in (nth 2 xs))
+HasNodeOrBuffer xs = 0 < length (pairs_in (nth slots.record_batch_nodes xs)) + length (pairs_in (nth slots.record_batch_buffers xs))
 
 -- The conditions that a header's table has of its own, by what it is.
 abbrev pub header_conditions : Option HeaderKind → ℕ → Tree → List (Bool × MetaFault)

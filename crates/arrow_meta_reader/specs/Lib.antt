@@ -9,6 +9,7 @@ pub mod Ranks
 pub mod Stored
 pub mod Codes
 pub mod Parts
+pub mod Slots
 pub mod SchemaMeaning
 pub mod Conditions
 pub mod Faults

@@ -14,6 +14,7 @@ use Rattle.arrow_meta_reader.specs.Faults.{fault_of, version_of, header_in, head
 use Rattle.arrow_meta_reader.specs.Parts.{nth, parts, number_at, flag_at, pairs_in}
 use Rattle.arrow_meta_reader.specs.SchemaMeaning.{schema_in}
 use Rattle.arrow_meta_reader.specs.Trees.{Tree, Trees}
+use Rattle.arrow_meta_reader.specs.Slots as slots
 
 -- a record batch (Message.fbs, table "RecordBatch")
 pub record PlainBatch : Type 0 where
@@ -44,15 +45,16 @@ buffer_of p = record { offset = cast_signed w64 p.0; length = cast_signed w64 p.
 -- what a RecordBatch table with these fields says
 abbrev pub batch_of : Trees → PlainBatch
 batch_of xs = record {
-  length = cast_signed w64 (number_at 0 0 xs);
-  nodes = map node_of (pairs_in (nth 1 xs));
-  buffers = map buffer_of (pairs_in (nth 2 xs));
+  length = cast_signed w64 (number_at slots.record_batch_length 0 xs);
+  nodes = map node_of (pairs_in (nth slots.record_batch_nodes xs));
+  buffers = map buffer_of (pairs_in (nth slots.record_batch_buffers xs));
 }
 
 -- what a header's table with these fields says, by what it is
 abbrev pub header_by : HeaderKind → Trees → PlainHeader
 header_by headers.Schema xs = schema (schema_in xs)
-header_by headers.DictionaryBatch xs = dictionary (cast_signed w64 (number_at 0 0 xs)) (flag_at 2 xs) (batch_of (data_of xs))
+header_by headers.DictionaryBatch xs =
+    dictionary (cast_signed w64 (number_at slots.dictionary_batch_id 0 xs)) (flag_at slots.dictionary_batch_is_delta xs) (batch_of (data_of xs))
 header_by headers.RecordBatch xs = batch (batch_of xs)
 
 -- what a Message table with these fields says, by what its header is

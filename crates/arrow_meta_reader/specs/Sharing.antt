@@ -13,6 +13,7 @@ use Rattle.arrow_meta_reader.specs.Parts.{nth, parts, number_at, flag_at, text_i
 use Rattle.arrow_meta_reader.specs.SchemaMeaning.{encoding_in, fields_at, fields_from, head_of, tag_by}
 use Rattle.arrow_meta_reader.specs.Trees.{Trees}
 use Rattle.arrow_meta_reader.specs.Views.{plain_all}
+use Rattle.arrow_meta_reader.specs.Slots as slots
 
 -- the bytes of a text that is lent
 abbrev pub lent_bytes : Bor (List ℕ) → List ℕ
@@ -20,26 +21,26 @@ lent_bytes text = text.now
 
 -- The fields begin with that of a Field table, behind which these tables stand.
 abbrev pub BeginsWith : Fields → Trees → Trees → Type 0
-BeginsWith fields xs rest = fields ≡ more (head_of xs) (fields_at 5 xs) (fields_from rest)
+BeginsWith fields xs rest = fields ≡ more (head_of xs) (fields_at slots.field_children xs) (fields_from rest)
 
 -- Two Field tables with these fields say the same name, nullability and encoding.
 abbrev pub AreLabelledAlike : Trees → Trees → Type 0
 AreLabelledAlike xs ys =
-    (text_in (nth 0 xs) ≡ text_in (nth 0 ys)) ×
-    (flag_at 1 xs ≡ flag_at 1 ys) ×
-    (encoding_in (nth 4 xs) ≡ encoding_in (nth 4 ys))
+    (text_in (nth slots.field_name xs) ≡ text_in (nth slots.field_name ys)) ×
+    (flag_at slots.field_nullable xs ≡ flag_at slots.field_nullable ys) ×
+    (encoding_in (nth slots.field_dictionary xs) ≡ encoding_in (nth slots.field_dictionary ys))
 
 -- The type that a Field table with these fields names. One outside the profile is read as Null.
 abbrev pub code_in : Trees → TypeCode
-code_in xs = unwrap_or (type_code (number_at 2 0 xs)) codes.Null
+code_in xs = unwrap_or (type_code (number_at slots.field_type_type 0 xs)) codes.Null
 
 -- the own part of its type
 abbrev pub tag_of : Trees → Tag
-tag_of xs = tag_by (type_code (number_at 2 0 xs)) (parts (nth 3 xs))
+tag_of xs = tag_by (type_code (number_at slots.field_type_type 0 xs)) (parts (nth slots.field_type xs))
 
 -- its type, with all levels below it
 abbrev pub type_of : Trees → TypeShape
-type_of xs = record { tag = tag_of xs; children = fields_at 5 xs }
+type_of xs = record { tag = tag_of xs; children = fields_at slots.field_children xs }
 
 -- what a dictionary-encoded field that the program found says of its dictionary
 abbrev pub encoded_view : Encoded → DictionaryField

@@ -8,13 +8,16 @@ ghost use Rattle.arrow_meta_reader.specs.Codes.{header_kind};
 ghost use Rattle.arrow_meta_reader.specs.Lies.{pairs_from};
 ghost use Rattle.arrow_meta_reader.specs.Means.{batch, batch_view, buffer_of, header_view, message_view};
 ghost use Rattle.arrow_meta_reader.specs.Means.{node_of};
+ghost use Rattle.arrow_meta_reader.specs.Slots as slots;
 ghost use Rattle.arrow_meta_reader.specs.Straight.{HasNumber, HasPairs, IsHeader, MeansBare};
 ghost use Rattle.arrow_meta_reader.specs.declared.codes.HeaderKind.{HeaderKind as Kind};
 ghost use Rattle.arrow_meta_reader.specs.declared.codes.HeaderKind.TheVariants as headers;
 
 use crate::build::{is_read_version, version_of};
 use crate::codes::{HeaderKind, header_kind};
+use crate::kinds::PAIR;
 use crate::message::{Header, Message, RecordBatch};
+use crate::slots;
 use arrow_flatbuf::{Root, Table, Vector};
 use arrow_types::{Buffer, FieldNode, Limits};
 use std::alloc::{AllocError, Global};
@@ -26,13 +29,13 @@ pub(crate) fn batch_message(alloc: Global, bytes: &[u8], limits: &Limits) -> Opt
     ensures length { IfSome result (λ m. m.body_len ≤ limits.now.max_body) }
 {
     let table = Root::open(bytes)?;
-    let version = number_in(&table, 0, 2)?;
-    let code = number_in(&table, 1, 1)?;
-    let body_len = number_in(&table, 3, 8)?;
+    let version = number_in(&table, slots::message::VERSION, 2)?;
+    let code = number_in(&table, slots::message::HEADER_TYPE, 1)?;
+    let body_len = number_in(&table, slots::message::BODY_LENGTH, 8)?;
     if !is_read_version(version) || body_len > limits.max_body() {
         return None;
     }
-    let Ok(Some(inner)) = table.table(2) else {
+    let Ok(Some(inner)) = table.table(slots::message::HEADER) else {
         return None;
     };
     Some(Message {
@@ -58,9 +61,9 @@ fn batch_header(alloc: Global, code: u64, table: &Table) -> Option<Header>
 fn dictionary_in(alloc: Global, table: &Table) -> Option<Header>
     ensures { IfSome result (λ h. IsHeader headers.DictionaryBatch table.now (header_view h)) }
 {
-    let id = number_in(table, 0, 8)?.cast_signed();
-    let is_delta = number_in(table, 2, 1)? != 0;
-    let Ok(Some(data)) = table.table(1) else {
+    let id = number_in(table, slots::dictionary_batch::ID, 8)?.cast_signed();
+    let is_delta = number_in(table, slots::dictionary_batch::IS_DELTA, 1)? != 0;
+    let Ok(Some(data)) = table.table(slots::dictionary_batch::DATA) else {
         return None;
     };
     Some(Header::Dictionary(id, is_delta, batch_in(alloc, &data)?))
@@ -71,10 +74,10 @@ fn batch_in(alloc: Global, table: &Table) -> Option<RecordBatch>
     ensures { IfSome result
         (λ b. IsHeader headers.RecordBatch table.now (batch (batch_view b))) }
 {
-    if table.has(3) {
+    if table.has(slots::record_batch::COMPRESSION) {
         return None;
     }
-    let length = number_in(table, 0, 8)?.cast_signed();
+    let length = number_in(table, slots::record_batch::LENGTH, 8)?.cast_signed();
     let nodes = nodes_in(alloc, table)?;
     let buffers = buffers_in(alloc, table)?;
     Some(RecordBatch {
@@ -101,9 +104,9 @@ fn number_in(table: &Table, field: u16, width: usize) -> Option<u64>
 /// The field nodes of a RecordBatch table.
 fn nodes_in(alloc: Global, table: &Table) -> Option<Vec<FieldNode>>
     ensures { IfSome result
-        (λ v. (ps : List (ℕ × ℕ)) × HasPairs table.now 1 ps × (v.items ≡ map node_of ps)) }
+        (λ v. (ps : List (ℕ × ℕ)) × HasPairs table.now slots.record_batch_nodes ps × (v.items ≡ map node_of ps)) }
 {
-    match table.vector(1, 16) {
+    match table.vector(slots::record_batch::NODES, PAIR) {
         Ok(Some(vector)) => nodes_of(alloc, &vector).ok(),
         Ok(None) => Some(Vec::new(alloc)),
         Err(_) => None,
@@ -113,9 +116,9 @@ fn nodes_in(alloc: Global, table: &Table) -> Option<Vec<FieldNode>>
 /// The buffers of a RecordBatch table.
 fn buffers_in(alloc: Global, table: &Table) -> Option<Vec<Buffer>>
     ensures { IfSome result
-        (λ v. (ps : List (ℕ × ℕ)) × HasPairs table.now 2 ps × (v.items ≡ map buffer_of ps)) }
+        (λ v. (ps : List (ℕ × ℕ)) × HasPairs table.now slots.record_batch_buffers ps × (v.items ≡ map buffer_of ps)) }
 {
-    match table.vector(2, 16) {
+    match table.vector(slots::record_batch::BUFFERS, PAIR) {
         Ok(Some(vector)) => buffers_of(alloc, &vector).ok(),
         Ok(None) => Some(Vec::new(alloc)),
         Err(_) => None,

@@ -6,6 +6,7 @@ ghost use Rattle.arrow_meta_reader.specs.Faults.{HasNodeOrBuffer, data_of, is_re
 ghost use Rattle.arrow_meta_reader.specs.Means.{batch_of, batch_view, dictionary, header_view, node_of};
 ghost use Rattle.arrow_meta_reader.specs.Means.{buffer_of};
 ghost use Rattle.arrow_meta_reader.specs.Parts.{nth, number_at, flag_at};
+ghost use Rattle.arrow_meta_reader.specs.Slots as slots;
 ghost use Rattle.arrow_meta_reader.specs.Views.{plain_all};
 
 use crate::codes::HeaderKind;
@@ -15,20 +16,15 @@ use crate::message::{Header, Message, RecordBatch};
 use crate::message_tree::Tree;
 use crate::metadata::metadata;
 use crate::parts::{flag_at, into_pairs, into_parts, number_at, take};
+use crate::slots;
 use arrow_types::{Buffer, FieldNode, Schema, SchemaFault};
 use std::alloc::{AllocError, Global};
-
-/// A version that is read (`Schema.fbs`, enum `MetadataVersion`).
-pub(crate) const V4: i16 = 3;
-
-/// The other version that is read, and the one that is written.
-pub(crate) const V5: i16 = 4;
 
 /// Whether the number of a version is that of V4 or V5.
 pub(crate) fn is_read_version(number: u64) -> bool
     ensures { result ≡ is_read_version number }
 {
-    number == 3 || number == 4
+    number == Message::V4 as u64 || number == Message::V5 as u64
 }
 
 /// The version of such a number.
@@ -36,7 +32,11 @@ pub(crate) fn version_of(number: u64) -> i16
     requires { is_read_version number ≡ true }
     ensures { result ≡ cast_signed w16 number }
 {
-    if number == 3 { V4 } else { V5 }
+    if number == Message::V4 as u64 {
+        Message::V4
+    } else {
+        Message::V5
+    }
 }
 
 /// The message that a Message table with these fields says, by what its header is.
@@ -48,9 +48,9 @@ pub(crate) fn message(
     requires read { is_read_version (version_of (plain_all parts.items)) ≡ true }
     ensures built { BuildsMessage result kind (plain_all parts.items) }
 {
-    let version = version_of(number_at(&parts, 0, 0));
-    let body_len = number_at(&parts, 3, 0);
-    let table = into_parts(alloc, take(&mut parts, 2));
+    let version = version_of(number_at(&parts, slots::message::VERSION, 0));
+    let body_len = number_at(&parts, slots::message::BODY_LENGTH, 0);
+    let table = into_parts(alloc, take(&mut parts, slots::message::HEADER));
     let header = header(alloc, kind, table, body_len)?;
     Ok(Message {
         version,
@@ -80,8 +80,8 @@ fn header(
 fn schema(alloc: Global, mut parts: Vec<Tree>, body_len: u64) -> Result<Schema, MetaFault>
     ensures built { BuildsSchema result body_len (plain_all parts.items) }
 {
-    let metadata = metadata(alloc, take(&mut parts, 2))?;
-    match fields(alloc, take(&mut parts, 1)) {
+    let metadata = metadata(alloc, take(&mut parts, slots::schema::CUSTOM_METADATA))?;
+    match fields(alloc, take(&mut parts, slots::schema::FIELDS)) {
         Ok(fields) => match Schema::with_metadata(alloc, fields, metadata) {
             Ok(schema) => Ok(schema),
             Err(fault) => Err(meta_fault(body_len, fault)),
@@ -109,13 +109,13 @@ fn meta_fault(body_len: u64, fault: SchemaFault) -> MetaFault
 /// The dictionary batch that a DictionaryBatch table with these fields says.
 fn dictionary(alloc: Global, mut parts: Vec<Tree>) -> Result<Header, AllocError>
     ensures built { let xs = plain_all parts.items in IfOk result (λ h. header_view h
-        ≡ dictionary (cast_signed w64 (number_at 0 0 xs)) (flag_at 2 xs)
+        ≡ dictionary (cast_signed w64 (number_at slots.dictionary_batch_id 0 xs)) (flag_at slots.dictionary_batch_is_delta xs)
         (batch_of (data_of xs))) }
     ensures some { IfErr result (λ _. HasNodeOrBuffer (data_of (plain_all parts.items))) }
 {
-    let id = number_at(&parts, 0, 0).cast_signed();
-    let delta = flag_at(&parts, 2);
-    let data = into_parts(alloc, take(&mut parts, 1));
+    let id = number_at(&parts, slots::dictionary_batch::ID, 0).cast_signed();
+    let delta = flag_at(&parts, slots::dictionary_batch::IS_DELTA);
+    let data = into_parts(alloc, take(&mut parts, slots::dictionary_batch::DATA));
     Ok(Header::Dictionary(id, delta, batch(alloc, data)?))
 }
 
@@ -124,9 +124,15 @@ fn batch(alloc: Global, mut parts: Vec<Tree>) -> Result<RecordBatch, AllocError>
     ensures built { IfOk result (λ b. batch_view b ≡ batch_of (plain_all parts.items)) }
     ensures some { IfErr result (λ _. HasNodeOrBuffer (plain_all parts.items)) }
 {
-    let length = number_at(&parts, 0, 0).cast_signed();
-    let buffers = buffers(alloc, &into_pairs(alloc, take(&mut parts, 2)))?;
-    let nodes = nodes(alloc, &into_pairs(alloc, take(&mut parts, 1)))?;
+    let length = number_at(&parts, slots::record_batch::LENGTH, 0).cast_signed();
+    let buffers = buffers(
+        alloc,
+        &into_pairs(alloc, take(&mut parts, slots::record_batch::BUFFERS)),
+    )?;
+    let nodes = nodes(
+        alloc,
+        &into_pairs(alloc, take(&mut parts, slots::record_batch::NODES)),
+    )?;
     Ok(RecordBatch {
         length,
         nodes,

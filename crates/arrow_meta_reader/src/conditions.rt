@@ -11,6 +11,7 @@ use crate::codes::{TypeCode, bit_width, byte_width, date_unit, time_unit, type_c
 use crate::kinds::{TableKind, type_table};
 use crate::message_tree::Tree;
 use crate::parts::{has_table, number_at, part};
+use crate::slots;
 use arrow_types::TimeUnit;
 
 /// What makes a table one that no message has.
@@ -65,8 +66,9 @@ fn lacks_table(kind: TableKind, parts: &[Tree]) -> bool
     ensures lacks { result ≡ lacks_table kind (plain_all parts.now) }
 {
     match kind {
-        TableKind::Field => type_table(number_at(parts, 2, 0)).is_some() && !has_table(parts, 3),
-        TableKind::DictionaryBatch => !has_table(parts, 1),
+        TableKind::Field => type_table(number_at(parts, slots::field::TYPE_TYPE, 0)).is_some()
+            && !has_table(parts, slots::field::TYPE),
+        TableKind::DictionaryBatch => !has_table(parts, slots::dictionary_batch::DATA),
         TableKind::Message
         | TableKind::Schema
         | TableKind::DictionaryEncoding
@@ -86,9 +88,13 @@ fn is_unsupported(kind: TableKind, parts: &[Tree]) -> bool
     ensures unsupported { result ≡ is_unsupported kind (plain_all parts.now) }
 {
     match kind {
-        TableKind::Schema => number_at(parts, 0, 0) != 0,
-        TableKind::Field => type_code(number_at(parts, 2, 0)).is_none(),
-        TableKind::DictionaryEncoding => number_at(parts, 3, 0) != 0,
+        TableKind::Schema => number_at(parts, slots::schema::ENDIANNESS, 0) != 0,
+        TableKind::Field => type_code(number_at(parts, slots::field::TYPE_TYPE, 0)).is_none(),
+        TableKind::DictionaryEncoding => number_at(
+            parts,
+            slots::dictionary_encoding::DICTIONARY_KIND,
+            0,
+        ) != 0,
         TableKind::Message
         | TableKind::RecordBatch
         | TableKind::DictionaryBatch
@@ -107,13 +113,23 @@ fn is_misfit(kind: TableKind, parts: &[Tree]) -> bool
     ensures misfit { result ≡ is_misfit kind (plain_all parts.now) }
 {
     match kind {
-        TableKind::Field => !children_fit(type_code(number_at(parts, 2, 0)), fields_at(parts, 5)),
-        TableKind::Int => bit_width(number_at(parts, 0, 0)).is_none(),
-        TableKind::Date => date_unit(number_at(parts, 0, 1)).is_none(),
-        TableKind::Time => !is_time(time_unit(number_at(parts, 0, 1)), number_at(parts, 1, 32)),
-        TableKind::Timestamp => time_unit(number_at(parts, 0, 0)).is_none(),
-        TableKind::FixedSizeBinary => byte_width(number_at(parts, 0, 0)).is_none(),
-        TableKind::Duration => time_unit(number_at(parts, 0, 1)).is_none(),
+        TableKind::Field => !children_fit(
+            type_code(number_at(parts, slots::field::TYPE_TYPE, 0)),
+            fields_at(parts, slots::field::CHILDREN),
+        ),
+        TableKind::Int => bit_width(number_at(parts, slots::int::BIT_WIDTH, 0)).is_none(),
+        TableKind::Date => date_unit(number_at(parts, slots::date::UNIT, 1)).is_none(),
+        TableKind::Time => !is_time(
+            time_unit(number_at(parts, slots::time::UNIT, 1)),
+            number_at(parts, slots::time::BIT_WIDTH, 32),
+        ),
+        TableKind::Timestamp => time_unit(number_at(parts, slots::timestamp::UNIT, 0)).is_none(),
+        TableKind::FixedSizeBinary => byte_width(number_at(
+            parts,
+            slots::fixed_size_binary::BYTE_WIDTH,
+            0,
+        )).is_none(),
+        TableKind::Duration => time_unit(number_at(parts, slots::duration::UNIT, 1)).is_none(),
         TableKind::Message
         | TableKind::Schema
         | TableKind::DictionaryEncoding
@@ -159,7 +175,7 @@ fn children_fit(code: Option<TypeCode>, count: usize) -> bool
 }
 
 /// How many fields stand in the vector in field `index`.
-fn fields_at(parts: &[Tree], index: usize) -> usize
+fn fields_at(parts: &[Tree], index: u16) -> usize
     ensures count { result ≡ width (fields_in (nth index (plain_all parts.now))) }
 {
     match part(parts, index) {

@@ -3,6 +3,7 @@ ghost use Rattle.std.specs.Prelude.{◌≡◌, ◌<◌, ◌≤◌, ◌+◌, fals
 ghost use Rattle.arrow_meta_reader.specs.Builds.{size, size_all};
 ghost use Rattle.arrow_meta_reader.specs.SchemaMeaning.{fields_at, fields_in, fields_from, is_field};
 ghost use Rattle.arrow_meta_reader.specs.Sharing.{BeginsWith};
+ghost use Rattle.arrow_meta_reader.specs.Slots as slots;
 ghost use Rattle.arrow_meta_reader.specs.Trees.{table};
 ghost use Rattle.arrow_meta_reader.specs.Views.{plain, plain_all};
 ghost use Rattle.arrow_meta_reader.specs.declared.kinds.TableKind.TheVariants as kinds;
@@ -11,6 +12,7 @@ ghost use Rattle.arrow_types.specs.Field.{none as no_fields};
 use crate::kinds::TableKind;
 use crate::message_tree::Tree;
 use crate::parts::part;
+use crate::slots;
 
 /// The first Field table of some tables.
 #[derive(Clone, Copy)]
@@ -54,10 +56,10 @@ fn field_parts(tree: &Tree) -> Option<&[Tree]>
 
 /// The tables of the vector in which the children of a Field table with these fields stand.
 pub(crate) fn children_of(parts: &[Tree]) -> &[Tree]
-    ensures fields { fields_from (plain_all result.now) ≡ fields_at 5 (plain_all parts.now) }
+    ensures fields { fields_from (plain_all result.now) ≡ fields_at slots.field_children (plain_all parts.now) }
     ensures smaller { size_all (plain_all result.now) ≤ size_all (plain_all parts.now) }
 {
-    match part(parts, 5) {
+    match part(parts, slots::field::CHILDREN) {
         Some(fields) => tables_of(fields),
         None => &[],
     }

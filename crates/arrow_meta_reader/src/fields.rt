@@ -12,6 +12,7 @@ ghost use Rattle.arrow_meta_reader.specs.SchemaMeaning.{date_in, encoding_in, fi
 ghost use Rattle.arrow_meta_reader.specs.SchemaMeaning.{fields_from, fields_in, is_field, tag_by, time_in};
 ghost use Rattle.arrow_meta_reader.specs.SchemaMeaning.{notes_from, notes_in};
 ghost use Rattle.arrow_meta_reader.specs.SchemaMeaning.{width_in};
+ghost use Rattle.arrow_meta_reader.specs.Slots as slots;
 ghost use Rattle.arrow_meta_reader.specs.Trees.{none, table};
 ghost use Rattle.arrow_meta_reader.specs.Views.{plain, plain_all};
 ghost use Rattle.arrow_meta_reader.specs.declared.kinds.TableKind.TheVariants as kinds;
@@ -26,6 +27,7 @@ use crate::kinds::TableKind;
 use crate::message_tree::Tree;
 use crate::metadata::metadata;
 use crate::parts::{flag_at, into_parts, into_some_text, into_text, number_at, part, take};
+use crate::slots;
 use arrow_types::{BitWidth, DataType, DateUnit, Encoding, Field, IndexType, TimeUnit};
 use std::alloc::{AllocError, AllocFailed, Global};
 
@@ -96,9 +98,9 @@ fn fields_of(alloc: Global, tables: Vec<Tree>) -> Result<Vec<Field>, FieldFault>
 fn field(alloc: Global, parts: Vec<Tree>) -> Result<Field, FieldFault>
     ensures built { Builds result (plain_all parts.items) }
 {
-    let nullable = flag_at(&parts, 1);
-    let code = type_code(number_at(&parts, 2, 0));
-    let dictionary = encoding_at(&parts, 4);
+    let nullable = flag_at(&parts, slots::field::NULLABLE);
+    let code = type_code(number_at(&parts, slots::field::TYPE_TYPE, 0));
+    let dictionary = encoding_at(&parts, slots::field::DICTIONARY);
     let moved = move_out(parts);
     let children = fields(alloc, moved.children)?;
     let table = into_parts(alloc, moved.table);
@@ -157,15 +159,15 @@ struct Moved {
 }
 
 fn move_out(mut parts: Vec<Tree>) -> Moved
-    ensures name { plain result.name ≡ nth 0 (plain_all parts.items) }
-    ensures table { plain result.table ≡ nth 3 (plain_all parts.items) }
-    ensures children { plain result.children ≡ nth 5 (plain_all parts.items) }
-    ensures metadata { plain result.metadata ≡ nth 6 (plain_all parts.items) }
+    ensures name { plain result.name ≡ nth slots.field_name (plain_all parts.items) }
+    ensures table { plain result.table ≡ nth slots.field_type (plain_all parts.items) }
+    ensures children { plain result.children ≡ nth slots.field_children (plain_all parts.items) }
+    ensures metadata { plain result.metadata ≡ nth slots.field_custom_metadata (plain_all parts.items) }
 {
-    let metadata = take(&mut parts, 6);
-    let children = take(&mut parts, 5);
-    let table = take(&mut parts, 3);
-    let name = take(&mut parts, 0);
+    let metadata = take(&mut parts, slots::field::CUSTOM_METADATA);
+    let children = take(&mut parts, slots::field::CHILDREN);
+    let table = take(&mut parts, slots::field::TYPE);
+    let name = take(&mut parts, slots::field::NAME);
     Moved {
         name,
         table,
@@ -253,7 +255,7 @@ fn int_type(parts: &[Tree]) -> DataType
 {
     DataType::Int {
         bits: width_in(parts),
-        signed: flag_at(parts, 1),
+        signed: flag_at(parts, slots::int::IS_SIGNED),
     }
 }
 
@@ -279,7 +281,7 @@ fn timestamp_type(mut parts: Vec<Tree>) -> DataType
     ensures notes { type_notes result ≡ unnoted }
 {
     let unit = time_in(&parts, 0);
-    let zone = into_some_text(take(&mut parts, 1));
+    let zone = into_some_text(take(&mut parts, slots::timestamp::TIMEZONE));
     DataType::Timestamp(unit, zone)
 }
 
@@ -303,32 +305,33 @@ fn duration_type(parts: &[Tree]) -> DataType
 pub(crate) fn width_in(parts: &[Tree]) -> BitWidth
     ensures width { result ≡ width_in (plain_all parts.now) }
 {
-    bit_width(number_at(parts, 0, 0)).unwrap_or(BitWidth::Eight)
+    bit_width(number_at(parts, slots::int::BIT_WIDTH, 0)).unwrap_or(BitWidth::Eight)
 }
 
 /// The unit that a Date table with these fields says.
 pub(crate) fn date_in(parts: &[Tree]) -> DateUnit
     ensures unit { result ≡ date_in (plain_all parts.now) }
 {
-    date_unit(number_at(parts, 0, 1)).unwrap_or(DateUnit::Day)
+    date_unit(number_at(parts, slots::date::UNIT, 1)).unwrap_or(DateUnit::Day)
 }
 
-/// The unit that a table with these fields says, or the one of `default` where it says none.
+/// The unit that a Time, a Timestamp or a Duration table with these fields says, or the one of
+/// `default` where it says none. It is the same field of all three.
 pub(crate) fn time_in(parts: &[Tree], default: u64) -> TimeUnit
     ensures unit { result ≡ time_in default (plain_all parts.now) }
 {
-    time_unit(number_at(parts, 0, default)).unwrap_or(TimeUnit::Second)
+    time_unit(number_at(parts, slots::time::UNIT, default)).unwrap_or(TimeUnit::Second)
 }
 
 /// The number of bytes that a FixedSizeBinary table with these fields says.
 pub(crate) fn fixed_size_in(parts: &[Tree]) -> u32
     ensures bytes { result ≡ fixed_size_in (plain_all parts.now) }
 {
-    byte_width(number_at(parts, 0, 0)).unwrap_or(0)
+    byte_width(number_at(parts, slots::fixed_size_binary::BYTE_WIDTH, 0)).unwrap_or(0)
 }
 
 /// What field `index` says of a dictionary, None where it is absent.
-pub(crate) fn encoding_at(parts: &[Tree], index: usize) -> Option<Encoding>
+pub(crate) fn encoding_at(parts: &[Tree], index: u16) -> Option<Encoding>
     ensures encoding { result ≡ encoding_in (nth index (plain_all parts.now)) }
 {
     match part(parts, index) {
@@ -343,16 +346,16 @@ fn encoding_in(tree: &Tree) -> Option<Encoding>
     match tree {
         Tree::Leaf(_) => None,
         Tree::Table(_, parts) => Some(Encoding {
-            id: number_at(parts, 0, 0).cast_signed(),
-            index: index_at(parts, 1),
-            ordered: flag_at(parts, 2),
+            id: number_at(parts, slots::dictionary_encoding::ID, 0).cast_signed(),
+            index: index_at(parts, slots::dictionary_encoding::INDEX_TYPE),
+            ordered: flag_at(parts, slots::dictionary_encoding::IS_ORDERED),
         }),
         Tree::Tables(_) => None,
     }
 }
 
 /// The type of an index in field `index`.
-fn index_at(parts: &[Tree], index: usize) -> IndexType
+fn index_at(parts: &[Tree], index: u16) -> IndexType
     ensures index { result ≡ index_in (nth index (plain_all parts.now)) }
 {
     match part(parts, index) {
@@ -374,7 +377,7 @@ fn index_in(tree: &Tree) -> IndexType
         Tree::Leaf(_) => DEFAULT_INDEX,
         Tree::Table(_, parts) => IndexType {
             bits: width_in(parts),
-            signed: flag_at(parts, 1),
+            signed: flag_at(parts, slots::int::IS_SIGNED),
         },
         Tree::Tables(_) => DEFAULT_INDEX,
     }

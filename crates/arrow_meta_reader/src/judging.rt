@@ -24,6 +24,7 @@ use crate::nesting::is_nested;
 use crate::parts::{has_table, into_parts, is_there_at, number_at, part};
 use crate::reader::tree_counted;
 use crate::sharing::types_differ;
+use crate::slots;
 use crate::work::Work;
 use arrow_types::Limits;
 use std::alloc::Global;
@@ -94,11 +95,11 @@ pub fn judge(alloc: Global, tree: MessageTree, limits: &Limits) -> Result<Messag
 fn cleared(alloc: Global, parts: &[Tree], max_body: u64) -> Result<HeaderKind, MetaFault>
     ensures least { Clears result max_body (plain_all parts.now) }
 {
-    let body_len = number_at(parts, 3, 0);
+    let body_len = number_at(parts, slots::message::BODY_LENGTH, 0);
     if any_in(Test::LacksTable, parts) {
         return Err(MetaFault::Metadata);
     }
-    if !is_read_version(number_at(parts, 0, 0)) {
+    if !is_read_version(number_at(parts, slots::message::VERSION, 0)) {
         return Err(MetaFault::Version);
     }
     let Some(kind) = header_in(parts) else {
@@ -117,8 +118,8 @@ fn cleared(alloc: Global, parts: &[Tree], max_body: u64) -> Result<HeaderKind, M
 fn header_in(parts: &[Tree]) -> Option<HeaderKind>
     ensures kind { result ≡ header_in (plain_all parts.now) }
 {
-    if has_table(parts, 2) {
-        header_kind(number_at(parts, 1, 0))
+    if has_table(parts, slots::message::HEADER) {
+        header_kind(number_at(parts, slots::message::HEADER_TYPE, 0))
     } else {
         None
     }
@@ -133,13 +134,17 @@ fn header_fault(alloc: Global, kind: HeaderKind, parts: &[Tree], body_len: u64) 
         HeaderKind::Schema => schema_fault(alloc, parts, body_len),
         HeaderKind::DictionaryBatch => {
             compression_fault(
-                is_compressed_data(parts, 2),
+                is_compressed_data(parts, slots::message::HEADER),
                 BatchKind::Dictionary,
                 body_len,
             )
         }
         HeaderKind::RecordBatch => {
-            compression_fault(is_compressed_batch(parts, 2), BatchKind::Record, body_len)
+            compression_fault(
+                is_compressed_batch(parts, slots::message::HEADER),
+                BatchKind::Record,
+                body_len,
+            )
         }
     }
 }
@@ -149,10 +154,12 @@ fn schema_fault(alloc: Global, parts: &[Tree], body_len: u64) -> Option<MetaFaul
     ensures least { let x = header_of (plain_all parts.now) in
         result ≡ least (header_conditions (Some headers.Schema) body_len x) }
 {
-    if is_unsupported_at(parts, 2) {
+    if is_unsupported_at(parts, slots::message::HEADER) {
         return Some(MetaFault::Unsupported { body_len });
     }
-    if is_misfit_at(parts, 2) || shares_at(alloc, parts, 2) {
+    if is_misfit_at(parts, slots::message::HEADER)
+        || shares_at(alloc, parts, slots::message::HEADER)
+    {
         return Some(MetaFault::Schema { body_len });
     }
     None
@@ -177,7 +184,7 @@ fn is_bad_length(max_body: u64, length: u64) -> bool
 }
 
 /// Whether the Schema table in field `index` holds something unsupported.
-fn is_unsupported_at(parts: &[Tree], index: usize) -> bool
+fn is_unsupported_at(parts: &[Tree], index: u16) -> bool
     ensures unsupported { result ≡ is_unsupported_schema (nth index (plain_all parts.now)) }
 {
     match part(parts, index) {
@@ -192,12 +199,12 @@ fn is_nested_schema(schema: &Tree) -> bool
 {
     match schema {
         Tree::Leaf(_) => false,
-        Tree::Table(_, parts) => is_nested_at(parts, 1),
+        Tree::Table(_, parts) => is_nested_at(parts, slots::schema::FIELDS),
         Tree::Tables(_) => false,
     }
 }
 
-fn is_nested_at(parts: &[Tree], index: usize) -> bool
+fn is_nested_at(parts: &[Tree], index: u16) -> bool
     ensures nested { result ≡ is_nested (fields_in (nth index (plain_all parts.now))) }
 {
     match part(parts, index) {
@@ -207,7 +214,7 @@ fn is_nested_at(parts: &[Tree], index: usize) -> bool
 }
 
 /// Whether the Schema table in field `index` holds a misfit.
-fn is_misfit_at(parts: &[Tree], index: usize) -> bool
+fn is_misfit_at(parts: &[Tree], index: u16) -> bool
     ensures misfit { result ≡ any is_misfit (nth index (plain_all parts.now)) }
 {
     match part(parts, index) {
@@ -218,11 +225,11 @@ fn is_misfit_at(parts: &[Tree], index: usize) -> bool
 
 /// Whether two fields of the Schema table in field `index` share a dictionary id and have unequal
 /// value types.
-fn shares_at(alloc: Global, parts: &[Tree], index: usize) -> bool
+fn shares_at(alloc: Global, parts: &[Tree], index: u16) -> bool
     ensures shares { result ≡ shares_an_id (nth index (plain_all parts.now)) }
 {
     match part(parts, index) {
-        Some(Tree::Table(_, schema)) => fields_differ_at(alloc, schema, 1),
+        Some(Tree::Table(_, schema)) => fields_differ_at(alloc, schema, slots::schema::FIELDS),
         Some(Tree::Leaf(_)) => false,
         Some(Tree::Tables(_)) => false,
         None => false,
@@ -230,7 +237,7 @@ fn shares_at(alloc: Global, parts: &[Tree], index: usize) -> bool
 }
 
 /// The same for the fields of the vector in field `index`.
-fn fields_differ_at(alloc: Global, parts: &[Tree], index: usize) -> bool
+fn fields_differ_at(alloc: Global, parts: &[Tree], index: u16) -> bool
     ensures differ { let fields = fields_in (nth index (plain_all parts.now)) in
         result ≡ types_differ (dictionary_fields fields) }
 {
@@ -241,12 +248,15 @@ fn fields_differ_at(alloc: Global, parts: &[Tree], index: usize) -> bool
 }
 
 /// Whether the data of the DictionaryBatch table in field `index` are compressed.
-fn is_compressed_data(parts: &[Tree], index: usize) -> bool
+fn is_compressed_data(parts: &[Tree], index: u16) -> bool
     ensures compressed { result
         ≡ is_compressed (data_of (parts_of (nth index (plain_all parts.now)))) }
 {
     match part(parts, index) {
-        Some(Tree::Table(_, dictionary)) => is_compressed_batch(dictionary, 1),
+        Some(Tree::Table(_, dictionary)) => is_compressed_batch(
+            dictionary,
+            slots::dictionary_batch::DATA,
+        ),
         Some(Tree::Leaf(_)) => false,
         Some(Tree::Tables(_)) => false,
         None => false,
@@ -254,11 +264,11 @@ fn is_compressed_data(parts: &[Tree], index: usize) -> bool
 }
 
 /// Whether the RecordBatch table in field `index` is compressed.
-fn is_compressed_batch(parts: &[Tree], index: usize) -> bool
+fn is_compressed_batch(parts: &[Tree], index: u16) -> bool
     ensures compressed { result ≡ is_compressed (parts_of (nth index (plain_all parts.now))) }
 {
     match part(parts, index) {
-        Some(Tree::Table(_, batch)) => is_there_at(batch, 3),
+        Some(Tree::Table(_, batch)) => is_there_at(batch, slots::record_batch::COMPRESSION),
         Some(Tree::Leaf(_)) => false,
         Some(Tree::Tables(_)) => false,
         None => false,

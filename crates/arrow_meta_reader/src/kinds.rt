@@ -22,6 +22,13 @@ pub(crate) enum TableKind {
     KeyValue,
 }
 
+/// How many bytes the element of a vector of pairs has: a struct of two numbers of eight bytes
+/// (`Message.fbs`, struct `FieldNode`; `Schema.fbs`, struct `Buffer`).
+pub(crate) const PAIR: usize = 16;
+
+/// How many bytes an offset has, the element of a vector of tables.
+pub(crate) const OFFSET: usize = 4;
+
 /// What a field of a table holds. It is public so that the definitions of the crates above can name
 /// its variants; no path outside the crate leads to it.
 #[derive(Clone, Copy)]

@@ -22,6 +22,7 @@
 //! | Notion | Definition |
 //! |---|---|
 //! | tables and their fields | `specs/Kinds.antt`: `forms_of`, `header_table`, `type_table` |
+//! | the fields' numbers | `specs/Slots.antt` |
 //! | the tree that lies at a place | `specs/Lies.antt`: `Lies`, `LiesAtRoot` |
 //! | levels, visits, pairs, bytes of names | `specs/Within.antt`: `IsWithin` |
 //! | where reading asks for memory | `specs/Grows.antt`: `Grows`, `GrowsAtRoot` |
@@ -57,6 +58,7 @@ mod own_parts;
 mod parts;
 mod reader;
 mod sharing;
+mod slots;
 mod work;
 
 pub use fault::{BatchKind, MetaFault};

@@ -10,6 +10,7 @@ ghost use Rattle.arrow_types.specs.Notes.{pair_view, pairs_view};
 use crate::kinds::TableKind;
 use crate::message_tree::Tree;
 use crate::parts::{into_bytes, take};
+use crate::slots;
 use std::alloc::{AllocError, Global};
 
 /// The pairs of a vector of KeyValue tables, none of anything else. Of none no memory is taken.
@@ -56,7 +57,7 @@ fn into_pair(alloc: Global, tree: Tree) -> Option<(Vec<u8>, Vec<u8>)>
 fn pair(alloc: Global, mut parts: Vec<Tree>) -> (Vec<u8>, Vec<u8>)
     ensures pair { pair_view result ≡ pair_of (plain_all parts.items) }
 {
-    let value = into_bytes(alloc, take(&mut parts, 1));
-    let key = into_bytes(alloc, take(&mut parts, 0));
+    let value = into_bytes(alloc, take(&mut parts, slots::key_value::VALUE));
+    let key = into_bytes(alloc, take(&mut parts, slots::key_value::KEY));
     (key, value)
 }

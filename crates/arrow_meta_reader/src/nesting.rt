@@ -6,6 +6,7 @@ ghost use Rattle.std.specs.Prelude.{◌≡◌, is_some};
 ghost use Rattle.arrow_meta_reader.specs.Parts.{nth};
 ghost use Rattle.arrow_meta_reader.specs.SchemaMeaning.{encoding_in, fields_in, fields_from, fields_at};
 ghost use Rattle.arrow_meta_reader.specs.SchemaMeaning.{with_field, field_of};
+ghost use Rattle.arrow_meta_reader.specs.Slots as slots;
 ghost use Rattle.arrow_meta_reader.specs.Views.{plain, plain_all};
 ghost use Rattle.arrow_types.specs.Field.{none};
 ghost use Rattle.arrow_types.specs.Schema.{has_encoding, is_nested, field_is_nested};
@@ -13,6 +14,7 @@ ghost use Rattle.arrow_types.specs.Schema.{has_encoding, is_nested, field_is_nes
 use crate::kinds::TableKind;
 use crate::message_tree::Tree;
 use crate::parts::has_table;
+use crate::slots;
 
 /// Whether a dictionary field stands below a dictionary field in the vector of fields.
 #[cycle(nesting)]
@@ -64,9 +66,9 @@ fn has_nested_parts(parts: &[Tree]) -> bool
 #[cycle(nesting)]
 #[tactic(auto, using(crate::proofs::TableFields::fields_at_nth))]
 fn is_nested_below(parts: &[Tree]) -> bool
-    ensures nested { result ≡ is_nested (fields_at 5 (plain_all parts.now)) }
+    ensures nested { result ≡ is_nested (fields_at slots.field_children (plain_all parts.now)) }
 {
-    match parts.get(5) {
+    match parts.get(slots::field::CHILDREN as usize) {
         Some(fields) => is_nested(fields),
         None => false,
     }
@@ -75,18 +77,18 @@ fn is_nested_below(parts: &[Tree]) -> bool
 /// Whether the Field table with these fields has a dictionary.
 #[tactic(auto, using(crate::proofs::TableFields::encoded))]
 fn is_encoded(parts: &[Tree]) -> bool
-    ensures encoded { result ≡ is_some (encoding_in (nth 4 (plain_all parts.now))) }
+    ensures encoded { result ≡ is_some (encoding_in (nth slots.field_dictionary (plain_all parts.now))) }
 {
-    has_table(parts, 4)
+    has_table(parts, slots::field::DICTIONARY)
 }
 
 /// Whether a child of the Field table with these fields, on any level, has a dictionary.
 #[cycle(encodings)]
 #[tactic(auto, using(crate::proofs::TableFields::fields_at_nth))]
 fn has_encoding_below(parts: &[Tree]) -> bool
-    ensures encoded { result ≡ has_encoding (fields_at 5 (plain_all parts.now)) }
+    ensures encoded { result ≡ has_encoding (fields_at slots.field_children (plain_all parts.now)) }
 {
-    match parts.get(5) {
+    match parts.get(slots::field::CHILDREN as usize) {
         Some(fields) => has_encoding(fields),
         None => false,
     }

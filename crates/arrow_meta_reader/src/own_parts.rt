@@ -6,6 +6,7 @@ ghost use Rattle.arrow_meta_reader.specs.Codes.{type_code};
 ghost use Rattle.arrow_meta_reader.specs.Parts.{nth, parts as parts_of, number_at, some_text_in, text_in};
 ghost use Rattle.arrow_meta_reader.specs.SchemaMeaning.{head_of, tag_by};
 ghost use Rattle.arrow_meta_reader.specs.Sharing.{AreLabelledAlike, code_in, lent_bytes, tag_of};
+ghost use Rattle.arrow_meta_reader.specs.Slots as slots;
 ghost use Rattle.arrow_meta_reader.specs.Trees.{leaf as leaf_tree};
 ghost use Rattle.arrow_meta_reader.specs.Views.{plain_all, plain_leaf};
 
@@ -13,6 +14,7 @@ use crate::codes::{TypeCode, type_code};
 use crate::fields::{date_in, encoding_at, fixed_size_in, time_in, width_in};
 use crate::message_tree::{Leaf, Tree};
 use crate::parts::{flag_at, number_at, part};
+use crate::slots;
 
 /// Whether two Field tables with these fields say the same name, `nullable`, type and encoding,
 /// whatever their children are.
@@ -26,9 +28,10 @@ pub(crate) fn same_head(one: &[Tree], other: &[Tree]) -> bool
 fn same_label(one: &[Tree], other: &[Tree]) -> bool
     ensures same { IsTrue result ↔ AreLabelledAlike (plain_all one.now) (plain_all other.now) }
 {
-    text_at(one, 0) == text_at(other, 0)
-        && flag_at(one, 1) == flag_at(other, 1)
-        && encoding_at(one, 4) == encoding_at(other, 4)
+    text_at(one, slots::field::NAME) == text_at(other, slots::field::NAME)
+        && flag_at(one, slots::field::NULLABLE) == flag_at(other, slots::field::NULLABLE)
+        && encoding_at(one, slots::field::DICTIONARY)
+            == encoding_at(other, slots::field::DICTIONARY)
 }
 
 /// Whether they say the same type, whatever their children are.
@@ -50,14 +53,14 @@ fn same_code(one: TypeCode, other: TypeCode) -> bool
 fn code_in(parts: &[Tree]) -> TypeCode
     ensures code { result ≡ code_in (plain_all parts.now) }
 {
-    type_code(number_at(parts, 2, 0)).unwrap_or(TypeCode::Null)
+    type_code(number_at(parts, slots::field::TYPE_TYPE, 0)).unwrap_or(TypeCode::Null)
 }
 
 /// The fields of the type's table, none where it is absent.
 fn table_of(parts: &[Tree]) -> &[Tree]
-    ensures table { plain_all result.now ≡ parts_of (nth 3 (plain_all parts.now)) }
+    ensures table { plain_all result.now ≡ parts_of (nth slots.field_type (plain_all parts.now)) }
 {
-    match part(parts, 3) {
+    match part(parts, slots::field::TYPE) {
         Some(Tree::Table(_, fields)) => fields,
         Some(Tree::Leaf(_)) => &[],
         Some(Tree::Tables(_)) => &[],
@@ -72,13 +75,17 @@ fn same_part(code: TypeCode, one: &[Tree], other: &[Tree]) -> bool
 {
     match code {
         TypeCode::Int => {
-            width_in(one) == width_in(other) && flag_at(one, 1) == flag_at(other, 1)
+            width_in(one) == width_in(other)
+                && flag_at(one, slots::int::IS_SIGNED) == flag_at(other, slots::int::IS_SIGNED)
         }
         TypeCode::Date => date_in(one) == date_in(other),
         TypeCode::Time | TypeCode::Duration => time_in(one, 1) == time_in(other, 1),
         TypeCode::Timestamp => {
             time_in(one, 0) == time_in(other, 0)
-                && same_zone(some_text_at(one, 1), some_text_at(other, 1))
+                && same_zone(
+                    some_text_at(one, slots::timestamp::TIMEZONE),
+                    some_text_at(other, slots::timestamp::TIMEZONE),
+                )
         }
         TypeCode::FixedSizeBinary => fixed_size_in(one) == fixed_size_in(other),
         TypeCode::Null
@@ -106,14 +113,14 @@ fn same_zone(one: Option<&str>, other: Option<&str>) -> bool
 }
 
 /// The text in field `index`, empty where it is absent.
-fn text_at(parts: &[Tree], index: usize) -> &str
+fn text_at(parts: &[Tree], index: u16) -> &str
     ensures text { result.now ≡ text_in (nth index (plain_all parts.now)) }
 {
     some_text_at(parts, index).unwrap_or("")
 }
 
 /// The text in field `index`, None where it is absent.
-fn some_text_at(parts: &[Tree], index: usize) -> Option<&str>
+fn some_text_at(parts: &[Tree], index: u16) -> Option<&str>
     ensures text { option_map lent_bytes result ≡ some_text_in (nth index (plain_all parts.now)) }
 {
     match part(parts, index) {

@@ -11,15 +11,15 @@ use crate::message_tree::{Leaf, Tree};
 use std::alloc::Global;
 
 /// Field `index` of a table, None where it is absent.
-pub(crate) fn part(parts: &[Tree], index: usize) -> Option<&Tree>
+pub(crate) fn part(parts: &[Tree], index: u16) -> Option<&Tree>
     ensures found { MatchOption result (nth index (plain_all parts.now) ≡ leaf nothing)
         (λ t. nth index (plain_all parts.now) ≡ plain t.now) }
 {
-    parts.get(index)
+    parts.get(index as usize)
 }
 
 /// The number in field `index`, or `default` where it is absent.
-pub(crate) fn number_at(parts: &[Tree], index: usize, default: u64) -> u64
+pub(crate) fn number_at(parts: &[Tree], index: u16, default: u64) -> u64
     ensures number { result ≡ number_at index default (plain_all parts.now) }
 {
     match part(parts, index) {
@@ -29,14 +29,14 @@ pub(crate) fn number_at(parts: &[Tree], index: usize, default: u64) -> u64
 }
 
 /// Whether the byte in field `index` is not 0.
-pub(crate) fn flag_at(parts: &[Tree], index: usize) -> bool
+pub(crate) fn flag_at(parts: &[Tree], index: u16) -> bool
     ensures flag { result ≡ flag_at index (plain_all parts.now) }
 {
     number_at(parts, index, 0) != 0
 }
 
 /// Whether field `index` holds a table.
-pub(crate) fn has_table(parts: &[Tree], index: usize) -> bool
+pub(crate) fn has_table(parts: &[Tree], index: u16) -> bool
     ensures table { result ≡ is_table (nth index (plain_all parts.now)) }
 {
     match part(parts, index) {
@@ -46,7 +46,7 @@ pub(crate) fn has_table(parts: &[Tree], index: usize) -> bool
 }
 
 /// Whether field `index` is there.
-pub(crate) fn is_there_at(parts: &[Tree], index: usize) -> bool
+pub(crate) fn is_there_at(parts: &[Tree], index: u16) -> bool
     ensures there { result ≡ is_there (nth index (plain_all parts.now)) }
 {
     match part(parts, index) {
@@ -112,13 +112,13 @@ impl Leaf {
 
 /// Takes field `index` out of a table. Those before it stay where they are, so fields are taken
 /// from the last to the first.
-pub(crate) fn take(parts: &mut Vec<Tree>, index: usize) -> Tree
+pub(crate) fn take(parts: &mut Vec<Tree>, index: u16) -> Tree
     ensures taken { plain result ≡ nth index (plain_all parts.old.items) }
     ensures before { (i : ℕ) → i < index
         → nth i (plain_all parts.new.items) ≡ nth i (plain_all parts.old.items) }
 {
-    if index < parts.len() {
-        parts.remove(index)
+    if (index as usize) < parts.len() {
+        parts.remove(index as usize)
     } else {
         absent()
     }

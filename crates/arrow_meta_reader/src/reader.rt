@@ -245,7 +245,7 @@ impl Reader {
             levels (room self.old) (room self.new) }
         ensures max { self.new.counter.max_bytes ≡ self.old.counter.max_bytes }
     {
-        match table.vector(field, 4)? {
+        match table.vector(field, kinds::OFFSET)? {
             None => Ok(Tree::Leaf(Leaf::Absent)),
             Some(vector) => Ok(Tree::Tables(self.elements(kind, &vector, levels)?)),
         }
@@ -369,7 +369,7 @@ impl Reader {
             most (room self.old) (room self.new) }
         ensures max { self.new.counter.max_bytes ≡ self.old.counter.max_bytes }
     {
-        match table.vector(field, 16)? {
+        match table.vector(field, kinds::PAIR)? {
             None => Ok(Tree::Leaf(Leaf::Absent)),
             Some(vector) => Ok(Tree::Leaf(Leaf::Pairs(pairs_of(self.alloc, &vector)?))),
         }

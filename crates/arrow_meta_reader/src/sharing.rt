@@ -17,6 +17,7 @@ use crate::field_tables::{children_of, first_field, tables_of};
 use crate::fields::encoding_at;
 use crate::message_tree::Tree;
 use crate::own_parts::{same_head, same_tag};
+use crate::slots;
 use std::alloc::{AllocError, Global};
 use std::collections::BTreeMap;
 
@@ -75,7 +76,7 @@ fn add_field<'a>(parts: &'a [Tree], found: &mut Vec<Encoded<'a>>) -> Result<(), 
     ensures added { OnOk result (encoded_views found.new.items ≡ encoded_views found.old.items
         ++ field_dictionaries (field_of (plain_all parts.now))) }
 {
-    if let Some(encoding) = encoding_at(parts, 4) {
+    if let Some(encoding) = encoding_at(parts, slots::field::DICTIONARY) {
         found.push(Encoded {
             id: encoding.id,
             parts,
@@ -129,7 +130,7 @@ fn differs(parts: &[Tree], all: &[Tree]) -> bool
     ensures differ { result
         ≡ field_differs (fields_from (plain_all all.now)) (field_of (plain_all parts.now)) }
 {
-    if let Some(encoding) = encoding_at(parts, 4)
+    if let Some(encoding) = encoding_at(parts, slots::field::DICTIONARY)
         && some_clash(all, encoding.id, parts)
     {
         return true;
@@ -171,7 +172,7 @@ fn is_other(parts: &[Tree], id: i64, like: &[Tree]) -> bool
         ≡ head_clashes (record { id = id; value_type = type_of (plain_all like.now) })
         ((field_of (plain_all parts.now)).head) ((field_of (plain_all parts.now)).children) }
 {
-    match encoding_at(parts, 4) {
+    match encoding_at(parts, slots::field::DICTIONARY) {
         Some(encoding) => id == encoding.id && !same_type(like, parts),
         None => false,
     }

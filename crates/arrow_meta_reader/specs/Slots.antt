@@ -1,0 +1,147 @@
+-- The fields of tables by their numbers, under their names in Message.fbs and Schema.fbs. A field of a union has a field
+-- before it, named for it, with the code of what it holds (FlatBuffers internals, "Unions").
+use Rattle.std.specs.Prelude.{ℕ}
+
+-- version (Message.fbs, table "Message")
+abbrev pub message_version : ℕ
+message_version = 0
+
+-- the code of header (Message.fbs, table "Message")
+abbrev pub message_header_type : ℕ
+message_header_type = 1
+
+-- header (Message.fbs, table "Message")
+abbrev pub message_header : ℕ
+message_header = 2
+
+-- bodyLength (Message.fbs, table "Message")
+abbrev pub message_body_length : ℕ
+message_body_length = 3
+
+-- endianness (Schema.fbs, table "Schema")
+abbrev pub schema_endianness : ℕ
+schema_endianness = 0
+
+-- fields (Schema.fbs, table "Schema")
+abbrev pub schema_fields : ℕ
+schema_fields = 1
+
+-- custom_metadata (Schema.fbs, table "Schema")
+abbrev pub schema_custom_metadata : ℕ
+schema_custom_metadata = 2
+
+-- name (Schema.fbs, table "Field")
+abbrev pub field_name : ℕ
+field_name = 0
+
+-- nullable (Schema.fbs, table "Field")
+abbrev pub field_nullable : ℕ
+field_nullable = 1
+
+-- the code of type (Schema.fbs, table "Field")
+abbrev pub field_type_type : ℕ
+field_type_type = 2
+
+-- type (Schema.fbs, table "Field")
+abbrev pub field_type : ℕ
+field_type = 3
+
+-- dictionary (Schema.fbs, table "Field")
+abbrev pub field_dictionary : ℕ
+field_dictionary = 4
+
+-- children (Schema.fbs, table "Field")
+abbrev pub field_children : ℕ
+field_children = 5
+
+-- custom_metadata (Schema.fbs, table "Field")
+abbrev pub field_custom_metadata : ℕ
+field_custom_metadata = 6
+
+-- id (Schema.fbs, table "DictionaryEncoding")
+abbrev pub dictionary_encoding_id : ℕ
+dictionary_encoding_id = 0
+
+-- indexType (Schema.fbs, table "DictionaryEncoding")
+abbrev pub dictionary_encoding_index_type : ℕ
+dictionary_encoding_index_type = 1
+
+-- isOrdered (Schema.fbs, table "DictionaryEncoding")
+abbrev pub dictionary_encoding_is_ordered : ℕ
+dictionary_encoding_is_ordered = 2
+
+-- dictionaryKind (Schema.fbs, table "DictionaryEncoding")
+abbrev pub dictionary_encoding_dictionary_kind : ℕ
+dictionary_encoding_dictionary_kind = 3
+
+-- length (Message.fbs, table "RecordBatch")
+abbrev pub record_batch_length : ℕ
+record_batch_length = 0
+
+-- nodes (Message.fbs, table "RecordBatch")
+abbrev pub record_batch_nodes : ℕ
+record_batch_nodes = 1
+
+-- buffers (Message.fbs, table "RecordBatch")
+abbrev pub record_batch_buffers : ℕ
+record_batch_buffers = 2
+
+-- compression (Message.fbs, table "RecordBatch")
+abbrev pub record_batch_compression : ℕ
+record_batch_compression = 3
+
+-- id (Message.fbs, table "DictionaryBatch")
+abbrev pub dictionary_batch_id : ℕ
+dictionary_batch_id = 0
+
+-- data (Message.fbs, table "DictionaryBatch")
+abbrev pub dictionary_batch_data : ℕ
+dictionary_batch_data = 1
+
+-- isDelta (Message.fbs, table "DictionaryBatch")
+abbrev pub dictionary_batch_is_delta : ℕ
+dictionary_batch_is_delta = 2
+
+-- bitWidth (Schema.fbs, table "Int")
+abbrev pub int_bit_width : ℕ
+int_bit_width = 0
+
+-- is_signed (Schema.fbs, table "Int")
+abbrev pub int_is_signed : ℕ
+int_is_signed = 1
+
+-- unit (Schema.fbs, table "Date")
+abbrev pub date_unit : ℕ
+date_unit = 0
+
+-- unit (Schema.fbs, table "Time")
+abbrev pub time_unit : ℕ
+time_unit = 0
+
+-- bitWidth (Schema.fbs, table "Time")
+abbrev pub time_bit_width : ℕ
+time_bit_width = 1
+
+-- unit (Schema.fbs, table "Timestamp")
+abbrev pub timestamp_unit : ℕ
+timestamp_unit = 0
+
+-- timezone (Schema.fbs, table "Timestamp")
+abbrev pub timestamp_timezone : ℕ
+timestamp_timezone = 1
+
+-- byteWidth (Schema.fbs, table "FixedSizeBinary")
+abbrev pub fixed_size_binary_byte_width : ℕ
+fixed_size_binary_byte_width = 0
+
+-- unit (Schema.fbs, table "Duration")
+abbrev pub duration_unit : ℕ
+duration_unit = 0
+
+-- key (Schema.fbs, table "KeyValue")
+abbrev pub key_value_key : ℕ
+key_value_key = 0
+
+-- value (Schema.fbs, table "KeyValue")
+abbrev pub key_value_value : ℕ
+key_value_value = 1
