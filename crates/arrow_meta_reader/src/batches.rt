@@ -104,7 +104,8 @@ fn number_in(table: &Table, field: u16, width: usize) -> Option<u64>
 /// The field nodes of a RecordBatch table.
 fn nodes_in(alloc: Global, table: &Table) -> Option<Vec<FieldNode>>
     ensures { IfSome result
-        (λ v. (ps : List (ℕ × ℕ)) × HasPairs table.now slots.record_batch_nodes ps × (v.items ≡ map node_of ps)) }
+        (λ v. (ps : List (ℕ × ℕ)) × HasPairs table.now slots.record_batch_nodes ps
+        × (v.items ≡ map node_of ps)) }
 {
     match table.vector(slots::record_batch::NODES, PAIR) {
         Ok(Some(vector)) => nodes_of(alloc, &vector).ok(),
@@ -116,7 +117,8 @@ fn nodes_in(alloc: Global, table: &Table) -> Option<Vec<FieldNode>>
 /// The buffers of a RecordBatch table.
 fn buffers_in(alloc: Global, table: &Table) -> Option<Vec<Buffer>>
     ensures { IfSome result
-        (λ v. (ps : List (ℕ × ℕ)) × HasPairs table.now slots.record_batch_buffers ps × (v.items ≡ map buffer_of ps)) }
+        (λ v. (ps : List (ℕ × ℕ)) × HasPairs table.now slots.record_batch_buffers ps
+        × (v.items ≡ map buffer_of ps)) }
 {
     match table.vector(slots::record_batch::BUFFERS, PAIR) {
         Ok(Some(vector)) => buffers_of(alloc, &vector).ok(),

@@ -109,8 +109,8 @@ fn meta_fault(body_len: u64, fault: SchemaFault) -> MetaFault
 /// The dictionary batch that a DictionaryBatch table with these fields says.
 fn dictionary(alloc: Global, mut parts: Vec<Tree>) -> Result<Header, AllocError>
     ensures built { let xs = plain_all parts.items in IfOk result (λ h. header_view h
-        ≡ dictionary (cast_signed w64 (number_at slots.dictionary_batch_id 0 xs)) (flag_at slots.dictionary_batch_is_delta xs)
-        (batch_of (data_of xs))) }
+        ≡ dictionary (cast_signed w64 (number_at slots.dictionary_batch_id 0 xs))
+        (flag_at slots.dictionary_batch_is_delta xs) (batch_of (data_of xs))) }
     ensures some { IfErr result (λ _. HasNodeOrBuffer (data_of (plain_all parts.items))) }
 {
     let id = number_at(&parts, slots::dictionary_batch::ID, 0).cast_signed();

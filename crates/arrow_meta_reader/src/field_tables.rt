@@ -56,7 +56,8 @@ fn field_parts(tree: &Tree) -> Option<&[Tree]>
 
 /// The tables of the vector in which the children of a Field table with these fields stand.
 pub(crate) fn children_of(parts: &[Tree]) -> &[Tree]
-    ensures fields { fields_from (plain_all result.now) ≡ fields_at slots.field_children (plain_all parts.now) }
+    ensures fields { fields_from (plain_all result.now)
+        ≡ fields_at slots.field_children (plain_all parts.now) }
     ensures smaller { size_all (plain_all result.now) ≤ size_all (plain_all parts.now) }
 {
     match part(parts, slots::field::CHILDREN) {

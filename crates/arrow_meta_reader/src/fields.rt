@@ -162,7 +162,8 @@ fn move_out(mut parts: Vec<Tree>) -> Moved
     ensures name { plain result.name ≡ nth slots.field_name (plain_all parts.items) }
     ensures table { plain result.table ≡ nth slots.field_type (plain_all parts.items) }
     ensures children { plain result.children ≡ nth slots.field_children (plain_all parts.items) }
-    ensures metadata { plain result.metadata ≡ nth slots.field_custom_metadata (plain_all parts.items) }
+    ensures metadata { plain result.metadata
+        ≡ nth slots.field_custom_metadata (plain_all parts.items) }
 {
     let metadata = take(&mut parts, slots::field::CUSTOM_METADATA);
     let children = take(&mut parts, slots::field::CHILDREN);

@@ -77,7 +77,8 @@ fn is_nested_below(parts: &[Tree]) -> bool
 /// Whether the Field table with these fields has a dictionary.
 #[tactic(auto, using(crate::proofs::TableFields::encoded))]
 fn is_encoded(parts: &[Tree]) -> bool
-    ensures encoded { result ≡ is_some (encoding_in (nth slots.field_dictionary (plain_all parts.now))) }
+    ensures encoded { result
+        ≡ is_some (encoding_in (nth slots.field_dictionary (plain_all parts.now))) }
 {
     has_table(parts, slots::field::DICTIONARY)
 }
