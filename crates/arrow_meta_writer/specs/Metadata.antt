@@ -3,6 +3,7 @@ use Rattle.std.specs.Prelude.{ℕ, pos, ◌^◌, List, Bool, ◌&&◌, Option, S
 use Rattle.std.specs.Prelude.{if◌then◌else◌}
 use Rattle.std.specs.Ordering.{int_eq}
 use Rattle.arrow_flatbuf.specs.Buffer.{buffer, buffer_size}
+use Rattle.arrow_meta_reader.specs.Codes.{v5}
 use Rattle.arrow_meta_reader.specs.Means.{PlainMessage}
 use Rattle.arrow_meta_writer.specs.Layouts.{message_node}
 
@@ -16,7 +17,7 @@ metadata_size m = buffer_size (message_node m)
 
 -- a message of V5, with a body that the greatest limit admits
 abbrev pub is_sendable : PlainMessage → Bool
-is_sendable m = int_eq m.version (pos 4) && nat_le m.body_len (2 ^ 40)
+is_sendable m = int_eq m.version (pos v5) && nat_le m.body_len (2 ^ 40)
 
 -- the size of the metadata of a message that can be sent, none where it is over the greatest limit
 abbrev pub size_of : PlainMessage → Option ℕ

@@ -12,7 +12,7 @@ ghost use Rattle.arrow_meta_writer.specs.Layouts.{buffer_pair};
 ghost use Rattle.arrow_meta_writer.specs.Writable.{IsLong, AreNodes, AreBuffers, IsBatch};
 
 use crate::sizes::pairs_end;
-use crate::tables::{batch_table_end, dictionary_table_end};
+use crate::tables::{RECORD_BATCH_FIELDS, batch_table_end, dictionary_table_end};
 use crate::types::bit;
 use arrow_flatbuf::{Slot, TableWriter, Width, aligned, table_place};
 use arrow_meta_reader::RecordBatch;
@@ -36,7 +36,7 @@ pub(crate) fn write_dictionary(
     let end = dictionary_table_end(writer.place());
     writer.table(&[
         Slot::Scalar(Width::Eight, id.cast_unsigned()),
-        Slot::Target(table_place(end, 3)),
+        Slot::Target(table_place(end, RECORD_BATCH_FIELDS)),
         Slot::Scalar(Width::One, bit(delta)),
     ])?;
     write_batch(writer, batch)?;
@@ -58,7 +58,7 @@ pub(crate) fn write_batch(writer: &mut TableWriter, batch: &RecordBatch) -> Resu
 }
 
 /// The fields of a record batch's table that is laid out from a place on.
-fn batch_slots(place: usize, batch: &RecordBatch) -> [Slot; 3]
+fn batch_slots(place: usize, batch: &RecordBatch) -> [Slot; RECORD_BATCH_FIELDS]
     requires room { after place (table_node (batch_cells (batch_view batch.now))) ≤ 1073741824 }
     ensures slots { let cells = batch_cells (batch_view batch.now)
         in result ≡ slots (cells_place place cells) cells }

@@ -7,7 +7,7 @@ ghost use Rattle.arrow_meta_writer.specs.Appends.{laid_encoding};
 ghost use Rattle.arrow_meta_writer.specs.Layouts.{encoding_cells};
 ghost use Rattle.arrow_meta_writer.specs.Writable.{IsLong, HasLongId};
 
-use crate::tables::encoding_table_end;
+use crate::tables::{DICTIONARY_ENCODING_FIELDS, INT_FIELDS, encoding_table_end};
 use crate::types::{bit, write_int};
 use arrow_flatbuf::{Slot, TableWriter, Width, table_place};
 use arrow_types::Encoding;
@@ -20,7 +20,7 @@ pub(crate) fn encoding_slot(place: usize, encoding: Option<Encoding>) -> Slot
 {
     match encoding {
         None => Slot::Absent,
-        Some(_) => Slot::Target(table_place(place, 4)),
+        Some(_) => Slot::Target(table_place(place, DICTIONARY_ENCODING_FIELDS)),
     }
 }
 
@@ -50,7 +50,7 @@ fn write_some_encoding(writer: &mut TableWriter, encoding: Encoding) -> Result<(
     let end = encoding_table_end(writer.place());
     writer.table(&[
         Slot::Scalar(Width::Eight, encoding.id.cast_unsigned()),
-        Slot::Target(table_place(end, 2)),
+        Slot::Target(table_place(end, INT_FIELDS)),
         Slot::Scalar(Width::One, bit(encoding.ordered)),
         Slot::Scalar(Width::Two, 0),
     ])?;

@@ -15,7 +15,7 @@ ghost use Rattle.arrow_types.specs.View.{field_notes, field_view, fields_view, n
 use crate::encodings::{encoding_slot, write_encoding};
 use crate::metadata::{metadata_end, metadata_fields, write_metadata};
 use crate::sizes::{encoding_end, field_head_end, fields_end, offsets_end};
-use crate::tables::{field_table_end, schema_table_end, text_after};
+use crate::tables::{FIELD_FIELDS, SCHEMA_FIELDS, field_table_end, schema_table_end, text_after};
 use crate::type_sizes::type_end;
 use crate::types::{bit, type_code, type_fields, write_type};
 use arrow_flatbuf::{Slot, TableWriter, Width, aligned, table_place};
@@ -31,7 +31,7 @@ pub(crate) fn write_schema(writer: &mut TableWriter, schema: &Schema) -> Result<
 {
     let pairs = schema.metadata();
     let slots = schema_slots(writer.place(), schema);
-    writer.table(&slots[..2 + metadata_fields(pairs)])?;
+    writer.table(&slots[..SCHEMA_FIELDS + metadata_fields(pairs)])?;
     write_fields(writer, schema.fields())?;
     write_metadata(writer, pairs)?;
     Ok(())
@@ -95,7 +95,7 @@ fn field_fields(field: &Field) -> usize
     ensures count { result ≡ count (head_cells (field_view field.now) (field_notes field.now)) }
     ensures few { result ≤ 7 }
 {
-    6 + metadata_fields(&field.metadata)
+    FIELD_FIELDS + metadata_fields(&field.metadata)
 }
 
 /// Appends a field's table, its name, its type and its encoding.

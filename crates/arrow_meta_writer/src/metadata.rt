@@ -12,7 +12,7 @@ ghost use Rattle.arrow_meta_writer.specs.Layouts.{metadata_cells, pair_cells, pa
 ghost use Rattle.arrow_types.specs.Notes.{pair_view, pairs_view};
 
 use crate::sizes::offsets_end;
-use crate::tables::{bytes_after, pair_table_end};
+use crate::tables::{KEY_VALUE_FIELDS, bytes_after, pair_table_end};
 use arrow_flatbuf::{Slot, TableWriter, Width, aligned, table_place};
 use std::alloc::AllocError;
 
@@ -101,7 +101,7 @@ fn write_pair_offsets(
     let mut end = offsets_end(writer.place(), pairs.len());
     writer.count(pairs.len())?;
     for pair in pairs {
-        writer.offset(table_place(end, 2))?;
+        writer.offset(table_place(end, KEY_VALUE_FIELDS))?;
         end = pair_end(end, pair);
     }
     Ok(())
@@ -121,7 +121,7 @@ fn write_pair(writer: &mut TableWriter, pair: &(Vec<u8>, Vec<u8>)) -> Result<(),
 }
 
 /// The fields of the table of a pair that is laid out from a place on.
-fn pair_slots(place: usize, pair: &(Vec<u8>, Vec<u8>)) -> [Slot; 2]
+fn pair_slots(place: usize, pair: &(Vec<u8>, Vec<u8>)) -> [Slot; KEY_VALUE_FIELDS]
     requires room { after place (table_node (pair_cells (pair_view pair.now))) ≤ 1073741824 }
     ensures slots { let cells = pair_cells (pair_view pair.now)
         in result ≡ slots (cells_place place cells) cells }

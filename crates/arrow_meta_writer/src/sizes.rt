@@ -17,7 +17,7 @@ ghost use Rattle.arrow_types.specs.View.{field_notes, field_view, fields_view, n
 
 use crate::metadata::{metadata_end, metadata_fields};
 use crate::tables::{
-    TOP, batch_table_end, capped, dictionary_table_end, encoding_table_end, field_table_end,
+    START, TOP, batch_table_end, capped, dictionary_table_end, encoding_table_end, field_table_end,
     message_table_end, schema_table_end, text_after,
 };
 use crate::type_sizes::{int_end, type_end};
@@ -33,7 +33,7 @@ use arrow_types::{Encoding, Field, Limits, Schema};
 pub fn encoded_size(message: &Message) -> Option<u64>
     ensures size { result ≡ size_of (message_view message.now) }
 {
-    if message.version != 4 {
+    if message.version != Message::V5 {
         return None;
     }
     if message.body_len > Limits::BODY_CEILING {
@@ -51,7 +51,7 @@ pub fn encoded_size(message: &Message) -> Option<u64>
 fn message_end(message: &Message) -> usize
     ensures end { result ≡ capped (after 4 (message_node (message_view message.now))) }
 {
-    header_end(message_table_end(4), &message.header)
+    header_end(message_table_end(START), &message.header)
 }
 
 /// The first place after the header's table and all that belongs to it.

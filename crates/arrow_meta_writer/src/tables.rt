@@ -22,6 +22,33 @@ use arrow_flatbuf::{Slot, Width, bytes_end, table_end, text_end};
 /// One more than the greatest number of bytes that metadata have.
 pub(crate) const TOP: usize = 1_073_741_825;
 
+/// The first place after the offset to the root's table, from which a message is laid out.
+pub(crate) const START: usize = 4;
+
+/// How many fields a Message table has.
+pub(crate) const MESSAGE_FIELDS: usize = 4;
+
+/// How many fields a Schema table has before its metadata.
+pub(crate) const SCHEMA_FIELDS: usize = 2;
+
+/// How many fields a Field table has before its metadata.
+pub(crate) const FIELD_FIELDS: usize = 6;
+
+/// How many fields a KeyValue table has.
+pub(crate) const KEY_VALUE_FIELDS: usize = 2;
+
+/// How many fields a DictionaryEncoding table has.
+pub(crate) const DICTIONARY_ENCODING_FIELDS: usize = 4;
+
+/// How many fields an Int table has.
+pub(crate) const INT_FIELDS: usize = 2;
+
+/// How many fields a RecordBatch table has: it is not compressed.
+pub(crate) const RECORD_BATCH_FIELDS: usize = 3;
+
+/// How many fields a DictionaryBatch table has.
+pub(crate) const DICTIONARY_BATCH_FIELDS: usize = 3;
+
 /// The first place after a message's table.
 pub(crate) fn message_table_end(place: usize) -> usize
     requires { place ≤ 1073741825 }
@@ -51,7 +78,7 @@ pub(crate) fn schema_table_end(place: usize, metadata: usize) -> usize
 {
     let target = Slot::Target(0);
     let slots = [Slot::Scalar(Width::Two, 0), target, target];
-    table_after(place, &slots[..2 + metadata])
+    table_after(place, &slots[..SCHEMA_FIELDS + metadata])
 }
 
 /// The first place after a field's table, which has an encoding or none, and so many fields for its
@@ -68,7 +95,7 @@ pub(crate) fn field_table_end(place: usize, has_encoding: bool, metadata: usize)
     let target = Slot::Target(0);
     let encoding = if has_encoding { target } else { Slot::Absent };
     let slots = [target, byte, byte, target, encoding, target, target];
-    table_after(place, &slots[..6 + metadata])
+    table_after(place, &slots[..FIELD_FIELDS + metadata])
 }
 
 /// The first place after the table of a pair of metadata.

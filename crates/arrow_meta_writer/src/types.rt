@@ -17,7 +17,7 @@ ghost use Rattle.arrow_types.specs.DataType.{timestamp};
 ghost use Rattle.arrow_types.specs.Field.{width as field_width};
 ghost use Rattle.arrow_types.specs.View.{type_view};
 
-use crate::tables::zone_table_end;
+use crate::tables::{INT_FIELDS, zone_table_end};
 use arrow_flatbuf::{Slot, TableWriter, Width, aligned};
 use arrow_types::{BitWidth, DataType, DateUnit, TimeUnit};
 use std::alloc::AllocError;
@@ -55,7 +55,7 @@ pub(crate) fn type_fields(data_type: &DataType) -> usize
     ensures few { result ≤ 2 }
 {
     match data_type {
-        DataType::Int { .. } => 2,
+        DataType::Int { .. } => INT_FIELDS,
         DataType::Date(_) => 1,
         DataType::Time(_) => 2,
         DataType::Timestamp(unit, zone) => timestamp_fields(*unit, zone),

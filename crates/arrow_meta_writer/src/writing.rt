@@ -22,7 +22,10 @@ use crate::batches::{write_batch, write_dictionary};
 use crate::fields::write_schema;
 use crate::metadata::metadata_fields;
 use crate::sizes::encoded_size;
-use crate::tables::message_table_end;
+use crate::tables::{
+    DICTIONARY_BATCH_FIELDS, MESSAGE_FIELDS, RECORD_BATCH_FIELDS, SCHEMA_FIELDS, START,
+    message_table_end,
+};
 use arrow_flatbuf::{Slot, TableWriter, Width, table_place};
 use arrow_meta_reader::{Header, Message};
 use std::alloc::{AllocError, Global};
@@ -49,7 +52,7 @@ pub fn encode(alloc: Global, message: &Message) -> Result<Vec<u8>, AllocError>
 {
     let size = encoded_size(message).unwrap_or(0);
     let mut writer = TableWriter::with_capacity(alloc, size as usize)?;
-    writer.offset(table_place(4, 4))?;
+    writer.offset(table_place(START, MESSAGE_FIELDS))?;
     write_message(&mut writer, message)?;
     writer.pad(8)?;
     Ok(writer.into_bytes())
@@ -70,7 +73,7 @@ fn write_message(writer: &mut TableWriter, message: &Message) -> Result<(), Allo
 }
 
 /// The fields of a message's table that is laid out from a place on.
-fn message_slots(place: usize, message: &Message) -> [Slot; 4]
+fn message_slots(place: usize, message: &Message) -> [Slot; MESSAGE_FIELDS]
     requires room { after place (message_node (message_view message.now)) ≤ 1073741824 }
     ensures slots { let cells = message_cells (message_view message.now)
         in result ≡ slots (cells_place place cells) cells }
@@ -103,8 +106,9 @@ fn header_fields(header: &Header) -> usize
     ensures few { result ≤ 3 }
 {
     match header {
-        Header::Schema(schema) => 2 + metadata_fields(schema.metadata()),
-        Header::Dictionary(..) | Header::Batch(_) => 3,
+        Header::Schema(schema) => SCHEMA_FIELDS + metadata_fields(schema.metadata()),
+        Header::Dictionary(..) => DICTIONARY_BATCH_FIELDS,
+        Header::Batch(_) => RECORD_BATCH_FIELDS,
     }
 }
 
