@@ -37,6 +37,7 @@ mod metadata;
 mod sizes;
 mod tables;
 mod type_sizes;
+mod type_slots;
 mod types;
 mod writing;
 

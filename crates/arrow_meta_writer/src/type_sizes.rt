@@ -1,8 +1,7 @@
 //! Where types end, with their zones (`Schema.fbs`, tables `Int`, `Date`, `Time`, `Timestamp`,
 //! `FixedSizeBinary`, `Duration`).
 //!
-//! Places are those of `sizes`: in bytes, over the greatest size all as one. The numbers in the
-//! fields do not matter to the place, so they are left 0.
+//! Places are those of `sizes`: in bytes, over the greatest size all as one.
 ghost use Rattle.std.specs.Prelude.{◌≡◌, ◌≤◌, option_map, string_bytes};
 ghost use Rattle.arrow_flatbuf.specs.Nodes.{after, table};
 ghost use Rattle.arrow_meta_writer.specs.Capped.{capped};
@@ -12,7 +11,9 @@ ghost use Rattle.arrow_types.specs.DataType.{timestamp};
 ghost use Rattle.arrow_types.specs.View.{type_view};
 
 use crate::tables::{table_after, text_after, zone_table_end};
-use arrow_flatbuf::{Slot, Width};
+use crate::type_slots::{
+    date_slots, duration_slots, fixed_size_slots, int_slots, time_slots, timestamp_slots,
+};
 use arrow_types::{BitWidth, DataType, DateUnit, TimeUnit};
 
 /// The first place after a type's table and what belongs to it.
@@ -49,7 +50,7 @@ fn timestamp_end(place: usize, unit: TimeUnit, zone: &Option<String>) -> usize
     ensures near { result ≤ 1073741825 }
 {
     match zone {
-        None => table_after(place, &[Slot::Scalar(Width::Two, 0)]),
+        None => table_after(place, &timestamp_slots(unit)),
         Some(zone) => text_after(zone_table_end(place), zone),
     }
 }
@@ -60,7 +61,7 @@ fn date_end(place: usize, unit: DateUnit) -> usize
     ensures end { result ≡ capped (after place (table (type_cells (date unit)))) }
     ensures near { result ≤ 1073741825 }
 {
-    table_after(place, &[Slot::Scalar(Width::Two, 0)])
+    table_after(place, &date_slots(unit))
 }
 
 /// The first place after a time's table.
@@ -69,10 +70,7 @@ fn time_end(place: usize, unit: TimeUnit) -> usize
     ensures end { result ≡ capped (after place (table (type_cells (time unit)))) }
     ensures near { result ≤ 1073741825 }
 {
-    table_after(
-        place,
-        &[Slot::Scalar(Width::Two, 0), Slot::Scalar(Width::Four, 0)],
-    )
+    table_after(place, &time_slots(unit))
 }
 
 /// The first place after the table of byte strings of a fixed size.
@@ -81,7 +79,7 @@ fn fixed_size_end(place: usize, width: u32) -> usize
     ensures end { result ≡ capped (after place (table (type_cells (fixed_size_binary width)))) }
     ensures near { result ≤ 1073741825 }
 {
-    table_after(place, &[Slot::Scalar(Width::Four, 0)])
+    table_after(place, &fixed_size_slots(width))
 }
 
 /// The first place after a duration's table.
@@ -90,7 +88,7 @@ fn duration_end(place: usize, unit: TimeUnit) -> usize
     ensures end { result ≡ capped (after place (table (type_cells (duration unit)))) }
     ensures near { result ≤ 1073741825 }
 {
-    table_after(place, &[Slot::Scalar(Width::Two, 0)])
+    table_after(place, &duration_slots(unit))
 }
 
 /// The first place after an Int table.
@@ -99,8 +97,5 @@ pub(crate) fn int_end(place: usize, bits: BitWidth, signed: bool) -> usize
     ensures end { result ≡ capped (after place (table (int_cells bits signed))) }
     ensures near { result ≤ 1073741825 }
 {
-    table_after(
-        place,
-        &[Slot::Scalar(Width::Four, 0), Slot::Scalar(Width::One, 0)],
-    )
+    table_after(place, &int_slots(bits, signed))
 }

@@ -18,6 +18,9 @@ ghost use Rattle.arrow_types.specs.Field.{width as field_width};
 ghost use Rattle.arrow_types.specs.View.{type_view};
 
 use crate::tables::{INT_FIELDS, zone_table_end};
+use crate::type_slots::{
+    date_slots, duration_slots, fixed_size_slots, int_slots, time_slots, timestamp_slots,
+};
 use arrow_flatbuf::{Slot, TableWriter, Width, aligned};
 use arrow_types::{BitWidth, DataType, DateUnit, TimeUnit};
 use std::alloc::AllocError;
@@ -126,7 +129,7 @@ fn write_timestamp(
         (HasTextZone (timestamp unit (option_map string_bytes zone.now))) }
 {
     match zone {
-        None => writer.table(&[Slot::Scalar(Width::Two, time_number(unit))]),
+        None => writer.table(&timestamp_slots(unit)),
         Some(zone) => {
             write_zone(writer, unit, zone)?;
             Ok(())
@@ -153,17 +156,14 @@ fn write_zone(writer: &mut TableWriter, unit: TimeUnit, zone: &str) -> Result<()
 fn write_time(writer: &mut TableWriter, unit: TimeUnit) -> Result<(), AllocError>
     ensures { OnOk result (Appends writer.old (table_node (type_cells (time unit))) writer.new) }
 {
-    writer.table(&[
-        Slot::Scalar(Width::Two, time_number(unit)),
-        Slot::Scalar(Width::Four, u64::from(unit.time_width().bits())),
-    ])
+    writer.table(&time_slots(unit))
 }
 
 /// Appends a date's table.
 fn write_date(writer: &mut TableWriter, unit: DateUnit) -> Result<(), AllocError>
     ensures { OnOk result (Appends writer.old (table_node (type_cells (date unit))) writer.new) }
 {
-    writer.table(&[Slot::Scalar(Width::Two, date_number(unit))])
+    writer.table(&date_slots(unit))
 }
 
 /// Appends the table of byte strings of a fixed size.
@@ -171,7 +171,7 @@ fn write_fixed_size(writer: &mut TableWriter, width: u32) -> Result<(), AllocErr
     ensures { OnOk result
         (Appends writer.old (table_node (type_cells (fixed_size_binary width))) writer.new) }
 {
-    writer.table(&[Slot::Scalar(Width::Four, u64::from(width))])
+    writer.table(&fixed_size_slots(width))
 }
 
 /// Appends a duration's table.
@@ -179,7 +179,7 @@ fn write_duration(writer: &mut TableWriter, unit: TimeUnit) -> Result<(), AllocE
     ensures { OnOk result
         (Appends writer.old (table_node (type_cells (duration unit))) writer.new) }
 {
-    writer.table(&[Slot::Scalar(Width::Two, time_number(unit))])
+    writer.table(&duration_slots(unit))
 }
 
 /// Appends an Int table.
@@ -190,10 +190,7 @@ pub(crate) fn write_int(
 ) -> Result<(), AllocError>
     ensures { OnOk result (Appends writer.old (table_node (int_cells bits signed)) writer.new) }
 {
-    writer.table(&[
-        Slot::Scalar(Width::Four, u64::from(bits.bits())),
-        Slot::Scalar(Width::One, bit(signed)),
-    ])
+    writer.table(&int_slots(bits, signed))
 }
 
 /// A truth value as a byte.
@@ -205,7 +202,7 @@ pub(crate) fn bit(truth: bool) -> u64
 }
 
 /// The number of a date's unit (`Schema.fbs`, enum `DateUnit`).
-fn date_number(unit: DateUnit) -> u64
+pub(crate) fn date_number(unit: DateUnit) -> u64
     ensures number { result ≡ date_number unit }
     ensures small { result < 256 }
 {
@@ -216,7 +213,7 @@ fn date_number(unit: DateUnit) -> u64
 }
 
 /// The number of the unit of a time, a timestamp or a duration (`Schema.fbs`, enum `TimeUnit`).
-fn time_number(unit: TimeUnit) -> u64
+pub(crate) fn time_number(unit: TimeUnit) -> u64
     ensures number { result ≡ time_number unit }
     ensures small { result < 256 }
 {
