@@ -12,6 +12,7 @@ ghost use Rattle.arrow_meta_writer.specs.Layouts.{buffer_pair};
 ghost use Rattle.arrow_meta_writer.specs.Writable.{IsLong, AreNodes, AreBuffers, IsBatch};
 
 use crate::sizes::pairs_end;
+use crate::table_slots::{batch_table, dictionary_table};
 use crate::tables::{RECORD_BATCH_FIELDS, batch_table_end, dictionary_table_end};
 use crate::types::bit;
 use arrow_flatbuf::{Slot, TableWriter, Width, aligned, table_place};
@@ -34,11 +35,11 @@ pub(crate) fn write_dictionary(
     ensures typed { OnOk result (IsLong id × IsBatch (batch_view batch.now)) }
 {
     let end = dictionary_table_end(writer.place());
-    writer.table(&[
-        Slot::Scalar(Width::Eight, id.cast_unsigned()),
-        Slot::Target(table_place(end, RECORD_BATCH_FIELDS)),
-        Slot::Scalar(Width::One, bit(delta)),
-    ])?;
+    writer.table(&dictionary_table(
+        id.cast_unsigned(),
+        table_place(end, RECORD_BATCH_FIELDS),
+        bit(delta),
+    ))?;
     write_batch(writer, batch)?;
     Ok(())
 }
@@ -66,11 +67,11 @@ fn batch_slots(place: usize, batch: &RecordBatch) -> [Slot; RECORD_BATCH_FIELDS]
 {
     let nodes = batch_table_end(place);
     let buffers = pairs_end(nodes, batch.nodes.as_slice().len());
-    [
-        Slot::Scalar(Width::Eight, batch.length.cast_unsigned()),
-        Slot::Target(aligned(nodes + 4, Width::Eight) - 4),
-        Slot::Target(aligned(buffers + 4, Width::Eight) - 4),
-    ]
+    batch_table(
+        batch.length.cast_unsigned(),
+        aligned(nodes + 4, Width::Eight) - 4,
+        aligned(buffers + 4, Width::Eight) - 4,
+    )
 }
 
 /// Appends a vector of field nodes.

@@ -7,9 +7,10 @@ ghost use Rattle.arrow_meta_writer.specs.Appends.{laid_encoding};
 ghost use Rattle.arrow_meta_writer.specs.Layouts.{encoding_cells};
 ghost use Rattle.arrow_meta_writer.specs.Writable.{IsLong, HasLongId};
 
+use crate::table_slots::encoding_table;
 use crate::tables::{DICTIONARY_ENCODING_FIELDS, INT_FIELDS, encoding_table_end};
 use crate::types::{bit, write_int};
-use arrow_flatbuf::{Slot, TableWriter, Width, table_place};
+use arrow_flatbuf::{Slot, TableWriter, table_place};
 use arrow_types::Encoding;
 use std::alloc::AllocError;
 
@@ -48,12 +49,11 @@ fn write_some_encoding(writer: &mut TableWriter, encoding: Encoding) -> Result<(
     ensures typed { OnOk result (IsLong encoding.id) }
 {
     let end = encoding_table_end(writer.place());
-    writer.table(&[
-        Slot::Scalar(Width::Eight, encoding.id.cast_unsigned()),
-        Slot::Target(table_place(end, INT_FIELDS)),
-        Slot::Scalar(Width::One, bit(encoding.ordered)),
-        Slot::Scalar(Width::Two, 0),
-    ])?;
+    writer.table(&encoding_table(
+        encoding.id.cast_unsigned(),
+        table_place(end, INT_FIELDS),
+        bit(encoding.ordered),
+    ))?;
     write_int(writer, encoding.index.bits, encoding.index.signed)?;
     Ok(())
 }

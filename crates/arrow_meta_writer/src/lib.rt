@@ -35,6 +35,7 @@ mod fields;
 pub mod laws;
 mod metadata;
 mod sizes;
+mod table_slots;
 mod tables;
 mod type_sizes;
 mod type_slots;

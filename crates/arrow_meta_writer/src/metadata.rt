@@ -12,6 +12,7 @@ ghost use Rattle.arrow_meta_writer.specs.Layouts.{metadata_cells, pair_cells, pa
 ghost use Rattle.arrow_types.specs.Notes.{pair_view, pairs_view};
 
 use crate::sizes::offsets_end;
+use crate::table_slots::pair_table;
 use crate::tables::{KEY_VALUE_FIELDS, bytes_after, pair_table_end};
 use arrow_flatbuf::{Slot, TableWriter, Width, aligned, table_place};
 use std::alloc::AllocError;
@@ -128,8 +129,5 @@ fn pair_slots(place: usize, pair: &(Vec<u8>, Vec<u8>)) -> [Slot; KEY_VALUE_FIELD
 {
     let key = pair_table_end(place);
     let value = bytes_after(key, &pair.0);
-    [
-        Slot::Target(aligned(key, Width::Four)),
-        Slot::Target(aligned(value, Width::Four)),
-    ]
+    pair_table(aligned(key, Width::Four), aligned(value, Width::Four))
 }

@@ -17,6 +17,9 @@ ghost use Rattle.arrow_types.specs.Notes.{KeyValue, SchemaShape};
 ghost use Rattle.arrow_types.specs.declared.data_type.TimeUnit.{TimeUnit};
 ghost use Rattle.arrow_types.specs.declared.field.Encoding.{Encoding};
 
+use crate::table_slots::{
+    batch_table, dictionary_table, encoding_table, message_table, pair_table,
+};
 use arrow_flatbuf::{Slot, Width, bytes_end, table_end, text_end};
 
 /// One more than the greatest number of bytes that metadata have.
@@ -55,17 +58,7 @@ pub(crate) fn message_table_end(place: usize) -> usize
     ensures end { (m : PlainMessage) → result ≡ capped (cells_place place (message_cells m)) }
     ensures near { result ≤ 1073741825 }
 {
-    let version = Slot::Scalar(Width::Two, 0);
-    let code = Slot::Scalar(Width::One, 0);
-    table_after(
-        place,
-        &[
-            version,
-            code,
-            Slot::Target(0),
-            Slot::Scalar(Width::Eight, 0),
-        ],
-    )
+    table_after(place, &message_table(0, 0, 0, 0))
 }
 
 /// The first place after a schema's table, which has so many fields for its metadata: 1 or none.
@@ -104,7 +97,7 @@ pub(crate) fn pair_table_end(place: usize) -> usize
     ensures end { (p : KeyValue) → result ≡ capped (cells_place place (pair_cells p)) }
     ensures near { result ≤ 1073741825 }
 {
-    table_after(place, &[Slot::Target(0), Slot::Target(0)])
+    table_after(place, &pair_table(0, 0))
 }
 
 /// The first place after an encoding's table.
@@ -113,12 +106,7 @@ pub(crate) fn encoding_table_end(place: usize) -> usize
     ensures end { (e : Encoding) → result ≡ capped (cells_place place (encoding_cells e)) }
     ensures near { result ≤ 1073741825 }
 {
-    let id = Slot::Scalar(Width::Eight, 0);
-    let ordered = Slot::Scalar(Width::One, 0);
-    table_after(
-        place,
-        &[id, Slot::Target(0), ordered, Slot::Scalar(Width::Two, 0)],
-    )
+    table_after(place, &encoding_table(0, 0, 0))
 }
 
 /// The first place after the table of a timestamp with a zone.
@@ -138,8 +126,7 @@ pub(crate) fn dictionary_table_end(place: usize) -> usize
         → result ≡ capped (cells_place place (dictionary_cells id delta b)) }
     ensures near { result ≤ 1073741825 }
 {
-    let id = Slot::Scalar(Width::Eight, 0);
-    table_after(place, &[id, Slot::Target(0), Slot::Scalar(Width::One, 0)])
+    table_after(place, &dictionary_table(0, 0, 0))
 }
 
 /// The first place after a record batch's table.
@@ -148,14 +135,7 @@ pub(crate) fn batch_table_end(place: usize) -> usize
     ensures end { (b : PlainBatch) → result ≡ capped (cells_place place (batch_cells b)) }
     ensures near { result ≤ 1073741825 }
 {
-    table_after(
-        place,
-        &[
-            Slot::Scalar(Width::Eight, 0),
-            Slot::Target(0),
-            Slot::Target(0),
-        ],
-    )
+    table_after(place, &batch_table(0, 0, 0))
 }
 
 /// The first place after a table of these fields, without what belongs to it.

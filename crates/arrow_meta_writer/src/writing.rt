@@ -22,11 +22,12 @@ use crate::batches::{write_batch, write_dictionary};
 use crate::fields::write_schema;
 use crate::metadata::metadata_fields;
 use crate::sizes::encoded_size;
+use crate::table_slots::message_table;
 use crate::tables::{
     DICTIONARY_BATCH_FIELDS, MESSAGE_FIELDS, RECORD_BATCH_FIELDS, SCHEMA_FIELDS, START,
     message_table_end,
 };
-use arrow_flatbuf::{Slot, TableWriter, Width, table_place};
+use arrow_flatbuf::{Slot, TableWriter, table_place};
 use arrow_meta_reader::{Header, Message};
 use std::alloc::{AllocError, Global};
 
@@ -80,12 +81,12 @@ fn message_slots(place: usize, message: &Message) -> [Slot; MESSAGE_FIELDS]
     ensures short { cast_unsigned w16 message.now.version < 65536 }
 {
     let end = message_table_end(place);
-    [
-        Slot::Scalar(Width::Two, u64::from(message.version.cast_unsigned())),
-        Slot::Scalar(Width::One, header_code(&message.header)),
-        Slot::Target(table_place(end, header_fields(&message.header))),
-        Slot::Scalar(Width::Eight, message.body_len),
-    ]
+    message_table(
+        u64::from(message.version.cast_unsigned()),
+        header_code(&message.header),
+        table_place(end, header_fields(&message.header)),
+        message.body_len,
+    )
 }
 
 /// The code of a header (`Message.fbs`, union `MessageHeader`).

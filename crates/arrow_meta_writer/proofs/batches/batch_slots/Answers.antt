@@ -30,7 +30,7 @@ returns-clause-slots c =
     let first_place : c.aligned.result - 4 ≡ q + gap 8 (q + 4) = ap (λ (n : ℕ). n - 4) (c.aligned.ensures.value ∙ ap (λ (n : ℕ). up 8 (n + 4)) at_nodes) ∙ omega arith in
     let second_place : c.aligned-2.result - 4 ≡ r + gap 8 (r + 4) = ap (λ (n : ℕ). n - 4) (c.aligned-2.ensures.value ∙ ap (λ (n : ℕ). up 8 (n + 4)) at_buffers) ∙ omega arith in
     let rows = c.cast_unsigned.ensures ∙ bits_again c.args.batch.now.length (search rules) in
-    λ i. Scalar Eight (rows i) ∷ Target (first_place i) ∷ Target (second_place i) ∷ []
+    c.batch_table.ensures ∙ (λ i. Scalar Eight (rows i) ∷ Target (first_place i) ∷ Target (second_place i) ∷ [])
 
 pub returns-clause-long : goal.returns-clause-long
 returns-clause-long c = long_from c.args.batch.now.length (search rules)

@@ -1,5 +1,4 @@
-use Rattle.std.proofs.Common.{◌≡◌, ℕ, List, [], ◌∷◌, length, arith, rules, ap, ◌∙◌}
-use Rattle.arrow_flatbuf.specs.declared.layout.Slot.{Slot}
+use Rattle.std.proofs.Common.{◌≡◌, ℕ, [], ◌∷◌, length, arith, rules, ap, ◌∙◌}
 use Rattle.arrow_flatbuf.specs.declared.layout.Slot.TheVariants.{Scalar, Target}
 use Rattle.arrow_flatbuf.specs.declared.layout.Width.TheVariants.{One, Eight}
 use Rattle.arrow_flatbuf.specs.Layout.{table_place}
@@ -20,8 +19,8 @@ table-requires-clause-fits c =
     let place : c.table_place.result ≡ table_place (cells_place p cs) 3 = c.table_place.ensures.value ∙ ap (λ (n : ℕ). table_place n 3) end in
     let id = c.cast_unsigned.ensures ∙ bits_again c.args.id (search rules) in
     let delta = c.bit.ensures.value in
-    let ss : List Slot = Scalar Eight c.cast_unsigned.result ∷ Target c.table_place.result ∷ Scalar One c.bit.result ∷ [] in
-    let same : ss ≡ slots (cells_place p cs) cs = λ i. Scalar Eight (id i) ∷ Target (place i) ∷ Scalar One (delta i) ∷ [] in
+    let ss = c.dictionary_table.result in
+    let same : ss ≡ slots (cells_place p cs) cs = c.dictionary_table.ensures ∙ (λ i. Scalar Eight (id i) ∷ Target (place i) ∷ Scalar One (delta i) ∷ []) in
     let long = long_from c.args.id (search rules) in
     table_fits p ss cs same (omega (arith, long_fits c.args.id long), (omega (arith, flag_fits c.args.delta), tt)) c.requires.room
 
@@ -34,8 +33,8 @@ write_batch-requires c =
     let place : c.table_place.result ≡ table_place (cells_place p cs) 3 = c.table_place.ensures.value ∙ ap (λ (n : ℕ). table_place n 3) end in
     let id = c.cast_unsigned.ensures ∙ bits_again c.args.id (search rules) in
     let delta = c.bit.ensures.value in
-    let ss : List Slot = Scalar Eight c.cast_unsigned.result ∷ Target c.table_place.result ∷ Scalar One c.bit.result ∷ [] in
-    let same : ss ≡ slots (cells_place p cs) cs = λ i. Scalar Eight (id i) ∷ Target (place i) ∷ Scalar One (delta i) ∷ [] in
+    let ss = c.dictionary_table.result in
+    let same : ss ≡ slots (cells_place p cs) cs = c.dictionary_table.ensures ∙ (λ i. Scalar Eight (id i) ∷ Target (place i) ∷ Scalar One (delta i) ∷ []) in
     let begins = begun c.args.writer.now c.table.new.self ss cs c.in_ok-table.ensures.ok same in
     record { room = omega (arith, left_ends c.args.writer.now c.table.new.self (offset (table (batch_cells b)) (scalar One (flag c.args.delta) last)) (table cs) begins, c.requires.room) }
 
@@ -48,8 +47,8 @@ returns-clause-bytes c =
     let place : c.table_place.result ≡ table_place (cells_place p cs) 3 = c.table_place.ensures.value ∙ ap (λ (n : ℕ). table_place n 3) end in
     let id = c.cast_unsigned.ensures ∙ bits_again c.args.id (search rules) in
     let delta = c.bit.ensures.value in
-    let ss : List Slot = Scalar Eight c.cast_unsigned.result ∷ Target c.table_place.result ∷ Scalar One c.bit.result ∷ [] in
-    let same : ss ≡ slots (cells_place p cs) cs = λ i. Scalar Eight (id i) ∷ Target (place i) ∷ Scalar One (delta i) ∷ [] in
+    let ss = c.dictionary_table.result in
+    let same : ss ≡ slots (cells_place p cs) cs = c.dictionary_table.ensures ∙ (λ i. Scalar Eight (id i) ∷ Target (place i) ∷ Scalar One (delta i) ∷ []) in
     let old = c.args.writer.now in
     let begins = begun old c.table.new.self ss cs c.in_ok-table.ensures.ok same in
     ended old c.write_batch.new.writer (table cs) (stepped old c.table.new.self c.write_batch.new.writer (table (batch_cells b)) (scalar One (flag c.args.delta) last) (table cs) begins c.in_ok-write_batch.ensures.bytes)

@@ -1,5 +1,4 @@
-use Rattle.std.proofs.Common.{◌≡◌, ℕ, List, [], ◌∷◌, length, arith, rules, ap, ◌∙◌}
-use Rattle.arrow_flatbuf.specs.declared.layout.Slot.{Slot}
+use Rattle.std.proofs.Common.{◌≡◌, ℕ, [], ◌∷◌, length, arith, rules, ap, ◌∙◌}
 use Rattle.arrow_flatbuf.specs.declared.layout.Slot.TheVariants.{Scalar, Target}
 use Rattle.arrow_flatbuf.specs.declared.layout.Width.TheVariants.{One, Two, Eight}
 use Rattle.arrow_flatbuf.specs.Layout.{table_place}
@@ -20,8 +19,8 @@ table-requires-clause-fits c =
     let index : c.table_place.result ≡ table_place (cells_place p cs) 2 = c.table_place.ensures.value ∙ ap (λ (n : ℕ). table_place n 2) end in
     let bits = c.cast_unsigned.ensures ∙ bits_again c.args.encoding.id (search rules) in
     let ordered = c.bit.ensures.value in
-    let ss : List Slot = Scalar Eight c.cast_unsigned.result ∷ Target c.table_place.result ∷ Scalar One c.bit.result ∷ Scalar Two 0 ∷ [] in
-    let same : ss ≡ slots (cells_place p cs) cs = λ i. Scalar Eight (bits i) ∷ Target (index i) ∷ Scalar One (ordered i) ∷ Scalar Two 0 ∷ [] in
+    let ss = c.encoding_table.result in
+    let same : ss ≡ slots (cells_place p cs) cs = c.encoding_table.ensures ∙ (λ i. Scalar Eight (bits i) ∷ Target (index i) ∷ Scalar One (ordered i) ∷ Scalar Two 0 ∷ []) in
     table_fits p ss cs same (omega (arith, long_fits e.id id), (omega (arith, flag_fits e.ordered), (omega arith, tt))) c.requires.room
 
 pub returns-clause-bytes : goal.returns-clause-bytes
@@ -34,8 +33,8 @@ returns-clause-bytes c =
     let index : c.table_place.result ≡ table_place (cells_place p cs) 2 = c.table_place.ensures.value ∙ ap (λ (n : ℕ). table_place n 2) end in
     let bits = c.cast_unsigned.ensures ∙ bits_again c.args.encoding.id (search rules) in
     let ordered = c.bit.ensures.value in
-    let ss : List Slot = Scalar Eight c.cast_unsigned.result ∷ Target c.table_place.result ∷ Scalar One c.bit.result ∷ Scalar Two 0 ∷ [] in
-    let same : ss ≡ slots (cells_place p cs) cs = λ i. Scalar Eight (bits i) ∷ Target (index i) ∷ Scalar One (ordered i) ∷ Scalar Two 0 ∷ [] in
+    let ss = c.encoding_table.result in
+    let same : ss ≡ slots (cells_place p cs) cs = c.encoding_table.ensures ∙ (λ i. Scalar Eight (bits i) ∷ Target (index i) ∷ Scalar One (ordered i) ∷ Scalar Two 0 ∷ []) in
     let old = c.args.writer.now in
     let begins = begun old c.table.new.self ss cs c.in_ok-table.ensures.ok same in
     ended old c.write_int.new.writer (table cs) (stepped old c.table.new.self c.write_int.new.writer (table (int_cells e.index.bits e.index.signed)) (scalar One (flag e.ordered) (scalar Two 0 last)) (table cs) begins c.in_ok-write_int.ensures)

@@ -22,4 +22,4 @@ returns c =
     let at_value = exact_after table c.bytes_after-value.result q key (offset (byte_string p.value) last) wrote_key at_key c.requires.room in
     let at_0 : c.aligned.result ≡ up 4 q = c.aligned.ensures.value ∙ ap (up 4) at_key in
     let at_1 : c.aligned-2.result ≡ up 4 (after q key) = c.aligned-2.ensures.value ∙ ap (up 4) at_value in
-    record { slots = λ i. Target (at_0 i) ∷ Target (at_1 i) ∷ [] }
+    record { slots = c.pair_table.ensures ∙ (λ i. Target (at_0 i) ∷ Target (at_1 i) ∷ []) }

@@ -27,7 +27,7 @@ returns-clause-slots c =
     c.table_place.ensures.value ∙ ap (λ (n : ℕ). table_place c.message_table_end-end.result n) c.header_fields.ensures.count ∙ ap (λ (n : ℕ). table_place n (count (header_cells h))) end in
     let version : c.from.result ≡ cast_unsigned w16 c.args.message.now.version = c.from.ensures ∙ c.cast_unsigned.ensures ∙ short_bits_again c.args.message.now.version (search rules) in
     let code = c.header_code.ensures.code in
-    λ i. Scalar Two (version i) ∷ Scalar One (code i) ∷ Target (place i) ∷ Scalar Eight c.args.message.now.body_len ∷ []
+    c.message_table.ensures ∙ (λ i. Scalar Two (version i) ∷ Scalar One (code i) ∷ Target (place i) ∷ Scalar Eight c.args.message.now.body_len ∷ [])
 
 pub returns-clause-short : goal.returns-clause-short
 returns-clause-short c =
