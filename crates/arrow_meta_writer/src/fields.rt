@@ -15,6 +15,7 @@ ghost use Rattle.arrow_types.specs.View.{field_notes, field_view, fields_view, n
 use crate::encodings::{encoding_slot, write_encoding};
 use crate::metadata::{metadata_end, metadata_fields, write_metadata};
 use crate::sizes::{encoding_end, field_head_end, fields_end, offsets_end};
+use crate::table_slots::schema_table;
 use crate::tables::{FIELD_FIELDS, SCHEMA_FIELDS, field_table_end, schema_table_end, text_after};
 use crate::type_sizes::type_end;
 use crate::types::{bit, type_code, type_fields, write_type};
@@ -46,11 +47,7 @@ fn schema_slots(place: usize, schema: &Schema) -> [Slot; 3]
 {
     let fields = schema_table_end(place, metadata_fields(schema.metadata()));
     let metadata = fields_end(fields, schema.fields());
-    [
-        Slot::Scalar(Width::Two, 0),
-        Slot::Target(aligned(fields, Width::Four)),
-        Slot::Target(aligned(metadata, Width::Four)),
-    ]
+    schema_table(aligned(fields, Width::Four), aligned(metadata, Width::Four))
 }
 
 /// Appends a vector of fields, with all that belongs to them.

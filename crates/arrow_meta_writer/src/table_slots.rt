@@ -8,6 +8,12 @@ use crate::tables::{
 };
 use arrow_flatbuf::{Slot, Width};
 
+/// The endianness of what is written (`Schema.fbs`, enum `Endianness`).
+const LITTLE: u64 = 0;
+
+/// The kind of each dictionary (`Schema.fbs`, enum `DictionaryKind`).
+const DENSE_ARRAY: u64 = 0;
+
 /// The fields of a Message table: the version, the header's code, the header, the body's length.
 pub(crate) fn message_table(
     version: u64,
@@ -26,11 +32,30 @@ pub(crate) fn message_table(
     ]
 }
 
+/// The fields of a Schema table: little-endian, the fields, and the metadata, which a table without
+/// them lacks.
+pub(crate) fn schema_table(fields: usize, metadata: usize) -> [Slot; 3]
+    ensures { result ≡ Slot.Scalar Width.Two 0 ∷ Slot.Target fields ∷ Slot.Target metadata ∷ [] }
+{
+    [
+        Slot::Scalar(Width::Two, LITTLE),
+        Slot::Target(fields),
+        Slot::Target(metadata),
+    ]
+}
+
 /// The fields of a KeyValue table: the key and the value.
 pub(crate) fn pair_table(key: usize, value: usize) -> [Slot; KEY_VALUE_FIELDS]
     ensures { result ≡ Slot.Target key ∷ Slot.Target value ∷ [] }
 {
     [Slot::Target(key), Slot::Target(value)]
+}
+
+/// The fields of a Timestamp table with a zone: the unit and the zone.
+pub(crate) fn zone_table(unit: u64, zone: usize) -> [Slot; 2]
+    ensures { result ≡ Slot.Scalar Width.Two unit ∷ Slot.Target zone ∷ [] }
+{
+    [Slot::Scalar(Width::Two, unit), Slot::Target(zone)]
 }
 
 /// The fields of a DictionaryEncoding table: the id, the index's type, whether the values are
@@ -47,7 +72,7 @@ pub(crate) fn encoding_table(
         Slot::Scalar(Width::Eight, id),
         Slot::Target(index),
         Slot::Scalar(Width::One, ordered),
-        Slot::Scalar(Width::Two, 0),
+        Slot::Scalar(Width::Two, DENSE_ARRAY),
     ]
 }
 

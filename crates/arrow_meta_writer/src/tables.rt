@@ -18,7 +18,8 @@ ghost use Rattle.arrow_types.specs.declared.data_type.TimeUnit.{TimeUnit};
 ghost use Rattle.arrow_types.specs.declared.field.Encoding.{Encoding};
 
 use crate::table_slots::{
-    batch_table, dictionary_table, encoding_table, message_table, pair_table,
+    batch_table, dictionary_table, encoding_table, message_table, pair_table, schema_table,
+    zone_table,
 };
 use arrow_flatbuf::{Slot, Width, bytes_end, table_end, text_end};
 
@@ -69,8 +70,7 @@ pub(crate) fn schema_table_end(place: usize, metadata: usize) -> usize
         → result ≡ capped (cells_place place (schema_cells s)) }
     ensures near { result ≤ 1073741825 }
 {
-    let target = Slot::Target(0);
-    let slots = [Slot::Scalar(Width::Two, 0), target, target];
+    let slots = schema_table(0, 0);
     table_after(place, &slots[..SCHEMA_FIELDS + metadata])
 }
 
@@ -116,7 +116,7 @@ pub(crate) fn zone_table_end(place: usize) -> usize
         → result ≡ capped (cells_place place (type_cells (timestamp unit (Some zone)))) }
     ensures near { result ≤ 1073741825 }
 {
-    table_after(place, &[Slot::Scalar(Width::Two, 0), Slot::Target(0)])
+    table_after(place, &zone_table(0, 0))
 }
 
 /// The first place after a dictionary batch's table.

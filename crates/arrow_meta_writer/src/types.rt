@@ -17,11 +17,12 @@ ghost use Rattle.arrow_types.specs.DataType.{timestamp};
 ghost use Rattle.arrow_types.specs.Field.{width as field_width};
 ghost use Rattle.arrow_types.specs.View.{type_view};
 
+use crate::table_slots::zone_table;
 use crate::tables::{INT_FIELDS, zone_table_end};
 use crate::type_slots::{
     date_slots, duration_slots, fixed_size_slots, int_slots, time_slots, timestamp_slots,
 };
-use arrow_flatbuf::{Slot, TableWriter, Width, aligned};
+use arrow_flatbuf::{TableWriter, Width, aligned};
 use arrow_types::{BitWidth, DataType, DateUnit, TimeUnit};
 use std::alloc::AllocError;
 
@@ -144,10 +145,7 @@ fn write_zone(writer: &mut TableWriter, unit: TimeUnit, zone: &str) -> Result<()
         (Appends writer.old (table_node (type_cells (timestamp unit (Some zone.now)))) writer.new) }
 {
     let end = zone_table_end(writer.place());
-    writer.table(&[
-        Slot::Scalar(Width::Two, time_number(unit)),
-        Slot::Target(aligned(end, Width::Four)),
-    ])?;
+    writer.table(&zone_table(time_number(unit), aligned(end, Width::Four)))?;
     writer.text(zone)?;
     Ok(())
 }

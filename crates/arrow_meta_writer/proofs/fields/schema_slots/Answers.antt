@@ -35,4 +35,4 @@ returns c =
     let at_2 : c.aligned-2.result ≡ up 4 m = c.aligned-2.ensures.value ∙ ap (up 4) at_metadata in
     let tail : take k (Target c.aligned-2.result ∷ []) ≡ slots m (metadata_cells ps) =
     ap (λ (x : ℕ). take k (Target x ∷ [])) at_2 ∙ metadata_slots m ps in
-    record { slots = λ i. Scalar Two 0 ∷ Target (at_1 i) ∷ tail i }
+    record { slots = ap (take (count cs)) c.schema_table.ensures ∙ (λ i. Scalar Two 0 ∷ Target (at_1 i) ∷ tail i) }
