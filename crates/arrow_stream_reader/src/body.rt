@@ -121,13 +121,8 @@ pub(crate) fn load_columns(
     if !have_length(fields, &record_batch.nodes, row_count(record_batch)) {
         return Err(Stop::Refused(Refusal::Layout));
     }
-    match columns_in(alloc, fields, types, record_batch, body, dictionaries) {
-        Ok(columns) => Ok(columns),
-        Err(BodyFault::Layout) => Err(Stop::Refused(Refusal::Layout)),
-        Err(BodyFault::Text) => Err(Stop::Refused(Refusal::Text)),
-        Err(BodyFault::Index) => Err(Stop::Refused(Refusal::Index)),
-        Err(BodyFault::Memory) => Err(Stop::Memory),
-    }
+    let columns = columns_in(alloc, fields, types, record_batch, body, dictionaries)?;
+    Ok(columns)
 }
 
 // The same, whatever the number of rows is; where the copy of the body is refused its fault is told

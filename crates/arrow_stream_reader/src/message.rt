@@ -9,6 +9,8 @@ use crate::kind::Refusal;
 use crate::refusals::{is_out_of_order, misplaced, state_refusal};
 use crate::state::State;
 use crate::stream_schema::StreamSchema;
+use arrow_body_reader::BodyFault;
+use arrow_dict::StoreFault;
 use arrow_meta_reader::{Header, Message as Judged, MetaFault, RecordBatch, decode};
 use arrow_types::Limits;
 use std::alloc::{AllocError, Global};
@@ -64,6 +66,37 @@ impl From<Refusal> for Stop {
     }
 }
 
+/// What the layer below tells of a body: the refusal of the same name, or `Memory`.
+impl From<BodyFault> for Stop {
+    ghost use Rattle.arrow_stream_reader.specs.Views.{body_stop};
+
+    ghost from_gives = { λ fault stop. stop ≡ body_stop fault };
+
+    fn from(fault: BodyFault) -> Stop {
+        match fault {
+            BodyFault::Layout => Stop::Refused(Refusal::Layout),
+            BodyFault::Text => Stop::Refused(Refusal::Text),
+            BodyFault::Index => Stop::Refused(Refusal::Index),
+            BodyFault::Memory => Stop::Memory,
+        }
+    }
+}
+
+/// What a store tells of values for a dictionary: the refusal that a delta has for it, or `Memory`.
+impl From<StoreFault> for Stop {
+    ghost use Rattle.arrow_stream_reader.specs.Views.{store_stop};
+
+    ghost from_gives = { λ fault stop. stop ≡ store_stop fault };
+
+    fn from(fault: StoreFault) -> Stop {
+        match fault {
+            StoreFault::NoBase => Stop::Refused(Refusal::NoBase),
+            StoreFault::TooLong => Stop::Refused(Refusal::Rows),
+            StoreFault::Memory => Stop::Memory,
+        }
+    }
+}
+
 /// What a metadata says that begins at the place `start` of a stream, behind what was read before.
 /// What the message needs to be applied is made here, but for what its body holds.
 pub(crate) fn read_message(
@@ -79,10 +112,9 @@ pub(crate) fn read_message(
 {
     let end = start + metadata.len() as u64;
     let max_rows = limits.max_rows();
-    match decode(alloc, metadata, limits) {
-        Ok(message) => place(alloc, max_rows, state, end, message),
-        Err(fault) => Err(stop_by(state.schema.is_some(), end, fault)),
-    }
+    let has_schema = state.schema.is_some();
+    let message = decode(alloc, metadata, limits).map_err(|fault| stop_by(has_schema, end, fault))?;
+    place(alloc, max_rows, state, end, message)
 }
 
 /// The message where its metadata end at the place `end`, or the least kind that its place and what

@@ -14,10 +14,11 @@ ghost use Rattle.arrow_stream_reader.specs.Views.{content_of, plain};
 
 use crate::body::{Body, load_columns, row_count};
 use crate::item::Item;
+use crate::kind::Refusal;
 use crate::message::{Content, Stop};
 use crate::stream_schema::StreamSchema;
 use arrow_data::{Array, Batch, Dictionary};
-use arrow_dict::{Store, StoreFault, ValueField};
+use arrow_dict::{Store, ValueField};
 use arrow_meta_reader::RecordBatch;
 use arrow_types::Field;
 use std::alloc::Global;
@@ -104,9 +105,7 @@ impl State {
         requires fit { IsFit (plain self.now) }
         ensures gives { Gives (plain self.now) (batch_view record_batch.now) body.now result }
     {
-        let Some(schema) = &self.schema else {
-            unreachable!();
-        };
+        let schema = self.schema.as_ref().ok_or(Refusal::Order)?;
         let types = schema.types();
         let schema = schema.shared();
         let dictionaries = self.dictionaries.entries();
@@ -135,9 +134,7 @@ impl State {
             (is_some (value_type_of (dictionary_fields (fields_in (plain self.now).schema)) id)) }
         ensures values { HeldValues (plain self.now) id (batch_view record_batch.now) body.now result }
     {
-        let Some(field) = self.value_field(id) else {
-            unreachable!();
-        };
+        let field = self.value_field(id).ok_or(Refusal::UnknownId)?;
         let mut arrays = load_columns(
             alloc,
             field.fields(),
@@ -146,10 +143,7 @@ impl State {
             body,
             &[],
         )?;
-        match arrays.pop() {
-            Some(values) => Ok(values),
-            None => unreachable!(),
-        }
+        Ok(arrays.swap_remove(0))
     }
 
     /// Takes the values of a dictionary batch with this body: in place of those of its id, or
@@ -170,12 +164,8 @@ impl State {
     {
         let values = self.values(alloc, id, record_batch, body)?;
         if is_delta {
-            return match self.dictionaries.append(alloc, id, values) {
-                Ok(()) => Ok(()),
-                Err(StoreFault::Memory) => Err(Stop::Memory),
-                Err(StoreFault::NoBase) => unreachable!(),
-                Err(StoreFault::TooLong) => unreachable!(),
-            };
+            self.dictionaries.append(alloc, id, values)?;
+            return Ok(());
         }
         let dictionary = Dictionary::from_array(alloc, values)?;
         self.dictionaries.replace(id, dictionary)?;
@@ -203,14 +193,13 @@ pub(crate) fn apply(
             Ok(Item::Schema)
         }
         Content::Dictionary(id, is_delta, record_batch) => {
-            match state.update(alloc, id, is_delta, &record_batch, body) {
-                Ok(()) => Ok(Item::Dictionary(id)),
-                Err(stop) => Err((stop, Content::Dictionary(id, is_delta, record_batch))),
-            }
+            let updated = state.update(alloc, id, is_delta, &record_batch, body);
+            updated.map_err(|stop| (stop, Content::Dictionary(id, is_delta, record_batch)))?;
+            Ok(Item::Dictionary(id))
         }
-        Content::Batch(record_batch) => match state.batch(alloc, &record_batch, body) {
-            Ok(batch) => Ok(Item::Batch(batch)),
-            Err(stop) => Err((stop, Content::Batch(record_batch))),
-        },
+        Content::Batch(record_batch) => {
+            let read = state.batch(alloc, &record_batch, body);
+            Ok(Item::Batch(read.map_err(|stop| (stop, Content::Batch(record_batch)))?))
+        }
     }
 }
