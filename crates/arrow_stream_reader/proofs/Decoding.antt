@@ -17,8 +17,8 @@ use Rattle.arrow_stream_reader.specs.declared.message.Content.{Content as HeldCo
 use Rattle.arrow_stream_reader.specs.declared.message.Message.{Message as HeldMessage}
 use Rattle.arrow_stream_reader.specs.declared.state.State.{State}
 use Rattle.arrow_stream_reader.specs.Views.{Applies, IsFit, Ready, content_of, message_of, plain, MessageRead}
-use Rattle.arrow_stream_reader.specs.declared.message.Stop.{Stop}
-use Rattle.arrow_stream_reader.specs.declared.message.Stop.TheVariants.{Refused, Memory}
+use Rattle.arrow_stream_reader.specs.declared.stop.Stop.{Stop}
+use Rattle.arrow_stream_reader.specs.declared.stop.Stop.TheVariants.{Refused, Memory}
 use Rattle.arrow_stream_reader.specs.declared.decoder.Decoder.{Decoder}
 use Rattle.arrow_stream_reader.specs.declared.reader.Verdict.TheVariants.{Open}
 use Rattle.arrow_stream_reader.specs.declared.decoder.Phase.{Phase}

@@ -11,8 +11,8 @@ use Rattle.arrow_meta_reader.proofs.Least.{meaning_length}
 use Rattle.arrow_meta_reader.proofs.OneAnswer.{never_both, one_fault, one_message}
 use Rattle.arrow_stream_reader.specs.Message.{Message}
 use Rattle.arrow_stream_reader.specs.declared.message.Message.{Message as Held}
-use Rattle.arrow_stream_reader.specs.declared.message.Stop.{Stop}
-use Rattle.arrow_stream_reader.specs.declared.message.Stop.TheVariants.{Refused, Memory}
+use Rattle.arrow_stream_reader.specs.declared.stop.Stop.{Stop}
+use Rattle.arrow_stream_reader.specs.declared.stop.Stop.TheVariants.{Refused, Memory}
 use Rattle.arrow_stream_reader.specs.Views.{Placed, StopsBy, MessageRead}
 use Rattle.arrow_stream_reader.specs.Meaning.{Means, announced}
 use Rattle.arrow_stream_reader.specs.State.{StreamState}

@@ -18,8 +18,8 @@ use Rattle.arrow_dict.specs.declared.store.StoreFault.{StoreFault}
 use Rattle.arrow_dict.specs.declared.store.StoreFault.TheVariants as stores
 use Rattle.arrow_meta_reader.specs.Means.{PlainBatch, dictionary, batch}
 use Rattle.arrow_stream_reader.specs.declared.kind.Refusal.TheVariants.{NoBase, Rows, UnknownId}
-use Rattle.arrow_stream_reader.specs.declared.message.Stop.{Stop}
-use Rattle.arrow_stream_reader.specs.declared.message.Stop.TheVariants.{Refused, Memory}
+use Rattle.arrow_stream_reader.specs.declared.stop.Stop.{Stop}
+use Rattle.arrow_stream_reader.specs.declared.stop.Stop.TheVariants.{Refused, Memory}
 use Rattle.arrow_stream_reader.specs.State.{StreamState, dictionary_given, batch_given, fields_in, schema_in}
 use Rattle.arrow_stream_reader.specs.Batch.{Loads, columns, base_of, field_of_type, has_bad_length, value_fields}
 use Rattle.arrow_stream_reader.specs.Frame.{BodySays, dictionary_comes, batch_comes}

@@ -3,8 +3,8 @@ use Rattle.std.specs.Prelude.{◌≡◌, ℕ, ◌+◌, ◌^◌, ◌<◌, ◌≤�
 use Rattle.arrow_types.specs.Limits.{LimitNumbers}
 use Rattle.arrow_stream_reader.specs.declared.kind.Refusal.{Refusal}
 use Rattle.arrow_stream_reader.specs.declared.item.Item.{Item}
-use Rattle.arrow_stream_reader.specs.declared.message.Stop.{Stop}
-use Rattle.arrow_stream_reader.specs.declared.message.Stop.TheVariants.{Refused, Memory}
+use Rattle.arrow_stream_reader.specs.declared.stop.Stop.{Stop}
+use Rattle.arrow_stream_reader.specs.declared.stop.Stop.TheVariants.{Refused, Memory}
 use Rattle.arrow_stream_reader.specs.declared.prefix.Prefix.TheVariants as prefixes
 use Rattle.arrow_stream_reader.specs.declared.decoder.Phase.{Phase}
 use Rattle.arrow_stream_reader.specs.declared.decoder.Phase.TheVariants as phases

@@ -21,8 +21,8 @@ use Rattle.arrow_stream_reader.specs.declared.item.Item.TheVariants as items
 use Rattle.arrow_stream_reader.specs.declared.message.Content.{Content as HeldContent}
 use Rattle.arrow_stream_reader.specs.declared.message.Content.TheVariants as held
 use Rattle.arrow_stream_reader.specs.declared.message.Message.{Message as HeldMessage}
-use Rattle.arrow_stream_reader.specs.declared.message.Stop.{Stop}
-use Rattle.arrow_stream_reader.specs.declared.message.Stop.TheVariants.{Refused, Memory}
+use Rattle.arrow_stream_reader.specs.declared.stop.Stop.{Stop}
+use Rattle.arrow_stream_reader.specs.declared.stop.Stop.TheVariants.{Refused, Memory}
 use Rattle.arrow_stream_reader.specs.declared.state.State.{State}
 use Rattle.arrow_stream_reader.specs.Batch.{Loads, value_fields}
 use Rattle.arrow_stream_reader.specs.State.{StreamState, Given, schema_given, dictionary_given, batch_given, ended, fields_in}

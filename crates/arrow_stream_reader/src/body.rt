@@ -10,7 +10,7 @@ ghost use Rattle.arrow_stream_reader.specs.Batch.{Loads};
 ghost use Rattle.arrow_stream_reader.specs.Views.{HasNoColumns};
 
 use crate::kind::Refusal;
-use crate::message::Stop;
+use crate::stop::Stop;
 use arrow_body_reader::{BodyFault, check, have_length, load_typed};
 use arrow_data::{Array, Dictionary, SharedType};
 use arrow_meta_reader::RecordBatch;

@@ -11,9 +11,11 @@ ghost use Rattle.arrow_stream_reader.specs.Decoder.{Finishes, IsAt, Works, Rewou
 use crate::held::Held;
 use crate::item::Item;
 use crate::kind::Refusal;
-use crate::message::{Message, Stop, read_message};
+use crate::message::Message;
+use crate::metadata::read_message;
 use crate::prefix::{Prefix, read_prefix};
 use crate::state::{State, apply};
+use crate::stop::Stop;
 use arrow_types::Limits;
 use std::alloc::Global;
 use std::mem;

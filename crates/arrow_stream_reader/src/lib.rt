@@ -42,10 +42,12 @@ mod item;
 mod kind;
 pub mod laws;
 mod message;
+mod metadata;
 mod prefix;
 mod reader;
 mod refusals;
 mod state;
+mod stop;
 mod stream_schema;
 
 pub use fault::Fault;

@@ -3,7 +3,7 @@ use Rattle.std.proofs.lemmas.Result.{err_from_is_err_and}
 use Rattle.arrow_meta_reader.specs.Means.{message_view}
 use Rattle.arrow_stream_reader.specs.Views.{Placed, StopsBy, plain}
 use Rattle.arrow_stream_reader.proofs.Meanings.{fault_stops, message_is_read, message_meant}
-use Rattle.arrow_stream_reader.proofs.message.read_message.Goals as goal
+use Rattle.arrow_stream_reader.proofs.metadata.read_message.Goals as goal
 
 pub returns-in_err-message-clause-says : goal.returns-in_err-message-clause-says
 returns-in_err-message-clause-says c =
