@@ -12,7 +12,7 @@ use crate::held::Held;
 use crate::item::Item;
 use crate::kind::Refusal;
 use crate::message::Message;
-use crate::metadata::read_message;
+use crate::metadata::{Position, read_message};
 use crate::prefix::{Prefix, read_prefix};
 use crate::state::{State, apply};
 use crate::stop::Stop;
@@ -105,9 +105,13 @@ impl Decoder {
         if self.held.len() < whole {
             return Ok(Step::Short);
         }
-        let start = self.place + 8;
+        let start = Position {
+            limits: &self.limits,
+            state: &self.state,
+            place: self.place + 8,
+        };
         let metadata = &self.held.as_slice()[8..];
-        let message = read_message(self.alloc, &self.limits, &self.state, start, metadata)?;
+        let message = read_message(self.alloc, &start, metadata)?;
         self.read_body(size, message, &piece[taken..])
     }
 

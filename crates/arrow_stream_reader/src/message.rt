@@ -22,3 +22,12 @@ pub(crate) struct Message {
     /// How many bytes of body follow the metadata.
     pub(crate) body_len: u64,
 }
+
+/// Values for the dictionary of an id, behind those that are there or in place of them (Message.fbs,
+/// table "DictionaryBatch").
+#[derive(Clone, Copy)]
+pub(crate) struct DictionaryBatch<'a> {
+    pub(crate) id: i64,
+    pub(crate) is_delta: bool,
+    pub(crate) record_batch: &'a RecordBatch,
+}

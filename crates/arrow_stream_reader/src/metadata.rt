@@ -1,6 +1,6 @@
 //! The metadata of a message, where they stand in their stream: the message that they announce.
 
-ghost use Rattle.std.specs.Prelude.{◌≡◌, ◌^◌, ◌+◌, ◌≤◌, length, IfOk};
+ghost use Rattle.std.specs.Prelude.{◌≡◌, ◌^◌, ◌+◌, ◌≤◌, length, IfOk, OnOk};
 ghost use Rattle.arrow_meta_reader.specs.Means.{header_view, message_view};
 ghost use Rattle.arrow_stream_reader.specs.Frame.{misplaced};
 ghost use Rattle.arrow_stream_reader.specs.Views.{Placed, StopsBy, MessageRead, content_of, plain};
@@ -15,43 +15,47 @@ use arrow_meta_reader::{Header, Message as Judged, MetaFault, decode};
 use arrow_types::Limits;
 use std::alloc::{AllocError, Global};
 
-/// What a metadata says that begins at the place `start` of a stream, behind what was read before.
-/// What the message needs to be applied is made here, but for what its body holds.
-pub(crate) fn read_message(
-    alloc: Global,
-    limits: &Limits,
-    state: &State,
-    start: u64,
-    metadata: &[u8],
-) -> Result<Message, Stop>
-    requires near { start + length metadata.now ≤ 2 ^ 62 }
-    ensures says { MessageRead limits.now (plain state.now) start metadata.now result }
-    ensures ceiling { limits.now.max_rows ≤ 2147483647 }
-{
-    let end = start + metadata.len() as u64;
-    let max_rows = limits.max_rows();
-    let has_schema = state.schema.is_some();
-    let message = decode(alloc, metadata, limits).map_err(|fault| stop_by(has_schema, end, fault))?;
-    place(alloc, max_rows, state, end, message)
+/// A place of a stream, with its limits and what was read before.
+#[derive(Clone, Copy)]
+pub(crate) struct Position<'a> {
+    pub(crate) limits: &'a Limits,
+    pub(crate) state: &'a State,
+    pub(crate) place: u64,
 }
 
-/// The message where its metadata end at the place `end`, or the least kind that its place and what
-/// was read before decide.
-fn place(
+/// What a metadata says that begins at `start`. What the message needs to be applied is made here,
+/// but for what its body holds.
+pub(crate) fn read_message(
     alloc: Global,
-    max_rows: u64,
-    state: &State,
-    end: u64,
-    message: Judged,
+    start: &Position,
+    metadata: &[u8],
 ) -> Result<Message, Stop>
-    requires near { end ≤ 2 ^ 62 }
-    ensures placed { Placed max_rows (plain state.now) end (message_view message) result }
+    requires near { start.now.place + length metadata.now ≤ 2 ^ 62 }
+    ensures says { MessageRead start.now.limits.now (plain start.now.state.now) start.now.place
+        metadata.now result }
+    ensures ceiling { OnOk result (start.now.limits.now.max_rows ≤ 2147483647) }
 {
-    let out_of_order = is_out_of_order(state.schema.is_some(), &message.header);
-    if let Some(refusal) = misplaced(end, message.body_len, out_of_order) {
+    let place = start.place + metadata.len() as u64;
+    let has_schema = start.state.schema.is_some();
+    let decoded = decode(alloc, metadata, start.limits);
+    let message = decoded.map_err(|fault| stop_by(has_schema, place, fault))?;
+    message_at(alloc, &Position { place, ..*start }, message)
+}
+
+/// The message where its metadata end at `end`, or the least kind that its place and what was read
+/// before decide.
+fn message_at(alloc: Global, end: &Position, message: Judged) -> Result<Message, Stop>
+    requires near { end.now.place ≤ 2 ^ 62 }
+    ensures placed { Placed end.now.limits.now.max_rows (plain end.now.state.now) end.now.place
+        (message_view message) result }
+    ensures ceiling { OnOk result (end.now.limits.now.max_rows ≤ 2147483647) }
+{
+    let out_of_order = is_out_of_order(end.state.schema.is_some(), &message.header);
+    if let Some(refusal) = misplaced(end.place, message.body_len, out_of_order) {
         return Err(Stop::Refused(refusal));
     }
-    if let Some(refusal) = state_refusal(max_rows, state, &message.header) {
+    let max_rows = end.limits.max_rows();
+    if let Some(refusal) = state_refusal(max_rows, end.state, &message.header) {
         return Err(Stop::Refused(refusal));
     }
     let body_len = message.body_len;

@@ -12,10 +12,10 @@ ghost use Rattle.arrow_stream_reader.specs.State.{fields_in, nothing_yet};
 ghost use Rattle.arrow_stream_reader.specs.Views.{Applies, Gives, HeldValues, IsFit, Ready, Updates};
 ghost use Rattle.arrow_stream_reader.specs.Views.{content_of, plain};
 
-use crate::body::{Body, load_columns, row_count};
+use crate::body::{Body, BodySchema, load_columns, row_count};
 use crate::item::Item;
 use crate::kind::Refusal;
-use crate::message::Content;
+use crate::message::{Content, DictionaryBatch};
 use crate::stop::Stop;
 use crate::stream_schema::StreamSchema;
 use arrow_data::{Array, Batch, Dictionary};
@@ -110,14 +110,12 @@ impl State {
         let types = schema.types();
         let schema = schema.shared();
         let dictionaries = self.dictionaries.entries();
-        let arrays = load_columns(
-            alloc,
-            schema.fields(),
+        let body_schema = BodySchema {
+            fields: schema.fields(),
             types,
-            record_batch,
-            body,
             dictionaries,
-        )?;
+        };
+        let arrays = load_columns(alloc, &body_schema, record_batch, body)?;
         let schema = schema.clone()?;
         Ok(Batch::new_unchecked(schema, arrays, row_count(record_batch)))
     }
@@ -126,24 +124,24 @@ impl State {
     fn values(
         &self,
         alloc: Global,
-        id: i64,
-        record_batch: &RecordBatch,
+        dictionary_batch: &DictionaryBatch,
         body: &Body,
     ) -> Result<Array, Stop>
-        requires sign { pos 0 ≤ℤ record_batch.now.length }
-        requires named { IsTrue
-            (is_some (value_type_of (dictionary_fields (fields_in (plain self.now).schema)) id)) }
-        ensures values { HeldValues (plain self.now) id (batch_view record_batch.now) body.now result }
+        requires sign { pos 0 ≤ℤ dictionary_batch.now.record_batch.now.length }
+        requires named { IsTrue (is_some (value_type_of
+            (dictionary_fields (fields_in (plain self.now).schema)) dictionary_batch.now.id)) }
+        ensures values { HeldValues (plain self.now) dictionary_batch.now.id
+            (batch_view dictionary_batch.now.record_batch.now) body.now result }
     {
-        let field = self.value_field(id).ok_or(Refusal::UnknownId)?;
-        let mut arrays = load_columns(
-            alloc,
-            field.fields(),
-            field.types(),
-            record_batch,
-            body,
-            &[],
-        )?;
+        let field = self
+            .value_field(dictionary_batch.id)
+            .ok_or(Refusal::UnknownId)?;
+        let body_schema = BodySchema {
+            fields: field.fields(),
+            types: field.types(),
+            dictionaries: &[],
+        };
+        let mut arrays = load_columns(alloc, &body_schema, dictionary_batch.record_batch, body)?;
         Ok(arrays.swap_remove(0))
     }
 
@@ -152,18 +150,19 @@ impl State {
     fn update(
         &mut self,
         alloc: Global,
-        id: i64,
-        is_delta: bool,
-        record_batch: &RecordBatch,
+        dictionary_batch: &DictionaryBatch,
         body: &Body,
     ) -> Result<(), Stop>
-        requires ready { Ready (plain self.old) (dictionary id is_delta (batch_view record_batch.now)) }
+        requires ready { Ready (plain self.old) (dictionary dictionary_batch.now.id
+            dictionary_batch.now.is_delta (batch_view dictionary_batch.now.record_batch.now)) }
         requires fit { IsFit (plain self.old) }
-        ensures updates { Updates (plain self.old) id is_delta (batch_view record_batch.now) body.now
-            result (plain self.new) }
+        ensures updates { Updates (plain self.old) dictionary_batch.now.id dictionary_batch.now.is_delta
+            (batch_view dictionary_batch.now.record_batch.now) body.now result (plain self.new) }
         ensures fit { IsFit (plain self.new) }
     {
-        let values = self.values(alloc, id, record_batch, body)?;
+        let values = self.values(alloc, dictionary_batch, body)?;
+        let id = dictionary_batch.id;
+        let is_delta = dictionary_batch.is_delta;
         if is_delta {
             self.dictionaries.append(alloc, id, values)?;
             return Ok(());
@@ -194,7 +193,12 @@ pub(crate) fn apply(
             Ok(Item::Schema)
         }
         Content::Dictionary(id, is_delta, record_batch) => {
-            let updated = state.update(alloc, id, is_delta, &record_batch, body);
+            let dictionary_batch = DictionaryBatch {
+                id,
+                is_delta,
+                record_batch: &record_batch,
+            };
+            let updated = state.update(alloc, &dictionary_batch, body);
             updated.map_err(|stop| (stop, Content::Dictionary(id, is_delta, record_batch)))?;
             Ok(Item::Dictionary(id))
         }
