@@ -20,9 +20,10 @@ use arrow_types::{Limits, Schema};
 use std::alloc::Global;
 use std::marker::Model;
 
-/// What stands behind the messages that were whole, as the phase of the decoder tells.
+/// What stands behind the messages that were whole, as the phase of the decoder tells. It is public
+/// for definitions alone: no call takes or gives one.
 #[derive(Clone, Copy)]
-pub(crate) enum Verdict {
+pub enum Verdict {
     /// A message that is not whole, or nothing yet.
     Open,
     /// The end marker.
