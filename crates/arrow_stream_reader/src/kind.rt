@@ -33,51 +33,51 @@ pub(crate) enum Refusal {
 /// metadata, 14 to 16 by its whole body.
 #[derive(Clone, Copy, Debug, PartialEq, Eq)]
 pub enum Kind {
-    /// The first four bytes of a message are not `FF FF FF FF`.
+    /// 1: the first four bytes of a message are not `FF FF FF FF`.
     Continuation = 1,
-    /// A size of the metadata below 0 or above `max_metadata`, or with which they go on behind
+    /// 2: a size of the metadata below 0 or above `max_metadata`, or with which they go on behind
     /// place 2^62.
-    MetadataSize = 2,
-    /// Something of the metadata that is looked at is not readable, a table that must be there
+    MetadataSize,
+    /// 3: something of the metadata that is looked at is not readable, a table that must be there
     /// is absent, or a fixed limit is passed: 32 levels, 65,536 fields, 65,536 pairs of custom
     /// metadata, or `max_metadata` bytes of names, zones, keys and values.
-    Metadata = 3,
-    /// The metadata's version is neither V4 nor V5.
-    Version = 4,
-    /// The header is absent, or is not one that is read.
-    Header = 5,
-    /// The body's length is negative or over `max_body`, or the body would end past place 2^62.
-    BodyLength = 6,
-    /// A second schema, or a batch before the schema.
-    Order = 7,
-    /// The schema is big-endian, or has a type that is not read, a dictionary of an unknown
+    Metadata,
+    /// 4: the metadata's version is neither V4 nor V5.
+    Version,
+    /// 5: the header is absent, or is not one that is read.
+    Header,
+    /// 6: the body's length is negative or over `max_body`, or the body would end past place 2^62.
+    BodyLength,
+    /// 7: a second schema, or a batch before the schema.
+    Order,
+    /// 8: the schema is big-endian, or has a type that is not read, a dictionary of an unknown
     /// kind, or a dictionary below a dictionary.
-    Unsupported = 8,
-    /// The schema has a width or a unit outside its list, a type with another number of
+    Unsupported,
+    /// 9: the schema has a width or a unit outside its list, a type with another number of
     /// children, or one dictionary id with unequal value types.
-    Schema = 9,
-    /// The body is compressed.
-    Compressed = 10,
-    /// The dictionary's id is in no field of the schema.
-    UnknownId = 11,
-    /// A delta for an id without a dictionary.
-    NoBase = 12,
-    /// The batch's length, or that of a node which is taken, is negative or over `max_rows`, or
+    Schema,
+    /// 10: the body is compressed.
+    Compressed,
+    /// 11: the dictionary's id is in no field of the schema.
+    UnknownId,
+    /// 12: a delta for an id without a dictionary.
+    NoBase,
+    /// 13: the batch's length, or that of a node which is taken, is negative or over `max_rows`, or
     /// a delta would make its dictionary longer than `max_rows`.
-    Rows = 13,
-    /// The body contradicts its nodes and buffers.
-    Layout = 14,
-    /// A valid text is not UTF-8.
-    Text = 15,
-    /// A valid index is negative, or not below the length of its dictionary as it stands at
+    Rows,
+    /// 14: the body contradicts its nodes and buffers.
+    Layout,
+    /// 15: a valid text is not UTF-8.
+    Text,
+    /// 16: a valid index is negative, or not below the length of its dictionary as it stands at
     /// this message.
-    Index = 16,
-    /// The stream ended, by its end marker or otherwise, and no schema message was whole.
-    NoSchema = 17,
-    /// The stream ended inside a message.
-    Truncated = 18,
-    /// A growth was refused. Nothing is said of the bytes.
-    Memory = 19,
+    Index,
+    /// 17: the stream ended, by its end marker or otherwise, and no schema message was whole.
+    NoSchema,
+    /// 18: the stream ended inside a message.
+    Truncated,
+    /// 19: a growth was refused. Nothing is said of the bytes.
+    Memory,
 }
 
 impl Refusal {
@@ -114,7 +114,7 @@ impl Kind {
     ghost use Rattle.std.specs.Prelude.{◌≡◌};
     ghost use Rattle.arrow_stream_reader.specs.Kind.{name_of, number_of};
 
-    /// The kind's number, from 1.
+    /// The kind's number, from 1: its place in the list of them.
     pub fn number(self) -> u8
         ensures number { result ≡ number_of self }
     {
