@@ -1,5 +1,5 @@
 -- What the steps of reading rest on: sizes that were judged are small, and what is held shows its parts.
-use Rattle.std.proofs.Common.{◌≡◌, ℕ, ◌+◌, ◌-◌, ◌^◌, ◌<◌, ◌≤◌, inl, inr, Bool, true, false, cond, ltb, eqb, List, ◌++◌, length, take, drop, refl, sym, ap, ◌∙◌, subst, arith, Option, Some, None, Result, Ok, Err, length-append, length-drop, length-take}
+use Rattle.std.proofs.Common.{◌≡◌, ℕ, ◌+◌, ◌-◌, ◌^◌, ◌<◌, ◌≤◌, inl, inr, Bool, true, false, cond, ltb, eqb, List, [], ◌++◌, length, take, drop, refl, sym, ap, ◌∙◌, subst, arith, Option, Some, None, Result, Ok, Err, length-append, length-drop, length-take}
 use Rattle.std.specs.Prelude.{is_some, not}
 use Rattle.std.proofs.lemmas.Bool.{ltb-false}
 use Rattle.std.proofs.lemmas.List.{append_assoc, take_all}
@@ -17,15 +17,16 @@ use Rattle.arrow_stream_reader.specs.declared.message.Content.{Content as HeldCo
 use Rattle.arrow_stream_reader.specs.declared.message.Message.{Message as HeldMessage}
 use Rattle.arrow_stream_reader.specs.declared.state.State.{State}
 use Rattle.arrow_stream_reader.specs.Views.{Applies, IsFit, Ready, content_of, message_of, plain, MessageRead}
-use Rattle.arrow_stream_reader.specs.declared.message.Stop.{Stop}
-use Rattle.arrow_stream_reader.specs.declared.message.Stop.TheVariants.{Refused, Memory}
+use Rattle.arrow_stream_reader.specs.declared.stop.Stop.{Stop}
+use Rattle.arrow_stream_reader.specs.declared.stop.Stop.TheVariants.{Refused, Memory}
 use Rattle.arrow_stream_reader.specs.declared.decoder.Decoder.{Decoder}
+use Rattle.arrow_stream_reader.specs.declared.reader.Verdict.TheVariants.{Open}
 use Rattle.arrow_stream_reader.specs.declared.decoder.Phase.{Phase}
 use Rattle.arrow_stream_reader.specs.declared.decoder.Phase.TheVariants as phases
 use Rattle.arrow_stream_reader.specs.declared.decoder.Step.{Step}
 use Rattle.arrow_stream_reader.specs.declared.decoder.Step.TheVariants as steps
 use Rattle.arrow_stream_reader.specs.Held.{HeldBytes}
-use Rattle.arrow_stream_reader.specs.Decoder.{Filled, Finishes, NotApplied, Shown, Stopped, Works}
+use Rattle.arrow_stream_reader.specs.Decoder.{Filled, Finishes, IsAt, NotApplied, Shown, Stopped, Works, verdict_of}
 use Rattle.arrow_stream_reader.proofs.Firsts.{HasMetadata-append, metadata_held, body_held}
 use Rattle.arrow_stream_reader.proofs.Meanings.{meaning_small}
 
@@ -148,12 +149,25 @@ module _ {l : LimitNumbers} {s : StreamState} {p : ℕ} where
     says = ap (prefix_says l (is_some s.schema) p) (take_all 8 h (omega arith) ∙ sym e) ∙ ap (λ x. prefix_says l x p d) (sym k) ∙ sym says;
   }
 
--- no more is held than one message may have
-pub held_small : (l : LimitNumbers) (s : StreamState) (p : ℕ) (h : List ℕ) (f : Phase) → Shown l s p h f →
-    length h ≤ 8 + l.max_metadata + l.max_body
-held_small l s p h phases.Prefix x = omega arith
-held_small l s p h (phases.Metadata m) x = let w = size_small x.0 in omega (arith, x.1)
-held_small l s p h (phases.Body m t) x = let w = frame_small x.0 in omega (arith, x.1)
+-- no more is held than one message may have, and of a stream that is not open nothing
+pub held_small : (l : LimitNumbers) (s : StreamState) (p : ℕ) (h : List ℕ) (f : Phase) → (verdict_of f ≡ Open → Shown l s p h f) →
+    ((verdict_of f ≡ Open → ⊥) → h ≡ []) → length h ≤ 8 + l.max_metadata + l.max_body
+held_small l s p h phases.Prefix x e = let y = x refl in omega arith
+held_small l s p h (phases.Metadata m) x e = let y = x refl in let w = size_small y.0 in omega (arith, y.1)
+held_small l s p h (phases.Body m t) x e = let y = x refl in let w = frame_small y.0 in omega (arith, y.1)
+held_small l s p h phases.Ended x e = let n = ap length (e (λ q. absurd (cc))) in omega (arith, n)
+held_small l s p h (phases.Failed k) x e = let n = ap length (e (λ q. absurd (cc))) in omega (arith, n)
+
+open_by : (l : LimitNumbers) (s : StreamState) (p : ℕ) (h : List ℕ) (f : Phase) → Shown l s p h f → verdict_of f ≡ Open
+open_by l s p h phases.Prefix x = refl
+open_by l s p h (phases.Metadata m) x = refl
+open_by l s p h (phases.Body m t) x = refl
+open_by l s p h phases.Ended x = absurd x
+open_by l s p h (phases.Failed k) x = absurd x
+
+-- a decoder that is at what its held bytes have shown is of an open stream
+pub is_open : (w : Decoder) → IsAt w → verdict_of w.phase ≡ Open
+is_open w at = open_by w.limits (plain w.state) w.place w.held.items w.phase at.shown
 
 -- what stops a metadata that was read from the bytes held stops the decoder
 pub metadata_stops : {old new : Decoder} {h b : List ℕ} {m : ℕ} (d c : List ℕ) (stop : Stop) → d ≡ h →

@@ -12,7 +12,7 @@ use Rattle.arrow_types.specs.declared.node.Buffer.{Buffer}
 use Rattle.arrow_meta_reader.specs.Means.{PlainBatch}
 use Rattle.arrow_stream_reader.specs.declared.kind.Refusal.TheVariants.{Layout, Text, Index}
 use Rattle.arrow_stream_reader.specs.Batch.{AreLong, Loads, columns, bad_layout, bad_text, bad_index}
-use Rattle.arrow_stream_reader.specs.Views.{LoadsSome}
+use Rattle.arrow_stream_reader.specs.Views.{HasNoColumns, LoadsSome, body_stop}
 
 -- the columns have the length of the batch, of which these are the nodes and this is the count
 pub are_long : (fields : Fields) (record_batch : PlainBatch) (ns : List FieldNode) (n : ℕ) → ns ≡ record_batch.nodes → n ≡ count_of record_batch.length →
@@ -57,17 +57,25 @@ module _ {body : List ℕ} {ds : List (ℤ × ValueList)} {fields : Fields} {rec
       (columns (record { there = s.there; laid = s.laid; long = long }) s.text s.indexed)
 
   -- a sound body is not refused
-  pub sound_holds_some : AreLong fields record_batch → IsSound body ds fields record_batch.nodes record_batch.buffers → LoadsSome body ds fields record_batch
+  sound_holds_some : AreLong fields record_batch → IsSound body ds fields record_batch.nodes record_batch.buffers → LoadsSome body ds fields record_batch
   sound_holds_some long s = (columns_of body ds fields record_batch.nodes record_batch.buffers, sound_holds (columns_of body ds fields record_batch.nodes record_batch.buffers) long s refl)
 
   -- what the layer below tells first of a body is what refuses it: its layout
-  pub layout_holds : Explains bodies.Layout body ds fields record_batch.nodes record_batch.buffers → Loads body ds fields record_batch (Err Layout)
+  layout_holds : Explains bodies.Layout body ds fields record_batch.nodes record_batch.buffers → Loads body ds fields record_batch (Err Layout)
   layout_holds n = bad_layout (λ h. n (h.there, h.laid))
 
   -- its texts
-  pub text_holds : AreLong fields record_batch → Explains bodies.Text body ds fields record_batch.nodes record_batch.buffers → Loads body ds fields record_batch (Err Text)
+  text_holds : AreLong fields record_batch → Explains bodies.Text body ds fields record_batch.nodes record_batch.buffers → Loads body ds fields record_batch (Err Text)
   text_holds long e = bad_text (record { there = e.0; laid = e.1; long = long }) e.2
 
   -- its indices
-  pub index_holds : AreLong fields record_batch → Explains bodies.Index body ds fields record_batch.nodes record_batch.buffers → Loads body ds fields record_batch (Err Index)
+  index_holds : AreLong fields record_batch → Explains bodies.Index body ds fields record_batch.nodes record_batch.buffers → Loads body ds fields record_batch (Err Index)
   index_holds long e = bad_index (record { there = e.0; laid = e.1; long = long }) e.2 e.3
+
+-- so what it tells of a body with columns of the batch's length is why there are none
+pub fault_holds : (body : List ℕ) (ds : List (ℤ × ValueList)) (fields : Fields) (record_batch : PlainBatch) (k : BodyFault) →
+    AreLong fields record_batch → Explains k body ds fields record_batch.nodes record_batch.buffers → HasNoColumns body ds fields record_batch (body_stop k)
+fault_holds body ds fields record_batch bodies.Layout long e = layout_holds e
+fault_holds body ds fields record_batch bodies.Text long e = text_holds long e
+fault_holds body ds fields record_batch bodies.Index long e = index_holds long e
+fault_holds body ds fields record_batch bodies.Memory long e = sound_holds_some long e

@@ -1,17 +1,18 @@
 -- A metadata means one thing, no message has a body over the limit, and what the layer below answers is what is meant.
-use Rattle.std.proofs.Common.{◌≡◌, ℕ, ◌≤◌, List, ◌+◌, length, refl, sym, ap, ◌∙◌, subst, arith, inl, inr, Result, Ok, Err}
+use Rattle.std.proofs.Common.{◌≡◌, ℕ, ◌≤◌, List, ◌+◌, length, refl, sym, ap, ◌∙◌, subst, arith, inl, inr, Result, MatchResult, Ok, Err}
 use Rattle.std.specs.Prelude.{is_some}
 use Rattle.arrow_types.specs.Limits.{LimitNumbers}
 use Rattle.arrow_meta_reader.specs.declared.fault.MetaFault.{MetaFault}
 use Rattle.arrow_meta_reader.specs.declared.fault.MetaFault.TheVariants as faults
 use Rattle.arrow_meta_reader.specs.Judges.{Decodes, MetadataMeans}
-use Rattle.arrow_meta_reader.specs.Means.{PlainMessage}
+use Rattle.arrow_meta_reader.specs.declared.message.Message.{Message as Judged}
+use Rattle.arrow_meta_reader.specs.Means.{PlainMessage, message_view}
 use Rattle.arrow_meta_reader.proofs.Least.{meaning_length}
 use Rattle.arrow_meta_reader.proofs.OneAnswer.{never_both, one_fault, one_message}
 use Rattle.arrow_stream_reader.specs.Message.{Message}
 use Rattle.arrow_stream_reader.specs.declared.message.Message.{Message as Held}
-use Rattle.arrow_stream_reader.specs.declared.message.Stop.{Stop}
-use Rattle.arrow_stream_reader.specs.declared.message.Stop.TheVariants.{Refused, Memory}
+use Rattle.arrow_stream_reader.specs.declared.stop.Stop.{Stop}
+use Rattle.arrow_stream_reader.specs.declared.stop.Stop.TheVariants.{Refused, Memory}
 use Rattle.arrow_stream_reader.specs.Views.{Placed, StopsBy, MessageRead}
 use Rattle.arrow_stream_reader.specs.Meaning.{Means, announced}
 use Rattle.arrow_stream_reader.specs.State.{StreamState}
@@ -49,6 +50,19 @@ pub fault_is_read : (l : LimitNumbers) (s : StreamState) (start : ℕ) (b : List
     Decodes (Err f) l b → StopsBy stop (is_some s.schema) (start + length b) f → MessageRead l s start b (Err stop)
 fault_is_read l s start b f Memory d h = inl (subst (λ x. Decodes (Err x) l b) h d)
 fault_is_read l s start b f (Refused k) d h = record { meant = Err f; means = decoded_fault l b f h.0 d; says = ap Err h.1 }
+
+-- so it is where a fault is answered by why it stops
+pub fault_stops : (l : LimitNumbers) (s : StreamState) (start : ℕ) (b : List ℕ) (Stops : MetaFault → Type 0) (d : Result Judged MetaFault) (stop : Stop) →
+    Decodes d l b → MatchResult d (λ m. ◌≡◌ {A = Result Judged Stop} (Err stop) (Ok m)) Stops →
+    ((f : MetaFault) → Stops f → StopsBy stop (is_some s.schema) (start + length b) f) → MessageRead l s start b (Err stop)
+fault_stops l s start b Stops (Ok m) stop d h by = absurd (cc)
+fault_stops l s start b Stops (Err f) stop d h by = fault_is_read l s start b f stop d (by f h)
+
+-- and a message that is answered is meant
+pub message_meant : (l : LimitNumbers) (b : List ℕ) (Stops : MetaFault → Type 0) (d : Result Judged MetaFault) (m : Judged) →
+    Decodes d l b → MatchResult d (λ u. ◌≡◌ {A = Result Judged Stop} (Ok m) (Ok u)) Stops → ((f : MetaFault) → Stops f → ⊥) → MetadataMeans l b (message_view m)
+message_meant l b Stops (Ok u) m d h never = let same : u ≡ m = cc in subst (λ x. MetadataMeans l b (message_view x)) same d
+message_meant l b Stops (Err f) m d h never = absurd (never f h)
 
 -- what is understood of a metadata that means a message
 pub message_is_read : (l : LimitNumbers) (s : StreamState) (start : ℕ) (b : List ℕ) (m : PlainMessage) (r : Result Held Stop) →

@@ -1,6 +1,6 @@
 -- What becomes of a message whose body is whole.
 use Rattle.std.proofs.Common.{◌≡◌, ℕ, ◌+◌, ℤ, Bool, true, false, cond, List, [], ◌∷◌, ◌++◌, length, Some, None, is_some, refl, sym, ap, ◌∙◌, subst, arith, Ok, Err}
-use Rattle.std.specs.Prelude.{◌&&◌, not, nat_lt}
+use Rattle.std.specs.Prelude.{◌&&◌, not, nat_lt, slice_index_or}
 use Rattle.std.specs.List.{AllByRecursion}
 use Rattle.std.proofs.lemmas.Bool.{ltb-false}
 use Rattle.arrow_types.specs.Field.{Fields, Head, none, more, fields_of, TypeShape}
@@ -11,17 +11,19 @@ use Rattle.arrow_data.specs.Listed.{listed}
 use Rattle.arrow_body_reader.specs.Held.{count_of}
 use Rattle.arrow_body_reader.specs.Sound.{columns_of}
 use Rattle.arrow_body_reader.proofs.Columns.{columns_long, columns_typed}
-use Rattle.arrow_dict.specs.Appends.{IsAppended, IsTooLong, with_values as grown_with}
+use Rattle.arrow_dict.specs.Appends.{Appends, IsAppended, IsTooLong, with_values as grown_with}
 use Rattle.arrow_dict.specs.Dictionaries.{placed}
 use Rattle.arrow_dict.specs.ValueTypes.{value_field, value_type_of}
+use Rattle.arrow_dict.specs.declared.store.StoreFault.{StoreFault}
+use Rattle.arrow_dict.specs.declared.store.StoreFault.TheVariants as stores
 use Rattle.arrow_meta_reader.specs.Means.{PlainBatch, dictionary, batch}
 use Rattle.arrow_stream_reader.specs.declared.kind.Refusal.TheVariants.{NoBase, Rows, UnknownId}
-use Rattle.arrow_stream_reader.specs.declared.message.Stop.{Stop}
-use Rattle.arrow_stream_reader.specs.declared.message.Stop.TheVariants.{Refused, Memory}
+use Rattle.arrow_stream_reader.specs.declared.stop.Stop.{Stop}
+use Rattle.arrow_stream_reader.specs.declared.stop.Stop.TheVariants.{Refused, Memory}
 use Rattle.arrow_stream_reader.specs.State.{StreamState, dictionary_given, batch_given, fields_in, schema_in}
 use Rattle.arrow_stream_reader.specs.Batch.{Loads, columns, base_of, field_of_type, has_bad_length, value_fields}
 use Rattle.arrow_stream_reader.specs.Frame.{BodySays, dictionary_comes, batch_comes}
-use Rattle.arrow_stream_reader.specs.Views.{AreValues, Gives, HasNoColumns, HeldValues, IsApplicable, IsFit, Ready, Updates}
+use Rattle.arrow_stream_reader.specs.Views.{AreValues, Gives, HasNoColumns, HeldValues, IsApplicable, IsFit, Ready, Updates, store_stop}
 use Rattle.arrow_stream_reader.proofs.Fitness.{placed_fit}
 
 -- THE COLUMNS OF A BODY
@@ -56,23 +58,17 @@ against_cases false false false false e = (refl, refl)
 
 -- ONE COLUMN
 
-never_empty : (xs : List Column) (x : Column) → [] ≡ xs ++ x ∷ [] → ⊥
-never_empty [] x e = cc
-never_empty (y ∷ ys) x e = cc
-
 -- the columns of one field are one
-record IsOne (h : Head) (children : Fields) (cs : List Column) (c : Column) : Type 0 where
-  pub alone : cs ≡ c ∷ []
-  pub typed : c.data_type ≡ record { tag = h.tag; children = children }
-  pub encoded : c.encoding ≡ h.encoding
+pub record IsOne (h : Head) (children : Fields) (cs : List Column) : Type 0 where
+  pub column : Column
+  pub alone : cs ≡ column ∷ []
+  pub typed : column.data_type ≡ record { tag = h.tag; children = children }
+  pub encoded : column.encoding ≡ h.encoding
 
-only_one : (h : Head) (children : Fields) (cs rest : List Column) (c : Column) → AreOf (more h children none) cs → cs ≡ rest ++ c ∷ [] → IsOne h children cs c
-only_one h children [] rest c a e = absurd a
-only_one h children (x ∷ y ∷ ys) rest c a e = absurd a.2
-only_one h children (x ∷ []) [] c a e =
-    let same : x ≡ c = cc in
-    record { alone = e; typed = ap (λ (y : Column). y.data_type) (sym same) ∙ a.0; encoded = ap (λ (y : Column). y.encoding) (sym same) ∙ a.1 }
-only_one h children (x ∷ []) (r ∷ rs) c a e = let behind : [] ≡ rs ++ c ∷ [] = cc in absurd (never_empty rs c behind)
+only_one : (h : Head) (children : Fields) (cs : List Column) → AreOf (more h children none) cs → IsOne h children cs
+only_one h children [] a = absurd a
+only_one h children (x ∷ y ∷ ys) a = absurd a.2
+only_one h children (x ∷ []) a = record { column = x; alone = refl; typed = a.0; encoded = a.1 }
 
 -- the columns that a body holds are those of its nodes and buffers
 held_columns : {body : List ℕ} {ds : List (ℤ × ValueList)} {f : Fields} {w : PlainBatch} {cs : List Column} → Loads body ds f w (Ok cs) →
@@ -95,21 +91,29 @@ module _ (s : StreamState) (record_batch : PlainBatch) (body : List ℕ) where
       BodySays s (batch record_batch) body (Ok (s, batch_given b))
   batch_read cs b h e = batch_comes h (ap (λ x. Ok (s, batch_given x)) e)
 
-  -- a dictionary batch has the one column of its values
-  pub values_read : (id : ℤ) (t : TypeShape) (cs rest : List Column) (c : Column) →
-      value_type_of (dictionary_fields (fields_in s.schema)) id ≡ Some t → has_encoding t.children ≡ false →
-      Loads body [] (value_fields s.schema id) record_batch (Ok cs) → cs ≡ rest ++ c ∷ [] → AreValues s id record_batch body c
-  values_read id t cs rest c named flat h e =
+  -- the columns of a dictionary batch are one
+  pub one_column : (id : ℤ) (t : TypeShape) (cs : List Column) → value_type_of (dictionary_fields (fields_in s.schema)) id ≡ Some t →
+      Loads body [] (value_fields s.schema id) record_batch (Ok cs) → IsOne (value_field t).head (value_field t).children cs
+  one_column id t cs named h =
       let field = value_field t in
       let fields : value_fields s.schema id ≡ fields_of (field ∷ []) = ap field_of_type named in
       let is = held_columns (subst (λ f. Loads body [] f record_batch (Ok cs)) fields h) in
       let typed = subst (AreOf (fields_of (field ∷ []))) (sym is) (columns_typed body [] (fields_of (field ∷ [])) record_batch.nodes record_batch.buffers) in
-      let one = only_one field.head field.children cs rest c typed e in
+      only_one field.head field.children cs typed
+
+  -- which has its values
+  pub values_read : (id : ℤ) (t : TypeShape) (cs : List Column) (c : Column) →
+      value_type_of (dictionary_fields (fields_in s.schema)) id ≡ Some t → has_encoding t.children ≡ false →
+      Loads body [] (value_fields s.schema id) record_batch (Ok cs) → c ≡ slice_index_or cs 0 c → AreValues s id record_batch body c
+  values_read id t cs c named flat h e =
+      let one = one_column id t cs named h in
+      let same : c ≡ one.column = e ∙ ap (λ xs. slice_index_or xs 0 c) one.alone in
+      let typed = ap (λ (x : Column). x.data_type) same ∙ one.typed in
       record {
-        holds = subst (λ x. Loads body [] (value_fields s.schema id) record_batch (Ok x)) one.alone h;
-        typed = named ∙ ap Some (sym one.typed);
-        plain = one.encoded;
-        flat = ap (λ (x : TypeShape). has_encoding x.children) one.typed ∙ flat;
+        holds = subst (λ x. Loads body [] (value_fields s.schema id) record_batch (Ok x)) (one.alone ∙ ap (λ x. x ∷ []) (sym same)) h;
+        typed = named ∙ ap Some (sym typed);
+        plain = ap (λ (x : Column). x.encoding) same ∙ one.encoded;
+        flat = ap (λ (x : TypeShape). has_encoding x.children) typed ∙ flat;
       }
 
   -- refuses the batch
@@ -128,7 +132,7 @@ module _ (s : StreamState) (record_batch : PlainBatch) (body : List ℕ) where
   values_long id c v = (held_long v.holds).0
 
   -- a delta against which nothing stands finds its dictionary
-  pub base_found : (id : ℤ) → Ready s (dictionary id true record_batch) → listed s.dictionaries id ≡ None → ⊥
+  base_found : (id : ℤ) → Ready s (dictionary id true record_batch) → listed s.dictionaries id ≡ None → ⊥
   base_found id r e =
       let w = against_cases (not (is_some (value_type_of (dictionary_fields (fields_in s.schema)) id))) (true && not (is_some (listed s.dictionaries id)))
       (has_bad_length r.max_rows (value_fields s.schema id) record_batch)
@@ -137,7 +141,7 @@ module _ (s : StreamState) (record_batch : PlainBatch) (body : List ℕ) where
       cc
 
   -- and does not make it too long
-  pub base_fits : (id : ℤ) (c : Column) (new : List (ℤ × ValueList)) → Ready s (dictionary id true record_batch) → AreValues s id record_batch body c → IsTooLong s.dictionaries id c new → ⊥
+  base_fits : (id : ℤ) (c : Column) (new : List (ℤ × ValueList)) → Ready s (dictionary id true record_batch) → AreValues s id record_batch body c → IsTooLong s.dictionaries id c new → ⊥
   base_fits id c new r v long =
       let w = against_cases (not (is_some (value_type_of (dictionary_fields (fields_in s.schema)) id))) (true && not (is_some (listed s.dictionaries id)))
       (has_bad_length r.max_rows (value_fields s.schema id) record_batch)
@@ -149,6 +153,13 @@ module _ (s : StreamState) (record_batch : PlainBatch) (body : List ℕ) where
   -- so the batch is not refused
   pub values_applicable : (id : ℤ) (delta : Bool) (c : Column) → AreValues s id record_batch body c → IsApplicable s (dictionary id delta record_batch) body
   values_applicable id delta c h = (_, dictionary_comes h.holds refl)
+
+  -- what a store tells of the values of a delta against which nothing stands is want of memory
+  pub append_refused : (id : ℤ) (c : Column) (fault : StoreFault) (new : List (ℤ × ValueList)) → Ready s (dictionary id true record_batch) → AreValues s id record_batch body c →
+      Appends s.dictionaries id c (Err fault) new → Updates s id true record_batch body (Err (store_stop fault)) (record { schema = s.schema; dictionaries = new })
+  append_refused id c stores.NoBase new r v a = absurd (base_found id r a.0)
+  append_refused id c stores.TooLong new r v a = absurd (base_fits id c new r v a)
+  append_refused id c stores.Memory new r v a = (values_applicable id true c v, ap (λ ds. record { schema = s.schema; dictionaries = ds }) a.same)
 
   -- behind a dictionary of this type
   pub appended : (id : ℤ) (c : Column) (base : ValueList) (ds : List (ℤ × ValueList)) → listed s.dictionaries id ≡ Some base → base.data_type ≡ c.data_type →

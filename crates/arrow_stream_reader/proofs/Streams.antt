@@ -11,13 +11,15 @@ use Rattle.arrow_stream_reader.specs.declared.item.Item.TheVariants.{End}
 use Rattle.arrow_stream_reader.specs.declared.reader.Verdict.{Verdict}
 use Rattle.arrow_stream_reader.specs.declared.reader.Verdict.TheVariants.{Open, Done, Bad}
 use Rattle.arrow_stream_reader.specs.declared.decoder.Decoder.{Decoder}
+use Rattle.arrow_stream_reader.specs.declared.decoder.Phase.TheVariants as phases
 use Rattle.arrow_stream_reader.specs.State.{StreamState, ended, nothing_yet}
 use Rattle.arrow_stream_reader.specs.Frame.{Outcome, First, whole, marker, refused, waits, short_prefix}
 use Rattle.arrow_stream_reader.specs.Front.{Entry, Standing, FrontOf, rests, fails, closes, goes_on}
 use Rattle.arrow_stream_reader.specs.Views.{plain, given}
-use Rattle.arrow_stream_reader.specs.Decoder.{Waited, Gave, Marked, FirstAt}
+use Rattle.arrow_stream_reader.specs.Decoder.{Waited, Gave, Marked, FirstAt, verdict_of}
 use Rattle.arrow_stream_reader.specs.Stream.{ReaderView, ReaderStands, fresh}
 use Rattle.arrow_stream_reader.proofs.Firsts.{First-take, marker-take, First-within, marker-within, one_first}
+use Rattle.arrow_stream_reader.proofs.Decoding.{is_open}
 use Rattle.arrow_stream_reader.proofs.Fronts.{front_then, front_ended, front_place, at_bytes}
 
 -- what a reader shows, by its decoder and its verdict
@@ -109,19 +111,19 @@ module _ (w : Decoder) (waiting : FirstAt w w.held.items waits) (piece : List �
     place_at = front_place open_front ∙ omega arith
 
     -- with less than a message the reader stands behind the piece
-    pub short_stands : (v : Decoder) → Waited w (w.held.items ++ piece) v → ReaderStands (shown_by v o) (t ++ piece) es
+    pub short_stands : (v : Decoder) → Waited w (w.held.items ++ piece) v → ReaderStands (shown_by v (verdict_of v.phase)) (t ++ piece) es
     short_stands v x = record {
       rest = w.held.items ++ piece;
       front =
           let f = front_then piece open_front refl (rests x.first) in
           let g = subst (λ y. FrontOf w.limits (t ++ piece) y (standing (plain w.state) w.place (w.held.items ++ piece) Open)) (append-nil es) f in
-          moved v.limits (plain v.state) v.place o x.same.limits x.same.state x.same.place open_now g;
+          moved v.limits (plain v.state) v.place (verdict_of v.phase) x.same.limits x.same.state x.same.place (is_open v x.at) g;
       held = λ _. sym x.held;
     }
 
     -- with a whole message it stands behind its last byte, and the message is the newest entry
     pub whole_stands : (item : Item) (v : Decoder) (x : Gave w (w.held.items ++ piece) item v) →
-        ReaderStands (shown_by v o) (t ++ take (x.size - length w.held.items) piece) (es ++ record { given = given item; end = length t + (x.size - length w.held.items) } ∷ [])
+        ReaderStands (shown_by v (verdict_of v.phase)) (t ++ take (x.size - length w.held.items) piece) (es ++ record { given = given item; end = length t + (x.size - length w.held.items) } ∷ [])
     whole_stands item v x =
         let n = x.size - length w.held.items in
         let b = w.held.items ++ take n piece in
@@ -134,15 +136,15 @@ module _ (w : Decoder) (waiting : FirstAt w w.held.items waits) (piece : List �
           rest = [];
           front =
               let g = subst (λ y. FrontOf w.limits (t ++ take n piece) (es ++ record { given = given item; end = y } ∷ []) (standing (plain v.state) (w.place + x.size) [] Open)) end f in
-              moved v.limits (plain v.state) v.place o x.limits refl x.place open_now g;
+              moved v.limits (plain v.state) v.place (verdict_of v.phase) x.limits refl x.place (is_open v x.at) g;
           held = λ _. sym x.held;
         }
 
     -- so with the end marker
     pub marker_stands : (m v : Decoder) → Marked w (w.held.items ++ piece) m → v.limits ≡ m.limits →
-        plain v.state ≡ plain m.state → v.place ≡ m.place + 8 →
-        ReaderStands (shown_by v Done) (t ++ take (8 - length w.held.items) piece) (es ++ record { given = given End; end = length t + (8 - length w.held.items) } ∷ [])
-    marker_stands m v x limits state place =
+        plain v.state ≡ plain m.state → v.place ≡ m.place + 8 → v.phase ≡ phases.Ended →
+        ReaderStands (shown_by v (verdict_of v.phase)) (t ++ take (8 - length w.held.items) piece) (es ++ record { given = given End; end = length t + (8 - length w.held.items) } ∷ [])
+    marker_stands m v x limits state place phase =
         let n = 8 - length w.held.items in
         let b = w.held.items ++ take n piece in
         let f = front_then (take n piece) open_front refl (closes (marker_first m x)) in
@@ -151,21 +153,21 @@ module _ (w : Decoder) (waiting : FirstAt w w.held.items waits) (piece : List �
           rest = drop 8 b;
           front =
               let g = subst (λ y. FrontOf w.limits (t ++ take n piece) (es ++ record { given = ended; end = y } ∷ []) (standing (plain w.state) (w.place + 8) (drop 8 b) Done)) end f in
-              moved v.limits (plain v.state) v.place Done (limits ∙ x.same.limits) (state ∙ x.same.state) (place ∙ ap (λ y. y + 8) x.same.place) refl g;
-          held = λ q. absurd (cc);
+              moved v.limits (plain v.state) v.place (verdict_of v.phase) (limits ∙ x.same.limits) (state ∙ x.same.state) (place ∙ ap (λ y. y + 8) x.same.place) (ap verdict_of phase) g;
+          held = λ q. absurd (let e : Open ≡ Done = sym q ∙ ap verdict_of phase in cc);
         }
 
     -- with a refusal it stands behind the piece
     pub refusal_stands : (k : Refusal) (v : Decoder) → FirstAt w (w.held.items ++ piece) (refused k) →
-        v.limits ≡ w.limits → plain v.state ≡ plain w.state → v.place ≡ w.place →
-        ReaderStands (shown_by v (Bad k)) (t ++ piece) es
-    refusal_stands k v x limits state place =
+        v.limits ≡ w.limits → plain v.state ≡ plain w.state → v.place ≡ w.place → v.phase ≡ phases.Failed k →
+        ReaderStands (shown_by v (verdict_of v.phase)) (t ++ piece) es
+    refusal_stands k v x limits state place phase =
         let f = front_then piece open_front refl (fails x) in
         let g = subst (λ y. FrontOf w.limits (t ++ piece) y (standing (plain w.state) w.place (w.held.items ++ piece) (Bad k))) (append-nil es) f in
         record {
           rest = w.held.items ++ piece;
-          front = moved v.limits (plain v.state) v.place (Bad k) limits state place refl g;
-          held = λ q. absurd (cc);
+          front = moved v.limits (plain v.state) v.place (verdict_of v.phase) limits state place (ap verdict_of phase) g;
+          held = λ q. absurd (let e : Open ≡ Bad k = sym q ∙ ap verdict_of phase in cc);
         }
 
 -- where a reader has ended, more bytes change nothing
@@ -189,12 +191,13 @@ same_shows w o l s p h q a b c d e =
     ∙ ap (λ y. record { limits = l; at = standing s p h y }) e
 
 -- so does one whose parts are those of such a reader
-pub anew_stands : (l : LimitNumbers) (s : StreamState) (p : ℕ) (h : List ℕ) → s ≡ nothing_yet → p ≡ 0 → h ≡ [] →
-    ReaderStands (record { limits = l; at = standing s p h Open }) [] []
-anew_stands l s p h a b c =
-    subst (λ y. ReaderStands (record { limits = l; at = standing y p h Open }) [] []) (sym a)
-    (subst (λ y. ReaderStands (record { limits = l; at = standing nothing_yet y h Open }) [] []) (sym b)
-    (subst (λ y. ReaderStands (record { limits = l; at = standing nothing_yet 0 y Open }) [] []) (sym c) (fresh_stands l)))
+pub anew_stands : (l : LimitNumbers) (s : StreamState) (p : ℕ) (h : List ℕ) (o : Verdict) → s ≡ nothing_yet → p ≡ 0 → h ≡ [] → o ≡ Open →
+    ReaderStands (record { limits = l; at = standing s p h o }) [] []
+anew_stands l s p h o a b c d =
+    subst (λ y. ReaderStands (record { limits = l; at = standing y p h o }) [] []) (sym a)
+    (subst (λ y. ReaderStands (record { limits = l; at = standing nothing_yet y h o }) [] []) (sym b)
+    (subst (λ y. ReaderStands (record { limits = l; at = standing nothing_yet 0 y o }) [] []) (sym c)
+    (subst (λ y. ReaderStands (record { limits = l; at = standing nothing_yet 0 [] y }) [] []) (sym d) (fresh_stands l))))
 
 -- what is a beginning of the same bytes, and as long
 pub beginning : (a p m r : List ℕ) (k : ℕ) → k ≡ length a → a ++ p ≡ m ++ r → length a ≤ length m → take k m ≡ a

@@ -3,14 +3,16 @@ use Rattle.std.specs.Prelude.{◌≡◌, ℕ, ◌+◌, ◌^◌, ◌<◌, ◌≤�
 use Rattle.arrow_types.specs.Limits.{LimitNumbers}
 use Rattle.arrow_stream_reader.specs.declared.kind.Refusal.{Refusal}
 use Rattle.arrow_stream_reader.specs.declared.item.Item.{Item}
-use Rattle.arrow_stream_reader.specs.declared.message.Stop.{Stop}
-use Rattle.arrow_stream_reader.specs.declared.message.Stop.TheVariants.{Refused, Memory}
+use Rattle.arrow_stream_reader.specs.declared.stop.Stop.{Stop}
+use Rattle.arrow_stream_reader.specs.declared.stop.Stop.TheVariants.{Refused, Memory}
 use Rattle.arrow_stream_reader.specs.declared.prefix.Prefix.TheVariants as prefixes
 use Rattle.arrow_stream_reader.specs.declared.decoder.Phase.{Phase}
 use Rattle.arrow_stream_reader.specs.declared.decoder.Phase.TheVariants as phases
 use Rattle.arrow_stream_reader.specs.declared.decoder.Step.{Step}
 use Rattle.arrow_stream_reader.specs.declared.decoder.Step.TheVariants as steps
 use Rattle.arrow_stream_reader.specs.declared.decoder.Decoder.{Decoder}
+use Rattle.arrow_stream_reader.specs.declared.reader.Verdict.{Verdict}
+use Rattle.arrow_stream_reader.specs.declared.reader.Verdict.TheVariants.{Open, Done, Bad}
 use Rattle.arrow_stream_reader.specs.Message.{Message}
 use Rattle.arrow_stream_reader.specs.State.{StreamState, Given}
 use Rattle.arrow_stream_reader.specs.Frame.{HasPrefix, HasMetadata, HasBody, Outcome, First, whole, marker, refused, waits}
@@ -23,13 +25,23 @@ pub record Filled (old piece : List ℕ) (want n : ℕ) (new : List ℕ) : Type 
   pub rest : new ++ drop n piece ≡ old ++ piece
   pub enough : (length new ≡ want) ⊎ ((length new < want) × (new ≡ old ++ piece))
 
--- the phase is what the bytes held so far have shown
+-- what the phase says of the bytes behind the whole messages
+abbrev pub verdict_of : Phase → Verdict
+verdict_of phases.Prefix = Open
+verdict_of (phases.Metadata m) = Open
+verdict_of (phases.Body m t) = Open
+verdict_of phases.Ended = Done
+verdict_of (phases.Failed k) = Bad k
+
+-- the stream is open, and the phase is what the bytes held so far have shown
 abbrev pub Shown : LimitNumbers → StreamState → ℕ → List ℕ → Phase → Type 0
 Shown l s p h phases.Prefix = length h ≤ 8
 Shown l s p h (phases.Metadata m) = HasPrefix l s p h (Ok (prefixes.Metadata m)) × (length h ≤ 8 + m)
 Shown l s p h (phases.Body m t) = HasMetadata l s p h m (Ok (message_of t)) × (length h ≤ 8 + m + t.body_len) × (l.max_rows ≤ 2147483647)
+Shown l s p h phases.Ended = ⊥
+Shown l s p h (phases.Failed k) = ⊥
 
--- the decoder is at what its held bytes have shown, at no place past the last, with dictionaries of the schema's types
+-- the decoder of an open stream is at what its held bytes have shown, at no place past the last, with dictionaries of the schema's types
 pub record IsAt (w : Decoder) : Type 0 where
   pub shown : Shown w.limits (plain w.state) w.place w.held.items w.phase
   pub near : w.place ≤ 2 ^ 62

@@ -27,49 +27,33 @@ kind_of refusals.Text = kinds.Text
 kind_of refusals.Index = kinds.Index
 kind_of refusals.NoSchema = kinds.NoSchema
 
--- the number of a kind
-abbrev pub number_of : Kind → ℕ
-number_of kinds.Continuation = 1
-number_of kinds.MetadataSize = 2
-number_of kinds.Metadata = 3
-number_of kinds.Version = 4
-number_of kinds.Header = 5
-number_of kinds.BodyLength = 6
-number_of kinds.Order = 7
-number_of kinds.Unsupported = 8
-number_of kinds.Schema = 9
-number_of kinds.Compressed = 10
-number_of kinds.UnknownId = 11
-number_of kinds.NoBase = 12
-number_of kinds.Rows = 13
-number_of kinds.Layout = 14
-number_of kinds.Text = 15
-number_of kinds.Index = 16
-number_of kinds.NoSchema = 17
-number_of kinds.Truncated = 18
-number_of kinds.Memory = 19
+-- the number of a kind, and its name
+abbrev pub told_of : Kind → ℕ × List ℕ
+told_of kinds.Continuation = (1, codes "Continuation")
+told_of kinds.MetadataSize = (2, codes "MetadataSize")
+told_of kinds.Metadata = (3, codes "Metadata")
+told_of kinds.Version = (4, codes "Version")
+told_of kinds.Header = (5, codes "Header")
+told_of kinds.BodyLength = (6, codes "BodyLength")
+told_of kinds.Order = (7, codes "Order")
+told_of kinds.Unsupported = (8, codes "Unsupported")
+told_of kinds.Schema = (9, codes "Schema")
+told_of kinds.Compressed = (10, codes "Compressed")
+told_of kinds.UnknownId = (11, codes "UnknownId")
+told_of kinds.NoBase = (12, codes "NoBase")
+told_of kinds.Rows = (13, codes "Rows")
+told_of kinds.Layout = (14, codes "Layout")
+told_of kinds.Text = (15, codes "Text")
+told_of kinds.Index = (16, codes "Index")
+told_of kinds.NoSchema = (17, codes "NoSchema")
+told_of kinds.Truncated = (18, codes "Truncated")
+told_of kinds.Memory = (19, codes "Memory")
 
--- the name of a kind
+abbrev pub number_of : Kind → ℕ
+number_of kind = (told_of kind).0
+
 abbrev pub name_of : Kind → List ℕ
-name_of kinds.Continuation = codes "Continuation"
-name_of kinds.MetadataSize = codes "MetadataSize"
-name_of kinds.Metadata = codes "Metadata"
-name_of kinds.Version = codes "Version"
-name_of kinds.Header = codes "Header"
-name_of kinds.BodyLength = codes "BodyLength"
-name_of kinds.Order = codes "Order"
-name_of kinds.Unsupported = codes "Unsupported"
-name_of kinds.Schema = codes "Schema"
-name_of kinds.Compressed = codes "Compressed"
-name_of kinds.UnknownId = codes "UnknownId"
-name_of kinds.NoBase = codes "NoBase"
-name_of kinds.Rows = codes "Rows"
-name_of kinds.Layout = codes "Layout"
-name_of kinds.Text = codes "Text"
-name_of kinds.Index = codes "Index"
-name_of kinds.NoSchema = codes "NoSchema"
-name_of kinds.Truncated = codes "Truncated"
-name_of kinds.Memory = codes "Memory"
+name_of kind = (told_of kind).1
 
 -- what is told of a fault: the place of its message, and the kind's name
 abbrev pub fault_text : Fault → List ℕ

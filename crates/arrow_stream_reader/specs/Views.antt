@@ -6,18 +6,23 @@ use Rattle.arrow_types.specs.Schema.{dictionary_fields, has_encoding}
 use Rattle.arrow_data.specs.Batch.{Table}
 use Rattle.arrow_data.specs.Column.{Column, ValueList}
 use Rattle.arrow_data.specs.Listed.{listed}
+use Rattle.arrow_body_reader.specs.declared.body.BodyFault.{BodyFault}
+use Rattle.arrow_body_reader.specs.declared.body.BodyFault.TheVariants as bodies
 use Rattle.arrow_dict.specs.ValueTypes.{value_type_of}
+use Rattle.arrow_dict.specs.declared.store.StoreFault.{StoreFault}
+use Rattle.arrow_dict.specs.declared.store.StoreFault.TheVariants as stores
 use Rattle.arrow_meta_reader.specs.declared.fault.MetaFault.{MetaFault}
 use Rattle.arrow_meta_reader.specs.declared.fault.MetaFault.TheVariants as faults
 use Rattle.arrow_meta_reader.specs.Grows.{GrowsAtRoot}
 use Rattle.arrow_meta_reader.specs.Means.{PlainBatch, PlainHeader, PlainMessage, schema, dictionary, batch, batch_view}
+use Rattle.arrow_stream_reader.specs.declared.kind.Refusal.TheVariants as refusals
 use Rattle.arrow_stream_reader.specs.declared.item.Item.{Item}
 use Rattle.arrow_stream_reader.specs.declared.item.Item.TheVariants as items
 use Rattle.arrow_stream_reader.specs.declared.message.Content.{Content as HeldContent}
 use Rattle.arrow_stream_reader.specs.declared.message.Content.TheVariants as held
 use Rattle.arrow_stream_reader.specs.declared.message.Message.{Message as HeldMessage}
-use Rattle.arrow_stream_reader.specs.declared.message.Stop.{Stop}
-use Rattle.arrow_stream_reader.specs.declared.message.Stop.TheVariants.{Refused, Memory}
+use Rattle.arrow_stream_reader.specs.declared.stop.Stop.{Stop}
+use Rattle.arrow_stream_reader.specs.declared.stop.Stop.TheVariants.{Refused, Memory}
 use Rattle.arrow_stream_reader.specs.declared.state.State.{State}
 use Rattle.arrow_stream_reader.specs.Batch.{Loads, value_fields}
 use Rattle.arrow_stream_reader.specs.State.{StreamState, Given, schema_given, dictionary_given, batch_given, ended, fields_in}
@@ -45,6 +50,19 @@ content_of (held.Batch record_batch) = batch (batch_view record_batch)
 -- the message that is held
 abbrev pub message_of : HeldMessage → Message
 message_of m = record { content = content_of m.content; body_len = m.body_len }
+
+-- why a message is not read on whose body has this fault
+abbrev pub body_stop : BodyFault → Stop
+body_stop bodies.Layout = Refused refusals.Layout
+body_stop bodies.Text = Refused refusals.Text
+body_stop bodies.Index = Refused refusals.Index
+body_stop bodies.Memory = Memory
+
+-- why a dictionary batch is not applied of which a store tells this fault
+abbrev pub store_stop : StoreFault → Stop
+store_stop stores.NoBase = Refused refusals.NoBase
+store_stop stores.TooLong = Refused refusals.Rows
+store_stop stores.Memory = Memory
 
 -- Why a metadata with this fault is not read on that ends at this place: the least kind, or want of memory.
 abbrev pub StopsBy : Stop → Bool → ℕ → MetaFault → Type 0

@@ -10,7 +10,7 @@ ghost use Rattle.arrow_stream_reader.specs.Batch.{Loads};
 ghost use Rattle.arrow_stream_reader.specs.Views.{HasNoColumns};
 
 use crate::kind::Refusal;
-use crate::message::Stop;
+use crate::stop::Stop;
 use arrow_body_reader::{BodyFault, check, have_length, load_typed};
 use arrow_data::{Array, Dictionary, SharedType};
 use arrow_meta_reader::RecordBatch;
@@ -87,6 +87,15 @@ impl<'a> Body<'a> {
     }
 }
 
+/// What the columns of a body are: their fields with the types of the nodes, and the dictionaries in
+/// which indices are looked up.
+#[derive(Clone, Copy)]
+pub(crate) struct BodySchema<'a> {
+    pub(crate) fields: &'a [Field],
+    pub(crate) types: &'a [SharedType],
+    pub(crate) dictionaries: &'a [(i64, Dictionary)],
+}
+
 /// How many rows a batch has whose length is not negative.
 pub(crate) fn row_count(record_batch: &RecordBatch) -> usize
     requires sign { pos 0 ≤ℤ record_batch.now.length }
@@ -103,71 +112,63 @@ pub(crate) fn row_count(record_batch: &RecordBatch) -> usize
 /// buffers.
 pub(crate) fn load_columns(
     alloc: Global,
-    fields: &[Field],
-    types: &[SharedType],
+    schema: &BodySchema,
     record_batch: &RecordBatch,
     body: &Body,
-    dictionaries: &[(i64, Dictionary)],
 ) -> Result<Vec<Array>, Stop>
     requires sign { pos 0 ≤ℤ record_batch.now.length }
-    requires typed { types.now ≡ node_types (fields_view fields.now) }
-    requires fit { AreFit dictionaries.now (fields_view fields.now) }
+    requires typed { schema.now.types.now ≡ node_types (fields_view schema.now.fields.now) }
+    requires fit { AreFit schema.now.dictionaries.now (fields_view schema.now.fields.now) }
     ensures held { MatchResult result
-        (λ columns. Loads body.now dictionaries.now (fields_view fields.now)
+        (λ columns. Loads body.now schema.now.dictionaries.now (fields_view schema.now.fields.now)
         (batch_view record_batch.now) (Ok columns.items))
-        (λ stop. HasNoColumns body.now dictionaries.now (fields_view fields.now)
+        (λ stop. HasNoColumns body.now schema.now.dictionaries.now (fields_view schema.now.fields.now)
         (batch_view record_batch.now) stop) }
 {
-    if !have_length(fields, &record_batch.nodes, row_count(record_batch)) {
+    if !have_length(schema.fields, &record_batch.nodes, row_count(record_batch)) {
         return Err(Stop::Refused(Refusal::Layout));
     }
-    match columns_in(alloc, fields, types, record_batch, body, dictionaries) {
-        Ok(columns) => Ok(columns),
-        Err(BodyFault::Layout) => Err(Stop::Refused(Refusal::Layout)),
-        Err(BodyFault::Text) => Err(Stop::Refused(Refusal::Text)),
-        Err(BodyFault::Index) => Err(Stop::Refused(Refusal::Index)),
-        Err(BodyFault::Memory) => Err(Stop::Memory),
-    }
+    let columns = columns_in(alloc, schema, record_batch, body)?;
+    Ok(columns)
 }
 
 // The same, whatever the number of rows is; where the copy of the body is refused its fault is told
 // first, as ever.
 fn columns_in(
     alloc: Global,
-    fields: &[Field],
-    types: &[SharedType],
+    schema: &BodySchema,
     record_batch: &RecordBatch,
     body: &Body,
-    dictionaries: &[(i64, Dictionary)],
 ) -> Result<Vec<Array>, BodyFault>
-    requires typed { types.now ≡ node_types (fields_view fields.now) }
-    requires fit { AreFit dictionaries.now (fields_view fields.now) }
+    requires typed { schema.now.types.now ≡ node_types (fields_view schema.now.fields.now) }
+    requires fit { AreFit schema.now.dictionaries.now (fields_view schema.now.fields.now) }
     ensures { MatchResult result
-        (λ columns. IsSound body.now dictionaries.now (fields_view fields.now)
+        (λ columns. IsSound body.now schema.now.dictionaries.now (fields_view schema.now.fields.now)
         (batch_view record_batch.now).nodes (batch_view record_batch.now).buffers
-        × (columns.items ≡ columns_of body.now dictionaries.now (fields_view fields.now)
-        (batch_view record_batch.now).nodes (batch_view record_batch.now).buffers))
-        (λ fault. Explains fault body.now dictionaries.now (fields_view fields.now)
+        × (columns.items ≡ columns_of body.now schema.now.dictionaries.now
+        (fields_view schema.now.fields.now) (batch_view record_batch.now).nodes
+        (batch_view record_batch.now).buffers))
+        (λ fault. Explains fault body.now schema.now.dictionaries.now (fields_view schema.now.fields.now)
         (batch_view record_batch.now).nodes (batch_view record_batch.now).buffers) }
 {
     match body.own(alloc) {
         Ok(owned) => load_typed(
             alloc,
-            fields,
-            types,
+            schema.fields,
+            schema.types,
             &record_batch.nodes,
             &record_batch.buffers,
             &owned,
-            dictionaries,
+            schema.dictionaries,
         ),
         Err(_) => {
             let bytes = body.as_slice();
             check(
-                fields,
+                schema.fields,
                 &record_batch.nodes,
                 &record_batch.buffers,
                 bytes,
-                dictionaries,
+                schema.dictionaries,
             )?;
             Err(BodyFault::Memory)
         }

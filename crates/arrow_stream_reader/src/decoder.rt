@@ -5,18 +5,22 @@ ghost use Rattle.arrow_stream_reader.specs.declared.prefix.Prefix.TheVariants as
 ghost use Rattle.arrow_stream_reader.specs.Frame.{HasPrefix, HasMetadata};
 ghost use Rattle.arrow_stream_reader.specs.State.{nothing_yet};
 ghost use Rattle.arrow_stream_reader.specs.Views.{IsFit, plain, message_of};
+ghost use Rattle.arrow_stream_reader.specs.declared.decoder.Phase.TheVariants as phases;
 ghost use Rattle.arrow_stream_reader.specs.Decoder.{Finishes, IsAt, Works, Rewound};
 
 use crate::held::Held;
 use crate::item::Item;
-use crate::message::{Message, Stop, read_message};
+use crate::kind::Refusal;
+use crate::message::Message;
+use crate::metadata::{Position, read_message};
 use crate::prefix::{Prefix, read_prefix};
 use crate::state::{State, apply};
+use crate::stop::Stop;
 use arrow_types::Limits;
 use std::alloc::Global;
 use std::mem;
 
-/// How far the message in work has come.
+/// Where a stream stands: how far its message in work has come, or what ended it.
 #[derive(Drop)]
 pub(crate) enum Phase {
     /// Its first eight bytes are not whole.
@@ -25,6 +29,10 @@ pub(crate) enum Phase {
     Metadata(u64),
     /// Its metadata have this size and announce this message, whose body is not whole.
     Body(u64, Message),
+    /// The end marker was whole.
+    Ended,
+    /// The message in work is refused.
+    Failed(Refusal),
 }
 
 /// What a piece brought.
@@ -58,9 +66,9 @@ impl Decoder {
         ensures works { Works self.old (self.old.held.items ++ piece.now) result self.new }
     {
         match mem::replace(&mut self.phase, Phase::Prefix) {
-            Phase::Prefix => self.read_prefix(piece),
             Phase::Metadata(size) => self.read_metadata(size, piece),
             Phase::Body(size, message) => self.read_body(size, message, piece),
+            Phase::Prefix | Phase::Ended | Phase::Failed(_) => self.read_prefix(piece),
         }
     }
 
@@ -97,9 +105,13 @@ impl Decoder {
         if self.held.len() < whole {
             return Ok(Step::Short);
         }
-        let start = self.place + 8;
+        let start = Position {
+            limits: &self.limits,
+            state: &self.state,
+            place: self.place + 8,
+        };
         let metadata = &self.held.as_slice()[8..];
-        let message = read_message(self.alloc, &self.limits, &self.state, start, metadata)?;
+        let message = read_message(self.alloc, &start, metadata)?;
         self.read_body(size, message, &piece[taken..])
     }
 
@@ -181,19 +193,30 @@ impl Decoder {
         }
     }
 
-    /// Goes past this many bytes, all that are held among them.
-    pub(crate) fn pass(&mut self, count: u64)
-        requires near { self.old.place + count ≤ 2 ^ 62 }
-        requires fit { IsFit (plain self.old.state) }
-        ensures at { IsAt self.new }
+    /// Goes past the end marker, whose first bytes are those held.
+    pub(crate) fn end(&mut self)
+        requires near { self.old.place + 8 ≤ 2 ^ 62 }
         ensures limits { self.new.limits ≡ self.old.limits }
         ensures state { plain self.new.state ≡ plain self.old.state }
-        ensures place { self.new.place ≡ self.old.place + count }
+        ensures place { self.new.place ≡ self.old.place + 8 }
         ensures held { self.new.held.items ≡ [] }
+        ensures phase { self.new.phase ≡ phases.Ended }
     {
-        self.place += count;
+        self.place += 8;
         self.held.clear();
-        self.phase = Phase::Prefix;
+        self.phase = Phase::Ended;
+    }
+
+    /// Drops what is held of a message that is refused so.
+    pub(crate) fn fail(&mut self, refusal: Refusal)
+        ensures limits { self.new.limits ≡ self.old.limits }
+        ensures state { plain self.new.state ≡ plain self.old.state }
+        ensures place { self.new.place ≡ self.old.place }
+        ensures held { self.new.held.items ≡ [] }
+        ensures phase { self.new.phase ≡ phases.Failed refusal }
+    {
+        self.held.clear();
+        self.phase = Phase::Failed(refusal);
     }
 
     /// Begins a new stream.
@@ -203,6 +226,7 @@ impl Decoder {
         ensures state { plain self.new.state ≡ nothing_yet }
         ensures place { self.new.place ≡ 0 }
         ensures held { self.new.held.items ≡ [] }
+        ensures phase { self.new.phase ≡ phases.Prefix }
     {
         self.state.clear();
         self.place = 0;

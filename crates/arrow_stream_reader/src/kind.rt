@@ -34,7 +34,7 @@ pub(crate) enum Refusal {
 #[derive(Clone, Copy, Debug, PartialEq, Eq)]
 pub enum Kind {
     /// 1: the first four bytes of a message are not `FF FF FF FF`.
-    Continuation,
+    Continuation = 1,
     /// 2: a size of the metadata below 0 or above `max_metadata`, or with which they go on behind
     /// place 2^62.
     MetadataSize,
@@ -114,31 +114,11 @@ impl Kind {
     ghost use Rattle.std.specs.Prelude.{◌≡◌};
     ghost use Rattle.arrow_stream_reader.specs.Kind.{name_of, number_of};
 
-    /// The kind's number, from 1.
+    /// The kind's number, from 1: its place in the list of them.
     pub fn number(self) -> u8
         ensures number { result ≡ number_of self }
     {
-        match self {
-            Kind::Continuation => 1,
-            Kind::MetadataSize => 2,
-            Kind::Metadata => 3,
-            Kind::Version => 4,
-            Kind::Header => 5,
-            Kind::BodyLength => 6,
-            Kind::Order => 7,
-            Kind::Unsupported => 8,
-            Kind::Schema => 9,
-            Kind::Compressed => 10,
-            Kind::UnknownId => 11,
-            Kind::NoBase => 12,
-            Kind::Rows => 13,
-            Kind::Layout => 14,
-            Kind::Text => 15,
-            Kind::Index => 16,
-            Kind::NoSchema => 17,
-            Kind::Truncated => 18,
-            Kind::Memory => 19,
-        }
+        self as u8
     }
 
     /// The kind's name, which is that of its variant.

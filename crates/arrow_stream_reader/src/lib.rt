@@ -24,7 +24,7 @@
 //! | what a batch says by its body | `specs/Batch.antt`: `Loads`, `batch_left`, `dictionary_left` |
 //! | what a stream told so far | `specs/State.antt`: `StreamState`, `Given`; `specs/Tables.antt`: `tables_of` |
 //! | what a reader shows, what its calls answer | `specs/Stream.antt`: `ReaderView`, `ReaderStands`, `Answers` |
-//! | the kinds of faults | `specs/Kind.antt`: `kind_of`, `number_of` |
+//! | the kinds of faults, their numbers and names | `specs/Kind.antt`: `kind_of`, `told_of` |
 //! | a reader's decoder, and the bytes that it holds | `specs/Decoder.antt`, `specs/Held.antt`, `specs/Views.antt`, `specs/Inside.antt` |
 //! | the laws | `specs/Laws.antt`: `OneFront`, `NoneWithoutFront`, `MoreBytes`, `SameStanding`, `LessWaits` |
 //!
@@ -42,10 +42,12 @@ mod item;
 mod kind;
 pub mod laws;
 mod message;
+mod metadata;
 mod prefix;
 mod reader;
 mod refusals;
 mod state;
+mod stop;
 mod stream_schema;
 
 pub use fault::Fault;

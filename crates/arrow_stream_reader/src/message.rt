@@ -1,17 +1,7 @@
-//! What a message announces: what its metadata mean where they stand.
+//! What a message announces.
 
-ghost use Rattle.std.specs.Prelude.{◌≡◌, ◌^◌, ◌+◌, ◌≤◌, length, IfOk};
-ghost use Rattle.arrow_meta_reader.specs.Means.{header_view, message_view};
-ghost use Rattle.arrow_stream_reader.specs.Frame.{misplaced};
-ghost use Rattle.arrow_stream_reader.specs.Views.{Placed, StopsBy, MessageRead, content_of, plain};
-
-use crate::kind::Refusal;
-use crate::refusals::{is_out_of_order, misplaced, state_refusal};
-use crate::state::State;
 use crate::stream_schema::StreamSchema;
-use arrow_meta_reader::{Header, Message as Judged, MetaFault, RecordBatch, decode};
-use arrow_types::Limits;
-use std::alloc::{AllocError, Global};
+use arrow_meta_reader::RecordBatch;
 
 /// What a message holds, by its header.
 #[derive(Drop)]
@@ -33,117 +23,11 @@ pub(crate) struct Message {
     pub(crate) body_len: u64,
 }
 
-/// Why a message is not read on.
+/// Values for the dictionary of an id, behind those that are there or in place of them (Message.fbs,
+/// table "DictionaryBatch").
 #[derive(Clone, Copy)]
-pub(crate) enum Stop {
-    /// Its bytes are refused.
-    Refused(Refusal),
-    /// A growth was refused.
-    Memory,
-}
-
-/// A growth that was refused: `Memory`.
-impl From<AllocError> for Stop {
-    ghost use Rattle.arrow_stream_reader.specs.declared.message.Stop.TheVariants.{Memory};
-
-    ghost from_gives = { λ refused stop. stop ≡ Memory };
-
-    fn from(_refused: AllocError) -> Stop {
-        Stop::Memory
-    }
-}
-
-/// Bytes that are refused so: `Refused`.
-impl From<Refusal> for Stop {
-    ghost use Rattle.arrow_stream_reader.specs.declared.message.Stop.TheVariants.{Refused};
-
-    ghost from_gives = { λ refusal stop. stop ≡ Refused refusal };
-
-    fn from(refusal: Refusal) -> Stop {
-        Stop::Refused(refusal)
-    }
-}
-
-/// What a metadata says that begins at the place `start` of a stream, behind what was read before.
-/// What the message needs to be applied is made here, but for what its body holds.
-pub(crate) fn read_message(
-    alloc: Global,
-    limits: &Limits,
-    state: &State,
-    start: u64,
-    metadata: &[u8],
-) -> Result<Message, Stop>
-    requires near { start + length metadata.now ≤ 2 ^ 62 }
-    ensures says { MessageRead limits.now (plain state.now) start metadata.now result }
-    ensures ceiling { limits.now.max_rows ≤ 2147483647 }
-{
-    let end = start + metadata.len() as u64;
-    let max_rows = limits.max_rows();
-    match decode(alloc, metadata, limits) {
-        Ok(message) => place(alloc, max_rows, state, end, message),
-        Err(fault) => Err(stop_by(state.schema.is_some(), end, fault)),
-    }
-}
-
-/// The message where its metadata end at the place `end`, or the least kind that its place and what
-/// was read before decide.
-fn place(
-    alloc: Global,
-    max_rows: u64,
-    state: &State,
-    end: u64,
-    message: Judged,
-) -> Result<Message, Stop>
-    requires near { end ≤ 2 ^ 62 }
-    ensures placed { Placed max_rows (plain state.now) end (message_view message) result }
-{
-    let out_of_order = is_out_of_order(state.schema.is_some(), &message.header);
-    if let Some(refusal) = misplaced(end, message.body_len, out_of_order) {
-        return Err(Stop::Refused(refusal));
-    }
-    if let Some(refusal) = state_refusal(max_rows, state, &message.header) {
-        return Err(Stop::Refused(refusal));
-    }
-    let body_len = message.body_len;
-    let content = content_by(alloc, message.header)?;
-    Ok(Message { content, body_len })
-}
-
-/// What a message with this header holds.
-fn content_by(alloc: Global, header: Header) -> Result<Content, AllocError>
-    ensures same { IfOk result (λ c. content_of c ≡ header_view header) }
-{
-    Ok(match header {
-        Header::Schema(schema) => Content::Schema(StreamSchema::of(alloc, schema)?),
-        Header::Dictionary(id, is_delta, record_batch) => Content::Dictionary(
-            id,
-            is_delta,
-            record_batch,
-        ),
-        Header::Batch(record_batch) => Content::Batch(record_batch),
-    })
-}
-
-/// Why a metadata with this fault is not read on that ends at the place `end`: the least kind of
-/// its own and of those that the place decides.
-fn stop_by(has_schema: bool, end: u64, fault: MetaFault) -> Stop
-    requires near { end ≤ 2 ^ 62 }
-    ensures stop { StopsBy result has_schema end fault }
-{
-    match fault {
-        MetaFault::Memory => Stop::Memory,
-        MetaFault::Metadata => Stop::Refused(Refusal::Metadata),
-        MetaFault::Version => Stop::Refused(Refusal::Version),
-        MetaFault::Header => Stop::Refused(Refusal::Header),
-        MetaFault::BodyLength => Stop::Refused(Refusal::BodyLength),
-        MetaFault::Unsupported { body_len } => {
-            Stop::Refused(misplaced(end, body_len, has_schema).unwrap_or(Refusal::Unsupported))
-        }
-        MetaFault::Schema { body_len } => {
-            Stop::Refused(misplaced(end, body_len, has_schema).unwrap_or(Refusal::Schema))
-        }
-        MetaFault::Compressed { body_len, .. } => {
-            Stop::Refused(misplaced(end, body_len, !has_schema).unwrap_or(Refusal::Compressed))
-        }
-    }
+pub(crate) struct DictionaryBatch<'a> {
+    pub(crate) id: i64,
+    pub(crate) is_delta: bool,
+    pub(crate) record_batch: &'a RecordBatch,
 }

@@ -7,6 +7,9 @@ ghost use Rattle.arrow_stream_reader.specs.Frame.{prefix_says};
 use crate::kind::Refusal;
 use arrow_types::Limits;
 
+/// The number of the four bytes that begin a frame and the end marker.
+const CONTINUATION: u32 = 0xffff_ffff;
+
 /// What the first eight bytes say.
 #[derive(Clone, Copy)]
 pub(crate) enum Prefix {
@@ -27,13 +30,10 @@ pub(crate) fn read_prefix(
     requires near { place ≤ 2 ^ 62 }
     ensures says { result ≡ prefix_says limits.now has_schema place bytes.now }
 {
-    if bytes[0] != 0xff || bytes[1] != 0xff || bytes[2] != 0xff || bytes[3] != 0xff {
+    if u32::from_le_bytes([bytes[0], bytes[1], bytes[2], bytes[3]]) != CONTINUATION {
         return Err(Refusal::Continuation);
     }
-    let size = bytes[4] as u64
-        + 0x100 * bytes[5] as u64
-        + 0x1_0000 * bytes[6] as u64
-        + 0x100_0000 * bytes[7] as u64;
+    let size = u64::from(u32::from_le_bytes([bytes[4], bytes[5], bytes[6], bytes[7]]));
     if limits.max_metadata() < size || Limits::LAST_PLACE < place + 8 + size {
         return Err(Refusal::MetadataSize);
     }

@@ -13,16 +13,17 @@ use crate::fault::Fault;
 use crate::held::Held;
 use crate::item::Item;
 use crate::kind::{Kind, Refusal};
-use crate::message::Stop;
 use crate::state::State;
+use crate::stop::Stop;
 use arrow_dict::Store;
 use arrow_types::{Limits, Schema};
 use std::alloc::Global;
 use std::marker::Model;
 
-/// What stands behind the messages that were whole.
+/// What stands behind the messages that were whole, as the phase of the decoder tells. It is public
+/// for definitions alone: no call takes or gives one.
 #[derive(Clone, Copy)]
-pub(crate) enum Verdict {
+pub enum Verdict {
     /// A message that is not whole, or nothing yet.
     Open,
     /// The end marker.
@@ -45,7 +46,6 @@ pub(crate) enum Verdict {
 #[derive(Drop)]
 pub struct StreamReader {
     decoder: Decoder,
-    verdict: Verdict,
 }
 
 impl Model for StreamReader {
@@ -78,7 +78,6 @@ impl StreamReader {
                 held: Held::new(alloc),
                 phase: Phase::Prefix,
             },
-            verdict: Verdict::Open,
         }
     }
 
@@ -116,7 +115,7 @@ impl StreamReader {
         ensures empty { self.old.at.verdict ≡ Open → piece.now ≡ []
             → (result ≡ Ok (0, None)) × (self.new ≡ self.old) }
     {
-        match self.verdict {
+        match self.verdict() {
             Verdict::Open if piece.is_empty() => Ok((0, None)),
             Verdict::Open => self.go_on(piece),
             Verdict::Done => Ok((0, None)),
@@ -124,6 +123,17 @@ impl StreamReader {
                 kind: refusal.kind(),
                 place: self.decoder.place,
             }),
+        }
+    }
+
+    /// What stands behind the messages that were whole.
+    fn verdict(&self) -> Verdict
+        ensures same { result ≡ self.now.at.verdict }
+    {
+        match &self.decoder.phase {
+            Phase::Prefix | Phase::Metadata(_) | Phase::Body(_, _) => Verdict::Open,
+            Phase::Ended => Verdict::Done,
+            Phase::Failed(refusal) => Verdict::Bad(*refusal),
         }
     }
 
@@ -147,13 +157,11 @@ impl StreamReader {
                 Ok((taken, Some(item)))
             }
             Ok(Step::EndMarker) => {
-                self.decoder.pass(8);
-                self.verdict = Verdict::Done;
+                self.decoder.end();
                 Ok((8 - before, Some(Item::End)))
             }
             Err(Stop::Refused(refusal)) => {
-                self.decoder.pass(0);
-                self.verdict = Verdict::Bad(refusal);
+                self.decoder.fail(refusal);
                 Err(Fault {
                     kind: refusal.kind(),
                     place,
@@ -178,7 +186,7 @@ impl StreamReader {
     pub fn end(&self) -> Result<(), Fault>
         ensures ended { result ≡ ended_so self.now.at }
     {
-        let kind = match self.verdict {
+        let kind = match self.verdict() {
             Verdict::Bad(refusal) => refusal.kind(),
             Verdict::Done => return Ok(()),
             Verdict::Open if self.decoder.state.schema.is_none() => Kind::NoSchema,
@@ -198,7 +206,6 @@ impl StreamReader {
         ensures start { ReaderStands self.new [] [] }
     {
         self.decoder.restart();
-        self.verdict = Verdict::Open;
     }
 
     /// How many bytes are held of an unfinished message: those taken since the last whole message,

@@ -10,6 +10,7 @@ ghost use Rattle.arrow_stream_reader.specs.Views.{plain};
 
 use crate::body::row_count;
 use crate::kind::Refusal;
+use crate::message::DictionaryBatch;
 use crate::state::State;
 use arrow_body_reader::nodes_of;
 use arrow_meta_reader::{Header, RecordBatch};
@@ -49,7 +50,12 @@ pub(crate) fn state_refusal(max_rows: u64, state: &State, header: &Header) -> Op
     match header {
         Header::Schema(_) => None,
         Header::Dictionary(id, is_delta, record_batch) => {
-            dictionary_refusal(max_rows, state, *id, *is_delta, record_batch)
+            let dictionary_batch = DictionaryBatch {
+                id: *id,
+                is_delta: *is_delta,
+                record_batch,
+            };
+            dictionary_refusal(max_rows, state, &dictionary_batch)
         }
         Header::Batch(record_batch) => {
             if has_bad_length(max_rows, state.fields(), record_batch) {
@@ -65,13 +71,16 @@ pub(crate) fn state_refusal(max_rows: u64, state: &State, header: &Header) -> Op
 fn dictionary_refusal(
     max_rows: u64,
     state: &State,
-    id: i64,
-    is_delta: bool,
-    record_batch: &RecordBatch,
+    dictionary_batch: &DictionaryBatch,
 ) -> Option<Refusal>
-    ensures kind { result
-        ≡ dictionary_refusal max_rows (plain state.now) id is_delta (batch_view record_batch.now) }
+    ensures kind { result ≡ dictionary_refusal max_rows (plain state.now) dictionary_batch.now.id
+        dictionary_batch.now.is_delta (batch_view dictionary_batch.now.record_batch.now) }
 {
+    let DictionaryBatch {
+        id,
+        is_delta,
+        record_batch,
+    } = *dictionary_batch;
     let Some(field) = state.value_field(id) else {
         return Some(Refusal::UnknownId);
     };

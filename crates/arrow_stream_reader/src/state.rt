@@ -12,12 +12,14 @@ ghost use Rattle.arrow_stream_reader.specs.State.{fields_in, nothing_yet};
 ghost use Rattle.arrow_stream_reader.specs.Views.{Applies, Gives, HeldValues, IsFit, Ready, Updates};
 ghost use Rattle.arrow_stream_reader.specs.Views.{content_of, plain};
 
-use crate::body::{Body, load_columns, row_count};
+use crate::body::{Body, BodySchema, load_columns, row_count};
 use crate::item::Item;
-use crate::message::{Content, Stop};
+use crate::kind::Refusal;
+use crate::message::{Content, DictionaryBatch};
+use crate::stop::Stop;
 use crate::stream_schema::StreamSchema;
 use arrow_data::{Array, Batch, Dictionary};
-use arrow_dict::{Store, StoreFault, ValueField};
+use arrow_dict::{Store, ValueField};
 use arrow_meta_reader::RecordBatch;
 use arrow_types::Field;
 use std::alloc::Global;
@@ -104,20 +106,16 @@ impl State {
         requires fit { IsFit (plain self.now) }
         ensures gives { Gives (plain self.now) (batch_view record_batch.now) body.now result }
     {
-        let Some(schema) = &self.schema else {
-            unreachable!();
-        };
+        let schema = self.schema.as_ref().ok_or(Refusal::Order)?;
         let types = schema.types();
         let schema = schema.shared();
         let dictionaries = self.dictionaries.entries();
-        let arrays = load_columns(
-            alloc,
-            schema.fields(),
+        let body_schema = BodySchema {
+            fields: schema.fields(),
             types,
-            record_batch,
-            body,
             dictionaries,
-        )?;
+        };
+        let arrays = load_columns(alloc, &body_schema, record_batch, body)?;
         let schema = schema.clone()?;
         Ok(Batch::new_unchecked(schema, arrays, row_count(record_batch)))
     }
@@ -126,30 +124,25 @@ impl State {
     fn values(
         &self,
         alloc: Global,
-        id: i64,
-        record_batch: &RecordBatch,
+        dictionary_batch: &DictionaryBatch,
         body: &Body,
     ) -> Result<Array, Stop>
-        requires sign { pos 0 ≤ℤ record_batch.now.length }
-        requires named { IsTrue
-            (is_some (value_type_of (dictionary_fields (fields_in (plain self.now).schema)) id)) }
-        ensures values { HeldValues (plain self.now) id (batch_view record_batch.now) body.now result }
+        requires sign { pos 0 ≤ℤ dictionary_batch.now.record_batch.now.length }
+        requires named { IsTrue (is_some (value_type_of
+            (dictionary_fields (fields_in (plain self.now).schema)) dictionary_batch.now.id)) }
+        ensures values { HeldValues (plain self.now) dictionary_batch.now.id
+            (batch_view dictionary_batch.now.record_batch.now) body.now result }
     {
-        let Some(field) = self.value_field(id) else {
-            unreachable!();
+        let field = self
+            .value_field(dictionary_batch.id)
+            .ok_or(Refusal::UnknownId)?;
+        let body_schema = BodySchema {
+            fields: field.fields(),
+            types: field.types(),
+            dictionaries: &[],
         };
-        let mut arrays = load_columns(
-            alloc,
-            field.fields(),
-            field.types(),
-            record_batch,
-            body,
-            &[],
-        )?;
-        match arrays.pop() {
-            Some(values) => Ok(values),
-            None => unreachable!(),
-        }
+        let mut arrays = load_columns(alloc, &body_schema, dictionary_batch.record_batch, body)?;
+        Ok(arrays.swap_remove(0))
     }
 
     /// Takes the values of a dictionary batch with this body: in place of those of its id, or
@@ -157,25 +150,22 @@ impl State {
     fn update(
         &mut self,
         alloc: Global,
-        id: i64,
-        is_delta: bool,
-        record_batch: &RecordBatch,
+        dictionary_batch: &DictionaryBatch,
         body: &Body,
     ) -> Result<(), Stop>
-        requires ready { Ready (plain self.old) (dictionary id is_delta (batch_view record_batch.now)) }
+        requires ready { Ready (plain self.old) (dictionary dictionary_batch.now.id
+            dictionary_batch.now.is_delta (batch_view dictionary_batch.now.record_batch.now)) }
         requires fit { IsFit (plain self.old) }
-        ensures updates { Updates (plain self.old) id is_delta (batch_view record_batch.now) body.now
-            result (plain self.new) }
+        ensures updates { Updates (plain self.old) dictionary_batch.now.id dictionary_batch.now.is_delta
+            (batch_view dictionary_batch.now.record_batch.now) body.now result (plain self.new) }
         ensures fit { IsFit (plain self.new) }
     {
-        let values = self.values(alloc, id, record_batch, body)?;
+        let values = self.values(alloc, dictionary_batch, body)?;
+        let id = dictionary_batch.id;
+        let is_delta = dictionary_batch.is_delta;
         if is_delta {
-            return match self.dictionaries.append(alloc, id, values) {
-                Ok(()) => Ok(()),
-                Err(StoreFault::Memory) => Err(Stop::Memory),
-                Err(StoreFault::NoBase) => unreachable!(),
-                Err(StoreFault::TooLong) => unreachable!(),
-            };
+            self.dictionaries.append(alloc, id, values)?;
+            return Ok(());
         }
         let dictionary = Dictionary::from_array(alloc, values)?;
         self.dictionaries.replace(id, dictionary)?;
@@ -203,14 +193,18 @@ pub(crate) fn apply(
             Ok(Item::Schema)
         }
         Content::Dictionary(id, is_delta, record_batch) => {
-            match state.update(alloc, id, is_delta, &record_batch, body) {
-                Ok(()) => Ok(Item::Dictionary(id)),
-                Err(stop) => Err((stop, Content::Dictionary(id, is_delta, record_batch))),
-            }
+            let dictionary_batch = DictionaryBatch {
+                id,
+                is_delta,
+                record_batch: &record_batch,
+            };
+            let updated = state.update(alloc, &dictionary_batch, body);
+            updated.map_err(|stop| (stop, Content::Dictionary(id, is_delta, record_batch)))?;
+            Ok(Item::Dictionary(id))
         }
-        Content::Batch(record_batch) => match state.batch(alloc, &record_batch, body) {
-            Ok(batch) => Ok(Item::Batch(batch)),
-            Err(stop) => Err((stop, Content::Batch(record_batch))),
-        },
+        Content::Batch(record_batch) => {
+            let read = state.batch(alloc, &record_batch, body);
+            Ok(Item::Batch(read.map_err(|stop| (stop, Content::Batch(record_batch)))?))
+        }
     }
 }

@@ -9,5 +9,5 @@ use Rattle.arrow_stream_reader.proofs.body.columns_in.Goals as goal
 pub returns-in-Ok : goal.returns-in-Ok
 returns-in-Ok c =
     let record_batch = batch_view c.args.record_batch.now in
-    told_of (λ (v : Vec Column Global). v.items) c.load_typed.result c.in-Ok.owned c.args.body.now c.args.dictionaries.now (fields_view c.args.fields.now) c.deref.result.now record_batch.nodes c.deref-in-Ok.result.now record_batch.buffers
+    told_of (λ (v : Vec Column Global). v.items) c.load_typed.result c.in-Ok.owned c.args.body.now c.args.schema.now.dictionaries.now (fields_view c.args.schema.now.fields.now) c.deref.result.now record_batch.nodes c.deref-in-Ok.result.now record_batch.buffers
     c.in-Ok.ensures.same c.deref.ensures.value c.deref-in-Ok.ensures.value c.load_typed.ensures
