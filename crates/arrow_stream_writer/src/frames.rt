@@ -156,7 +156,7 @@ impl Settings {
             buffers: mem::replace(&mut body.buffers, Vec::new(self.alloc)),
         };
         let message = Message {
-            version: 4,
+            version: Message::V5,
             header: header_of(kind, batch),
             body_len: body.bytes.len() as u64,
         };

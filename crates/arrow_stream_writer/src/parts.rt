@@ -81,7 +81,7 @@ impl PartBuilder {
         let _ = self.settings.schema.metadata();
         self.part.clear();
         let message = Message {
-            version: 4,
+            version: Message::V5,
             header: Header::Schema(self.settings.schema.copy(self.settings.alloc)?),
             body_len: 0,
         };
