@@ -15,7 +15,7 @@ use Rattle.arrow_stream_reader.specs.State.{Given, schema_given, dictionary_give
 use Rattle.arrow_stream_reader.specs.Tables.{table_in, tables_of}
 use Rattle.arrow_stream_reader.specs.Views.{given}
 use Rattle.arrowflow_report.proofs.Feeding.{ended_same, tables-append, taken_all}
-use Rattle.arrowflow_report.proofs.Told.{end_is_done}
+use Rattle.arrowflow_report.proofs.Driving.{end_is_done}
 use Rattle.arrowflow_c.specs.declared.survey.ReportC.{ReportC}
 use Rattle.arrowflow_c.specs.declared.survey.Counts.{Counts}
 use Rattle.arrowflow_c.specs.Kinds.{kind_by}

@@ -1,6 +1,7 @@
 -- A stream that is copied message by message.
 use Rattle.std.proofs.Common.{◌≡◌, ℕ, ◌+◌, Bool, true, false, List, [], ◌∷◌, ◌++◌, length, take, drop, Option, None, Some, Result, Ok, Err, ◌⊎◌, inl, inr, refl, sym, ap, ◌∙◌, subst, append_assoc, append-nil, take-append-drop, is_some}
-use Rattle.std.specs.Io.KnownBytes.{Appends, IsAtEnd}
+use Rattle.std.specs.Prelude.{OnOk}
+use Rattle.std.specs.Io.KnownBytes.{Appends}
 use Rattle.std.proofs.KnownBytes.{Appends-nil}
 use Rattle.std.proofs.lemmas.Bool.{false≢true}
 use Rattle.std.proofs.lemmas.List.{length-append}
@@ -31,21 +32,22 @@ use Rattle.arrow_stream_laws.specs.Sizes.{Options}
 use Rattle.arrow_stream_laws.specs.Text.{IsPart, Text, Written, adds, begins, finished, joined, marker_frame, schema_frame, unfinished}
 use Rattle.arrow_stream_laws.specs.Writer as writers
 use Rattle.arrowflow_report.specs.Faults.{told}
-use Rattle.arrowflow_report.specs.Reports.{EndsWell, IsBadBy}
-use Rattle.arrowflow_report.specs.Reads.{BlamesNoInput}
+use Rattle.arrowflow_report.specs.Reports.{EndsWell}
+use Rattle.arrowflow_report.specs.Consumer.{Comes, HasEnded, entry_of}
+use Rattle.arrowflow_report.specs.Driver.{Driven}
 use Rattle.arrowflow_report.specs.declared.tool_fault.ToolFault.{ToolFault}
 use Rattle.arrowflow_report.specs.declared.tool_fault.ToolFault.TheVariants.{Input, Output, Stream, Refused, Memory}
 use Rattle.arrowflow_report.specs.declared.what.What.TheVariants.{Start, Batch, Finish}
-use Rattle.arrowflow_report.proofs.Feeding.{ended_same, taken_all}
 use Rattle.arrowflow_report.proofs.First.{state_stays}
-use Rattle.arrowflow_report.proofs.Found.{told_refusal}
 use Rattle.arrowflow_report.proofs.Growing.{one_table}
-use Rattle.arrowflow_report.proofs.Reporting.{standing_of}
+use Rattle.arrowflow_report.proofs.Driving.{badly_at, standing_of, well_at}
 use Rattle.arrowflow_report.proofs.Schemas.{front_begins, front_behind, front_keeps}
 use Rattle.arrowflow_report.proofs.Sent.{begun_all}
-use Rattle.arrowflow_report.proofs.Told.{end_is_done, state_same}
 use Rattle.arrowflow_copy.specs.Copy.{Copies, IsBegun, IsClosed, IsClosedInPart, IsCopied, IsSent, IsSentOf, IsSentInPart, IsSentInPartOf, RefusesBatch, RefusesEnd, RefusesSchema}
-use Rattle.arrowflow_copy.specs.Copying.{AddsBatch, At, BeginsCopy, Closes, HasWritten, IsCopying, IsWriting, IsWritingOn, PieceCopied, TakesItem, TakesFirst, TakesOne, fault_of, failures_at, held_at, waiting, writing}
+use Rattle.arrowflow_copy.specs.Target.{at_of, sink_in}
+use Rattle.arrowflow_copy.specs.declared.copier.Target.{Target}
+use Rattle.arrowflow_copy.specs.declared.copier.Target.TheVariants.{Waiting, Writing}
+use Rattle.arrowflow_copy.specs.Copying.{AddsBatch, At, BeginsCopy, Closes, Began, HasAnswered, HasCopied, HasWritten, IsCopying, IsWriting, IsWritingOn, TakesItem, TakesFirst, TakesOne, fault_of, failures_at, held_at, waiting, writing}
 
 -- ---- what was written
 
@@ -136,8 +138,20 @@ schema_stays c x shape old o known new = let w = front_behind c old o new in (fr
 
 -- ---- one message more
 
-module _ (limits : LimitNumbers) (o : Options) (first : Option (List ℕ)) (start : ℕ) (at : At) (number : ℕ) (now new : ReaderView) (u rest : List ℕ) (es : List Entry) (n : ℕ) (item : Item) (is_open : now.at.verdict ≡ Open)
-    (same : new.limits ≡ now.limits) (x : IsCopying limits o first start at number now u es) (gives : GivesNext rest n item new u es) where
+module _ (began : Began) (at : At) (number : ℕ) (now new : ReaderView) (u rest : List ℕ) (es : List Entry) (n : ℕ) (item : Item) (is_open : now.at.verdict ≡ Open) (same : new.limits ≡ now.limits) (at_old : ReaderStands now u es)
+    (x : HasCopied began at number now.limits now.at.state es) (gives : GivesNext rest n item new u es) where
+  abbrev limits : LimitNumbers
+  limits = began.limits
+
+  abbrev o : Options
+  o = began.options
+
+  abbrev first : Option (List ℕ)
+  first = began.first
+
+  abbrev start : ℕ
+  start = began.failures
+
   abbrev entry : Entry
   entry = record { given = given item; end = length u + n }
 
@@ -150,8 +164,8 @@ module _ (limits : LimitNumbers) (o : Options) (first : Option (List ℕ)) (star
   abbrev standing : Standing
   standing = standing_of new gives.stands.rest
 
-  old_front : FrontOf limits u es (standing_of now x.stands.rest)
-  old_front = front_at limits now u es x.stands x.limits_are
+  old_front : FrontOf limits u es (standing_of now at_old.rest)
+  old_front = front_at limits now u es at_old x.limits_are
 
   new_front : FrontOf limits taken entries standing
   new_front = front_at limits new taken entries gives.stands (same ∙ x.limits_are)
@@ -163,8 +177,8 @@ module _ (limits : LimitNumbers) (o : Options) (first : Option (List ℕ)) (star
   tables = one_table es entry
 
   -- the copy stands behind it
-  copying : (at' : At) (number' : ℕ) → number' ≡ length (tables_of entries) → HasWritten limits o first start new.at.state.schema (tables_of entries) at' → IsCopying limits o first start at' number' new taken entries
-  copying at' number' k h = record { stands = gives.stands; limits_are = same ∙ x.limits_are; counted = k; written = h }
+  copying : (at' : At) (number' : ℕ) → number' ≡ length (tables_of entries) → HasWritten limits o first start new.at.state.schema (tables_of entries) at' → HasCopied began at' number' new.limits new.at.state entries
+  copying at' number' k h = record { limits_are = same ∙ x.limits_are; counted = k; written = h }
 
   -- a beginning of what it is copied as was written
   begun : (held : Option (List ℕ)) → IsSentInPartOf limits o new.at.state.schema (tables_of entries) first held → IsBegun limits o (u ++ rest) first held
@@ -172,8 +186,8 @@ module _ (limits : LimitNumbers) (o : Options) (first : Option (List ℕ)) (star
 
   -- what comes of it: the copy goes on, or ends
   abbrev pub Goes : Result (Unit {0}) ToolFault → At → ℕ → Type 0
-  Goes (Ok done) at' number' = IsCopying limits o first start at' number' new taken entries
-  Goes (Err f) at' number' = BlamesNoInput (Err f) × ((left : Option (List ℕ)) → Copies limits o (u ++ rest) left first start (Err f) (held_at at') (failures_at at'))
+  Goes (Ok done) at' number' = HasCopied began at' number' new.limits new.at.state entries
+  Goes (Err f) at' number' = (left : Option (List ℕ)) → Copies limits o (u ++ rest) left first start (Err f) (held_at at') (failures_at at')
 
   module _ (shape : SchemaShape) (schema : new.at.state.schema ≡ Some shape) (known : IsNoted shape) (none : es ≡ []) (is_schema : given item ≡ schema_given) where
     no_tables : tables_of entries ≡ []
@@ -201,9 +215,7 @@ module _ (limits : LimitNumbers) (o : Options) (first : Option (List ℕ)) (star
         subst (λ a. Goes (Err f) a number') (sym b.4) (subst (λ g. Goes (Err g) (waiting b.1 b.2) number') (sym b.3) (by b.0 b.1 b.2 b.5))
       where
         by : (kind : WriteFault) (held : Option (List ℕ)) (failed : ℕ) → writers.StartFails limits o shape first start kind held failed → Goes (Err (fault_of Start kind)) (waiting held failed) number'
-        by kinds.TooLarge held failed s = (
-          tt,
-          λ left. (
+        by kinds.TooLarge held failed s = λ left. (
             record {
               taken = taken;
               rest = drop n rest;
@@ -218,12 +230,9 @@ module _ (limits : LimitNumbers) (o : Options) (first : Option (List ℕ)) (star
               wrote = subst (λ y. Appends first y []) (sym s.1) (Appends-nil first);
             },
             s.2,
-          ),
-        )
-        by kinds.Memory held failed s = (tt, λ left. (begun held (nothing_sent held s.0), s.1))
-        by kinds.Sink held failed s = (
-          tt,
-          λ left. (
+          )
+        by kinds.Memory held failed s = λ left. (begun held (nothing_sent held s.0), s.1)
+        by kinds.Sink held failed s = λ left. (
             inl (begun held (subst (λ z. IsSentInPartOf limits o z (tables_of entries) first held) (sym schema) (inr (record {
               first = [];
               later = tables_of entries;
@@ -234,8 +243,7 @@ module _ (limits : LimitNumbers) (o : Options) (first : Option (List ℕ)) (star
               wrote = subst (AcceptsBeginning first held) (sym (append-nil s.part)) s.accepted;
             })))),
             s.failed,
-          ),
-        )
+          )
         by kinds.SchemaDiffers held failed s = absurd s
         by kinds.DictionariesDiffer held failed s = absurd s
         by kinds.Broken held failed s = absurd s
@@ -310,14 +318,14 @@ module _ (limits : LimitNumbers) (o : Options) (first : Option (List ℕ)) (star
       }))
 
       stops : (kind : WriteFault) (w' : writers.WriterView) (number' : ℕ) → writers.Writes w t (Err kind) w' → Goes (Err (fault_of (Batch number) kind)) (writing w') number'
-      stops kinds.SchemaDiffers w' number' r = (tt, λ left. refuses kinds.SchemaDiffers w' r)
-      stops kinds.TooLarge w' number' r = (tt, λ left. refuses kinds.TooLarge w' r)
-      stops kinds.DictionariesDiffer w' number' r = (tt, λ left. refuses kinds.DictionariesDiffer w' r)
-      stops kinds.Sink w' number' f = (tt, λ left. (inl (begun w'.contents (breaks w' f)), ap (λ (v : writers.WriterView). v.failures) f.new_is ∙ ap (λ m. m + 1) y.failures_are))
+      stops kinds.SchemaDiffers w' number' r = λ left. refuses kinds.SchemaDiffers w' r
+      stops kinds.TooLarge w' number' r = λ left. refuses kinds.TooLarge w' r
+      stops kinds.DictionariesDiffer w' number' r = λ left. refuses kinds.DictionariesDiffer w' r
+      stops kinds.Sink w' number' f = λ left. (inl (begun w'.contents (breaks w' f)), ap (λ (v : writers.WriterView). v.failures) f.new_is ∙ ap (λ m. m + 1) y.failures_are)
       stops kinds.Broken w' number' s = let q = sym s.before ∙ y.stands.status_is in absurd (cc)
       stops kinds.Finished w' number' s = let q = sym s.before ∙ y.stands.status_is in absurd (cc)
       stops kinds.Memory w' number' s =
-          (tt, λ left. subst (λ (v : writers.WriterView). IsBegun limits o (u ++ rest) first v.contents × (v.failures ≡ start)) (sym s.unchanged) (begun w.contents sent_before, y.failures_are))
+          λ left. subst (λ (v : writers.WriterView). IsBegun limits o (u ++ rest) first v.contents × (v.failures ≡ start)) (sym s.unchanged) (begun w.contents sent_before, y.failures_are)
 
       adds_so : (answer : Result (Unit {0}) ToolFault) (at' : At) (number' : ℕ) → AddsBatch w t number answer at' number' → Goes answer at' number'
       adds_so (Ok done) at' number' z =
@@ -331,7 +339,7 @@ module _ (limits : LimitNumbers) (o : Options) (first : Option (List ℕ)) (star
             options_are = ap (λ (v : writers.WriterView). v.options) a.new_is ∙ y.options_are;
             failures_are = ap (λ (v : writers.WriterView). v.failures) a.new_is ∙ y.failures_are;
           }))
-      adds_so (Err f) at' number' (inl z) = subst (λ g. Goes (Err g) at' number') (sym z.0) (subst (λ b. Goes (Err Memory) b number') (sym z.1) (tt, λ left. (begun w.contents sent_before, y.failures_are)))
+      adds_so (Err f) at' number' (inl z) = subst (λ g. Goes (Err g) at' number') (sym z.0) (subst (λ b. Goes (Err Memory) b number') (sym z.1) (λ left. (begun w.contents sent_before, y.failures_are)))
       adds_so (Err f) at' number' (inr z) = subst (λ g. Goes (Err g) at' number') (sym z.2) (subst (λ b. Goes (Err (fault_of (Batch number) z.0)) b number') (sym z.3) (stops z.0 z.1 number' z.4))
 
     takes_one : (g : Given) → given item ≡ g → (answer : Result (Unit {0}) ToolFault) (at' : At) (number' : ℕ) → TakesOne w g number answer at' number' → Goes answer at' number'
@@ -351,64 +359,47 @@ module _ (limits : LimitNumbers) (o : Options) (first : Option (List ℕ)) (star
           begins_so c.shape c.schema b.0 c.none c.is_schema answer at' number' (subst (λ m. BeginsCopy limits o c.shape first m answer at') h.2 (subst (λ k. BeginsCopy limits o c.shape k failed answer at') h.1 b.1)) z.1
       by (writing w) h z = takes_one w h (given item) refl answer at' number' z
 
--- bytes without a message leave what was written
-pub still : (limits : LimitNumbers) (o : Options) (first : Option (List ℕ)) (start : ℕ) (at : At) (number : ℕ) (now new : ReaderView) (u c : List ℕ) (es : List Entry) → new.limits ≡ now.limits → IsCopying limits o first start at number now u es
-    → ReaderStands new (u ++ c) es → IsCopying limits o first start at number new (u ++ c) es
-still limits o first start at number now new u c es same x stands =
-    let state : new.at.state ≡ now.at.state = state_same c (front_at limits now u es x.stands x.limits_are) (front_at limits new (u ++ c) es stands (same ∙ x.limits_are)) in
-    record { stands = stands; limits_are = same ∙ x.limits_are; counted = x.counted; written = subst (λ (s : StreamState). HasWritten limits o first start s.schema (tables_of es) at) (sym state) x.written }
+module _ (began : Began) (at : At) (number : ℕ) (r : ReaderView) (t : List ℕ) (es : List Entry) (stands : ReaderStands r t es) (x : HasCopied began at number r.limits r.at.state es) where
+  -- so far all was copied
+  abbrev pub copied_at : IsCopied began.limits began.options t (standing_of r stands.rest) began.first (held_at at)
+  copied_at = record {
+    entries = es;
+    front = front_at began.limits r t es stands x.limits_are;
+    sent = sent_of began.limits began.options began.first began.failures r.at.state.schema (tables_of es) at x.written;
+  }
 
--- so far all was copied
-pub copied_at : (limits : LimitNumbers) (o : Options) (first : Option (List ℕ)) (start : ℕ) (at : At) (number : ℕ) (r : ReaderView) (t : List ℕ) (es : List Entry) (x : IsCopying limits o first start at number r t es)
-    → IsCopied limits o t (standing_of r x.stands.rest) first (held_at at)
-copied_at limits o first start at number r t es x = record {
-  entries = es;
-  front = front_at limits r t es x.stands x.limits_are;
-  sent = sent_of limits o first start r.at.state.schema (tables_of es) at x.written;
-}
+  -- so it was begun, with more bytes behind
+  pub begun_at : (c : List ℕ) → IsBegun began.limits began.options (t ++ c) began.first (held_at at)
+  begun_at c = record {
+    taken = t;
+    rest = c;
+    whole = refl;
+    standing = standing_of r stands.rest;
+    entries = es;
+    front = front_at began.limits r t es stands x.limits_are;
+    sent = part_of began.limits began.options r.at.state.schema (tables_of es) [] (tables_of es) began.first (held_at at) (append-nil (tables_of es)) copied_at.sent;
+  }
 
--- so it was begun, with more bytes behind
-pub begun_at : (limits : LimitNumbers) (o : Options) (first : Option (List ℕ)) (start : ℕ) (at : At) (number : ℕ) (r : ReaderView) (t c : List ℕ) (es : List Entry) → IsCopying limits o first start at number r t es → IsBegun limits o (t ++ c) first (held_at at)
-begun_at limits o first start at number r t c es x = record {
-  taken = t;
-  rest = c;
-  whole = refl;
-  standing = standing_of r x.stands.rest;
-  entries = es;
-  front = front_at limits r t es x.stands x.limits_are;
-  sent = part_of limits o r.at.state.schema (tables_of es) [] (tables_of es) first (held_at at) (append-nil (tables_of es)) (sent_of limits o first start r.at.state.schema (tables_of es) at x.written);
-}
-
--- a fault of the reader ends the copy
-pub refused_at : (limits : LimitNumbers) (o : Options) (first : Option (List ℕ)) (start : ℕ) (at : At) (number : ℕ) (now new : ReaderView) (u rest : List ℕ) (es : List Entry) (fault : Fault) → new.limits ≡ now.limits
-    → IsCopying limits o first start at number now u es → WantsMemory now fault new ⊎ RefusesMessage rest fault new u es
-    → BlamesNoInput (Err (told fault)) × ((left : Option (List ℕ)) → Copies limits o (u ++ rest) left first start (Err (told fault)) (held_at at) (failures_at at))
-refused_at limits o first start at number now new u rest es fault same x (inl m) =
-    subst (λ f. BlamesNoInput (Err (told f)) × ((left : Option (List ℕ)) → Copies limits o (u ++ rest) left first start (Err (told f)) (held_at at) (failures_at at))) (sym m.fault_is)
-    (tt, λ left. (begun_at limits o first start at number now u rest es x, failed_of limits o first start now.at.state.schema (tables_of es) at x.written))
-refused_at limits o first start at number now new u rest es fault same x (inr r) =
-    let f_is : fault ≡ record { kind = kind_of r.refusal; place = new.at.place } = λ i. record { kind = r.kind i; place = r.place i } in
-    let y = still limits o first start at number now new u rest es same x r.stands in
-    subst (λ f. BlamesNoInput (Err (told f)) × ((left : Option (List ℕ)) → Copies limits o (u ++ rest) left first start (Err (told f)) (held_at at) (failures_at at))) (sym f_is)
-    (subst (λ z. BlamesNoInput (Err z) × ((left : Option (List ℕ)) → Copies limits o (u ++ rest) left first start (Err z) (held_at at) (failures_at at))) (sym (told_refusal r.refusal new.at.place))
-    (tt, λ left. ((standing_of new y.stands.rest, copied_at limits o first start at number new (u ++ rest) es y, inl (r.refusal, r.verdict, refl)), failed_of limits o first start new.at.state.schema (tables_of es) at y.written)))
+  -- no call of the output failed
+  pub failures_stay : failures_at at ≡ began.failures
+  failures_stay = failed_of began.limits began.options began.first began.failures r.at.state.schema (tables_of es) at x.written
 
 -- ---- the end
 
-module _ (limits : LimitNumbers) (o : Options) (first : Option (List ℕ)) (start : ℕ) (number : ℕ) (r : ReaderView) (t : List ℕ) (es : List Entry) (left : Option (List ℕ)) where
-  module _ (w : writers.WriterView) (x : IsCopying limits o first start (writing w) number r t es) (well : EndsWell left (standing_of r x.stands.rest)) where
-    abbrev y : IsWritingOn limits o first start r.at.state.schema (tables_of es) w
+module _ (began : Began) (number : ℕ) (r : ReaderView) (t : List ℕ) (es : List Entry) (left : Option (List ℕ)) (stands : ReaderStands r t es) (well : EndsWell left (standing_of r stands.rest)) where
+  module _ (w : writers.WriterView) (x : HasCopied began (writing w) number r.limits r.at.state es) where
+    abbrev y : IsWritingOn began.limits began.options began.first began.failures r.at.state.schema (tables_of es) w
     y = x.written
 
-    front : FrontOf limits t es (standing_of r x.stands.rest)
-    front = front_at limits r t es x.stands x.limits_are
+    front : FrontOf began.limits t es (standing_of r stands.rest)
+    front = front_at began.limits r t es stands x.limits_are
 
-    ends : (w' : writers.WriterView) → writers.Ends w w' → IsClosed limits o t (standing_of r x.stands.rest) first w'.contents
+    ends : (w' : writers.WriterView) → writers.Ends w w' → IsClosed began.limits began.options t (standing_of r stands.rest) began.first w'.contents
     ends w' e =
-        let s = e.stands first y.parts (tables_of es) y.stands in
+        let s = e.stands began.first y.parts (tables_of es) y.stands in
         let parts = y.parts ++ e.marker ∷ [] in
-        let limits_are : w'.limits ≡ limits = ap (λ (v : writers.WriterView). v.limits) e.new_is ∙ y.limits_are in
-        let options_are : w'.options ≡ o = ap (λ (v : writers.WriterView). v.options) e.new_is ∙ y.options_are in
+        let limits_are : w'.limits ≡ began.limits = ap (λ (v : writers.WriterView). v.limits) e.new_is ∙ y.limits_are in
+        let options_are : w'.options ≡ began.options = ap (λ (v : writers.WriterView). v.options) e.new_is ∙ y.options_are in
         let shape_is : w'.shape ≡ w.shape = ap (λ (v : writers.WriterView). v.shape) e.new_is in
         record {
           entries = es;
@@ -418,15 +409,15 @@ module _ (limits : LimitNumbers) (o : Options) (first : Option (List ℕ)) (star
           sent = record {
             parts = parts;
             frames = s.frames;
-            text = subst (λ l. Written l o w.shape true parts (tables_of es) s.frames) limits_are
+            text = subst (λ l. Written l began.options w.shape true parts (tables_of es) s.frames) limits_are
                 (subst (λ p. Written w'.limits p w.shape true parts (tables_of es) s.frames) options_are (subst (λ f. Written w'.limits w'.options f true parts (tables_of es) s.frames) shape_is s.written));
             wrote = s.accepted;
           };
         }
 
-    fails_at_end : (w' : writers.WriterView) → writers.FailsAtEnd w w' → IsClosedInPart limits o t left first w'.contents
+    fails_at_end : (w' : writers.WriterView) → writers.FailsAtEnd w w' → IsClosedInPart began.limits began.options t left began.first w'.contents
     fails_at_end w' f = record {
-      standing = standing_of r x.stands.rest;
+      standing = standing_of r stands.rest;
       entries = es;
       front = front;
       well = well;
@@ -434,21 +425,21 @@ module _ (limits : LimitNumbers) (o : Options) (first : Option (List ℕ)) (star
       schema = y.shape_is;
       parts = y.parts ++ f.marker ∷ [];
       frames = y.stands.frames ++ marker_frame (left_by nothing_yet y.stands.frames) f.marker ∷ [];
-      text = finished y.parts (tables_of es) y.stands.frames f.marker (open_text (writing_text limits o first start r.at.state.schema (tables_of es) w y) refl) (sym (ap marker_fits y.stands.place_is) ∙ f.fits_in) f.is_marker;
-      wrote = f.in_all first y.parts (tables_of es) y.stands;
+      text = finished y.parts (tables_of es) y.stands.frames f.marker (open_text (writing_text began.limits began.options began.first began.failures r.at.state.schema (tables_of es) w y) refl) (sym (ap marker_fits y.stands.place_is) ∙ f.fits_in) f.is_marker;
+      wrote = f.in_all began.first y.parts (tables_of es) y.stands;
     }
 
-    no_end : (kind : WriteFault) (w' : writers.WriterView) → writers.Finishes w (Err kind) w' → Copies limits o t left first start (Err (fault_of Finish kind)) w'.contents w'.failures
+    no_end : (kind : WriteFault) (w' : writers.WriterView) → writers.Finishes w (Err kind) w' → Copies began.limits began.options t left began.first began.failures (Err (fault_of Finish kind)) w'.contents w'.failures
     no_end kinds.TooLarge w' p =
-        subst (λ (v : writers.WriterView). Copies limits o t left first start (Err (Refused Finish kinds.TooLarge)) v.contents v.failures) (sym p.unchanged) (
+        subst (λ (v : writers.WriterView). Copies began.limits began.options t left began.first began.failures (Err (Refused Finish kinds.TooLarge)) v.contents v.failures) (sym p.unchanged) (
           (
-            standing_of r x.stands.rest,
+            standing_of r stands.rest,
             record {
               entries = es;
               front = front;
               shape = w.shape;
               schema = y.shape_is;
-              sent = writing_sent limits o first start r.at.state.schema (tables_of es) w y;
+              sent = writing_sent began.limits began.options began.first began.failures r.at.state.schema (tables_of es) w y;
               refusal = sym (ap marker_fits y.stands.place_is) ∙ p.passes;
               is_large = refl;
             },
@@ -463,19 +454,18 @@ module _ (limits : LimitNumbers) (o : Options) (first : Option (List ℕ)) (star
     no_end kinds.SchemaDiffers w' s = absurd s
     no_end kinds.DictionariesDiffer w' s = absurd s
 
-    closes_so : (answer : Result (Unit {0}) ToolFault) (at' : At) → Closes (writing w) answer at' → Copies limits o t left first start answer (held_at at') (failures_at at')
+    closes_so : (answer : Result (Unit {0}) ToolFault) (at' : At) → Closes (writing w) answer at' → Copies began.limits began.options t left began.first began.failures answer (held_at at') (failures_at at')
     closes_so (Ok done) at' z =
-        subst (λ b. Copies limits o t left first start (Ok done) (held_at b) (failures_at b)) (sym z.1)
-        ((standing_of r x.stands.rest, ends z.0 z.2, well), ap (λ (v : writers.WriterView). v.failures) z.2.new_is ∙ y.failures_are)
+        subst (λ b. Copies began.limits began.options t left began.first began.failures (Ok done) (held_at b) (failures_at b)) (sym z.1)
+        ((standing_of r stands.rest, ends z.0 z.2, well), ap (λ (v : writers.WriterView). v.failures) z.2.new_is ∙ y.failures_are)
     closes_so (Err f) at' z =
-        subst (λ g. Copies limits o t left first start (Err g) (held_at at') (failures_at at')) (sym z.2)
-        (subst (λ b. Copies limits o t left first start (Err (fault_of Finish z.0)) (held_at b) (failures_at b)) (sym z.3) (no_end z.0 z.1 z.4))
+        subst (λ g. Copies began.limits began.options t left began.first began.failures (Err g) (held_at at') (failures_at at')) (sym z.2)
+        (subst (λ b. Copies began.limits began.options t left began.first began.failures (Err (fault_of Finish z.0)) (held_at b) (failures_at b)) (sym z.3) (no_end z.0 z.1 z.4))
 
   -- The end marker behind all batches, or why there is none.
-  pub closed_so : (at : At) (x : IsCopying limits o first start at number r t es) → EndsWell left (standing_of r x.stands.rest) → (answer : Result (Unit {0}) ToolFault) (at' : At) → Closes at answer at'
-      → Copies limits o t left first start answer (held_at at') (failures_at at')
-  closed_so (waiting held failed) x well answer at' z = absurd z
-  closed_so (writing w) x well answer at' z = closes_so w x well answer at' z
+  pub closed_so : (at : At) → HasCopied began at number r.limits r.at.state es → IsWriting at → (answer : Result (Unit {0}) ToolFault) (at' : At) → Closes at answer at' → Copies began.limits began.options t left began.first began.failures answer (held_at at') (failures_at at')
+  closed_so (waiting held failed) x writes answer at' z = absurd writes
+  closed_so (writing w) x writes answer at' z = closes_so w x answer at' z
 
 -- a stream with an end marker has given something
 done_some : {l : LimitNumbers} {s : StreamState} {p : ℕ} {b : List ℕ} {es : List Entry} {e : Standing} → Front l s p b es e → e.verdict ≡ Done → es ≡ [] → ⊥
@@ -497,157 +487,94 @@ ended_schema r t es x well none = by r.at.verdict refl
         let q : ended_by (Bad k) false r.at.rest r.at.place ≡ Ok tt = sym (λ i. ended_by (v i) (is_some (none i)) r.at.rest r.at.place) ∙ well in
         absurd (cc)
 
--- so does one with an end marker
-pub done_schema : (r : ReaderView) (t : List ℕ) (es : List Entry) → ReaderStands r t es → r.at.verdict ≡ Done → (r.at.state.schema ≡ None → ⊥)
-done_schema r t es x d none = let b = front_begins x.front refl (done_some x.front d) in let q = sym none ∙ b.schema in absurd (cc)
-
--- where a stream has a schema there is a writer
-pub writes_by : (limits : LimitNumbers) (o : Options) (first : Option (List ℕ)) (start : ℕ) (at : At) (number : ℕ) (r : ReaderView) (t : List ℕ) (es : List Entry) → IsCopying limits o first start at number r t es → (r.at.state.schema ≡ None → ⊥)
-    → IsWriting at
-writes_by limits o first start (waiting held failed) number r t es x some = absurd (some x.written.0)
-writes_by limits o first start (writing w) number r t es x some = tt
-
 -- a message that is made something of leaves the count of failures
-pub takes_failures : (limits : LimitNumbers) (o : Options) (schema : Option SchemaShape) (g : Given) (at at' : At) (number number' : ℕ) → TakesItem limits o schema g at number (Ok tt) at' number' → failures_at at' ≡ failures_at at
-takes_failures limits o None g (waiting held failed) at' number number' z = ap failures_at z.0.1
-takes_failures limits o (Some shape) g (waiting held failed) at' number number' z =
+pub takes_failures : (l : LimitNumbers) (o : Options) (schema : Option SchemaShape) (g : Given) (at at' : At) (number number' : ℕ) → TakesItem l o schema g at number (Ok tt) at' number' → failures_at at' ≡ failures_at at
+takes_failures l o None g (waiting held failed) at' number number' z = ap failures_at z.0.1
+takes_failures l o (Some shape) g (waiting held failed) at' number number' z =
     let b = z.0.1 in
     ap failures_at b.1 ∙ ap (λ (v : writers.WriterView). v.failures) b.2.new_is
-takes_failures limits o schema schema_given (writing w) at' number number' z = ap failures_at z.1
-takes_failures limits o schema (dictionary_given id) (writing w) at' number number' z = ap failures_at z.1
-takes_failures limits o schema (batch_given t) (writing w) at' number number' z = ap failures_at z.1 ∙ ap (λ (v : writers.WriterView). v.failures) z.2.new_is
-takes_failures limits o schema ended (writing w) at' number number' z = ap failures_at z.1
+takes_failures l o schema schema_given (writing w) at' number number' z = ap failures_at z.1
+takes_failures l o schema (dictionary_given id) (writing w) at' number number' z = ap failures_at z.1
+takes_failures l o schema (batch_given t) (writing w) at' number number' z = ap failures_at z.1 ∙ ap (λ (v : writers.WriterView). v.failures) z.2.new_is
+takes_failures l o schema ended (writing w) at' number number' z = ap failures_at z.1
 
--- ---- the loop over a piece
+-- where a stream has a schema there is a writer
+writes_by : (began : Began) (at : At) (number : ℕ) (r : ReaderView) (es : List Entry) → HasCopied began at number r.limits r.at.state es → (r.at.state.schema ≡ None → ⊥) → IsWriting at
+writes_by began (waiting held failed) number r es x some = absurd (some x.written.0)
+writes_by began (writing w) number r es x some = tt
 
-copying_at : (limits : LimitNumbers) (o : Options) (first : Option (List ℕ)) (start : ℕ) (at : At) (number : ℕ) (r : ReaderView) (u v : List ℕ) (es : List Entry) → u ≡ v → IsCopying limits o first start at number r u es → IsCopying limits o first start at number r v es
-copying_at limits o first start at number r u v es e x = subst (λ y. IsCopying limits o first start at number r y es) e x
+-- ---- the consumer
 
--- all of a piece but this rest was given to the reader and copied
-pub record IsTaking (limits : LimitNumbers) (o : Options) (before : At) (number : ℕ) (old : ReaderView) (piece : List ℕ) (at : At) (number' : ℕ) (now : ReaderView) (rest : List ℕ) : Type 0 where
-  pub taken : List ℕ
-  pub whole : taken ++ rest ≡ piece
-  pub copied : (first : Option (List ℕ)) (start : ℕ) (t : List ℕ) (es : List Entry) → IsCopying limits o first start before number old t es → (fs : List Entry) × IsCopying limits o first start at number' now (t ++ taken) fs
-  pub limits_are : now.limits ≡ old.limits
+module _ (began : Began) (own : LimitNumbers) (o : Options) (at : At) (number : ℕ) where
+  -- what is copied with these limits and options is copied with those at the beginning
+  as_began : own ≡ began.limits → o ≡ began.options → (schema : Option SchemaShape) (g : Given) (answer : Result (Unit {0}) ToolFault) (at' : At) (number' : ℕ) → TakesItem own o schema g at number answer at' number'
+      → TakesItem began.limits began.options schema g at number answer at' number'
+  as_began own_is o_is schema g answer at' number' takes =
+      subst (λ p. TakesItem began.limits p schema g at number answer at' number') o_is (subst (λ l. TakesItem l o schema g at number answer at' number') own_is takes)
 
-pub taking_nothing : (limits : LimitNumbers) (o : Options) (at : At) (number : ℕ) (old : ReaderView) (piece : List ℕ) → IsTaking limits o at number old piece at number old piece
-taking_nothing limits o at number old piece = record {
-  taken = [];
-  whole = refl;
-  copied = λ first start t es x. (es, copying_at limits o first start at number old t (t ++ []) es (sym (append-nil t)) x);
-  limits_are = refl;
-}
-
-module _ (limits : LimitNumbers) (o : Options) (before : At) (number : ℕ) (old : ReaderView) (piece : List ℕ) (at : At) (number' : ℕ) (now : ReaderView) (rest : List ℕ) (i : IsTaking limits o before number old piece at number' now rest)
-    (new : ReaderView) (same : new.limits ≡ now.limits) where
-  module _ (n : ℕ) (item : Item) (is_open : now.at.verdict ≡ Open) (gives : (t : List ℕ) (es : List Entry) → ReaderStands now t es → GivesNext rest n item new t es) where
-    whole_next : i.taken ++ take n rest ++ drop n rest ≡ piece
-    whole_next = append_assoc i.taken (take n rest) (drop n rest) ∙ ap (λ y. i.taken ++ y) (take-append-drop n rest) ∙ i.whole
-
+  module _ (place : ℕ) (item : Item) (now new : ReaderView) (t : List ℕ) (es : List Entry) (piece : List ℕ) (n : ℕ) (comes : Comes place item now new t es piece n) (x : IsCopying began own o at number now.limits now.at.state es) (at' : At) (number' : ℕ) where
     -- a message was copied
-    pub taking_next : (at' : At) (number'' : ℕ) → TakesItem limits o new.at.state.schema (given item) at number' (Ok tt) at' number'' → IsTaking limits o before number old piece at' number'' new (drop n rest)
-    taking_next at' number'' takes = record {
-      taken = i.taken ++ take n rest;
-      whole = whole_next;
-      copied = λ first start t es x.
-          let y = i.copied first start t es x in
-          let u = t ++ i.taken in
-          let fs = y.0 ++ record { given = given item; end = length u + n } ∷ [] in (
-            fs,
-            copying_at limits o first start at' number'' new (u ++ take n rest) (t ++ (i.taken ++ take n rest)) fs (append_assoc t i.taken (take n rest))
-                (item_goes limits o first start at number' now new u rest y.0 n item is_open same y.1 (gives u y.0 y.1.stands) (Ok tt) at' number'' takes),
-          );
-      limits_are = same ∙ i.limits_are;
-    }
+    pub message_copied : TakesItem own o new.at.state.schema (given item) at number (Ok tt) at' number' → IsCopying began own o at' number' new.limits new.at.state (es ++ entry_of item t n ∷ [])
+    message_copied takes =
+        (x.0, x.1, item_goes began at number now new t piece es n item comes.is_open comes.limits comes.before x.2 comes.gives (Ok tt) at' number' (as_began x.0 x.1 new.at.state.schema (given item) (Ok tt) at' number' takes))
 
-    -- the copy ended at a message
-    pub taking_stops : (f : ToolFault) (at' : At) (number'' : ℕ) → TakesItem limits o new.at.state.schema (given item) at number' (Err f) at' number''
-        → (first : Option (List ℕ)) (start : ℕ) (t : List ℕ) (es : List Entry) → IsCopying limits o first start before number old t es → PieceCopied limits o first start t piece (Err f) at' number'' new
-    taking_stops f at' number'' takes first start t es x =
-        let y = i.copied first start t es x in
-        let u = t ++ i.taken in
-        let all : u ++ rest ≡ t ++ piece = append_assoc t i.taken rest ∙ ap (λ z. t ++ z) i.whole in
-        let z = item_goes limits o first start at number' now new u rest y.0 n item is_open same y.1 (gives u y.0 y.1.stands) (Err f) at' number'' takes in
-        (z.0, λ left. subst (λ b. Copies limits o b left first start (Err f) (held_at at') (failures_at at')) all (z.1 left))
+    -- the copy ended with it
+    pub message_stopped : (f : ToolFault) → TakesItem own o new.at.state.schema (given item) at number (Err f) at' number' → (left : Option (List ℕ)) → HasAnswered began at' (Err f) (t ++ piece) left
+    message_stopped f takes left =
+        item_goes began at number now new t piece es n item comes.is_open comes.limits comes.before x.2 comes.gives (Err f) at' number' (as_began x.0 x.1 new.at.state.schema (given item) (Err f) at' number' takes) left
 
-    -- the end marker came
-    pub taking_ended : (at' : At) (number'' : ℕ) → TakesItem limits o new.at.state.schema (given item) at number' (Ok tt) at' number'' → given item ≡ ended
-        → (first : Option (List ℕ)) (start : ℕ) (t : List ℕ) (es : List Entry) → IsCopying limits o first start before number old t es → PieceCopied limits o first start t piece (Ok true) at' number'' new
-    taking_ended at' number'' takes e first start t es x =
-        let y = i.copied first start t es x in
-        let g = gives (t ++ i.taken) y.0 y.1.stands in
-        let d = end_is_done g.stands.front y.0 (record { given = given item; end = length (t ++ i.taken) + n }) refl e in
-        let j = taking_next at' number'' takes in
-        let z = j.copied first start t es x in
-        let stands = ended_stands new (t ++ j.taken) z.0 (drop n rest) (λ q. let w : Done ≡ Open = sym d ∙ q in cc) z.1.stands in
-        let all : (t ++ j.taken) ++ drop n rest ≡ t ++ piece = append_assoc t j.taken (drop n rest) ∙ ap (λ w. t ++ w) j.whole in
-        ((z.0, copying_at limits o first start at' number'' new _ (t ++ piece) z.0 all (still limits o first start at' number'' new new (t ++ j.taken) (drop n rest) z.0 refl z.1 stands)), λ q. d)
+  module _ (marked : Bool) (r : ReaderView) (bytes : List ℕ) (left : Option (List ℕ)) (es : List Entry) (ended : HasEnded marked r bytes left es) (x : IsCopying began own o at number r.limits r.at.state es) where
+    -- where a stream ended well there is a writer
+    pub end_writes : IsWriting at
+    end_writes = writes_by began at number r es x.2 (ended_schema r bytes es ended.stands ended.well.0)
 
-  -- no message came: the rest is taken too
-  pub taking_all : (n : ℕ) → ((t : List ℕ) (es : List Entry) → ReaderStands now t es → TakesOn now rest n new t es)
-      → (first : Option (List ℕ)) (start : ℕ) (t : List ℕ) (es : List Entry) → IsCopying limits o first start before number old t es → PieceCopied limits o first start t piece (Ok false) at number' new
-  taking_all n takes first start t es x =
-      let y = i.copied first start t es x in
-      let u = t ++ i.taken in
-      let all : u ++ rest ≡ t ++ piece = append_assoc t i.taken rest ∙ ap (λ z. t ++ z) i.whole in
-      let stands = taken_all now new rest n u y.0 (takes u y.0 y.1.stands) in
-      ((y.0, copying_at limits o first start at number' new (u ++ rest) (t ++ piece) y.0 all (still limits o first start at number' now new u rest y.0 same y.1 stands)), λ q. absurd (false≢true q))
+    -- the end marker was written, or not
+    pub end_copied : (answer : Result (Unit {0}) ToolFault) (at' : At) → Closes at answer at' → HasAnswered began at' answer bytes left
+    end_copied answer at' z = closed_so began number r bytes es left ended.stands (well_at r bytes es left ended.stands ended.well) at x.2 end_writes answer at' z
 
-  -- the rest is refused, or a growth was
-  pub taking_refused : (fault : Fault) → ((t : List ℕ) (es : List Entry) → ReaderStands now t es → WantsMemory now fault new ⊎ RefusesMessage rest fault new t es)
-      → (first : Option (List ℕ)) (start : ℕ) (t : List ℕ) (es : List Entry) → IsCopying limits o first start before number old t es → PieceCopied limits o first start t piece (Err (told fault)) at number' new
-  taking_refused fault refuses first start t es x =
-      let y = i.copied first start t es x in
-      let u = t ++ i.taken in
-      let all : u ++ rest ≡ t ++ piece = append_assoc t i.taken rest ∙ ap (λ z. t ++ z) i.whole in
-      let z = refused_at limits o first start at number' now new u rest y.0 fault same y.1 (refuses u y.0 y.1.stands) in
-      (z.0, λ left. subst (λ b. Copies limits o b left first start (Err (told fault)) (held_at at) (failures_at at)) all (z.1 left))
+-- ---- the call
 
--- ---- how the input ends
+module _ (began : Began) (own : LimitNumbers) (o : Options) (at : At) (number : ℕ) (passed : Type 0) (bytes : List ℕ) (left : Option (List ℕ)) (r : ReaderView) where
+  -- what the consumer answers
+  abbrev answers : Result (Unit {0}) ToolFault → ReaderView → List ℕ → Option (List ℕ) → Type 0
+  answers answer q t rest = HasAnswered began at answer t rest × OnOk answer passed
 
--- an end marker that is refused holds no input to have failed
-pub closes_blameless : (at : At) (answer : Result (Unit {0}) ToolFault) (at' : At) → Closes at answer at' → BlamesNoInput answer
-closes_blameless (waiting held failed) answer at' z = absurd z
-closes_blameless (writing w) (Ok done) at' z = tt
-closes_blameless (writing w) (Err f) at' z = subst (λ g. BlamesNoInput (Err g)) (sym z.2) (by z.0)
-  where
-    by : (kind : WriteFault) → BlamesNoInput (Err (fault_of Finish kind))
-    by kinds.SchemaDiffers = tt
-    by kinds.TooLarge = tt
-    by kinds.DictionariesDiffer = tt
-    by kinds.Sink = tt
-    by kinds.Broken = tt
-    by kinds.Finished = tt
-    by kinds.Memory = tt
+  -- the call ended by the consumer's answer, or before it had one
+  pub call_copied : (answer : Result (Unit {0}) ToolFault) → Driven (IsCopying began own o at number) answers bytes left r answer → HasAnswered began at answer bytes left × OnOk answer passed
+  call_copied (Ok done) answered = answered
+  call_copied (Err f) (inl answered) = answered
+  call_copied (Err f) (inr (inl badly)) =
+      let g = badly.given in (
+        subst (λ z. HasAnswered began at (Err z) bytes left) (sym badly.told) (
+          (standing_of r g.stands.rest, copied_at began at number r bytes g.entries g.stands g.kept.2, badly_at r bytes g.entries left badly.of_stream g.stands badly.badly),
+          failures_stay began at number r bytes g.entries g.stands g.kept.2,
+        ),
+        tt,
+      )
+  call_copied (Err f) (inr (inr (inl broken))) =
+      let g = broken.given in (
+        subst (λ z. HasAnswered began at (Err z) bytes left) (sym broken.told)
+            (refl, (standing_of r g.stands.rest, broken.is_open, copied_at began at number r bytes g.entries g.stands g.kept.2), failures_stay began at number r bytes g.entries g.stands g.kept.2),
+        tt,
+      )
+  call_copied (Err f) (inr (inr (inr wants))) =
+      let g = wants.given in (
+        subst (λ z. HasAnswered began at (Err z) bytes left) (sym wants.is_memory) (
+          subst (λ b. IsBegun began.limits began.options b began.first (held_at at)) wants.whole (begun_at began at number r wants.taken g.entries g.stands g.kept.2 wants.rest),
+          failures_stay began at number r wants.taken g.entries g.stands g.kept.2,
+        ),
+        tt,
+      )
 
--- what a reader tells of an end is no want of memory
-ended_told : (v : Verdict) (has_schema : Bool) (rest : List ℕ) (place : ℕ) (fault : Fault) → ended_by v has_schema rest place ≡ Err fault → told fault ≡ Stream fault
-ended_told Open false rest place fault e = let same : record { kind = NoSchema; place = place } ≡ fault = cc in subst (λ f. told f ≡ Stream f) same refl
-ended_told Open true [] place fault e = absurd (cc)
-ended_told Open true (x ∷ rest) place fault e = let same : record { kind = Truncated; place = place } ≡ fault = cc in subst (λ f. told f ≡ Stream f) same refl
-ended_told Done has_schema rest place fault e = absurd (cc)
-ended_told (Bad k) has_schema rest place fault e = let same : record { kind = kind_of k; place = place } ≡ fault = cc in subst (λ f. told f ≡ Stream f) same (told_refusal k place)
+-- ---- the output
 
-module _ (limits : LimitNumbers) (o : Options) (first : Option (List ℕ)) (start : ℕ) (at : At) (number : ℕ) (r : ReaderView) (t : List ℕ) (es : List Entry) (left : Option (List ℕ)) (x : IsCopying limits o first start at number r t es) (over : IsAtEnd left) where
-  ends_so : ended_so (standing_of r x.stands.rest) ≡ ended_so r.at
-  ends_so = sym (ended_same r.at.verdict (is_some r.at.state.schema) x.stands.rest r.at.rest r.at.place x.stands.held)
+module _ {S : Type 0} (contents : S → Option (List ℕ)) (failed : S → ℕ) where
+  -- what a copy holds is what its output holds
+  pub held_is : (target : Target S) → held_at (at_of contents failed target) ≡ contents (sink_in target)
+  held_is (Waiting sink) = refl
+  held_is (Writing writer) = refl
 
-  -- the input ended at the end of a message
-  pub ended_closed : ended_so r.at ≡ Ok tt → (answer : Result (Unit {0}) ToolFault) (at' : At) → Closes at answer at' → BlamesNoInput answer × Copies limits o t left first start answer (held_at at') (failures_at at')
-  ended_closed well answer at' z = (closes_blameless at answer at' z, closed_so limits o first start number r t es left at x (ends_so ∙ well, inr over) answer at' z)
-
-  -- it ended where no stream ends
-  pub ended_badly : (fault : Fault) → ended_so r.at ≡ Err fault → BlamesNoInput (Err (told fault)) × Copies limits o t left first start (Err (told fault)) (held_at at) (failures_at at)
-  ended_badly fault bad =
-      subst (λ f. BlamesNoInput (Err f) × Copies limits o t left first start (Err f) (held_at at) (failures_at at)) (sym (ended_told r.at.verdict (is_some r.at.state.schema) r.at.rest r.at.place fault bad))
-      (tt, ((standing_of r x.stands.rest, copied_at limits o first start at number r t es x, inr (ends_so ∙ bad, over)), failed_of limits o first start r.at.state.schema (tables_of es) at x.written))
-
--- The end marker came, and behind all batches one is written.
-pub marker_closed : (limits : LimitNumbers) (o : Options) (first : Option (List ℕ)) (start : ℕ) (at : At) (number : ℕ) (r : ReaderView) (t : List ℕ) (es : List Entry) (left : Option (List ℕ)) (x : IsCopying limits o first start at number r t es)
-    → r.at.verdict ≡ Done → (answer : Result (Unit {0}) ToolFault) (at' : At) → Closes at answer at' → BlamesNoInput answer × Copies limits o t left first start answer (held_at at') (failures_at at')
-marker_closed limits o first start at number r t es left x d answer at' z =
-    (closes_blameless at answer at' z, closed_so limits o first start number r t es left at x (ap (λ v. ended_by v (is_some r.at.state.schema) x.stands.rest r.at.place) d, inl d) answer at' z)
-
--- at its beginning nothing was copied
-pub copying_nothing : (limits : LimitNumbers) (o : Options) (held : Option (List ℕ)) (failed : ℕ) (r : ReaderView) → r.limits ≡ limits → ReaderStands r [] [] → IsCopying limits o held failed (waiting held failed) 0 r [] []
-copying_nothing limits o held failed r same stands = record { stands = stands; limits_are = same; counted = refl; written = (ap (λ (s : StreamState). s.schema) (state_stays stands.front refl), refl, refl) }
+  -- and it failed so many times
+  pub failures_are : (target : Target S) → failures_at (at_of contents failed target) ≡ failed (sink_in target)
+  failures_are (Waiting sink) = refl
+  failures_are (Writing writer) = refl

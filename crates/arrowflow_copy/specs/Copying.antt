@@ -1,20 +1,16 @@
 -- Where a copy stands between two messages, and what it makes of the next one.
-use Rattle.std.specs.Prelude.{◌≡◌, ◌⊎◌, ℕ, ◌+◌, false, Bool, IsTrue, List, [], ◌++◌, length, Option, None, Some, Result, Ok, Err}
-use Rattle.std.specs.Io.KnownBytes.{IsAtEnd}
+use Rattle.std.specs.Prelude.{◌≡◌, ◌⊎◌, ℕ, ◌+◌, false, List, [], ◌++◌, length, Option, None, Some, Result, Ok, Err}
 use Rattle.arrow_types.specs.Limits.{LimitNumbers}
 use Rattle.arrow_types.specs.Notes.{SchemaShape}
 use Rattle.arrow_types.specs.Schema.{IsNoted}
 use Rattle.arrow_data.specs.Batch.{Table}
-use Rattle.arrow_stream_reader.specs.declared.reader.Verdict.TheVariants.{Done}
 use Rattle.arrow_stream_reader.specs.Front.{Entry}
-use Rattle.arrow_stream_reader.specs.State.{Given, batch_given, dictionary_given, ended, schema_given}
-use Rattle.arrow_stream_reader.specs.Stream as streams
+use Rattle.arrow_stream_reader.specs.State.{StreamState, Given, batch_given, dictionary_given, ended, schema_given}
 use Rattle.arrow_stream_reader.specs.Tables.{tables_of}
 use Rattle.arrow_sink.specs.declared.write_fault.WriteFault.{WriteFault}
 use Rattle.arrow_sink.specs.declared.write_fault.WriteFault.TheVariants as kinds
 use Rattle.arrow_stream_laws.specs.Sizes.{Options}
 use Rattle.arrow_stream_laws.specs.Writer as writers
-use Rattle.arrowflow_report.specs.Reads.{BlamesNoInput}
 use Rattle.arrowflow_report.specs.declared.what.What.{What}
 use Rattle.arrowflow_report.specs.declared.what.What.TheVariants.{Start, Batch, Finish}
 use Rattle.arrowflow_report.specs.declared.tool_fault.ToolFault.{ToolFault}
@@ -81,9 +77,9 @@ abbrev pub TakesItem : LimitNumbers → Options → Option SchemaShape → Given
 TakesItem limits o schema given (waiting held failed) number answer at' number' = TakesFirst limits o schema held failed answer at' × (number' ≡ number)
 TakesItem limits o schema given (writing w) number answer at' number' = TakesOne w given number answer at' number'
 
--- The end marker was written, or not.
+-- The end marker was written, or not; where no schema came there is nothing to end.
 abbrev pub Closes : At → Result (Unit {0}) ToolFault → At → Type 0
-Closes (waiting held failed) answer at' = ⊥
+Closes (waiting held failed) answer at' = (answer ≡ Ok tt) × (at' ≡ waiting held failed)
 Closes (writing w) (Ok done) at' = (w' : writers.WriterView) × (at' ≡ writing w') × writers.Ends w w'
 Closes (writing w) (Err f) at' = (kind : WriteFault) × (w' : writers.WriterView) × (f ≡ fault_of Finish kind) × (at' ≡ writing w') × writers.Finishes w (Err kind) w'
 
@@ -101,34 +97,23 @@ abbrev pub HasWritten : LimitNumbers → Options → Option (List ℕ) → ℕ �
 HasWritten limits o first start schema batches (waiting held failed) = (schema ≡ None) × (held ≡ first) × (failed ≡ start)
 HasWritten limits o first start schema batches (writing w) = IsWritingOn limits o first start schema batches w
 
--- A reader stands at the bytes t, and the batches of their messages were written, of which there were so many.
-pub record IsCopying (limits : LimitNumbers) (o : Options) (first : Option (List ℕ)) (start : ℕ) (at : At) (number : ℕ) (r : streams.ReaderView) (t : List ℕ) (es : List Entry) : Type 0 where
-  pub stands : streams.ReaderStands r t es
-  pub limits_are : r.limits ≡ limits
+-- how a copy began: the limits, how the batches are sent, what the output held and how many times it had failed
+pub record Began : Type 0 where
+  pub limits : LimitNumbers
+  pub options : Options
+  pub first : Option (List ℕ)
+  pub failures : ℕ
+
+-- The batches of these messages were written, of which there were so many.
+pub record HasCopied (s : Began) (at : At) (number : ℕ) (limits : LimitNumbers) (state : StreamState) (es : List Entry) : Type 0 where
+  pub limits_are : limits ≡ s.limits
   pub counted : number ≡ length (tables_of es)
-  pub written : HasWritten limits o first start r.at.state.schema (tables_of es) at
+  pub written : HasWritten s.limits s.options s.first s.failures state.schema (tables_of es) at
 
--- A piece behind the bytes t was copied, or the copy ended in it; the answer tells whether an end marker came.
-abbrev pub PieceCopied : LimitNumbers → Options → Option (List ℕ) → ℕ → List ℕ → List ℕ → Result Bool ToolFault → At → ℕ → streams.ReaderView → Type 0
-PieceCopied limits o first start t piece (Ok ends) at number r =
-    ((es : List Entry) × IsCopying limits o first start at number r (t ++ piece) es) × (IsTrue ends → r.at.verdict ≡ Done)
-PieceCopied limits o first start t piece (Err f) at number r =
-    BlamesNoInput (Err f) × ((left : Option (List ℕ)) → Copies limits o (t ++ piece) left first start (Err f) (held_at at) (failures_at at))
+-- what a copy keeps true that writes within these limits and so: it is as it began, and has copied the messages so far
+abbrev pub IsCopying : Began → LimitNumbers → Options → At → ℕ → LimitNumbers → StreamState → List Entry → Type 0
+IsCopying s own options at number limits state es = (own ≡ s.limits) × (options ≡ s.options) × HasCopied s at number limits state es
 
--- the same for all bytes at which the reader stood and for all that was written
-abbrev pub CopiesPiece : LimitNumbers → Options → At → ℕ → streams.ReaderView → List ℕ → Result Bool ToolFault → At → ℕ → streams.ReaderView → Type 0
-CopiesPiece limits o at number old piece answer at' number' new =
-    (first : Option (List ℕ)) (start : ℕ) (t : List ℕ) (es : List Entry) → IsCopying limits o first start at number old t es
-    → PieceCopied limits o first start t piece answer at' number' new
-
--- somewhere in a stream the copy stands
-abbrev pub IsGoing : streams.ReaderView → At → Type 0
-IsGoing r at =
-    (limits : LimitNumbers) × (o : Options) × (first : Option (List ℕ)) × (start : ℕ) × (number : ℕ) × (t : List ℕ) × (es : List Entry)
-    × IsCopying limits o first start at number r t es
-
--- The copy ended with its input, of which nothing is left: for all bytes at which the reader stood and for all that was written.
-abbrev pub EndsCopy : streams.ReaderView → At → Result (Unit {0}) ToolFault → At → Type 0
-EndsCopy r at answer at' =
-    (limits : LimitNumbers) (o : Options) (first : Option (List ℕ)) (start : ℕ) (number : ℕ) (t : List ℕ) (es : List Entry) (left : Option (List ℕ))
-    → IsCopying limits o first start at number r t es → IsAtEnd left → BlamesNoInput answer × Copies limits o t left first start answer (held_at at') (failures_at at')
+-- what its answer says of the bytes that were read
+abbrev pub HasAnswered : Began → At → Result (Unit {0}) ToolFault → List ℕ → Option (List ℕ) → Type 0
+HasAnswered s at answer bytes left = Copies s.limits s.options bytes left s.first s.failures answer (held_at at) (failures_at at)

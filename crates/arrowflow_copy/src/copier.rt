@@ -13,7 +13,7 @@ use arrow_sink::{Sink, WriteFault};
 use arrow_stream_reader::{Item, StreamReader};
 use arrow_stream_writer::{Options, StreamWriter};
 use arrow_types::{Limits, Schema};
-use arrowflow_report::{ToolFault, What};
+use arrowflow_report::{Consumer, ToolFault, Wants, What};
 use std::alloc::Global;
 
 /// Where the new stream goes: the output as it came, or, once the schema was read, a writer over
@@ -30,6 +30,71 @@ pub(crate) struct Terms {
     pub(crate) alloc: Global,
     pub(crate) options: Options,
     pub(crate) limits: Limits,
+}
+
+/// A stream on its way to a writer, message by message.
+#[derive(Drop)]
+pub(crate) struct Copier<S: Sink> {
+    pub(crate) terms: Terms,
+    pub(crate) target: Target<S>,
+    /// How many batches were written.
+    pub(crate) number: usize,
+}
+
+impl<S: Sink> Consumer for Copier<S> {
+    ghost use Rattle.std.specs.Prelude.{◌<◌, ◌-◌, ◌^◌, OnOk};
+    ghost use Rattle.arrow_stream_writer.specs.Shown.{options_view};
+    ghost use Rattle.arrowflow_copy.specs.Copying.{Began, HasAnswered, IsCopying, failures_at};
+    ghost use Rattle.arrowflow_copy.specs.Target.{IsPassedOn, at_of};
+
+    ghost Start = { Began };
+
+    ghost is_ready = { λ c. failures_at (at_of S.contents S.failed c.target) < 2 ^ 64 - 1 };
+
+    ghost keeps = { λ began c. IsCopying began c.terms.limits (options_view c.terms.options)
+        (at_of S.contents S.failed c.target) c.number };
+
+    ghost answers = { λ began c answer _ bytes left.
+        HasAnswered began (at_of S.contents S.failed c.target) answer bytes left
+        × OnOk answer (IsPassedOn S.is_passed_on c.target) };
+
+    fn item(
+        self,
+        reader: &StreamReader,
+        _place: u64,
+        item: Item,
+    ) -> (Self, Result<Wants, ToolFault>) {
+        let Copier {
+            terms,
+            target,
+            mut number,
+        } = self;
+        let (target, answer) = take(&terms, reader, &item, target, &mut number);
+        let copier = Copier {
+            terms,
+            target,
+            number,
+        };
+        match answer {
+            Ok(()) => (copier, Ok(Wants::More)),
+            Err(fault) => (copier, Err(fault)),
+        }
+    }
+
+    fn end(self, _reader: &StreamReader, _marked: bool) -> (Self, Result<(), ToolFault>) {
+        let Copier {
+            terms,
+            target,
+            number,
+        } = self;
+        let (target, answer) = close(target);
+        let copier = Copier {
+            terms,
+            target,
+            number,
+        };
+        (copier, answer)
+    }
 }
 
 /// Starts a writer of the schema.
@@ -114,20 +179,22 @@ pub(crate) fn take<S: Sink>(
 
 /// Writes the end marker behind the last batch.
 pub(crate) fn close<S: Sink>(target: Target<S>) -> (Target<S>, Result<(), ToolFault>)
-    requires writing { IsWriting (at_of S.contents S.failed target) }
     requires failed { failures_at (at_of S.contents S.failed target) < 2 ^ 64 - 1 }
     ensures closes { Closes (at_of S.contents S.failed target) result.1
         (at_of S.contents S.failed result.0) }
-    ensures passed { OnOk result.1 (IsPassedOn S.is_passed_on result.0) }
+    ensures passed { IsWriting (at_of S.contents S.failed target)
+        → OnOk result.1 (IsPassedOn S.is_passed_on result.0) }
 {
-    let Target::Writing(mut writer) = target else {
-        unreachable!();
-    };
-    let answer = match writer.finish() {
-        Ok(()) => Ok(()),
-        Err(kind) => Err(fault_of(What::Finish, kind)),
-    };
-    (Target::Writing(writer), answer)
+    match target {
+        Target::Waiting(sink) => (Target::Waiting(sink), Ok(())),
+        Target::Writing(mut writer) => {
+            let answer = match writer.finish() {
+                Ok(()) => Ok(()),
+                Err(kind) => Err(fault_of(What::Finish, kind)),
+            };
+            (Target::Writing(writer), answer)
+        }
+    }
 }
 
 impl<S: Sink> Target<S> {

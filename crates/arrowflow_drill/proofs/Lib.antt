@@ -1,4 +1,3 @@
-mod Kept
 mod Streams
 mod Inputs
 mod Lined

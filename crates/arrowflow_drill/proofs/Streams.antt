@@ -1,94 +1,65 @@
 -- How a stream ends of which the batches were kept.
-use Rattle.std.proofs.Common.{◌≡◌, ℕ, true, false, Bool, List, [], ◌∷◌, Option, None, Result, Ok, Err, inl, inr, refl, sym, ap, ◌∙◌, subst, is_some}
-use Rattle.std.specs.Io.KnownBytes.{IsAtEnd}
+use Rattle.std.proofs.Common.{◌≡◌, ℕ, true, false, Bool, List, [], ◌∷◌, Option, None, Some, Result, Ok, Err, ◌⊎◌, inl, inr, refl, sym, ap, ◌∙◌, subst, is_some}
 use Rattle.arrow_types.specs.Limits.{LimitNumbers}
 use Rattle.arrow_types.specs.Notes.{SchemaShape}
 use Rattle.arrow_data.specs.Batch.{Table}
-use Rattle.arrow_stream_reader.specs.declared.fault.Fault.{Fault}
-use Rattle.arrow_stream_reader.specs.declared.kind.Kind.TheVariants.{NoSchema, Truncated}
 use Rattle.arrow_stream_reader.specs.declared.reader.Verdict.{Verdict}
 use Rattle.arrow_stream_reader.specs.declared.reader.Verdict.TheVariants.{Open, Done, Bad}
-use Rattle.arrow_stream_reader.specs.Front.{Entry, Standing, Front, FrontOf, closes, fails, goes_on, rests}
-use Rattle.arrow_stream_reader.specs.Kind.{kind_of}
-use Rattle.arrow_stream_reader.specs.State.{StreamState}
+use Rattle.arrow_stream_reader.specs.Front.{Entry, Standing, FrontOf}
 use Rattle.arrow_stream_reader.specs.Stream.{ReaderView, ReaderStands, ended_by, ended_so}
-use Rattle.arrowflow_report.specs.Faults.{told, told_end}
-use Rattle.arrowflow_report.specs.Pieces.{HandsOut}
+use Rattle.arrowflow_report.specs.Driver.{Driven}
+use Rattle.arrowflow_report.specs.Kept.{HasKept}
 use Rattle.arrowflow_report.specs.declared.tool_fault.ToolFault.{ToolFault}
-use Rattle.arrowflow_report.specs.declared.tool_fault.ToolFault.TheVariants.{Input, Output, Stream, Refused, Memory}
-use Rattle.arrowflow_report.proofs.Feeding.{ended_same}
-use Rattle.arrowflow_report.proofs.Found.{told_refusal}
-use Rattle.arrowflow_report.proofs.Reporting.{standing_of}
+use Rattle.arrowflow_report.specs.declared.tool_fault.ToolFault.TheVariants.{Memory}
+use Rattle.arrowflow_report.proofs.Driving.{badly_at, standing_of, well_at}
+use Rattle.arrowflow_report.proofs.First.{done_given}
+use Rattle.arrowflow_report.proofs.Kept.{keeping}
 use Rattle.arrowflow_report.proofs.Schemas.{front_begins}
-use Rattle.arrowflow_drill.specs.Reading.{Decides, IsWhole, PieceKept}
+use Rattle.arrowflow_drill.specs.Reading.{Asks, Brings, IsWhole, asked_in, of_input}
+use Rattle.arrowflow_drill.specs.Terms.{IsMadeOf, asks_of}
+use Rattle.arrowflow_drill.specs.declared.reading.Terms.{Terms}
+use Rattle.arrowflow_session.specs.declared.session.Connection.{Connection}
+use Rattle.std.specs.Prelude.{MatchResult}
 
 -- the front at which a reader stands
 front_at : (limits : LimitNumbers) (r : ReaderView) (t : List ℕ) (es : List Entry) (x : ReaderStands r t es) → r.limits ≡ limits → FrontOf limits t es (standing_of r x.rest)
 front_at limits r t es x same = subst (λ l. FrontOf l t es (standing_of r x.rest)) same x.front
 
--- what a reader tells of an end is no want of memory
-ended_told : (v : Verdict) (has_schema : Bool) (rest : List ℕ) (place : ℕ) (fault : Fault) → ended_by v has_schema rest place ≡ Err fault → told fault ≡ Stream fault
-ended_told Open false rest place fault e = let same : record { kind = NoSchema; place = place } ≡ fault = cc in subst (λ f. told f ≡ Stream f) same refl
-ended_told Open true [] place fault e = absurd (cc)
-ended_told Open true (x ∷ rest) place fault e = let same : record { kind = Truncated; place = place } ≡ fault = cc in subst (λ f. told f ≡ Stream f) same refl
-ended_told Done has_schema rest place fault e = absurd (cc)
-ended_told (Bad k) has_schema rest place fault e = let same : record { kind = kind_of k; place = place } ≡ fault = cc in subst (λ f. told f ≡ Stream f) same (told_refusal k place)
-
-module _ (limits : LimitNumbers) (bytes : List ℕ) (left : Option (List ℕ)) (kept : List Table) (r : ReaderView) (h : HandsOut bytes kept r) (same : r.limits ≡ limits) where
-  abbrev rest : List ℕ
-  rest = h.stands.rest
-
-  -- the end marker came
-  pub decided_by_marker : r.at.verdict ≡ Done → Decides limits bytes left (Ok tt) r.at.state.schema kept
-  decided_by_marker d = record {
-    entries = h.entries;
-    standing = standing_of r rest;
-    front = front_at limits r bytes h.entries h.stands same;
-    ends = (ap (λ v. ended_by v (is_some r.at.state.schema) rest r.at.place) d, inl d);
+module _ (asks : Asks) (number : ℕ) (bytes : List ℕ) (left : Option (List ℕ)) (batches : List Table) (r : ReaderView) (same : r.limits ≡ asks.limits) where
+  -- all batches of a stream that ended well were kept
+  pub stream_whole : HasKept batches (Ok tt) r bytes left → IsWhole asks.limits bytes left r.at.state.schema batches
+  stream_whole all = record {
+    entries = all.entries;
+    standing = standing_of r all.stands.rest;
+    front = front_at asks.limits r bytes all.entries all.stands same;
+    ends = well_at r bytes all.entries left all.stands all.well;
     schema_is = refl;
-    batches_are = h.tables;
+    batches_are = all.are;
   }
 
-  -- the input ended
-  pub decided_by_end : IsAtEnd left → Decides limits bytes left (told_end (ended_so r.at)) r.at.state.schema kept
-  decided_by_end over = by (ended_so r.at) refl
-    where
-      ends_so : ended_so (standing_of r rest) ≡ ended_so r.at
-      ends_so = sym (ended_same r.at.verdict (is_some r.at.state.schema) rest r.at.rest r.at.place h.stands.held)
+  -- how it ended else
+  pub stream_ended : (fault : ToolFault) → Driven (keeping batches) (HasKept batches) bytes left r (Err fault) → Brings asks number bytes left (Err (of_input number fault))
+  stream_ended fault (inl wants) = subst (λ f. Brings asks number bytes left (Err (of_input number f))) (sym wants.0) tt
+  stream_ended fault (inr (inl ends)) =
+      let g = ends.given in
+      subst (λ f. Brings asks number bytes left (Err (of_input number f))) (sym ends.told)
+      (record { entries = g.entries; standing = standing_of r g.stands.rest; front = front_at asks.limits r bytes g.entries g.stands same; ends = badly_at r bytes g.entries left ends.of_stream g.stands ends.badly })
+  stream_ended fault (inr (inr (inl fails))) =
+      let g = fails.given in
+      subst (λ f. Brings asks number bytes left (Err (of_input number f))) (sym fails.told)
+      (refl, record { entries = g.entries; standing = standing_of r g.stands.rest; front = front_at asks.limits r bytes g.entries g.stands same; goes_on = fails.is_open })
+  stream_ended fault (inr (inr (inr wants))) = subst (λ f. Brings asks number bytes left (Err (of_input number f))) (sym wants.is_memory) tt
 
-      by : (a : Result (Unit {0}) Fault) → ended_so r.at ≡ a → Decides limits bytes left (told_end a) r.at.state.schema kept
-      by (Ok done) e = record {
-        entries = h.entries;
-        standing = standing_of r rest;
-        front = front_at limits r bytes h.entries h.stands same;
-        ends = (ends_so ∙ e, inr over);
-        schema_is = refl;
-        batches_are = h.tables;
-      }
-      by (Err fault) e =
-          subst (λ f. Decides limits bytes left (Err f) r.at.state.schema kept) (sym (ended_told r.at.verdict (is_some r.at.state.schema) r.at.rest r.at.place fault e))
-          (record { entries = h.entries; standing = standing_of r rest; front = front_at limits r bytes h.entries h.stands same; ends = inr (ends_so ∙ e, over) })
-
--- a piece ended it
-pub decided_by_piece : (limits : LimitNumbers) (bytes : List ℕ) (left : Option (List ℕ)) (kept : List Table) (r : ReaderView) → r.limits ≡ limits → (fault : ToolFault) → PieceKept bytes (Err fault) r kept
-    → Decides limits bytes left (Err fault) r.at.state.schema kept
-decided_by_piece limits bytes left kept r same (Stream fault) x = record {
-  entries = x.0.entries;
-  standing = standing_of r x.0.stands.rest;
-  front = front_at limits r bytes x.0.entries x.0.stands same;
-  ends = inl x.1;
+-- what came of the connection that was made of such a stream
+pub made_so : (terms : Terms) (number : ℕ) (bytes : List ℕ) (left : Option (List ℕ)) (schema : Option SchemaShape) (batches : List Table) → IsWhole (asks_of terms).limits bytes left schema batches → (answer : Result Connection ToolFault)
+    → MatchResult answer (IsMadeOf terms schema batches) (λ fault. fault ≡ Memory) → Brings (asks_of terms) number bytes left (asked_in answer)
+made_so terms number bytes left schema batches whole (Ok c) made = record {
+  stream = subst (λ ts. IsWhole (asks_of terms).limits bytes left (Some c.schema) ts) (sym made.batches_are) (subst (λ s. IsWhole (asks_of terms).limits bytes left s batches) (sym made.schema_is) whole);
+  options_are = made.options_are;
+  finishes = made.finishes;
+  delivers = made.delivers;
 }
-decided_by_piece limits bytes left kept r same Memory x = tt
-decided_by_piece limits bytes left kept r same (Input number) x = absurd x
-decided_by_piece limits bytes left kept r same Output x = absurd x
-decided_by_piece limits bytes left kept r same (Refused what kind) x = absurd x
-
--- a stream with an end marker has given something
-done_some : {l : LimitNumbers} {s : StreamState} {p : ℕ} {b : List ℕ} {es : List Entry} {e : Standing} → Front l s p b es e → e.verdict ≡ Done → es ≡ [] → ⊥
-done_some (rests x) d q = absurd (cc)
-done_some (fails x) d q = absurd (cc)
-done_some (closes x) d q = absurd (cc)
-done_some (goes_on x xs) d q = absurd (cc)
+made_so terms number bytes left schema batches whole (Err fault) is = subst (λ f. Brings (asks_of terms) number bytes left (Err f)) (sym is) tt
 
 -- a stream that ends well has a schema
 well_schema : {l : LimitNumbers} {b : List ℕ} {es : List Entry} {e : Standing} → FrontOf l b es e → ended_so e ≡ Ok tt → e.state.schema ≡ None → ⊥
@@ -98,7 +69,7 @@ well_schema {e = e} front well none = by e.verdict refl
     by Open v =
         let q : ended_by Open false e.rest e.place ≡ Ok tt = sym (λ i. ended_by (v i) (is_some (none i)) e.rest e.place) ∙ well in
         absurd (cc)
-    by Done v = let b = front_begins front refl (done_some front v) in let q = sym none ∙ b.schema in absurd (cc)
+    by Done v = let b = front_begins front refl (done_given front v) in let q = sym none ∙ b.schema in absurd (cc)
     by (Bad k) v =
         let q : ended_by (Bad k) false e.rest e.place ≡ Ok tt = sym (λ i. ended_by (v i) (is_some (none i)) e.rest e.place) ∙ well in
         absurd (cc)

@@ -1,40 +1,20 @@
 -- Inputs that are read as connections (Columnar Format, "IPC Streaming Format").
-use Rattle.std.specs.Prelude.{◌≡◌, ◌⊎◌, ℕ, ◌+◌, true, Bool, IsTrue, List, [], ◌∷◌, ◌++◌, map, Option, Some, Result, Ok, Err, Vec, ⊤}
+use Rattle.std.specs.Prelude.{◌≡◌, ◌⊎◌, ℕ, ◌+◌, true, List, [], ◌∷◌, ◌++◌, map, Option, Some, Result, Ok, Err, Vec, ⊤}
 use Rattle.std.specs.Io.KnownBytes.{Consumes}
 use Rattle.std.specs.declared.alloc.Global.{Global}
 use Rattle.arrow_types.specs.Limits.{LimitNumbers}
 use Rattle.arrow_types.specs.Notes.{SchemaShape}
 use Rattle.arrow_data.specs.Batch.{Table}
 use Rattle.arrow_stream_reader.specs.declared.fault.Fault.{Fault}
-use Rattle.arrow_stream_reader.specs.declared.reader.Verdict.TheVariants.{Done}
 use Rattle.arrow_stream_reader.specs.Front.{Entry, Standing, FrontOf}
-use Rattle.arrow_stream_reader.specs.Stream.{ReaderView}
 use Rattle.arrow_stream_reader.specs.Tables.{tables_of}
 use Rattle.arrow_stream_laws.specs.Sizes.{Options}
 use Rattle.arrowflow_session.specs.Asked.{Asked, asked_of}
 use Rattle.arrowflow_session.specs.declared.session.Connection.{Connection}
-use Rattle.arrowflow_report.specs.Pieces.{HandsOut}
 use Rattle.arrowflow_report.specs.Reads.{IsReadWhile}
-use Rattle.arrowflow_report.specs.Reports.{EndsBadly, EndsWell, IsBadBy, IsOpenAt}
-use Rattle.arrowflow_report.specs.declared.pieces.ReadFailed.{ReadFailed}
+use Rattle.arrowflow_report.specs.Reports.{EndsBadly, EndsWell, IsOpenAt}
 use Rattle.arrowflow_report.specs.declared.tool_fault.ToolFault.{ToolFault}
 use Rattle.arrowflow_report.specs.declared.tool_fault.ToolFault.TheVariants.{Input, Output, Stream, Refused, Memory}
-
--- ---- a piece
-
--- With these bytes a piece was given to the reader, and the batches of their messages were kept; the answer tells whether an end
--- marker came, or how the stream is refused.
-abbrev pub PieceKept : List ℕ → Result Bool ToolFault → ReaderView → List Table → Type 0
-PieceKept bytes (Ok ends) new kept = HandsOut bytes kept new × (IsTrue ends → new.at.verdict ≡ Done)
-PieceKept bytes (Err (Stream fault)) new kept = HandsOut bytes kept new × IsBadBy new.at.verdict new.at.place fault
-PieceKept bytes (Err Memory) new kept = ⊤
-PieceKept bytes (Err (Input number)) new kept = ⊥
-PieceKept bytes (Err Output) new kept = ⊥
-PieceKept bytes (Err (Refused what kind)) new kept = ⊥
-
--- the same for all bytes before the piece of which the batches were kept
-abbrev pub KeepsPiece : ReaderView → List Table → List ℕ → Result Bool ToolFault → ReaderView → List Table → Type 0
-KeepsPiece old kept piece answer new kept' = (t : List ℕ) → HandsOut t kept old → PieceKept (t ++ piece) answer new kept'
 
 -- ---- a stream
 
@@ -53,26 +33,6 @@ pub record IsRefusedStream (limits : LimitNumbers) (bytes : List ℕ) (left : Op
   pub standing : Standing
   pub front : FrontOf limits bytes entries standing
   pub ends : EndsBadly left standing fault
-
--- what these bytes decided of an input of which this is left: nothing of them holds the input to have failed
-abbrev pub Decides : LimitNumbers → List ℕ → Option (List ℕ) → Result (Unit {0}) ToolFault → Option SchemaShape → List Table → Type 0
-Decides limits bytes left (Ok done) schema batches = IsWhole limits bytes left schema batches
-Decides limits bytes left (Err (Stream fault)) schema batches = IsRefusedStream limits bytes left fault
-Decides limits bytes left (Err Memory) schema batches = ⊤
-Decides limits bytes left (Err (Input number)) schema batches = ⊥
-Decides limits bytes left (Err Output) schema batches = ⊥
-Decides limits bytes left (Err (Refused what kind)) schema batches = ⊥
-
--- the same, or that a read failed where the bytes before it call for more
-abbrev pub DecidesOrFails : LimitNumbers → List ℕ → Option (List ℕ) → Result (Result (Unit {0}) ToolFault) ReadFailed → Option SchemaShape → List Table → Type 0
-DecidesOrFails limits bytes left (Ok answer) schema batches = Decides limits bytes left answer schema batches
-DecidesOrFails limits bytes left (Err failed) schema batches = IsOpenAt limits bytes
-
--- The same of an input that had these bytes before and has these after it. No piece was read after the one in which the stream is
--- refused or ends with its marker.
-abbrev pub ReadsStream : LimitNumbers → Option (List ℕ) → Option (List ℕ) → Result (Result (Unit {0}) ToolFault) ReadFailed → Option SchemaShape → List Table → Type 0
-ReadsStream limits had left answer schema batches =
-    (bytes : List ℕ) × Consumes had left bytes × IsReadWhile (IsOpenAt limits) bytes × DecidesOrFails limits bytes left answer schema batches
 
 -- ---- connections
 
@@ -102,6 +62,14 @@ Brings asks number bytes left (Err (Refused what kind)) = ⊥
 abbrev pub IsRead : Asks → ℕ → Option (List ℕ) → Option (List ℕ) → Result Asked ToolFault → Type 0
 IsRead asks number had left answer =
     (bytes : List ℕ) × Consumes had left bytes × IsReadWhile (IsOpenAt asks.limits) bytes × Brings asks number bytes left answer
+
+-- a fault as that of the input of this number
+abbrev pub of_input : ℕ → ToolFault → ToolFault
+of_input number (Input n) = Input number
+of_input number Output = Output
+of_input number (Stream fault) = Stream fault
+of_input number (Refused what kind) = Refused what kind
+of_input number Memory = Memory
 
 -- what is asked of the connection that came of an input, or its fault
 abbrev pub asked_in : Result Connection ToolFault → Result Asked ToolFault

@@ -3,7 +3,7 @@ use Rattle.std.proofs.Common.{◌≡◌, ℕ, ◌+◌, ◌^◌, ◌==◌, nat_lt
 use Rattle.arrow_types.specs.Limits.{LimitNumbers}
 use Rattle.arrow_types.specs.Notes.{SchemaShape}
 use Rattle.arrow_stream_reader.specs.declared.kind.Refusal.{Refusal}
-use Rattle.arrow_stream_reader.specs.declared.reader.Verdict.TheVariants.{Open, Bad}
+use Rattle.arrow_stream_reader.specs.declared.reader.Verdict.TheVariants.{Open, Done, Bad}
 use Rattle.arrow_stream_reader.specs.Frame.{number_at, has_continuation, prefix_says, Outcome, First, whole, marker, refused, waits, short_prefix, short_metadata, short_body, bad_prefix, bad_metadata, bad_body, end_marker, message_comes}
 use Rattle.arrow_stream_reader.specs.Front.{Entry, Standing, Front, rests, fails, closes, goes_on}
 use Rattle.arrow_stream_reader.specs.State.{StreamState, nothing_yet, schema_given}
@@ -22,6 +22,13 @@ bad_refused (rests x) n k v = absurd (cc)
 bad_refused {l} {s} {p} {b} (fails {k = j} x) n k v = (let same : j ≡ k = cc in subst (λ i. First l s p b (refused i)) same x, refl)
 bad_refused (closes x) n k v = absurd (cc)
 bad_refused (goes_on x xs) n k v = absurd (cc)
+
+-- a stream with an end marker has given something
+pub done_given : {l : LimitNumbers} {s : StreamState} {p : ℕ} {b : List ℕ} {es : List Entry} {e : Standing} → Front l s p b es e → e.verdict ≡ Done → es ≡ [] → ⊥
+done_given (rests x) d n = absurd (cc)
+done_given (fails x) d n = absurd (cc)
+done_given (closes x) d n = absurd (cc)
+done_given (goes_on x xs) d n = absurd (cc)
 
 -- a front without entries leaves the state as it was
 pub state_stays : {l : LimitNumbers} {s : StreamState} {p : ℕ} {b : List ℕ} {es : List Entry} {e : Standing} → Front l s p b es e → es ≡ [] → e.state ≡ s

@@ -11,11 +11,9 @@ use Rattle.arrow_stream_reader.specs.Front.{Entry, Standing, FrontOf}
 use Rattle.arrow_stream_reader.specs.State.{Given, schema_given, dictionary_given, batch_given, ended}
 use Rattle.arrow_stream_reader.specs.Tables.{table_in, tables_of}
 use Rattle.arrowflow_report.specs.Chosen.{AreRows, HaveChosen, IsChosenAt, choice_of, chosen_given, chosen_text}
-use Rattle.arrowflow_report.specs.FirstRows.{AreLeft, AreRowsIn, HasLast, HasMore, HaveFirst, ToldSo, first_chosen, first_rows, first_text, last_in, left_behind, rows_of}
+use Rattle.arrowflow_report.specs.FirstRows.{AreLeft, AreRowsIn, HasLast, HasMore, HaveFirst, first_chosen, first_rows, first_text, last_in, left_behind, rows_of}
 use Rattle.arrowflow_report.specs.Reports.{IsAdded, IsTextOf, SendsText}
 use Rattle.arrowflow_report.specs.Shown.{text_in}
-use Rattle.arrowflow_report.specs.declared.progress.Progress.{Progress}
-use Rattle.arrowflow_report.specs.declared.progress.Progress.TheVariants.{GoesOn, Marker, Enough, Lacks}
 use Rattle.arrowflow_report.specs.declared.report.Report.{Report}
 use Rattle.arrowflow_report.specs.declared.report.Report.TheVariants.{Messages, Rows}
 use Rattle.arrowflow_report.specs.declared.tool_fault.ToolFault.{ToolFault}
@@ -264,33 +262,3 @@ none_last left g rows h none = absurd (subst (λ l. HasLast l g rows) none h)
 
 pub stays_all : (left left' : Option ℕ) (k : ℕ) → left' ≡ left_behind left k → left ≡ None → left' ≡ None
 stays_all left left' k is none = is ∙ ap (λ l. left_behind l k) none
-
-pub stays_limited : {P : Type 0} (left left' : Option ℕ) (k : ℕ) → left' ≡ left_behind left k → (left ≡ None) ⊎ P → (left' ≡ None) ⊎ P
-stays_limited left left' k is (inl none) = inl (stays_all left left' k is none)
-stays_limited left left' k is (inr p) = inr p
-
-pub keeps_limited : {P : Type 0} (left left' : Option ℕ) → (left ≡ None → left' ≡ None) → (left ≡ None) ⊎ P → (left' ≡ None) ⊎ P
-keeps_limited left left' keeps (inl none) = inl (keeps none)
-keeps_limited left left' keeps (inr p) = inr p
-
--- ---- what came of a piece
-
-pub told_marker : (P : Result Bool ToolFault → Type 0) (a : Progress) → a ≡ Marker → ToldSo P (Ok a) → P (Ok true)
-told_marker P Marker e h = h
-told_marker P GoesOn e h = absurd (cc)
-told_marker P Enough e h = absurd (cc)
-told_marker P Lacks e h = absurd (cc)
-
-pub told_goes_on : (P : Result Bool ToolFault → Type 0) (a : Progress) → a ≡ GoesOn → ToldSo P (Ok a) → P (Ok false)
-told_goes_on P GoesOn e h = h
-told_goes_on P Marker e h = absurd (cc)
-told_goes_on P Enough e h = absurd (cc)
-told_goes_on P Lacks e h = absurd (cc)
-
-abbrev progress_in : Result Progress ToolFault → Progress
-progress_in (Ok a) = a
-progress_in (Err f) = Lacks
-
--- what is no lack
-pub not_lacking : (a : Progress) → (a ≡ Lacks → ⊥) → ◌≡◌ {A = Result Progress ToolFault} (Ok a) (Ok Lacks) → ⊥
-not_lacking a other e = other (ap progress_in e)

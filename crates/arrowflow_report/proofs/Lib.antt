@@ -5,6 +5,8 @@ mod FirstTold
 mod FirstReported
 pub mod Found
 mod Indented
+pub mod Driving
+pub mod Kept
 pub mod Feeding
 pub mod Schemas
 pub mod Growing
@@ -12,6 +14,8 @@ mod Lacking
 pub mod Sent
 pub mod Lined
 pub mod Told
+pub mod Messages
+mod Chosen
 mod Quiet
 pub mod Reading
 pub mod Reporting

@@ -1,7 +1,5 @@
 -- How far an input is read until its stream is decided.
 use Rattle.std.proofs.Common.{◌≡◌, ℕ, ◌+◌, ◌-◌, ◌^◌, ◌<◌, ◌≤◌, List, [], ◌++◌, length, take, Result, Ok, Err, refl, sym, ap, arith, append-nil, length-append, length-drop}
-use Rattle.std.specs.Prelude.{IsErr}
-use Rattle.std.proofs.lemmas.Bool.{false≢true}
 use Rattle.arrow_types.specs.Limits.{LimitNumbers}
 use Rattle.arrow_stream_reader.specs.declared.reader.Verdict.TheVariants.{Open}
 use Rattle.arrow_stream_reader.specs.Frame.{Outcome, First, whole, waits, short_prefix, short_metadata, short_body, bad_prefix, bad_metadata, bad_body, end_marker, message_comes}
@@ -11,10 +9,7 @@ use Rattle.arrow_stream_reader.specs.Stream.{ReaderView, ReaderStands}
 use Rattle.arrow_stream_reader.proofs.Firsts.{First-within, whole_says}
 use Rattle.arrow_stream_reader.proofs.Fronts.{front_place}
 use Rattle.arrow_stream_reader.proofs.Decoding.{size_small, frame_small}
-use Rattle.arrowflow_report.specs.Reads.{IsReadWhile, answer_by}
-use Rattle.arrowflow_report.specs.declared.pieces.ReadFailed.{ReadFailed}
-use Rattle.arrowflow_report.specs.declared.tool_fault.ToolFault.{ToolFault}
-use Rattle.arrowflow_report.specs.declared.tool_fault.ToolFault.TheVariants.{Input}
+use Rattle.arrowflow_report.specs.Reads.{IsReadWhile}
 
 -- less than a message ends within eight bytes of the last place
 waits_near : {l : LimitNumbers} {s : StreamState} {p : ℕ} {b : List ℕ} {o : Outcome} → First l s p b o → o ≡ waits → p ≤ 2 ^ 62 → p + length b ≤ 2 ^ 62 + 8
@@ -68,8 +63,3 @@ read_all P bytes p = record { before = bytes; piece = []; joined = sym (append-n
 -- nor behind the piece that was read behind such
 pub read_last : (P : List ℕ → Type 0) (bytes : List ℕ) (n : ℕ) (room : List ℕ) → length room ≡ 65536 → (n ≤ length room) × (n ≡ length (take n room)) → P bytes → IsReadWhile P (bytes ++ take n room)
 read_last P bytes n room size within p = record { before = bytes; piece = take n room; joined = refl; size = omega (arith, size, within.0, within.1); wanting = p }
-
--- a read that failed is told as an input that did
-pub answer_failed : (r : Result (Result (Unit {0}) ToolFault) ReadFailed) → IsErr r → answer_by r ≡ Err (Input 0)
-answer_failed (Ok answer) e = absurd (false≢true e)
-answer_failed (Err failed) e = refl

@@ -1,22 +1,19 @@
 -- What is answered where columns are asked for, and what is written then.
-use Rattle.std.specs.Prelude.{◌≡◌, ℕ, List, [], ◌∷◌, ◌++◌, Option, None, Some, Result, Ok, Err}
+use Rattle.std.specs.Prelude.{◌≡◌, ℕ, List, [], Option, None, Some, Result, Ok, Err}
 use Rattle.std.specs.Io.KnownBytes.{Appends, Consumes}
 use Rattle.arrow_types.specs.Limits.{LimitNumbers}
 use Rattle.arrow_types.specs.Notes.{SchemaShape}
 use Rattle.arrow_csv.specs.Named.{Choice}
-use Rattle.arrow_stream_reader.specs.Front.{Entry}
-use Rattle.arrow_stream_reader.specs.Stream.{ReaderView, ReaderStands}
 use Rattle.arrowflow_report.specs.Chosen.{LacksColumn, choice_of}
 use Rattle.arrowflow_report.specs.FirstRows.{ShowsFirstOf}
 use Rattle.arrowflow_report.specs.Reads.{IsReadWhile}
-use Rattle.arrowflow_report.specs.Reports.{IsTold, ReportsInput}
+use Rattle.arrowflow_report.specs.Reports.{ReportsInput}
 use Rattle.arrowflow_report.specs.SchemaCall.{AreNoMessage, BeginWithSchema}
 use Rattle.arrowflow_report.specs.declared.report.Report.{Report}
 use Rattle.arrowflow_report.specs.declared.report.Report.TheVariants.{Rows}
 use Rattle.arrowflow_report.specs.declared.columns.ColumnsFault.{ColumnsFault}
 use Rattle.arrowflow_report.specs.declared.columns.ColumnsFault.TheVariants.{Lacks, Tool}
 use Rattle.arrowflow_report.specs.declared.columns.Selection.{Selection}
-use Rattle.arrowflow_report.specs.declared.telling.Teller.{Teller}
 use Rattle.arrowflow_report.specs.declared.tool_fault.ToolFault.{ToolFault}
 
 -- These bytes begin with a schema that lacks the column at this place of the choice, and none before.
@@ -45,26 +42,3 @@ abbrev pub answer_by_lack : Option ℕ → Result (Unit {0}) ToolFault → Resul
 answer_by_lack (Some place) answer = Err (Lacks place)
 answer_by_lack None (Ok done) = Ok done
 answer_by_lack None (Err fault) = Err (Tool fault)
-
--- ---- a stream told message by message
-
--- Behind the bytes t the reader was given a beginning of a piece, with which its first message came: a schema that lacks the
--- column at this place of the choice, and none before. No text stands in the output.
-pub record HasLack (choice : Choice) (first held : Option (List ℕ)) (r : ReaderView) (t bytes : List ℕ) (place : ℕ) : Type 0 where
-  pub taken : List ℕ
-  pub rest : List ℕ
-  pub whole : taken ++ rest ≡ bytes
-  pub entry : Entry
-  pub stands : ReaderStands r (t ++ taken) (entry ∷ [])
-  pub lacks : LacksColumn choice r.at.state.schema place
-  pub wrote : Appends first held []
-
--- the same for all bytes at which the reader stood and for all that was written
-abbrev pub TellsLack : Report → ReaderView → Option (List ℕ) → ℕ → List ℕ → ReaderView → Option (List ℕ) → Option ℕ → Type 0
-TellsLack report old before number piece new after lacks =
-    (place : ℕ) × (lacks ≡ Some place)
-    × ((first : Option (List ℕ)) (t : List ℕ) (es : List Entry) → IsTold report first before number old t es → HasLack (choice_of report) first after new t piece place)
-
--- only the room of a teller may have changed
-abbrev pub IsTellerSame : Teller → Teller → Type 0
-IsTellerSame old new = (new.number ≡ old.number) × (new.left ≡ old.left) × (new.lacks ≡ old.lacks)

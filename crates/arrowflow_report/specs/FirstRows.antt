@@ -7,17 +7,15 @@ use Rattle.arrow_data.specs.Batch.{Table}
 use Rattle.arrow_csv.specs.Named.{Choice, chosen_schema, chosen_tables}
 use Rattle.arrow_csv.specs.Records.{batch_rows, header_record}
 use Rattle.arrow_sink.specs.Sinks.{AcceptsBeginning}
-use Rattle.arrow_stream_reader.specs.declared.reader.Verdict.TheVariants.{Done, Open}
+use Rattle.arrow_stream_reader.specs.declared.reader.Verdict.TheVariants.{Open}
 use Rattle.arrow_stream_reader.specs.Front.{Entry, Standing, FrontOf}
 use Rattle.arrow_stream_reader.specs.State.{Given, schema_given, dictionary_given, batch_given, ended}
 use Rattle.arrow_stream_reader.specs.Stream.{ReaderView, ReaderStands}
 use Rattle.arrow_stream_reader.specs.Tables.{tables_of}
 use Rattle.arrowflow_report.specs.Chosen.{AreRows, HaveChosen, choice_of}
 use Rattle.arrowflow_report.specs.Reads.{IsReadWhile}
-use Rattle.arrowflow_report.specs.Reports.{EndsBadly, EndsWell, IsBadBy, IsOpenAt, IsTold}
+use Rattle.arrowflow_report.specs.Reports.{EndsBadly, EndsWell, IsOpenAt, IsTold}
 use Rattle.arrowflow_report.specs.Shown.{header_in}
-use Rattle.arrowflow_report.specs.declared.progress.Progress.{Progress}
-use Rattle.arrowflow_report.specs.declared.progress.Progress.TheVariants.{GoesOn, Marker, Enough, Lacks}
 use Rattle.arrowflow_report.specs.declared.report.Report.{Report}
 use Rattle.arrowflow_report.specs.declared.tool_fault.ToolFault.{ToolFault}
 use Rattle.arrowflow_report.specs.declared.tool_fault.ToolFault.TheVariants.{Input, Output, Stream, Refused, Memory}
@@ -104,14 +102,6 @@ ShowsFirstOf choice n limits had left before failed answer after failed' =
 
 -- ---- a stream told message by message
 
--- a piece was told so, where no more is said of one with the last of the rows, or with a schema that lacks a column
-abbrev pub ToldSo : (Result Bool ToolFault → Type 0) → Result Progress ToolFault → Type 0
-ToldSo P (Ok GoesOn) = P (Ok false)
-ToldSo P (Ok Marker) = P (Ok true)
-ToldSo P (Ok Enough) = ⊤
-ToldSo P (Ok Lacks) = ⊤
-ToldSo P (Err fault) = P (Err fault)
-
 -- of so many rows that are still wanted, if not all are, this message has the last; then so many of its rows are told
 abbrev pub HasLast : Option ℕ → Given → ℕ → Type 0
 HasLast None given rows = ⊥
@@ -178,24 +168,3 @@ pub record IsFirstCut (choice : Choice) (n : ℕ) (first held : Option (List ℕ
   pub stands : ReaderStands r (t ++ taken) entries
   pub has : HaveChosen choice r.at.state.schema
   pub wrote : AcceptsBeginning first held (first_chosen choice n r.at.state.schema (tables_of entries))
-
--- what came of a piece behind the bytes t, of a stream of which n rows are wanted
-abbrev pub FirstTold : ℕ → Report → Option (List ℕ) → ℕ → List ℕ → List ℕ → Result Progress ToolFault → Option (List ℕ) → ℕ → ℕ → Option ℕ → ReaderView → Type 0
-FirstTold n report first failed t piece (Ok GoesOn) held failed' number left r = IsFirstTold n report first held number left r (t ++ piece) × (failed' ≡ failed)
-FirstTold n report first failed t piece (Ok Marker) held failed' number left r =
-    IsFirstTold n report first held number left r (t ++ piece) × (failed' ≡ failed) × (r.at.verdict ≡ Done)
-FirstTold n report first failed t piece (Ok Enough) held failed' number left r = IsEnoughTold (choice_of report) n first held r t piece × (failed' ≡ failed)
-FirstTold n report first failed t piece (Ok Lacks) held failed' number left r = ⊤
-FirstTold n report first failed t piece (Err Output) held failed' number left r = IsFirstCut (choice_of report) n first held r t piece × (failed' ≡ failed + 1)
-FirstTold n report first failed t piece (Err Memory) held failed' number left r = IsFirstCut (choice_of report) n first held r t piece × (failed' ≡ failed)
-FirstTold n report first failed t piece (Err (Stream fault)) held failed' number left r =
-    IsFirstTold n report first held number left r (t ++ piece) × (failed' ≡ failed) × IsBadBy r.at.verdict r.at.place fault
-FirstTold n report first failed t piece (Err (Input k)) held failed' number left r = ⊥
-FirstTold n report first failed t piece (Err (Refused what kind)) held failed' number left r = ⊥
-
--- the same for all bytes at which the reader stood, for all that was written, and for each number of rows of which so many
--- are left
-abbrev pub TellsFirst : Report → ReaderView → Option (List ℕ) → ℕ → ℕ → Option ℕ → List ℕ → Result Progress ToolFault → ReaderView → Option (List ℕ) → ℕ → ℕ → Option ℕ → Type 0
-TellsFirst report old before failed number left piece answer new after failed' number' left' =
-    AreRows report → (n : ℕ) (first : Option (List ℕ)) (t : List ℕ) → IsFirstTold n report first before number left old t
-    → FirstTold n report first failed t piece answer after failed' number' left' new

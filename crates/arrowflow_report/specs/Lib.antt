@@ -1,3 +1,7 @@
+pub mod Consumer
+pub mod Telling
+pub mod Kept
+pub mod Driver
 pub mod Escapes
 pub mod FirstRows
 pub mod Faults

@@ -83,23 +83,6 @@ pub record IsCutOff (report : Report) (first held : Option (List ℕ)) (r : Read
 abbrev pub IsBadBy : Verdict → ℕ → Fault → Type 0
 IsBadBy verdict place fault = (k : Refusal) × (verdict ≡ Bad k) × (fault ≡ record { kind = kind_of k; place = place })
 
--- the text of a piece behind the bytes t was told, or a beginning of it; the answer tells whether an end marker came
-abbrev pub PieceTold : Report → Option (List ℕ) → ℕ → List ℕ → List ℕ → Result Bool ToolFault → Option (List ℕ) → ℕ → ℕ → ReaderView → Type 0
-PieceTold report first failed t piece (Ok ended) held failed' number r =
-    ((es : List Entry) × IsTold report first held number r (t ++ piece) es) × (failed' ≡ failed) × (IsTrue ended → r.at.verdict ≡ Done)
-PieceTold report first failed t piece (Err Output) held failed' number r = IsCutOff report first held r t piece × (failed' ≡ failed + 1)
-PieceTold report first failed t piece (Err Memory) held failed' number r = IsCutOff report first held r t piece × (failed' ≡ failed)
-PieceTold report first failed t piece (Err (Stream fault)) held failed' number r =
-    ((es : List Entry) × IsTold report first held number r (t ++ piece) es) × (failed' ≡ failed) × IsBadBy r.at.verdict r.at.place fault
-PieceTold report first failed t piece (Err (Input n)) held failed' number r = ⊥
-PieceTold report first failed t piece (Err (Refused what kind)) held failed' number r = ⊥
-
--- the same for all bytes at which the reader stood and for all that was written
-abbrev pub TellsPiece : Report → ReaderView → Option (List ℕ) → ℕ → ℕ → List ℕ → Result Bool ToolFault → ReaderView → Option (List ℕ) → ℕ → ℕ → Type 0
-TellsPiece report old before failed number piece answer new after failed' number' =
-    (first : Option (List ℕ)) (t : List ℕ) (es : List Entry) → IsTold report first before number old t es
-    → PieceTold report first failed t piece answer after failed' number' new
-
 -- the text of the messages at the front of these bytes was written
 pub record IsWritten (report : Report) (limits : LimitNumbers) (bytes : List ℕ) (e : Standing) (before after : Option (List ℕ)) : Type 0 where
   pub entries : List Entry
@@ -169,12 +152,3 @@ abbrev pub ReportsInput : Report → LimitNumbers → Option (List ℕ) → Opti
 ReportsInput report limits had left before failed answer after failed' =
     (bytes : List ℕ) × Consumes had left bytes × IsReadWhile (IsOpenAt limits) bytes
     × Reports report limits bytes left before failed answer after failed'
-
--- how a stream ends with its input: at the end of a message, or by the fault that a reader tells of such an end
-abbrev pub EndTold : Report → Standing → Option (List ℕ) → ℕ → Result (Unit {0}) ToolFault → Option (List ℕ) → ℕ → Type 0
-EndTold report e before failed (Ok done) after failed' = (ended_so e ≡ Ok tt) × SendsSome (IsEnding report e.place) before failed (Ok done) after failed'
-EndTold report e before failed (Err Output) after failed' = SendsSome (IsEnding report e.place) before failed (Err Output) after failed'
-EndTold report e before failed (Err Memory) after failed' = SendsSome (IsEnding report e.place) before failed (Err Memory) after failed'
-EndTold report e before failed (Err (Stream fault)) after failed' = (ended_so e ≡ Err fault) × Keeps before after × (failed' ≡ failed)
-EndTold report e before failed (Err (Input number)) after failed' = ⊥
-EndTold report e before failed (Err (Refused what kind)) after failed' = ⊥

@@ -11,7 +11,9 @@ use Rattle.arrow_stream_reader.specs.declared.kind.Kind.TheVariants.{NoSchema}
 use Rattle.arrow_stream_reader.specs.declared.kind.Refusal.{Refusal}
 use Rattle.arrow_stream_reader.specs.Frame.{First, whole, refused, waits}
 use Rattle.arrow_stream_reader.specs.Kind.{kind_of}
+use Rattle.arrow_stream_reader.specs.Front.{Entry}
 use Rattle.arrow_stream_reader.specs.State.{nothing_yet, schema_given}
+use Rattle.arrow_stream_reader.specs.Stream.{ReaderView}
 use Rattle.arrowflow_report.specs.Reads.{IsReadWhile}
 use Rattle.arrowflow_report.specs.SchemaText.{schema_lines}
 use Rattle.arrowflow_report.specs.declared.tool_fault.ToolFault.{ToolFault}
@@ -63,16 +65,13 @@ abbrev pub AnswersInput : LimitNumbers → Option (List ℕ) → Option (List �
 AnswersInput limits before left result =
     (bytes : List ℕ) × Consumes before left bytes × IsReadWhile (AreNoMessage limits) bytes × Answers limits bytes left result
 
--- the same of the reader, which shows the schema once its message was whole
-abbrev pub Finds : LimitNumbers → List ℕ → Option (List ℕ) → Option SchemaShape → Result (Unit {0}) ToolFault → Type 0
-Finds limits bytes left schema (Ok done) = (shape : SchemaShape) × BeginWithSchema limits bytes shape × (schema ≡ Some shape)
-Finds limits bytes left schema (Err (Stream fault)) = AreRefused limits bytes fault ⊎ EndEarly limits bytes left fault
-Finds limits bytes left schema (Err (Input number)) = (number ≡ 0) × AreNoMessage limits bytes
-Finds limits bytes left schema (Err Output) = ⊥
-Finds limits bytes left schema (Err (Refused what kind)) = ⊥
-Finds limits bytes left schema (Err Memory) = ⊤
+-- ---- the text that is made of the first message
 
--- what it has found in an input that had these bytes before the call and has these behind it
-abbrev pub FindsIn : LimitNumbers → Option (List ℕ) → Option (List ℕ) → Option SchemaShape → Result (Unit {0}) ToolFault → Type 0
-FindsIn limits before left schema result =
-    (bytes : List ℕ) × Consumes before left bytes × IsReadWhile (AreNoMessage limits) bytes × Finds limits bytes left schema result
+-- before the first message nothing is made
+abbrev pub HasNoMessage : List Entry → Type 0
+HasNoMessage es = es ≡ []
+
+-- these bytes begin with a schema, of which this is the text; else memory was wanting
+abbrev pub HasText : List ℕ → Result (Unit {0}) ToolFault → ReaderView → List ℕ → Option (List ℕ) → Type 0
+HasText text (Ok done) r bytes left = BeginWithText r.limits bytes text
+HasText text (Err fault) r bytes left = fault ≡ Memory

@@ -39,13 +39,15 @@
 //! alone are wanted, and `Lacking` where the schema lacks a column that is asked for.
 #![tactic(auto)]
 
+mod batches;
 mod columns;
+mod consumer;
+mod driver;
 mod escapes;
 pub mod laws;
 mod lines;
 mod nowhere;
-pub mod pieces;
-mod progress;
+mod pieces;
 mod report;
 mod reports;
 mod schema_call;
@@ -58,6 +60,8 @@ mod type_names;
 mod what;
 
 pub use columns::{ColumnsFault, Selection};
+pub use consumer::{Consumer, Wants};
+pub use driver::drive;
 pub use reports::{check, check_quietly, show, show_columns, show_first};
 pub use schema_call::schema_text;
 pub use schema_lines::schema_lines_of;

@@ -3,7 +3,6 @@
 ghost use Rattle.std.specs.Prelude.{◌≡◌, IfOk, IsErr, MatchResult, Ok, vec_len};
 ghost use Rattle.std.specs.Io.{ReadsAtMost};
 ghost use Rattle.std.specs.Io.KnownBytes.{ReadConsumes};
-ghost use Rattle.arrowflow_report.specs.Reads.{answer_by};
 
 use crate::tool_fault::ToolFault;
 use std::alloc::{AllocError, Global};
@@ -49,16 +48,5 @@ fn took(read: io::Result<usize>) -> Result<usize, ReadFailed>
     match read {
         Ok(count) => Ok(count),
         Err(_) => Err(ReadFailed(())),
-    }
-}
-
-/// The answer of a call that read an input: what the bytes decided, or `Input(0)` where a read
-/// failed.
-pub fn answer_of(read: Result<Result<(), ToolFault>, ReadFailed>) -> Result<(), ToolFault>
-    ensures { result ≡ answer_by read }
-{
-    match read {
-        Ok(answer) => answer,
-        Err(_) => Err(ToolFault::Input(0)),
     }
 }

@@ -1,23 +1,18 @@
 //! Streams told as they come: their messages, or their rows.
 
-ghost use Rattle.std.specs.Prelude.{◌≡◌, ◌<◌, ◌-◌, ◌^◌, ◌⊎◌, ℕ, None, Some, [], IfOk, OnOk, length};
-ghost use Rattle.arrow_stream_reader.specs.declared.reader.Verdict.TheVariants.{Open};
-ghost use Rattle.arrow_stream_reader.specs.Stream.{ReaderStands};
+ghost use Rattle.std.specs.Prelude.{◌≡◌, ◌<◌, ◌-◌, ◌^◌, ◌⊎◌, ℕ, None, Some, OnOk};
 ghost use Rattle.arrowflow_report.specs.Chosen.{AreRows, choice_of};
 ghost use Rattle.arrowflow_report.specs.Columns.{LacksInput, ShowsColumns};
 ghost use Rattle.arrowflow_report.specs.FirstRows.{ShowsFirstOf};
 ghost use Rattle.arrowflow_report.specs.Quiet.{ChecksInput};
-ghost use Rattle.arrowflow_report.specs.Reads.{BlamesNoInput, answer_by};
 ghost use Rattle.arrowflow_report.specs.Reports.{ReportsInput};
 ghost use Rattle.arrowflow_report.specs.declared.report.Report.TheVariants.{Messages, Rows};
 
 use crate::columns::{ColumnsFault, Selection, answer_by_lack};
+use crate::driver::drive;
 use crate::nowhere::Nowhere;
-use crate::pieces::{ReadFailed, answer_of, read_piece, room_for_a_piece};
-use crate::progress::Progress;
 use crate::report::Report;
-use crate::sending::flush;
-use crate::telling::{Teller, tell_end, tell_piece};
+use crate::telling::Teller;
 use crate::tool_fault::ToolFault;
 use arrow_sink::Sink;
 use arrow_stream_reader::StreamReader;
@@ -47,10 +42,8 @@ pub fn check<R: Read, S: Sink>(
         (S.contents result.0) (S.failed result.0) }
     ensures passed { OnOk result.1 (S.is_passed_on result.0) }
 {
-    let mut output = output;
-    let messages = Report::Messages;
-    let mut teller = Teller::new(alloc, None);
-    let answer = report(alloc, messages, &mut teller, input, &mut output, limits);
+    let teller = Teller::new(alloc, Report::Messages, None, output);
+    let (output, _, answer) = report(alloc, input, teller, limits);
     (output, answer)
 }
 
@@ -68,9 +61,9 @@ pub fn check_quietly<R: Read>(
 ) -> Result<(), ToolFault>
     ensures { ChecksInput limits.now (R.remaining input.old) (R.remaining input.new) result }
 {
-    let messages = Report::Messages;
-    let mut teller = Teller::new(alloc, None);
-    report(alloc, messages, &mut teller, input, &mut Nowhere, limits)
+    let teller = Teller::new(alloc, Report::Messages, None, Nowhere);
+    let (_, _, answer) = report(alloc, input, teller, limits);
+    answer
 }
 
 /// Writes the rows of a stream as records of comma-separated values, and hands the output back.
@@ -97,10 +90,8 @@ pub fn show<R: Read, S: Sink>(
         (S.contents result.0) (S.failed result.0) }
     ensures passed { OnOk result.1 (S.is_passed_on result.0) }
 {
-    let mut output = output;
-    let rows = Report::Rows(None);
-    let mut teller = Teller::new(alloc, None);
-    let answer = report(alloc, rows, &mut teller, input, &mut output, limits);
+    let teller = Teller::new(alloc, Report::Rows(None), None, output);
+    let (output, _, answer) = report(alloc, input, teller, limits);
     (output, answer)
 }
 
@@ -124,10 +115,8 @@ pub fn show_first<R: Read, S: Sink>(
         (S.contents result.0) (S.failed result.0) }
     ensures passed { OnOk result.1 (S.is_passed_on result.0) }
 {
-    let mut output = output;
-    let mut teller = Teller::new(alloc, Some(rows));
-    let rows = Report::Rows(None);
-    let answer = report(alloc, rows, &mut teller, input, &mut output, limits);
+    let teller = Teller::new(alloc, Report::Rows(None), Some(rows), output);
+    let (output, _, answer) = report(alloc, input, teller, limits);
     (output, answer)
 }
 
@@ -151,96 +140,40 @@ pub fn show_columns<R: Read, S: Sink>(
         (S.contents result.0) (S.failed result.0) }
     ensures passed { OnOk result.1 (S.is_passed_on result.0) }
 {
-    let mut output = output;
-    let mut teller = Teller::new(alloc, selection.rows);
     let columns = Report::Rows(Some(selection.columns));
-    let answer = report(alloc, columns, &mut teller, input, &mut output, limits);
-    (output, answer_by_lack(teller.lacks(), answer))
+    let teller = Teller::new(alloc, columns, selection.rows, output);
+    let (output, lacks, answer) = report(alloc, input, teller, limits);
+    (output, answer_by_lack(lacks, answer))
 }
 
-/// Tells a stream from its beginning, as many of its rows as the teller is to tell.
+/// Tells a stream from its beginning, as many of its rows as the teller is to tell; hands back the
+/// output, and the place of the first column asked for that the schema lacks.
 fn report<R: Read, S: Sink>(
     alloc: Global,
-    report: Report,
-    teller: &mut Teller,
     input: &mut R,
-    output: &mut S,
+    teller: Teller<S>,
     limits: &Limits,
-) -> Result<(), ToolFault>
-    requires failed { S.failed output.old < 2 ^ 64 - 1 }
-    requires none { teller.old.number ≡ 0 }
-    requires has { teller.old.lacks ≡ None }
-    requires limited { (teller.old.left ≡ None) ⊎ AreRows report }
-    ensures written { teller.new.lacks ≡ None → teller.old.left ≡ None
-        → ReportsInput report.entry limits.now (R.remaining input.old) (R.remaining input.new)
-        (S.contents output.old) (S.failed output.old) result (S.contents output.new)
-        (S.failed output.new) }
-    ensures first { teller.new.lacks ≡ None → AreRows report.entry → (n : ℕ)
-        → teller.old.left ≡ Some n → ShowsFirstOf (choice_of report.entry) n limits.now
-        (R.remaining input.old) (R.remaining input.new) (S.contents output.old)
-        (S.failed output.old) result (S.contents output.new) (S.failed output.new) }
-    ensures lacks { (k : ℕ) → teller.new.lacks ≡ Some k → LacksInput (choice_of report.entry)
-        limits.now (R.remaining input.old) (R.remaining input.new) (S.contents output.old)
-        (S.failed output.old) k (S.contents output.new) (S.failed output.new) }
-    ensures all { choice_of report.entry ≡ None → teller.new.lacks ≡ None }
-    ensures passed { teller.new.lacks ≡ None → OnOk result (S.is_passed_on output.new) }
+) -> (S, Option<usize>, Result<(), ToolFault>)
+    requires failed { S.failed teller.output < 2 ^ 64 - 1 }
+    requires none { teller.number ≡ 0 }
+    requires has { teller.lacks ≡ None }
+    requires limited { (teller.left ≡ None) ⊎ AreRows teller.report }
+    ensures written { result.1 ≡ None → teller.entry.left ≡ None
+        → ReportsInput teller.entry.report limits.now
+        (R.remaining input.old) (R.remaining input.new) (S.contents teller.entry.output)
+        (S.failed teller.entry.output) result.2 (S.contents result.0) (S.failed result.0) }
+    ensures first { result.1 ≡ None → AreRows teller.entry.report → (n : ℕ) → teller.entry.left ≡ Some n
+        → ShowsFirstOf (choice_of teller.entry.report) n limits.now (R.remaining input.old)
+        (R.remaining input.new) (S.contents teller.entry.output) (S.failed teller.entry.output) result.2
+        (S.contents result.0) (S.failed result.0) }
+    ensures lacks { (k : ℕ) → result.1 ≡ Some k → LacksInput (choice_of teller.entry.report) limits.now
+        (R.remaining input.old) (R.remaining input.new) (S.contents teller.entry.output)
+        (S.failed teller.entry.output) k (S.contents result.0) (S.failed result.0) }
+    ensures all { choice_of teller.entry.report ≡ None → result.1 ≡ None }
+    ensures passed { result.1 ≡ None → OnOk result.2 (S.is_passed_on result.0) }
 {
     let mut reader = StreamReader::new(alloc, *limits);
-    match room_for_a_piece(alloc) {
-        Ok(mut room) => {
-            answer_of(report_pieces(report, &mut reader, teller, input, output, &mut room))
-        }
-        Err(_) => Err(ToolFault::Memory),
-    }
-}
-
-/// Tells the pieces of a stream, one by one. No stream is longer than the last place allows, so
-/// that this ends.
-fn report_pieces<R: Read, S: Sink>(
-    report: Report,
-    reader: &mut StreamReader,
-    teller: &mut Teller,
-    input: &mut R,
-    output: &mut S,
-    room: &mut [u8],
-) -> Result<Result<(), ToolFault>, ReadFailed>
-    requires failed { S.failed output.old < 2 ^ 64 - 1 }
-    requires start { ReaderStands reader.old [] [] }
-    requires open { reader.old.at.verdict ≡ Open }
-    requires none { teller.old.number ≡ 0 }
-    requires has { teller.old.lacks ≡ None }
-    requires limited { (teller.old.left ≡ None) ⊎ AreRows report }
-    requires room { length room.old ≡ 65536 }
-    ensures written { teller.new.lacks ≡ None → teller.old.left ≡ None
-        → ReportsInput report.entry reader.old.limits (R.remaining input.old)
-        (R.remaining input.new) (S.contents output.old) (S.failed output.old) (answer_by result)
-        (S.contents output.new) (S.failed output.new) }
-    ensures first { teller.new.lacks ≡ None → AreRows report.entry → (n : ℕ)
-        → teller.old.left ≡ Some n → ShowsFirstOf (choice_of report.entry) n reader.old.limits
-        (R.remaining input.old) (R.remaining input.new) (S.contents output.old)
-        (S.failed output.old) (answer_by result) (S.contents output.new) (S.failed output.new) }
-    ensures lacks { (k : ℕ) → teller.new.lacks ≡ Some k → LacksInput (choice_of report.entry)
-        reader.old.limits (R.remaining input.old) (R.remaining input.new)
-        (S.contents output.old) (S.failed output.old) k (S.contents output.new)
-        (S.failed output.new) }
-    ensures blameless { IfOk result BlamesNoInput }
-    ensures passed { teller.new.lacks ≡ None
-        → OnOk (answer_by result) (S.is_passed_on output.new) }
-{
-    loop {
-        let count = read_piece(input, room)?;
-        if count == 0 {
-            return Ok(match tell_end(report, reader, teller, output) {
-                Ok(()) => flush(output),
-                Err(fault) => Err(fault),
-            });
-        }
-        match tell_piece(report, reader, teller, output, &room[..count]) {
-            Ok(Progress::GoesOn) => {}
-            Ok(Progress::Marker) => return Ok(flush(output)),
-            Ok(Progress::Enough) => return Ok(flush(output)),
-            Ok(Progress::Lacks) => return Ok(Ok(())),
-            Err(fault) => return Ok(Err(fault)),
-        }
-    }
+    let (teller, answer) = drive(alloc, &mut reader, input, teller);
+    let (output, lacks) = teller.into_parts();
+    (output, lacks, answer)
 }

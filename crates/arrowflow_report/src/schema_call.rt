@@ -1,16 +1,13 @@
 //! The text of the schema of an input.
 
-ghost use Rattle.std.specs.Prelude.{◌≡◌, [], IfOk, length};
-ghost use Rattle.arrow_stream_reader.specs.declared.reader.Verdict.TheVariants.{Open};
-ghost use Rattle.arrow_stream_reader.specs.Stream.{ReaderStands, ended_so};
-ghost use Rattle.arrowflow_report.specs.Faults.{told_end};
-ghost use Rattle.arrowflow_report.specs.Reads.{BlamesNoInput, answer_by};
-ghost use Rattle.arrowflow_report.specs.SchemaCall.{AnswersInput, FindsIn};
+ghost use Rattle.std.specs.Prelude.{◌≡◌};
+ghost use Rattle.arrowflow_report.specs.SchemaCall.{AnswersInput};
 
-use crate::pieces::{ReadFailed, answer_of, read_piece, room_for_a_piece};
+use crate::consumer::{Consumer, Wants};
+use crate::driver::drive;
 use crate::schema_lines::schema_lines_of;
 use crate::tool_fault::ToolFault;
-use arrow_stream_reader::StreamReader;
+use arrow_stream_reader::{Item, StreamReader};
 use arrow_types::Limits;
 use std::alloc::Global;
 use std::io::Read;
@@ -34,45 +31,51 @@ pub fn schema_text<R: Read>(
     ensures { AnswersInput limits.now (R.remaining input.old) (R.remaining input.new) result }
 {
     let mut reader = StreamReader::new(alloc, *limits);
-    let mut room = room_for_a_piece(alloc)?;
-    answer_of(read_first(&mut reader, input, &mut room))?;
-    let Some(schema) = reader.schema() else {
-        unreachable!();
+    let lines = SchemaLines {
+        alloc,
+        text: String::new(alloc),
     };
-    Ok(schema_lines_of(alloc, schema)?)
+    let (lines, answer) = drive(alloc, &mut reader, input, lines);
+    answer?;
+    Ok(lines.text)
 }
 
-/// Reads the input piece by piece until the reader has the first message. No message is longer than
-/// the reader's limits allow, so that this ends.
-fn read_first<R: Read>(
-    reader: &mut StreamReader,
-    input: &mut R,
-    room: &mut [u8],
-) -> Result<Result<(), ToolFault>, ReadFailed>
-    requires fresh { ReaderStands reader.old [] [] }
-    requires open { reader.old.at.verdict ≡ Open }
-    requires room { length room.old ≡ 65536 }
-    ensures found { FindsIn reader.old.limits (R.remaining input.old) (R.remaining input.new)
-        reader.new.at.state.schema (answer_by result) }
-    ensures blameless { IfOk result BlamesNoInput }
-{
-    loop {
-        let count = read_piece(input, room)?;
-        if count == 0 {
-            return Ok(end_of(reader));
-        }
-        match reader.read(&room[..count]) {
-            Ok((_, Some(_))) => return Ok(Ok(())),
-            Ok((_, None)) => {}
-            Err(fault) => return Ok(Err(ToolFault::from(fault))),
+/// What is made of a stream for the text of its schema: that text, of its first message.
+#[derive(Drop)]
+struct SchemaLines {
+    alloc: Global,
+    text: String,
+}
+
+impl Consumer for SchemaLines {
+    ghost use Rattle.std.specs.Prelude.{string_bytes};
+    ghost use Rattle.arrowflow_report.specs.SchemaCall.{HasNoMessage, HasText};
+
+    ghost Start = { Unit {0} };
+
+    ghost keeps = { λ _ _ _ _ entries. HasNoMessage entries };
+
+    ghost answers = { λ _ lines. HasText (string_bytes lines.text) };
+
+    fn item(
+        mut self,
+        reader: &StreamReader,
+        _place: u64,
+        _item: Item,
+    ) -> (Self, Result<Wants, ToolFault>) {
+        match reader.schema() {
+            Some(schema) => match schema_lines_of(self.alloc, schema) {
+                Ok(text) => {
+                    self.text = text;
+                    (self, Ok(Wants::Enough))
+                }
+                Err(_) => (self, Err(ToolFault::Memory)),
+            },
+            None => (self, Ok(Wants::More)),
         }
     }
-}
 
-/// What is answered where the input ends: what the reader says of a stream that ends there.
-fn end_of(reader: &StreamReader) -> Result<(), ToolFault>
-    ensures { result ≡ told_end (ended_so reader.now.at) }
-{
-    reader.end()?;
-    Ok(())
+    fn end(self, _reader: &StreamReader, _marked: bool) -> (Self, Result<(), ToolFault>) {
+        (self, Ok(()))
+    }
 }

@@ -1,14 +1,14 @@
 //! A session: what one side of a connection receives.
 
-ghost use Rattle.std.specs.Prelude.{◌≡◌, ◌++◌, IfOk, OnErr, OnOk};
-ghost use Rattle.arrow_stream_reader.specs.Views.{given};
+ghost use Rattle.std.specs.Prelude.{◌≡◌, Err, IfOk, MatchBool, OnErr, OnOk};
 ghost use Rattle.arrowflow_report.specs.Pieces.{Feeds, FeedsInside, HandsOut};
-ghost use Rattle.arrow_stream_reader.specs.Tables.{table_in};
 ghost use Rattle.arrowflow_report.specs.Session.{Receives, StandsAt, StandsInside, ending_by};
+ghost use Rattle.arrowflow_report.specs.declared.tool_fault.ToolFault.TheVariants.{Memory};
 
-use crate::tool_fault::is_memory;
+use crate::driver::{Progress, take_piece};
+use crate::tool_fault::ToolFault;
 use arrow_data::{Batch, Dictionary};
-use arrow_stream_reader::{Fault, Item, StreamReader};
+use arrow_stream_reader::{Fault, StreamReader};
 use std::alloc::{AllocError, Global};
 
 /// How a connection ended: what [`StreamReader::end`] answers behind its last byte.
@@ -84,45 +84,38 @@ fn hand_out(
     let mut rest = bytes;
     for cut in cuts {
         let end = rest.len().min(*cut);
-        feed(reader, &mut handed, &rest[..end])?;
+        handed = feed(reader, handed, &rest[..end])?;
         rest = &rest[end..];
     }
-    feed(reader, &mut handed, rest)?;
+    feed(reader, handed, rest)
+}
+
+/// Gives the reader a piece, and takes the batches of its messages.
+fn feed(
+    reader: &mut StreamReader,
+    handed: Vec<Batch>,
+    piece: &[u8],
+) -> Result<Vec<Batch>, AllocError>
+    ensures feeds { IfOk result (λ v. Feeds reader.old handed.items piece.now reader.new v.items) }
+    ensures limits { reader.new.limits ≡ reader.old.limits }
+    ensures inside { OnErr result (FeedsInside reader.old handed.items piece.now reader.new) }
+{
+    let (handed, answer) = take_piece(reader, handed, piece);
+    if wants_memory(&answer) {
+        return Err(AllocError);
+    }
     Ok(handed)
 }
 
-/// Gives the reader a piece, and what it leaves of it again.
-fn feed(reader: &mut StreamReader, handed: &mut Vec<Batch>, piece: &[u8]) -> Result<(), AllocError>
-    ensures feeds { OnOk result (Feeds reader.old handed.old.items piece.now reader.new
-        handed.new.items) }
-    ensures limits { reader.new.limits ≡ reader.old.limits }
-    ensures inside { OnErr result (FeedsInside reader.old piece.now reader.new) }
+/// Whether a growth was refused with a piece.
+fn wants_memory(answer: &Result<Progress, ToolFault>) -> bool
+    ensures { MatchBool result (answer.now ≡ Err Memory) (answer.now ≡ Err Memory → ⊥) }
 {
-    let mut rest = piece;
-    loop {
-        match reader.read(rest) {
-            Ok((taken, Some(item))) => {
-                keep(handed, item)?;
-                rest = &rest[taken..];
-            }
-            Ok((_, None)) => return Ok(()),
-            Err(fault) => {
-                if is_memory(fault.kind) {
-                    return Err(AllocError);
-                }
-                return Ok(());
-            }
-        }
-    }
-}
-
-/// Keeps the batch of an item, if it is one.
-fn keep(handed: &mut Vec<Batch>, item: Item) -> Result<(), AllocError>
-    ensures { OnOk result (handed.new.items ≡ handed.old.items ++ table_in (given item)) }
-{
-    match item {
-        Item::Batch(batch) => Ok(handed.push(batch)?),
-        Item::Schema | Item::Dictionary(_) | Item::End => Ok(()),
+    match answer {
+        Err(ToolFault::Memory) => true,
+        Err(ToolFault::Stream(_) | ToolFault::Input(_)) => false,
+        Err(ToolFault::Output | ToolFault::Refused(_, _)) => false,
+        Ok(Progress::GoesOn | Progress::Marker | Progress::Stopped) => false,
     }
 }
 

@@ -1,50 +1,60 @@
 //! A stream told message by message.
 
-ghost use Rattle.std.specs.Prelude.{◌≡◌, ◌<◌, ◌+◌, ◌-◌, ◌^◌, ◌⊎◌, MatchOption, None, Ok, OnOk, length};
-ghost use Rattle.arrow_stream_reader.specs.declared.reader.Verdict.TheVariants.{Open};
+ghost use Rattle.std.specs.Prelude.{◌≡◌, ◌<◌, ◌+◌, ◌-◌, ◌^◌, IfErr, IfOk, MatchOption, None, Ok};
+ghost use Rattle.std.specs.Prelude.{OnOk, length};
 ghost use Rattle.arrow_stream_reader.specs.Views.{given};
+ghost use Rattle.arrow_stream_reader.specs.Tables.{table_in};
 ghost use Rattle.arrow_csv.specs.Named.{choice_by, chosen_schema};
-ghost use Rattle.arrowflow_report.specs.Chosen.{AreRows, IsChosenAt, LacksAt, choice_of, chosen_given};
-ghost use Rattle.arrowflow_report.specs.Columns.{IsTellerSame, TellsLack};
-ghost use Rattle.arrowflow_report.specs.FirstRows.{AreRowsIn, HasLast, HasMore, TellsFirst, ToldSo};
+ghost use Rattle.arrowflow_report.specs.Chosen.{IsChosenAt, LacksAt, choice_of, chosen_given};
+ghost use Rattle.arrowflow_report.specs.Consumer.{Ends, Takes};
+ghost use Rattle.arrowflow_report.specs.FirstRows.{AreRowsIn, HasLast, HasMore};
 ghost use Rattle.arrowflow_report.specs.FirstRows.{last_in, left_behind, rows_of};
 ghost use Rattle.arrowflow_report.specs.Lines.{IsLine};
-ghost use Rattle.arrowflow_report.specs.Reports.{EndTold, IsAdded, SendsText, SendsSome, TellsPiece};
-ghost use Rattle.arrow_stream_reader.specs.Tables.{table_in};
+ghost use Rattle.arrowflow_report.specs.Reports.{IsAdded, SendsText, SendsSome};
 ghost use Rattle.arrowflow_report.specs.Shown.{header_in, text_in};
-ghost use Rattle.arrowflow_report.specs.declared.progress.Progress.TheVariants.{Enough, GoesOn, Lacks};
+ghost use Rattle.arrowflow_report.specs.Telling.{AreCountsSame, HasTold, IsLastBy, IsTellerSame};
+ghost use Rattle.arrowflow_report.specs.Telling.{TellsSo};
+ghost use Rattle.arrowflow_report.specs.declared.consumer.Wants.TheVariants.{More};
+ghost use Rattle.arrowflow_report.specs.declared.tool_fault.ToolFault.TheVariants.{Memory};
 
+use crate::consumer::{Consumer, Wants};
 use crate::lines::{end_line, push_line};
-use crate::progress::Progress;
 use crate::report::Report;
-use crate::sending::{send_rows, send_text};
+use crate::sending::{flush, send_rows, send_text};
 use crate::tool_fault::ToolFault;
 use arrow_csv::{BatchRows, header_of, lacking};
 use arrow_sink::Sink;
 use arrow_stream_reader::{Item, StreamReader};
 use std::alloc::Global;
 
-/// How far a stream is told: how many of its batches came, how many rows are still wanted, if not all
-/// are, the place of the first column asked for that its schema was found to lack, and the room in
-/// which the lines of its messages, or the texts of their rows, are made, one after another.
+/// A stream that is told into an output: what is told of it, how many of its batches came, how many
+/// rows are still wanted, if not all are, the place of the first column asked for that its schema
+/// was found to lack, and the room in which the lines of its messages, or the texts of their rows,
+/// are made, one after another.
 #[derive(Drop)]
-pub(crate) struct Teller {
+pub(crate) struct Teller<'a, S: Sink> {
     alloc: Global,
+    report: Report<'a>,
+    output: S,
     number: u64,
     left: Option<u64>,
     lacks: Option<usize>,
     text: Vec<u8>,
 }
 
-impl Teller {
+impl<'a, S: Sink> Teller<'a, S> {
     /// One to whom no batch came, and who is to tell so many rows, or all. It takes no memory.
-    pub(crate) fn new(alloc: Global, rows: Option<u64>) -> Self
+    pub(crate) fn new(alloc: Global, report: Report<'a>, rows: Option<u64>, output: S) -> Self
         ensures number { result.number ≡ 0 }
+        ensures report { result.report ≡ report.entry }
+        ensures output { result.output ≡ output }
         ensures left { result.left ≡ rows }
         ensures lacks { result.lacks ≡ None }
     {
         Teller {
             alloc,
+            report,
+            output,
             number: 0,
             left: rows,
             lacks: None,
@@ -52,11 +62,21 @@ impl Teller {
         }
     }
 
-    /// The place of the first column asked for that the schema was found to lack.
-    pub(crate) fn lacks(&self) -> Option<usize>
-        ensures { result ≡ self.now.lacks }
+    /// The output, and the place of the first column asked for that the schema was found to lack.
+    pub(crate) fn into_parts(self) -> (S, Option<usize>)
+        ensures output { result.0 ≡ self.entry.output }
+        ensures lacks { result.1 ≡ self.entry.lacks }
     {
-        self.lacks
+        let Teller {
+            alloc: _,
+            report: _,
+            output,
+            number: _,
+            left: _,
+            lacks,
+            text: _,
+        } = self;
+        (output, lacks)
     }
 
     /// How many rows of a message are to be told, where it has the last that are wanted.
@@ -72,73 +92,241 @@ impl Teller {
         }
     }
 
+    /// Counts a message's batch and its rows, if it is one; answers how many batches came before.
+    fn count(&mut self, item: &Item) -> Result<u64, ToolFault>
+        ensures number { IfOk result (λ before. before ≡ self.old.number) }
+        ensures counted { OnOk result
+            (self.new.number ≡ self.old.number + length (table_in (given item.now))) }
+        ensures left { OnOk result
+            (self.new.left ≡ left_behind self.old.left (rows_of (table_in (given item.now)))) }
+        ensures output { self.new.output ≡ self.old.output }
+        ensures same { IsTellerSame self.old self.new }
+        ensures memory { IfErr result (λ fault. fault ≡ Memory) }
+    {
+        let before = self.number;
+        if let Item::Batch(batch) = item {
+            let Some(next) = before.checked_add(1) else {
+                return Err(ToolFault::Memory);
+            };
+            self.number = next;
+            self.pass(batch.rows());
+        }
+        Ok(before)
+    }
+
     /// Notes that so many rows more are told.
     fn pass(&mut self, rows: usize)
         ensures left { self.new.left ≡ left_behind self.old.left rows }
         ensures number { self.new.number ≡ self.old.number }
-        ensures lacks { self.new.lacks ≡ self.old.lacks }
+        ensures output { self.new.output ≡ self.old.output }
+        ensures same { IsTellerSame self.old self.new }
     {
         if let Some(left) = self.left {
             self.left = Some(left.saturating_sub(rows as u64));
         }
     }
+
+    /// Tells a message that the reader has just read and that begins at this place; answers whether
+    /// more are wanted.
+    fn tell(&mut self, reader: &StreamReader, place: u64, item: &Item) -> Result<Wants, ToolFault>
+        requires ready { S.failed self.old.output < 2 ^ 64 - 1 }
+        ensures takes { Takes (HasTold S.contents S.failed)
+            (TellsSo S.contents S.failed S.is_passed_on) self.old place item.now reader.now result
+            self.new }
+        ensures ready { result ≡ Ok More → S.failed self.new.output < 2 ^ 64 - 1 }
+    {
+        if let Some(column) = lacking_in(self.report, reader, item) {
+            self.lacks = Some(column);
+            return Ok(Wants::Enough);
+        }
+        match self.last_rows(item) {
+            Some(rows) => {
+                self.tell_last(reader, item, rows)?;
+                flush(&mut self.output)?;
+                Ok(Wants::Enough)
+            }
+            None => {
+                self.tell_whole(reader, place, item)?;
+                Ok(Wants::More)
+            }
+        }
+    }
+
+    /// Tells a whole message.
+    fn tell_whole(
+        &mut self,
+        reader: &StreamReader,
+        place: u64,
+        item: &Item,
+    ) -> Result<(), ToolFault>
+        requires failed { S.failed self.old.output < 2 ^ 64 - 1 }
+        requires chosen { IsChosenAt (choice_of self.old.report) reader.now.at.state.schema
+            (given item.now) }
+        ensures sent { SendsSome (IsAdded self.old.report reader.now.at.state.schema place
+            self.old.number (given item.now)) (S.contents self.old.output)
+            (S.failed self.old.output) result (S.contents self.new.output)
+            (S.failed self.new.output) }
+        ensures counted { OnOk result
+            (self.new.number ≡ self.old.number + length (table_in (given item.now))) }
+        ensures left { OnOk result (self.new.left
+            ≡ left_behind self.old.left (rows_of (table_in (given item.now)))) }
+        ensures same { IsTellerSame self.old self.new }
+    {
+        let number = self.count(item)?;
+        match self.report {
+            Report::Messages => self.tell_message(reader, place, number, item),
+            Report::Rows(choice) => self.tell_rows(choice, reader, number, item),
+        }
+    }
+
+    /// Tells so many rows of the message that has the last ones which are wanted.
+    fn tell_last(
+        &mut self,
+        reader: &StreamReader,
+        item: &Item,
+        rows: usize,
+    ) -> Result<(), ToolFault>
+        requires failed { S.failed self.old.output < 2 ^ 64 - 1 }
+        requires within { AreRowsIn (given item.now) rows }
+        ensures sent { SendsText (S.contents self.old.output) (S.failed self.old.output)
+            (last_in rows (chosen_schema (choice_of self.old.report) reader.now.at.state.schema)
+            self.old.number (chosen_given (choice_of self.old.report) (given item.now))) result
+            (S.contents self.new.output) (S.failed self.new.output) }
+        ensures same { IsTellerSame self.old self.new }
+    {
+        let choice = self.report.choice();
+        match item {
+            Item::Schema => self.tell_header(choice, reader),
+            Item::Batch(batch) => {
+                let texts = BatchRows::of(self.alloc, self.number, batch, choice)?;
+                send_rows(self.alloc, &mut self.text, &texts, rows, &mut self.output)
+            }
+            Item::Dictionary(_) | Item::End => Ok(()),
+        }
+    }
+
+    /// Tells the record of the schema, where there is one.
+    fn tell_header(
+        &mut self,
+        choice: Option<&[&str]>,
+        reader: &StreamReader,
+    ) -> Result<(), ToolFault>
+        requires { S.failed self.old.output < 2 ^ 64 - 1 }
+        ensures sent { SendsText (S.contents self.old.output) (S.failed self.old.output)
+            (header_in (chosen_schema (choice_by choice.entry) reader.now.at.state.schema)) result
+            (S.contents self.new.output) (S.failed self.new.output) }
+        ensures same { IsTellerSame self.old self.new }
+        ensures counts { AreCountsSame self.old self.new }
+    {
+        match reader.schema() {
+            Some(schema) => {
+                send_text(&mut self.output, &header_of(self.alloc, schema, choice)?)
+            }
+            None => Ok(()),
+        }
+    }
+
+    /// Tells the line of a message.
+    fn tell_message(
+        &mut self,
+        reader: &StreamReader,
+        place: u64,
+        number: u64,
+        item: &Item,
+    ) -> Result<(), ToolFault>
+        requires { S.failed self.old.output < 2 ^ 64 - 1 }
+        ensures sent { SendsSome (IsLine reader.now.at.state.schema place number (given item.now))
+            (S.contents self.old.output) (S.failed self.old.output) result
+            (S.contents self.new.output) (S.failed self.new.output) }
+        ensures same { IsTellerSame self.old self.new }
+        ensures counts { AreCountsSame self.old self.new }
+    {
+        self.text.clear();
+        push_line(&mut self.text, reader, place, number, item)?;
+        send_text(&mut self.output, &self.text)
+    }
+
+    /// Tells what a message adds to the text of the rows.
+    fn tell_rows(
+        &mut self,
+        choice: Option<&[&str]>,
+        reader: &StreamReader,
+        number: u64,
+        item: &Item,
+    ) -> Result<(), ToolFault>
+        requires { S.failed self.old.output < 2 ^ 64 - 1 }
+        ensures sent { SendsText (S.contents self.old.output) (S.failed self.old.output)
+            (text_in (chosen_schema (choice_by choice.entry) reader.now.at.state.schema) number
+            (chosen_given (choice_by choice.entry) (given item.now))) result
+            (S.contents self.new.output) (S.failed self.new.output) }
+        ensures same { IsTellerSame self.old self.new }
+        ensures counts { AreCountsSame self.old self.new }
+    {
+        match item {
+            Item::Schema => self.tell_header(choice, reader),
+            Item::Batch(batch) => {
+                let texts = BatchRows::of(self.alloc, number, batch, choice)?;
+                let end = batch.rows();
+                send_rows(self.alloc, &mut self.text, &texts, end, &mut self.output)
+            }
+            Item::Dictionary(_) | Item::End => Ok(()),
+        }
+    }
+
+    /// Tells the end of a stream that ended well, and passes on what was told.
+    fn finish(&mut self, reader: &StreamReader, marked: bool) -> Result<(), ToolFault>
+        requires ready { S.failed self.old.output < 2 ^ 64 - 1 }
+        ensures ends { Ends (HasTold S.contents S.failed)
+            (TellsSo S.contents S.failed S.is_passed_on) self.old marked reader.now result
+            self.new }
+    {
+        self.tell_ending(reader, marked)?;
+        flush(&mut self.output)
+    }
+
+    /// Tells the end of an input that ended without an end marker.
+    fn tell_ending(&mut self, reader: &StreamReader, marked: bool) -> Result<(), ToolFault>
+        requires { S.failed self.old.output < 2 ^ 64 - 1 }
+        ensures sent { SendsSome (IsLastBy marked self.old.report reader.now.at.place)
+            (S.contents self.old.output) (S.failed self.old.output) result
+            (S.contents self.new.output) (S.failed self.new.output) }
+        ensures same { IsTellerSame self.old self.new }
+        ensures counts { AreCountsSame self.old self.new }
+    {
+        match self.report {
+            Report::Messages if !marked => {
+                send_text(&mut self.output, &end_line(self.alloc, reader.place())?)
+            }
+            Report::Messages | Report::Rows(_) => Ok(()),
+        }
+    }
 }
 
-/// Gives the reader a piece, and sends the text of its messages. Where an end marker came, the rows
-/// that are wanted are there or a column that is asked for lacks, what stands behind in the piece is
-/// not looked at.
-pub(crate) fn tell_piece<S: Sink>(
-    report: Report,
-    reader: &mut StreamReader,
-    teller: &mut Teller,
-    output: &mut S,
-    piece: &[u8],
-) -> Result<Progress, ToolFault>
-    requires failed { S.failed output.old < 2 ^ 64 - 1 }
-    requires limited { (teller.old.left ≡ None) ⊎ AreRows report }
-    ensures told { ToldSo (λ answer. TellsPiece report.entry reader.old (S.contents output.old)
-        (S.failed output.old) teller.old.number piece.now answer reader.new (S.contents output.new)
-        (S.failed output.new) teller.new.number) result }
-    ensures first { TellsFirst report.entry reader.old (S.contents output.old)
-        (S.failed output.old) teller.old.number teller.old.left piece.now result reader.new
-        (S.contents output.new) (S.failed output.new) teller.new.number teller.new.left }
-    ensures lacks { result ≡ Ok Lacks → TellsLack report.entry reader.old (S.contents output.old)
-        teller.old.number piece.now reader.new (S.contents output.new) teller.new.lacks }
-    ensures lacks_none { (result ≡ Ok Lacks → ⊥) → teller.new.lacks ≡ teller.old.lacks }
-    ensures all { OnOk result (teller.old.left ≡ None → teller.new.left ≡ None) }
-    ensures some { result ≡ Ok Enough → teller.old.left ≡ None → ⊥ }
-    ensures fine { OnOk result (S.failed output.new ≡ S.failed output.old) }
-    ensures limits { reader.new.limits ≡ reader.old.limits }
-    ensures open { reader.old.at.verdict ≡ Open → result ≡ Ok GoesOn
-        → reader.new.at.verdict ≡ Open }
-{
-    let mut rest = piece;
-    loop {
-        let place = reader.place();
-        match reader.read(rest) {
-            Ok((taken, Some(item))) => {
-                if let Some(column) = lacking_in(report, reader, &item) {
-                    teller.lacks = Some(column);
-                    return Ok(Progress::Lacks);
-                }
-                let choice = report.choice();
-                match teller.last_rows(&item) {
-                    Some(rows) => match tell_last(choice, reader, teller, rows, &item, output) {
-                        Ok(()) => return Ok(Progress::Enough),
-                        Err(fault) => return Err(fault),
-                    },
-                    None => match tell_item(report, reader, place, teller, &item, output) {
-                        Ok(()) => rest = &rest[taken..],
-                        Err(fault) => return Err(fault),
-                    },
-                }
-                if let Item::End = item {
-                    return Ok(Progress::Marker);
-                }
-            }
-            Ok((_, None)) => return Ok(Progress::GoesOn),
-            Err(fault) => return Err(ToolFault::from(fault)),
-        }
+impl<'a, S: Sink> Consumer for Teller<'a, S> {
+    ghost use Rattle.std.specs.Prelude.{◌<◌, ◌-◌, ◌^◌};
+    ghost use Rattle.arrowflow_report.specs.Telling.{HasTold, TellingBegan, TellsSo};
+
+    ghost Start = { TellingBegan };
+
+    ghost is_ready = { λ c. S.failed c.output < 2 ^ 64 - 1 };
+
+    ghost keeps = { HasTold S.contents S.failed };
+
+    ghost answers = { TellsSo S.contents S.failed S.is_passed_on };
+
+    fn item(
+        mut self,
+        reader: &StreamReader,
+        place: u64,
+        item: Item,
+    ) -> (Self, Result<Wants, ToolFault>) {
+        let answer = self.tell(reader, place, &item);
+        (self, answer)
+    }
+
+    fn end(mut self, reader: &StreamReader, marked: bool) -> (Self, Result<(), ToolFault>) {
+        let answer = self.finish(reader, marked);
+        (self, answer)
     }
 }
 
@@ -153,147 +341,5 @@ fn lacking_in(report: Report, reader: &StreamReader, item: &Item) -> Option<usiz
         (Item::Schema, Some(names), Some(schema)) => lacking(schema, names),
         (Item::Schema, Some(_), None) | (Item::Schema, None, _) => None,
         (Item::Dictionary(_) | Item::Batch(_) | Item::End, _, _) => None,
-    }
-}
-
-/// Sends the text of a message that the reader has just read, and counts the batches.
-fn tell_item<S: Sink>(
-    report: Report,
-    reader: &StreamReader,
-    place: u64,
-    teller: &mut Teller,
-    item: &Item,
-    output: &mut S,
-) -> Result<(), ToolFault>
-    requires failed { S.failed output.old < 2 ^ 64 - 1 }
-    requires chosen { IsChosenAt (choice_of report) reader.now.at.state.schema (given item.now) }
-    ensures sent { SendsSome (IsAdded report.entry reader.now.at.state.schema place
-        teller.old.number (given item.now)) (S.contents output.old) (S.failed output.old) result
-        (S.contents output.new) (S.failed output.new) }
-    ensures counted { OnOk result
-        (teller.new.number ≡ teller.old.number + length (table_in (given item.now))) }
-    ensures left { OnOk result (teller.new.left
-        ≡ left_behind teller.old.left (rows_of (table_in (given item.now)))) }
-    ensures lacks { teller.new.lacks ≡ teller.old.lacks }
-{
-    let before = teller.number;
-    if let Item::Batch(batch) = item {
-        let Some(next) = before.checked_add(1) else {
-            return Err(ToolFault::Memory);
-        };
-        teller.number = next;
-        teller.pass(batch.rows());
-    }
-    match report {
-        Report::Messages => tell_message(reader, place, &mut teller.text, before, item, output),
-        Report::Rows(choice) => tell_rows(choice, reader, teller, before, item, output),
-    }
-}
-
-/// Sends so many rows of the message that has the last ones which are wanted.
-fn tell_last<S: Sink>(
-    choice: Option<&[&str]>,
-    reader: &StreamReader,
-    teller: &mut Teller,
-    rows: usize,
-    item: &Item,
-    output: &mut S,
-) -> Result<(), ToolFault>
-    requires failed { S.failed output.old < 2 ^ 64 - 1 }
-    requires within { AreRowsIn (given item.now) rows }
-    ensures sent { SendsText (S.contents output.old) (S.failed output.old)
-        (last_in rows (chosen_schema (choice_by choice.entry) reader.now.at.state.schema)
-        teller.old.number (chosen_given (choice_by choice.entry) (given item.now))) result
-        (S.contents output.new) (S.failed output.new) }
-    ensures same { IsTellerSame teller.old teller.new }
-{
-    match item {
-        Item::Schema => tell_header(teller.alloc, choice, reader, output),
-        Item::Batch(batch) => {
-            let texts = BatchRows::of(teller.alloc, teller.number, batch, choice)?;
-            send_rows(teller.alloc, &mut teller.text, &texts, rows, output)
-        }
-        Item::Dictionary(_) | Item::End => Ok(()),
-    }
-}
-
-/// Sends the record of the schema, where there is one.
-fn tell_header<S: Sink>(
-    alloc: Global,
-    choice: Option<&[&str]>,
-    reader: &StreamReader,
-    output: &mut S,
-) -> Result<(), ToolFault>
-    requires { S.failed output.old < 2 ^ 64 - 1 }
-    ensures { SendsText (S.contents output.old) (S.failed output.old)
-        (header_in (chosen_schema (choice_by choice.entry) reader.now.at.state.schema)) result
-        (S.contents output.new) (S.failed output.new) }
-{
-    match reader.schema() {
-        Some(schema) => send_text(output, &header_of(alloc, schema, choice)?),
-        None => Ok(()),
-    }
-}
-
-/// Sends the line of a message, which is made in the room of a text.
-fn tell_message<S: Sink>(
-    reader: &StreamReader,
-    place: u64,
-    text: &mut Vec<u8>,
-    number: u64,
-    item: &Item,
-    output: &mut S,
-) -> Result<(), ToolFault>
-    requires { S.failed output.old < 2 ^ 64 - 1 }
-    ensures { SendsSome (IsLine reader.now.at.state.schema place number (given item.now))
-        (S.contents output.old) (S.failed output.old) result (S.contents output.new)
-        (S.failed output.new) }
-{
-    text.clear();
-    push_line(text, reader, place, number, item)?;
-    send_text(output, text)
-}
-
-/// Sends what a message adds to the text of the rows, which is made in the room of a text.
-fn tell_rows<S: Sink>(
-    choice: Option<&[&str]>,
-    reader: &StreamReader,
-    teller: &mut Teller,
-    number: u64,
-    item: &Item,
-    output: &mut S,
-) -> Result<(), ToolFault>
-    requires { S.failed output.old < 2 ^ 64 - 1 }
-    ensures sent { SendsText (S.contents output.old) (S.failed output.old)
-        (text_in (chosen_schema (choice_by choice.entry) reader.now.at.state.schema) number
-        (chosen_given (choice_by choice.entry) (given item.now))) result (S.contents output.new)
-        (S.failed output.new) }
-    ensures same { IsTellerSame teller.old teller.new }
-{
-    match item {
-        Item::Schema => tell_header(teller.alloc, choice, reader, output),
-        Item::Batch(batch) => {
-            let texts = BatchRows::of(teller.alloc, number, batch, choice)?;
-            send_rows(teller.alloc, &mut teller.text, &texts, batch.rows(), output)
-        }
-        Item::Dictionary(_) | Item::End => Ok(()),
-    }
-}
-
-/// Tells the end of the input.
-pub(crate) fn tell_end<S: Sink>(
-    report: Report,
-    reader: &StreamReader,
-    teller: &Teller,
-    output: &mut S,
-) -> Result<(), ToolFault>
-    requires { S.failed output.old < 2 ^ 64 - 1 }
-    ensures { EndTold report.entry reader.now.at (S.contents output.old) (S.failed output.old) result
-        (S.contents output.new) (S.failed output.new) }
-{
-    reader.end()?;
-    match report {
-        Report::Messages => send_text(output, &end_line(teller.alloc, reader.place())?),
-        Report::Rows(_) => Ok(()),
     }
 }

@@ -2,7 +2,7 @@ use Rattle.std.proofs.Common.{◌≡◌, ℕ, ◌-◌, List, length, take, drop,
 use Rattle.std.proofs.lemmas.List.{take_rest}
 use Rattle.arrow_stream_reader.specs.Front.{Entry}
 use Rattle.arrow_stream_reader.specs.Stream.{ReaderStands, GivesNext, TakesOn, RefusesMessage, WantsMemory}
-use Rattle.arrowflow_report.proofs.Told.{open_by_item}
+use Rattle.arrowflow_report.proofs.Driving.{open_by_item}
 use Rattle.arrowflow_c.proofs.Surveying.{IsSurveying, surveying_next, surveyed_all, surveyed_fault}
 use Rattle.arrowflow_c.proofs.survey.survey.Goals as goal
 

@@ -1,7 +1,59 @@
-use Rattle.arrowflow_drill.proofs.Streams.{whole_schema}
+use Rattle.std.proofs.Common.{◌≡◌, ◌∙◌, Ok, Err, refl, sym, ap, subst}
+use Rattle.arrow_stream_reader.specs.Stream.{ReaderView}
+use Rattle.arrowflow_report.specs.Driver.{Driven}
+use Rattle.arrowflow_report.specs.Kept.{HasKept}
+use Rattle.arrowflow_report.specs.Reads.{IsReadWhile}
+use Rattle.arrowflow_report.specs.Reports.{IsOpenAt}
+use Rattle.arrowflow_report.proofs.Driving.{read_while_so}
+use Rattle.arrowflow_report.proofs.Kept.{keeping}
+use Rattle.arrowflow_drill.specs.Reading.{Brings}
+use Rattle.arrowflow_drill.specs.Terms.{asks_of}
+use Rattle.arrowflow_drill.proofs.Streams.{made_so, stream_ended, stream_whole, whole_schema}
 use Rattle.arrowflow_drill.proofs.reading.read_one.Goals as goal
 
 pub connection_of-requires : goal.connection_of-requires
-connection_of-requires g c =
-    let read = rw c.in-Ok-Ok.field-0-is at c.in-Ok-Ok.ensures in
-    whole_schema _ _ _ _ _ read.3
+connection_of-requires g c none =
+    let terms = c.args.terms.now in
+    let left = g.R.Read.remaining c.drive-batches.new.input in
+    let batches = c.drive-batches.result.0.items in
+    let reader = c.drive-batches.new.reader in
+    let limits_are : c.new-reader.result.limits ≡ terms.limits = ap (λ (r : ReaderView). r.limits) c.new-reader.ensures.fresh in
+    let driven = c.drive-batches.ensures.driven tt refl in
+    let kept = subst (Driven (keeping batches) (HasKept batches) driven.0 left reader) c.in-Ok.is driven.3 in
+    let whole = stream_whole (asks_of terms) c.args.number driven.0 left batches reader (c.drive-batches.ensures.limits ∙ limits_are) kept in
+    whole_schema (asks_of terms).limits driven.0 left reader.at.state.schema batches whole none
+
+pub returns-in-Ok : goal.returns-in-Ok
+returns-in-Ok g c =
+    let terms = c.args.terms.now in
+    let asks = asks_of terms in
+    let left = g.R.Read.remaining c.drive-batches.new.input in
+    let batches = c.drive-batches.result.0.items in
+    let reader = c.drive-batches.new.reader in
+    let limits_are : c.new-reader.result.limits ≡ terms.limits = ap (λ (r : ReaderView). r.limits) c.new-reader.ensures.fresh in
+    let driven = c.drive-batches.ensures.driven tt refl in
+    let kept = subst (Driven (keeping batches) (HasKept batches) driven.0 left reader) c.in-Ok.is driven.3 in
+    let whole = stream_whole asks c.args.number driven.0 left batches reader (c.drive-batches.ensures.limits ∙ limits_are) kept in (
+      driven.0,
+      driven.1,
+      subst (λ l. IsReadWhile (IsOpenAt l) driven.0) limits_are (read_while_so (λ t more. record { entries = more.entries; standing = more.standing; front = more.front; goes_on = more.is_open }) driven.2),
+      made_so terms c.args.number driven.0 left reader.at.state.schema batches whole c.connection_of.result c.connection_of.ensures,
+    )
+
+pub returns-in-Err : goal.returns-in-Err
+returns-in-Err g c =
+    let terms = c.args.terms.now in
+    let asks = asks_of terms in
+    let left = g.R.Read.remaining c.drive-batches.new.input in
+    let batches = c.drive-batches.result.0.items in
+    let reader = c.drive-batches.new.reader in
+    let fault = c.in-Err.fault in
+    let limits_are : c.new-reader.result.limits ≡ terms.limits = ap (λ (r : ReaderView). r.limits) c.new-reader.ensures.fresh in
+    let driven = c.drive-batches.ensures.driven tt refl in
+    let ended = subst (Driven (keeping batches) (HasKept batches) driven.0 left reader) c.in-Err.is driven.3 in (
+      driven.0,
+      driven.1,
+      subst (λ l. IsReadWhile (IsOpenAt l) driven.0) limits_are (read_while_so (λ t more. record { entries = more.entries; standing = more.standing; front = more.front; goes_on = more.is_open }) driven.2),
+      subst (λ f. Brings asks c.args.number driven.0 left (Err f)) (sym c.of_input.ensures)
+          (stream_ended asks c.args.number driven.0 left batches reader (c.drive-batches.ensures.limits ∙ limits_are) fault ended),
+    )

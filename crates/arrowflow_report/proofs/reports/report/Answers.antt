@@ -1,25 +1,91 @@
-use Rattle.std.proofs.Common.{◌≡◌, [], Some, refl, ap}
-use Rattle.std.proofs.KnownBytes.{Consumes-nil}
-use Rattle.arrow_stream_reader.specs.declared.reader.Verdict.TheVariants.{Open}
+use Rattle.std.proofs.Common.{◌≡◌, ℕ, Option, None, Some, refl, sym, ap, subst, ◌∙◌}
+use Rattle.std.specs.Prelude.{OnOk}
 use Rattle.arrow_stream_reader.specs.Stream.{ReaderView}
-use Rattle.arrowflow_report.specs.FirstRows.{IsShortAt}
-use Rattle.arrowflow_report.proofs.FirstReported.{first_begins, first_memory, first_open}
-use Rattle.arrowflow_report.proofs.Reading.{read_all}
+use Rattle.arrowflow_report.specs.Chosen.{choice_of}
+use Rattle.arrowflow_report.specs.Columns.{LacksInput}
+use Rattle.arrowflow_report.specs.FirstRows.{ShowsFirstOf}
+use Rattle.arrowflow_report.specs.Reports.{ReportsInput}
+use Rattle.arrowflow_report.specs.Telling.{TellingBegan}
+use Rattle.arrowflow_report.proofs.Messages.{call_all, call_first, call_has, call_lacks, call_passed, nothing_told}
 use Rattle.arrowflow_report.proofs.reports.report.Goals as goal
 
--- nothing was read
+pub returns-clause-written : goal.returns-clause-written
+returns-clause-written g c has all =
+    let teller = c.args.teller in
+    let began : TellingBegan = record { report = teller.report; first = g.S.Sink.contents teller.output; failures = g.S.Sink.failed teller.output; rows = teller.left } in
+    let own = c.new-reader.result.limits in
+    let had = g.R.Read.remaining c.args.input.now in
+    let left = g.R.Read.remaining c.drive-teller.new.input in
+    let told = c.drive-teller.result.0 in
+    let answer = c.drive-teller.result.1 in
+    let driven = c.drive-teller.ensures.driven began (nothing_told g.S.Sink.contents g.S.Sink.failed g.S.Sink.is_passed_on began teller own refl refl refl refl c.requires.none c.requires.has c.requires.limited) in
+    let limits_are = ap (λ (r : ReaderView). r.limits) c.new-reader.ensures.fresh in
+    let output_is = sym c.into_parts-output.ensures.output in
+    let lacks_is = sym c.into_parts-output.ensures.lacks in
+    subst (λ o. ReportsInput teller.report c.args.limits.now had left began.first began.failures answer (g.S.Sink.contents o) (g.S.Sink.failed o)) output_is
+    (subst (λ l. ReportsInput teller.report l had left began.first began.failures answer (g.S.Sink.contents told.output) (g.S.Sink.failed told.output)) limits_are
+    (call_all g.S.Sink.contents g.S.Sink.failed g.S.Sink.is_passed_on began told own had left c.drive-teller.new.reader c.drive-teller.ensures.limits answer driven (lacks_is ∙ has) all))
+
 pub returns-clause-first : goal.returns-clause-first
 returns-clause-first g c has rows n some =
-    let r = c.new-reader.result in
-    let limits = c.args.limits.now in
-    let held = g.S.Sink.contents c.args.output.now in
-    let failed = g.S.Sink.failed c.args.output.now in
-    let left = g.R.Read.remaining c.args.input.now in
-    let same : r.limits ≡ limits = ap (λ (v : ReaderView). v.limits) c.new-reader.ensures.fresh in
-    let goes_on : r.at.verdict ≡ Open = ap (λ (v : ReaderView). v.at.verdict) c.new-reader.ensures.fresh in
-    let x = first_begins n c.args.report held 0 (Some n) r c.new-reader.ensures.start refl refl in (
-      [],
-      Consumes-nil left,
-      read_all (IsShortAt n limits) [] (first_open n c.args.report rows limits [] left held failed held 0 failed (Some n) r same refl x goes_on),
-      first_memory n c.args.report rows limits [] left held failed held 0 failed (Some n) r same refl x,
-    )
+    let teller = c.args.teller in
+    let began : TellingBegan = record { report = teller.report; first = g.S.Sink.contents teller.output; failures = g.S.Sink.failed teller.output; rows = teller.left } in
+    let own = c.new-reader.result.limits in
+    let had = g.R.Read.remaining c.args.input.now in
+    let left = g.R.Read.remaining c.drive-teller.new.input in
+    let told = c.drive-teller.result.0 in
+    let answer = c.drive-teller.result.1 in
+    let driven = c.drive-teller.ensures.driven began (nothing_told g.S.Sink.contents g.S.Sink.failed g.S.Sink.is_passed_on began teller own refl refl refl refl c.requires.none c.requires.has c.requires.limited) in
+    let limits_are = ap (λ (r : ReaderView). r.limits) c.new-reader.ensures.fresh in
+    let output_is = sym c.into_parts-output.ensures.output in
+    let lacks_is = sym c.into_parts-output.ensures.lacks in
+    subst (λ o. ShowsFirstOf (choice_of teller.report) n c.args.limits.now had left began.first began.failures answer (g.S.Sink.contents o) (g.S.Sink.failed o)) output_is
+    (subst (λ l. ShowsFirstOf (choice_of teller.report) n l had left began.first began.failures answer (g.S.Sink.contents told.output) (g.S.Sink.failed told.output)) limits_are
+    (call_first g.S.Sink.contents g.S.Sink.failed g.S.Sink.is_passed_on began told own had left c.drive-teller.new.reader c.drive-teller.ensures.limits answer driven (lacks_is ∙ has) n some))
+
+pub returns-clause-lacks : goal.returns-clause-lacks
+returns-clause-lacks g c k is =
+    let teller = c.args.teller in
+    let began : TellingBegan = record { report = teller.report; first = g.S.Sink.contents teller.output; failures = g.S.Sink.failed teller.output; rows = teller.left } in
+    let own = c.new-reader.result.limits in
+    let had = g.R.Read.remaining c.args.input.now in
+    let left = g.R.Read.remaining c.drive-teller.new.input in
+    let told = c.drive-teller.result.0 in
+    let answer = c.drive-teller.result.1 in
+    let driven = c.drive-teller.ensures.driven began (nothing_told g.S.Sink.contents g.S.Sink.failed g.S.Sink.is_passed_on began teller own refl refl refl refl c.requires.none c.requires.has c.requires.limited) in
+    let limits_are = ap (λ (r : ReaderView). r.limits) c.new-reader.ensures.fresh in
+    let output_is = sym c.into_parts-output.ensures.output in
+    let lacks_is = sym c.into_parts-output.ensures.lacks in
+    subst (λ o. LacksInput (choice_of teller.report) c.args.limits.now had left began.first began.failures k (g.S.Sink.contents o) (g.S.Sink.failed o)) output_is
+    (subst (λ l. LacksInput (choice_of teller.report) l had left began.first began.failures k (g.S.Sink.contents told.output) (g.S.Sink.failed told.output)) limits_are
+    (call_lacks g.S.Sink.contents g.S.Sink.failed g.S.Sink.is_passed_on began told own had left c.drive-teller.new.reader c.drive-teller.ensures.limits answer driven k (lacks_is ∙ is)))
+
+pub returns-clause-all : goal.returns-clause-all
+returns-clause-all g c none =
+    let teller = c.args.teller in
+    let began : TellingBegan = record { report = teller.report; first = g.S.Sink.contents teller.output; failures = g.S.Sink.failed teller.output; rows = teller.left } in
+    let own = c.new-reader.result.limits in
+    let had = g.R.Read.remaining c.args.input.now in
+    let left = g.R.Read.remaining c.drive-teller.new.input in
+    let told = c.drive-teller.result.0 in
+    let answer = c.drive-teller.result.1 in
+    let driven = c.drive-teller.ensures.driven began (nothing_told g.S.Sink.contents g.S.Sink.failed g.S.Sink.is_passed_on began teller own refl refl refl refl c.requires.none c.requires.has c.requires.limited) in
+    let limits_are = ap (λ (r : ReaderView). r.limits) c.new-reader.ensures.fresh in
+    let output_is = sym c.into_parts-output.ensures.output in
+    let lacks_is = sym c.into_parts-output.ensures.lacks in
+    sym lacks_is ∙ call_has g.S.Sink.contents g.S.Sink.failed g.S.Sink.is_passed_on began told own had left c.drive-teller.new.reader c.drive-teller.ensures.limits answer driven none
+
+pub returns-clause-passed : goal.returns-clause-passed
+returns-clause-passed g c has =
+    let teller = c.args.teller in
+    let began : TellingBegan = record { report = teller.report; first = g.S.Sink.contents teller.output; failures = g.S.Sink.failed teller.output; rows = teller.left } in
+    let own = c.new-reader.result.limits in
+    let had = g.R.Read.remaining c.args.input.now in
+    let left = g.R.Read.remaining c.drive-teller.new.input in
+    let told = c.drive-teller.result.0 in
+    let answer = c.drive-teller.result.1 in
+    let driven = c.drive-teller.ensures.driven began (nothing_told g.S.Sink.contents g.S.Sink.failed g.S.Sink.is_passed_on began teller own refl refl refl refl c.requires.none c.requires.has c.requires.limited) in
+    let limits_are = ap (λ (r : ReaderView). r.limits) c.new-reader.ensures.fresh in
+    let output_is = sym c.into_parts-output.ensures.output in
+    let lacks_is = sym c.into_parts-output.ensures.lacks in
+    subst (λ o. OnOk answer (g.S.Sink.is_passed_on o)) output_is (call_passed g.S.Sink.contents g.S.Sink.failed g.S.Sink.is_passed_on began told own had left c.drive-teller.new.reader c.drive-teller.ensures.limits answer driven (lacks_is ∙ has))

@@ -3,23 +3,15 @@ use Rattle.std.proofs.lemmas.List.{take-append-drop, take_rest}
 use Rattle.arrowflow_report.proofs.Feeding.{receiving_next, handed_out, stopped_inside, on_err-always}
 use Rattle.arrowflow_report.proofs.session.hand_out.Goals as goal
 
-pub returns-in_err-feed-clause-inside : goal.returns-in_err-feed-clause-inside
-returns-in_err-feed-clause-inside c =
+pub returns-in_err-handed-clause-inside : goal.returns-in_err-handed-clause-inside
+returns-in_err-handed-clause-inside c =
     let rest = c.loop-cut.rest.now in
     let n = c.min-end.result in
-    on_err-always _ (stopped_inside c.feed.new.reader c.loop-cut.invariant (take n rest) (drop n rest) c.in_err-feed.ensures.inside (take-append-drop n rest))
+    on_err-always _ (stopped_inside c.feed.new.reader c.loop-cut.invariant (take n rest) (drop n rest) c.in_err-handed.ensures.inside (take-append-drop n rest))
 
 pub loop-cut-preserved : goal.loop-cut-preserved
 loop-cut-preserved c =
     let rest = c.loop-cut.rest.now in
     let n = c.min-end.result in
-    receiving_next c.feed.new.reader c.loop-cut.invariant c.feed.new.handed.items (take n rest) (take (length rest - n) (drop n rest)) c.in_ok-feed.ensures.feeds
-    (ap (λ y. take n rest ++ y) (take_rest rest n) ∙ take-append-drop n rest) c.in_ok-feed.ensures.limits
-
-pub returns-in_err-feed-2-clause-inside : goal.returns-in_err-feed-2-clause-inside
-returns-in_err-feed-2-clause-inside c =
-    let rest = c.loop-cut.rest.now in
-    on_err-always _ (stopped_inside c.feed-2.new.reader c.loop-cut.invariant rest [] c.in_err-feed-2.ensures.inside (append-nil rest))
-
-pub returns-clause-handed : goal.returns-clause-handed
-returns-clause-handed c = handed_out c.feed-2.new.reader c.loop-cut.invariant c.feed-2.new.handed.items c.in_ok-feed-2.ensures.feeds
+    receiving_next c.feed.new.reader c.loop-cut.invariant c.in_ok-handed.handed.items (take n rest) (take (length rest - n) (drop n rest)) c.in_ok-handed.ensures.feeds
+    (ap (λ y. take n rest ++ y) (take_rest rest n) ∙ take-append-drop n rest) c.in_ok-handed.ensures.limits

@@ -1,0 +1,22 @@
+use Rattle.std.proofs.Common.{◌≡◌, ◌-◌, ◌+◌, ◌^◌, List, [], ℕ}
+use Rattle.std.specs.Io.KnownBytes.{Consumes}
+use Rattle.arrow_stream_reader.specs.State.{nothing_yet}
+use Rattle.arrow_stream_reader.specs.declared.reader.Verdict.TheVariants.{Open}
+use Rattle.arrowflow_report.specs.Driver.{AreGiven}
+use Rattle.arrowflow_report.specs.Session.{StandsAt}
+use Rattle.arrowflow_report.proofs.Reading.{reached}
+use Rattle.arrowflow_report.proofs.driver.drive_pieces.Given as goal
+
+-- the messages of the bytes read so far were given to the consumer, which wants more, and the stream goes on
+abbrev pub invariant-loop-count : goal.invariant-loop-count
+invariant-loop-count g l = (bytes : List ℕ)
+    × Consumes (g.R.Read.remaining l.initial.input) (g.R.Read.remaining l.input) bytes
+    × ((start : g.C.Consumer.Start) → g.C.Consumer.keeps start l.fn.consumer l.initial.reader.limits nothing_yet [] → AreGiven (g.C.Consumer.keeps start l.consumer) bytes l.reader)
+    × StandsAt bytes l.reader
+    × (l.reader.limits ≡ l.initial.reader.limits)
+    × (l.reader.at.verdict ≡ Open)
+    × g.C.Consumer.is_ready l.consumer
+
+-- how much of a stream may still come
+abbrev pub decreases-loop-count : goal.decreases-loop-count
+decreases-loop-count g l = 2 ^ 62 + 9 - reached l.reader

@@ -1,0 +1,141 @@
+//! An input read to its end, whose messages are given to a consumer as they come.
+
+ghost use Rattle.std.specs.Prelude.{◌≡◌, ◌++◌, ℕ, List, [], MatchBool, Ok, length};
+ghost use Rattle.arrow_stream_reader.specs.declared.item.Item.TheVariants.{End};
+ghost use Rattle.arrow_stream_reader.specs.Stream.{ReaderStands};
+ghost use Rattle.arrow_stream_reader.specs.declared.reader.Verdict.TheVariants.{Open};
+ghost use Rattle.arrowflow_report.specs.Driver.{Drives, TakesPiece};
+ghost use Rattle.arrowflow_report.specs.Session.{StandsAt};
+ghost use Rattle.arrowflow_report.specs.declared.driver.Progress.TheVariants.{GoesOn, Marker};
+
+use crate::consumer::{Consumer, Wants};
+use crate::pieces::{read_piece, room_for_a_piece};
+use crate::tool_fault::ToolFault;
+use arrow_stream_reader::{Item, StreamReader};
+use std::alloc::Global;
+use std::io::Read;
+
+/// What came of a piece.
+#[derive(Clone, Copy)]
+pub(crate) enum Progress {
+    /// The stream goes on.
+    GoesOn,
+    /// It ended with its end marker.
+    Marker,
+    /// The consumer has all that it wants.
+    Stopped,
+}
+
+/// Reads a stream from its beginning and gives its messages to a consumer, which is handed back.
+///
+/// The reader begins anew. The input is read in pieces of 65,536 bytes up to an end marker, to its
+/// end, or to the piece with which the consumer has enough. What stands behind an end marker, or
+/// behind the consumer's last message, is not looked at.
+///
+/// The answer is the consumer's, where it stopped or the stream ended well; `Stream` where the
+/// stream is refused, or where it ends without being at the end of a message behind its schema;
+/// `Input(0)` where a read failed, an interrupted one included; `Memory` where a growth was refused.
+pub fn drive<R: Read, C: Consumer>(
+    alloc: Global,
+    reader: &mut StreamReader,
+    input: &mut R,
+    consumer: C,
+) -> (C, Result<(), ToolFault>)
+    requires ready { C.is_ready consumer }
+    ensures driven { Drives C.keeps C.answers consumer reader.old.limits
+        (R.remaining input.old) (R.remaining input.new) result.1 result.0 reader.new }
+    ensures limits { reader.new.limits ≡ reader.old.limits }
+{
+    reader.restart();
+    let Ok(mut room) = room_for_a_piece(alloc) else {
+        return (consumer, Err(ToolFault::Memory));
+    };
+    drive_pieces(reader, input, consumer, &mut room)
+}
+
+/// Gives the pieces of an input to a consumer, one by one. No stream is longer than the last place
+/// allows, so that this ends.
+fn drive_pieces<R: Read, C: Consumer>(
+    reader: &mut StreamReader,
+    input: &mut R,
+    mut consumer: C,
+    room: &mut [u8],
+) -> (C, Result<(), ToolFault>)
+    requires ready { C.is_ready consumer }
+    requires start { ReaderStands reader.old [] [] }
+    requires open { reader.old.at.verdict ≡ Open }
+    requires room { length room.old ≡ 65536 }
+    ensures driven { Drives C.keeps C.answers consumer reader.old.limits
+        (R.remaining input.old) (R.remaining input.new) result.1 result.0 reader.new }
+    ensures limits { reader.new.limits ≡ reader.old.limits }
+{
+    loop {
+        let count = match read_piece(input, room) {
+            Ok(count) => count,
+            Err(_) => return (consumer, Err(ToolFault::Input(0))),
+        };
+        if count == 0 {
+            return match reader.end() {
+                Ok(()) => consumer.end(reader, false),
+                Err(fault) => (consumer, Err(ToolFault::from(fault))),
+            };
+        }
+        let (next, progress) = take_piece(reader, consumer, &room[..count]);
+        match progress {
+            Ok(Progress::GoesOn) => consumer = next,
+            Ok(Progress::Marker) => return next.end(reader, true),
+            Ok(Progress::Stopped) => return (next, Ok(())),
+            Err(fault) => return (next, Err(fault)),
+        }
+    }
+}
+
+/// Gives the reader a piece, and its messages to a consumer.
+pub(crate) fn take_piece<C: Consumer>(
+    reader: &mut StreamReader,
+    mut consumer: C,
+    piece: &[u8],
+) -> (C, Result<Progress, ToolFault>)
+    requires ready { C.is_ready consumer }
+    ensures takes { TakesPiece C.keeps C.answers consumer reader.old piece.now result.1 result.0
+        reader.new }
+    ensures stands { (t : List ℕ) → StandsAt t reader.old → result.1 ≡ Ok GoesOn
+        → StandsAt (t ++ piece.now) reader.new }
+    ensures limits { reader.new.limits ≡ reader.old.limits }
+    ensures open { reader.old.at.verdict ≡ Open → result.1 ≡ Ok GoesOn
+        → reader.new.at.verdict ≡ Open }
+    ensures goes_on { result.1 ≡ Ok GoesOn → C.is_ready result.0 }
+    ensures marker { result.1 ≡ Ok Marker → C.is_ready result.0 }
+{
+    let mut rest = piece;
+    loop {
+        let place = reader.place();
+        match reader.read(rest) {
+            Ok((taken, Some(item))) => {
+                let is_last = is_end(&item);
+                let (next, wants) = consumer.item(reader, place, item);
+                match wants {
+                    Ok(Wants::More) if is_last => return (next, Ok(Progress::Marker)),
+                    Ok(Wants::More) => {
+                        consumer = next;
+                        rest = &rest[taken..];
+                    }
+                    Ok(Wants::Enough) => return (next, Ok(Progress::Stopped)),
+                    Err(fault) => return (next, Err(fault)),
+                }
+            }
+            Ok((_, None)) => return (consumer, Ok(Progress::GoesOn)),
+            Err(fault) => return (consumer, Err(ToolFault::from(fault))),
+        }
+    }
+}
+
+/// Whether an item is the end marker.
+fn is_end(item: &Item) -> bool
+    ensures { MatchBool result (item.now ≡ End) (item.now ≡ End → ⊥) }
+{
+    match item {
+        Item::End => true,
+        Item::Schema | Item::Dictionary(_) | Item::Batch(_) => false,
+    }
+}
