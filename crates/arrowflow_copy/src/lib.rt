@@ -3,8 +3,8 @@
 //! [`copy`] takes an input with a stream and an output, and holds one batch at a time. What is
 //! written, and how that ends, is said by `CopiesInput` (`specs/Copy.antt`), in the words of the
 //! layers that read and write streams; how far the input is read, in those of `arrowflow_report`.
-//! Where a copy stands between two messages, and what it makes of the next one, is said by
-//! `specs/Copying.antt`.
+//! A copy is a consumer of that crate's `drive`: where it stands between two messages, and what it
+//! makes of the next one, is said by `specs/Copying.antt`.
 //!
 //! | Notion | Definition |
 //! |---|---|

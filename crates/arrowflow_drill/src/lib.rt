@@ -14,8 +14,9 @@
 //! | the lines that tell of connections | `specs/Lines.antt`: `connection_lines`, `lines_from` |
 //! | what is counted of a report | `specs/Counts.antt`: `bytes_in`, `rows_in` |
 //!
-//! Of the proofs, `Kept` is of the batches of a piece, `Streams` of how a stream ends, `Inputs` of
-//! one input after another, `Lined` of the lines.
+//! Each input is read by `drive` of `arrowflow_report`, whose consumer keeps its batches. Of the
+//! proofs, `Streams` is of how a stream ends, `Inputs` of one input after another, `Lined` of the
+//! lines.
 #![tactic(auto)]
 
 mod drilling;

@@ -6,6 +6,13 @@
 //! exit status that the program ends with. The program opens files, makes one of these calls and
 //! prints what it gives; it adds nothing of its own.
 //!
+//! One loop reads every input, [`driver::drive`], and gives its messages to a
+//! [`consumer::Consumer`]. What a consumer means is said by its ghost members (`Takes`, `Ends` in
+//! `specs/Consumer.antt`), and what follows of an input by `Drives` (`specs/Driver.antt`). A
+//! consumer is the text of the schema (`schema_call.rt`), the lines or rows that are told
+//! (`specs/Telling.antt`), and a list of batches (`specs/Kept.antt`); a copy is one in
+//! `arrowflow_copy`.
+//!
 //! What is received of bytes is said by `Receives` (`specs/Session.antt`). The text of a schema is
 //! a definition, `schema_lines` (`specs/SchemaText.antt`), and [`schema_lines_of`] gives it for
 //! every schema. Which bytes of an input decide what [`schema_text`] answers is said by
@@ -21,6 +28,10 @@
 //!
 //! | Notion | Definition |
 //! |---|---|
+//! | what a consumer makes of a message, and of the end | `specs/Consumer.antt`: `Takes`, `Ends` |
+//! | what comes of an input, and of a piece | `specs/Driver.antt`: `Drives`, `TakesPiece` |
+//! | what stands in an output so far | `specs/Telling.antt`: `HasTold`, `TellsSo` |
+//! | batches that are kept | `specs/Kept.antt`: `HasKept` |
 //! | what is received of bytes | `specs/Session.antt`: `Receives`; `specs/Pieces.antt`: `Feeds` |
 //! | the text of a schema | `specs/SchemaText.antt`: `schema_lines`; `specs/TypeNames.antt`; `specs/Escapes.antt` |
 //! | what an input answers with it | `specs/SchemaCall.antt`: `AnswersInput` |
@@ -32,11 +43,13 @@
 //! | how far an input is read | `specs/Reads.antt`: `IsReadWhile` |
 //! | what is said of a fault | `specs/Faults.antt`: `fault_line`, `status_of` |
 //!
-//! Of the proofs, `Feeding` says what comes of pieces, `Growing` shows the law, `Told` and `Lined`
-//! how a text grows, `Sent` what of it was sent, `Reporting` how that ends, `OfFront` that it is so
-//! by the front of all bytes, and `Reading` that the loops over an input end. `FirstRows`,
-//! `FirstTold` and `FirstReported` go beside `Growing`, `Told` and `Reporting` where the first rows
-//! alone are wanted, and `Lacking` where the schema lacks a column that is asked for.
+//! Of the proofs, `Driving` shows the loop for any consumer, `Feeding` how a reader goes along its
+//! pieces, `Reading` that the loop ends; `Messages` shows what a teller makes of its messages and
+//! `Kept` what a list of batches does. `Growing` shows the law, `Told` and `Lined` how a text grows,
+//! `Sent` what of it was sent, `Reporting` how that ends, `OfFront` that it is so by the front of all
+//! bytes. `FirstRows`, `FirstTold` and `FirstReported` go beside `Growing`, `Told` and `Reporting`
+//! where the first rows alone are wanted, and `Lacking` where the schema lacks a column that is asked
+//! for.
 #![tactic(auto)]
 
 mod batches;
