@@ -2,6 +2,7 @@
 //! far inputs are read, and numbers of many digits. What the calls make of streams is compared in
 //! `arrow_vectors_walk`.
 
+mod columns;
 mod command_line;
 mod copying;
 mod drilling;

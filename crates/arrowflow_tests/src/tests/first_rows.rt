@@ -1,5 +1,6 @@
 //! What `show_first` and `show_columns` write of streams, and what a check that writes nothing tells.
 
+use super::columns::THREE_COLUMNS;
 use super::told::{Call, LETTERS, NUMBERS, assert_told};
 use arrow_test_streams::streams::{GROWING, ONE_BATCH};
 
@@ -92,6 +93,43 @@ static COLUMNS: [Asked; 8] = [
 fn columns_of_a_stream(rt: HostRuntime) {
     let stream = GROWING.as_slice();
     for (columns, rows, place, text) in &COLUMNS {
+        let bytes = &stream[..(*place).min(stream.len())];
+        assert_told(&rt, rt.alloc(), Call::Columns(*columns, *rows), bytes, text);
+    }
+}
+
+// The same of three columns, whose names are `a`, `b` and `a`: of two of one name the first is
+// meant, and of several that the schema lacks the first is told.
+static COLUMNS_OF_THREE: [Asked; 8] = [
+    (
+        &["b", "a"],
+        None,
+        904,
+        "batch,b,a\n0,x,1\n0,\"y,z\",\n1,,3\n",
+    ),
+    (&["b", "a", "b"], Some(1), 600, "batch,b,a,b\n0,x,1,x\n"),
+    (
+        &["a", "a", "b"],
+        Some(3),
+        896,
+        "batch,a,a,b\n0,1,1,x\n0,,,\"y,z\"\n1,3,3,\n",
+    ),
+    (&["a"], Some(2), 600, "batch,a\n0,1\n0,\n"),
+    (
+        &["b"],
+        Some(3),
+        895,
+        "batch,b\n0,x\n0,\"y,z\"\n1 fault at byte 600: Truncated",
+    ),
+    (&["b"], Some(0), 288, "batch,b\n"),
+    (&["b", "c", "a", "d"], Some(2), 288, "lacks 1"),
+    (&["a", "b", "a", "B"], None, 904, "lacks 3"),
+];
+
+#[test]
+fn columns_of_a_stream_of_three(rt: HostRuntime) {
+    let stream = THREE_COLUMNS.as_slice();
+    for (columns, rows, place, text) in &COLUMNS_OF_THREE {
         let bytes = &stream[..(*place).min(stream.len())];
         assert_told(&rt, rt.alloc(), Call::Columns(*columns, *rows), bytes, text);
     }
