@@ -216,34 +216,34 @@ module _ (began : Began) (at : At) (number : ℕ) (now new : ReaderView) (u rest
       where
         by : (kind : WriteFault) (held : Option (List ℕ)) (failed : ℕ) → writers.StartFails limits o shape first start kind held failed → Goes (Err (fault_of Start kind)) (waiting held failed) number'
         by kinds.TooLarge held failed s = λ left. (
-            record {
-              taken = taken;
-              rest = drop n rest;
-              whole = whole;
-              entry = entry;
-              standing = standing;
-              front = subst (λ e. FrontOf limits taken (e ++ entry ∷ []) standing) none new_front;
-              is_schema = is_schema;
-              shape = shape;
-              schema = schema;
-              refusal = s.0;
-              wrote = subst (λ y. Appends first y []) (sym s.1) (Appends-nil first);
-            },
-            s.2,
-          )
+          record {
+            taken = taken;
+            rest = drop n rest;
+            whole = whole;
+            entry = entry;
+            standing = standing;
+            front = subst (λ e. FrontOf limits taken (e ++ entry ∷ []) standing) none new_front;
+            is_schema = is_schema;
+            shape = shape;
+            schema = schema;
+            refusal = s.0;
+            wrote = subst (λ y. Appends first y []) (sym s.1) (Appends-nil first);
+          },
+          s.2,
+        )
         by kinds.Memory held failed s = λ left. (begun held (nothing_sent held s.0), s.1)
         by kinds.Sink held failed s = λ left. (
-            inl (begun held (subst (λ z. IsSentInPartOf limits o z (tables_of entries) first held) (sym schema) (inr (record {
-              first = [];
-              later = tables_of entries;
-              all = refl;
-              parts = s.part ∷ [];
-              frames = schema_frame shape s.part ∷ [];
-              text = unfinished (s.part ∷ []) [] (schema_frame shape s.part ∷ []) (begins s.part known s.admitted s.is_frame);
-              wrote = subst (AcceptsBeginning first held) (sym (append-nil s.part)) s.accepted;
-            })))),
-            s.failed,
-          )
+          inl (begun held (subst (λ z. IsSentInPartOf limits o z (tables_of entries) first held) (sym schema) (inr (record {
+            first = [];
+            later = tables_of entries;
+            all = refl;
+            parts = s.part ∷ [];
+            frames = schema_frame shape s.part ∷ [];
+            text = unfinished (s.part ∷ []) [] (schema_frame shape s.part ∷ []) (begins s.part known s.admitted s.is_frame);
+            wrote = subst (AcceptsBeginning first held) (sym (append-nil s.part)) s.accepted;
+          })))),
+          s.failed,
+        )
         by kinds.SchemaDiffers held failed s = absurd s
         by kinds.DictionariesDiffer held failed s = absurd s
         by kinds.Broken held failed s = absurd s

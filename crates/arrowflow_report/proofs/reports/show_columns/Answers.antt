@@ -24,10 +24,10 @@ returns-clause-written g c =
     let left_is : teller.left ≡ s.rows = c.new-teller.ensures.left in
     let shown = columns_shown s limits had left (g.S.Sink.contents c.args.output) (g.S.Sink.failed c.args.output) answer after failed c.report-output.result.1
     (λ has all. subst (λ o. ReportsInput rows limits had left (g.S.Sink.contents o) (g.S.Sink.failed o) answer after failed) output_is
-        (subst (λ p. ReportsInput p limits had left (g.S.Sink.contents teller.output) (g.S.Sink.failed teller.output) answer after failed) report_is (c.report-output.ensures.written has (left_is ∙ all))))
+    (subst (λ p. ReportsInput p limits had left (g.S.Sink.contents teller.output) (g.S.Sink.failed teller.output) answer after failed) report_is (c.report-output.ensures.written has (left_is ∙ all))))
     (λ has n some. subst (λ o. ShowsFirstOf (choice_of rows) n limits had left (g.S.Sink.contents o) (g.S.Sink.failed o) answer after failed) output_is
-        (subst (λ p. ShowsFirstOf (choice_of p) n limits had left (g.S.Sink.contents teller.output) (g.S.Sink.failed teller.output) answer after failed) report_is
-        (c.report-output.ensures.first has (subst AreRows (sym report_is) tt) n (left_is ∙ some))))
+    (subst (λ p. ShowsFirstOf (choice_of p) n limits had left (g.S.Sink.contents teller.output) (g.S.Sink.failed teller.output) answer after failed) report_is
+    (c.report-output.ensures.first has (subst AreRows (sym report_is) tt) n (left_is ∙ some))))
     (λ k lacks. subst (λ o. LacksInput (choice_of rows) limits had left (g.S.Sink.contents o) (g.S.Sink.failed o) k after failed) output_is
-        (subst (λ p. LacksInput (choice_of p) limits had left (g.S.Sink.contents teller.output) (g.S.Sink.failed teller.output) k after failed) report_is (c.report-output.ensures.lacks k lacks))) in
+    (subst (λ p. LacksInput (choice_of p) limits had left (g.S.Sink.contents teller.output) (g.S.Sink.failed teller.output) k after failed) report_is (c.report-output.ensures.lacks k lacks))) in
     subst (λ a. ShowsColumns s limits had left (g.S.Sink.contents c.args.output) (g.S.Sink.failed c.args.output) a after failed) (sym c.answer_by_lack.ensures) shown
