@@ -219,7 +219,7 @@ impl<'a, S: Sink> Teller<'a, S> {
         ensures counts { AreCountsSame self.old self.new }
     {
         match reader.schema() {
-            Some(schema) => { send_text(&mut self.output, &header_of(self.alloc, schema, choice)?) }
+            Some(schema) => send_text(&mut self.output, &header_of(self.alloc, schema, choice)?),
             None => Ok(()),
         }
     }
