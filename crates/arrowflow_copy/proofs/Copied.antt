@@ -1,5 +1,5 @@
 -- A stream that is copied message by message.
-use Rattle.std.proofs.Common.{◌≡◌, ℕ, ◌+◌, Bool, true, false, List, [], ◌∷◌, ◌++◌, length, take, drop, Option, None, Some, Result, Ok, Err, ◌⊎◌, inl, inr, refl, sym, ap, ◌∙◌, subst, append_assoc, append-nil, take-append-drop, is_some}
+use Rattle.std.proofs.Common.{◌≡◌, ℕ, ◌+◌, Bool, true, false, List, [], ◌∷◌, ◌++◌, length, take, drop, Option, None, Some, Result, Ok, Err, inl, inr, refl, sym, ap, ◌∙◌, subst, append_assoc, append-nil, take-append-drop, is_some}
 use Rattle.std.specs.Prelude.{OnOk}
 use Rattle.std.specs.Io.KnownBytes.{Appends}
 use Rattle.std.proofs.KnownBytes.{Appends-nil}
@@ -10,20 +10,14 @@ use Rattle.arrow_types.specs.Notes.{SchemaShape}
 use Rattle.arrow_types.specs.Schema.{IsNoted}
 use Rattle.arrow_data.specs.Batch.{Table}
 use Rattle.arrow_sink.specs.Sinks.{AcceptsBeginning}
-use Rattle.arrow_stream_reader.specs.declared.fault.Fault.{Fault}
 use Rattle.arrow_stream_reader.specs.declared.item.Item.{Item}
-use Rattle.arrow_stream_reader.specs.declared.kind.Kind.TheVariants.{NoSchema, Truncated}
 use Rattle.arrow_stream_reader.specs.declared.reader.Verdict.TheVariants.{Open, Done, Bad}
 use Rattle.arrow_stream_reader.specs.declared.reader.Verdict.{Verdict}
 use Rattle.arrow_stream_reader.specs.Front.{Entry, Standing, Front, FrontOf, closes, fails, goes_on, rests}
-use Rattle.arrow_stream_reader.specs.Kind.{kind_of}
 use Rattle.arrow_stream_reader.specs.State.{StreamState, Given, batch_given, dictionary_given, ended, nothing_yet, schema_given}
-use Rattle.arrow_stream_reader.specs.Stream.{ReaderView, ReaderStands, GivesNext, TakesOn, RefusesMessage, WantsMemory, ended_by, ended_so}
+use Rattle.arrow_stream_reader.specs.Stream.{ReaderView, ReaderStands, GivesNext, ended_by, ended_so}
 use Rattle.arrow_stream_reader.specs.Tables.{table_in, tables_of}
 use Rattle.arrow_stream_reader.specs.Views.{given}
-use Rattle.arrow_stream_reader.proofs.Streams.{ended_stands}
-use Rattle.arrow_sink.specs.declared.status.Status.{Status}
-use Rattle.arrow_sink.specs.declared.status.Status.TheVariants as statuses
 use Rattle.arrow_sink.specs.declared.write_fault.WriteFault.{WriteFault}
 use Rattle.arrow_sink.specs.declared.write_fault.WriteFault.TheVariants as kinds
 use Rattle.arrow_stream_laws.specs.Admission.{admission, marker_fits}
@@ -31,19 +25,17 @@ use Rattle.arrow_stream_laws.specs.Frames.{Frame, frames_bytes, left_by}
 use Rattle.arrow_stream_laws.specs.Sizes.{Options}
 use Rattle.arrow_stream_laws.specs.Text.{IsPart, Text, Written, adds, begins, finished, joined, marker_frame, schema_frame, unfinished}
 use Rattle.arrow_stream_laws.specs.Writer as writers
-use Rattle.arrowflow_report.specs.Faults.{told}
 use Rattle.arrowflow_report.specs.Reports.{EndsWell}
 use Rattle.arrowflow_report.specs.Consumer.{Comes, HasEnded, entry_of}
 use Rattle.arrowflow_report.specs.Driver.{Driven}
 use Rattle.arrowflow_report.specs.declared.tool_fault.ToolFault.{ToolFault}
-use Rattle.arrowflow_report.specs.declared.tool_fault.ToolFault.TheVariants.{Input, Output, Stream, Refused, Memory}
+use Rattle.arrowflow_report.specs.declared.tool_fault.ToolFault.TheVariants.{Refused, Memory}
 use Rattle.arrowflow_report.specs.declared.what.What.TheVariants.{Start, Batch, Finish}
-use Rattle.arrowflow_report.proofs.First.{state_stays}
 use Rattle.arrowflow_report.proofs.Growing.{one_table}
 use Rattle.arrowflow_report.proofs.Driving.{badly_at, standing_of, well_at}
 use Rattle.arrowflow_report.proofs.Schemas.{front_begins, front_behind, front_keeps}
 use Rattle.arrowflow_report.proofs.Sent.{begun_all}
-use Rattle.arrowflow_copy.specs.Copy.{Copies, IsBegun, IsClosed, IsClosedInPart, IsCopied, IsSent, IsSentOf, IsSentInPart, IsSentInPartOf, RefusesBatch, RefusesEnd, RefusesSchema}
+use Rattle.arrowflow_copy.specs.Copy.{Copies, IsBegun, IsClosed, IsClosedInPart, IsCopied, IsSent, IsSentOf, IsSentInPartOf, RefusesBatch}
 use Rattle.arrowflow_copy.specs.Target.{at_of, sink_in}
 use Rattle.arrowflow_copy.specs.declared.copier.Target.{Target}
 use Rattle.arrowflow_copy.specs.declared.copier.Target.TheVariants.{Waiting, Writing}

@@ -1,5 +1,5 @@
 -- What is answered where columns are asked for.
-use Rattle.std.proofs.Common.{◌≡◌, ℕ, List, Option, None, Some, Result, Ok, Err, refl, sym, subst}
+use Rattle.std.proofs.Common.{◌≡◌, ℕ, List, Option, None, Some, Result, Ok, Err, refl, subst}
 use Rattle.arrow_types.specs.Limits.{LimitNumbers}
 use Rattle.arrowflow_report.specs.Chosen.{choice_of}
 use Rattle.arrowflow_report.specs.Columns.{LacksInput, ShowsColumns, ShowsRows, answer_by_lack}

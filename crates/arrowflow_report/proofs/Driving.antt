@@ -1,7 +1,6 @@
 -- A stream whose messages are given to a consumer, piece by piece.
-use Rattle.std.proofs.Common.{◌≡◌, ℕ, ◌+◌, List, [], ◌∷◌, ◌++◌, length, take, drop, Bool, true, false, Option, None, Some, Result, Ok, Err, ◌⊎◌, inl, inr, refl, sym, ap, ◌∙◌, subst, append_assoc, append-nil, take-append-drop, is_some}
+use Rattle.std.proofs.Common.{◌≡◌, ℕ, ◌+◌, List, [], ◌∷◌, ◌++◌, take, drop, Bool, true, false, Option, None, Some, Result, Ok, Err, ◌⊎◌, inl, inr, refl, sym, ap, ◌∙◌, subst, append_assoc, append-nil, take-append-drop, is_some}
 use Rattle.std.specs.Io.KnownBytes.{IsAtEnd}
-use Rattle.std.proofs.lemmas.Bool.{false≢true}
 use Rattle.arrow_types.specs.Limits.{LimitNumbers}
 use Rattle.arrow_stream_reader.specs.declared.fault.Fault.{Fault}
 use Rattle.arrow_stream_reader.specs.declared.item.Item.{Item}
@@ -27,7 +26,6 @@ use Rattle.arrowflow_report.specs.Faults.{told}
 use Rattle.arrowflow_report.specs.Reads.{IsReadWhile}
 use Rattle.arrowflow_report.specs.Reports.{EndsBadly, EndsWell}
 use Rattle.arrowflow_report.specs.Session.{StandsAt}
-use Rattle.arrowflow_report.specs.declared.driver.Progress.{Progress}
 use Rattle.arrowflow_report.specs.declared.driver.Progress.TheVariants.{GoesOn, Marker, Stopped}
 use Rattle.arrowflow_report.specs.declared.tool_fault.ToolFault.{ToolFault}
 use Rattle.arrowflow_report.specs.declared.tool_fault.ToolFault.TheVariants.{Input, Stream}

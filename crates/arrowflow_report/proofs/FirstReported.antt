@@ -1,15 +1,15 @@
 -- How a call ends that shows the first rows of a stream.
-use Rattle.std.proofs.Common.{◌≡◌, ℕ, ◌+◌, List, [], ◌++◌, Option, Some, Result, Ok, Err, inl, inr, refl, sym, ap, ◌∙◌, subst, append_assoc, append-nil, is_some, arith}
-use Rattle.std.specs.Io.KnownBytes.{Appends, IsAtEnd}
-use Rattle.std.proofs.KnownBytes.{Appends-kept, Appends-trans}
+use Rattle.std.proofs.Common.{◌≡◌, ℕ, ◌+◌, List, [], ◌++◌, Option, Result, Ok, Err, inl, inr, refl, sym, ap, ◌∙◌, subst, append_assoc, append-nil}
+use Rattle.std.specs.Io.KnownBytes.{Appends}
+use Rattle.std.proofs.KnownBytes.{Appends-trans}
 use Rattle.arrow_types.specs.Limits.{LimitNumbers}
 use Rattle.arrow_csv.specs.Named.{Choice}
 use Rattle.arrow_sink.specs.Sinks.{AcceptsBeginning}
 use Rattle.arrow_stream_reader.specs.Front.{Standing, FrontOf}
-use Rattle.arrow_stream_reader.specs.Stream.{ReaderView, ReaderStands, ended_by, ended_so}
+use Rattle.arrow_stream_reader.specs.Stream.{ReaderView}
 use Rattle.arrow_stream_reader.specs.Tables.{tables_of}
 use Rattle.arrow_stream_reader.specs.declared.fault.Fault.{Fault}
-use Rattle.arrow_stream_reader.specs.declared.reader.Verdict.TheVariants.{Open, Done}
+use Rattle.arrow_stream_reader.specs.declared.reader.Verdict.TheVariants.{Open}
 use Rattle.arrowflow_report.specs.Chosen.{AreRows, HaveChosen, choice_of}
 use Rattle.arrowflow_report.specs.FirstRows.{HaveFirst, IsEnoughTold, IsFirstBegun, IsFirstCut, IsFirstTold, IsShortAt, IsShortOf, ShowsFirst, first_chosen}
 use Rattle.arrowflow_report.specs.Reports.{EndsBadly, EndsWell, IsEnding, SendsText}

@@ -1,5 +1,5 @@
 -- The batches of a stream, kept as they come.
-use Rattle.std.proofs.Common.{◌≡◌, ℕ, List, ◌∷◌, [], ◌++◌, length, take, drop, Option, None, Result, Ok, Err, ◌⊎◌, inl, inr, refl, sym, ap, ◌∙◌, subst, append_assoc, append-nil, take-append-drop}
+use Rattle.std.proofs.Common.{◌≡◌, ℕ, List, ◌∷◌, [], ◌++◌, take, drop, None, Result, Ok, Err, inl, inr, sym, ap, ◌∙◌, append_assoc, append-nil, take-append-drop}
 use Rattle.arrow_types.specs.Limits.{LimitNumbers}
 use Rattle.arrow_data.specs.Batch.{Table}
 use Rattle.arrow_stream_reader.specs.declared.item.Item.{Item}

@@ -6,21 +6,19 @@ use Rattle.std.proofs.KnownBytes.{Appends-nil}
 use Rattle.arrow_types.specs.Limits.{LimitNumbers}
 use Rattle.arrow_csv.specs.Named.{choice_by, chosen_schema}
 use Rattle.arrow_stream_reader.specs.declared.item.Item.{Item}
-use Rattle.arrow_stream_reader.specs.declared.reader.Verdict.{Verdict}
-use Rattle.arrow_stream_reader.specs.declared.reader.Verdict.TheVariants.{Open, Done, Bad}
-use Rattle.arrow_stream_reader.specs.Front.{Entry, Standing, FrontOf}
+use Rattle.arrow_stream_reader.specs.Front.{Entry, Standing}
 use Rattle.arrow_stream_reader.specs.State.{StreamState, nothing_yet}
 use Rattle.arrow_stream_reader.specs.Stream.{ReaderView, ReaderStands}
 use Rattle.arrow_stream_reader.specs.Tables.{table_in, tables_of}
 use Rattle.arrow_stream_reader.specs.Views.{given}
 use Rattle.arrow_sink.specs.Sinks.{AcceptsBeginning}
-use Rattle.arrowflow_report.specs.Chosen.{AreRows, HaveChosen, IsChosenAt, LacksAt, LacksColumn, choice_of, chosen_given, chosen_text}
+use Rattle.arrowflow_report.specs.Chosen.{AreRows, IsChosenAt, LacksAt, LacksColumn, choice_of, chosen_given, chosen_text}
 use Rattle.arrowflow_report.specs.Columns.{BeginWithout, LacksInput}
-use Rattle.arrowflow_report.specs.Consumer.{Comes, HasEnded, IsEndedBy, OfInput, entry_of}
+use Rattle.arrowflow_report.specs.Consumer.{Comes, HasEnded, IsEndedBy, entry_of}
 use Rattle.arrowflow_report.specs.Driver.{CallForMore, Driven, EndBadly, FailToRead, WantMemory}
 use Rattle.arrowflow_report.specs.FirstRows.{AreLeft, HasLast, HasMore, IsFirstTold, IsShortAt, ShowsFirst, ShowsFirstOf, last_in, left_behind, rows_of}
 use Rattle.arrowflow_report.specs.Reads.{IsReadWhile}
-use Rattle.arrowflow_report.specs.Reports.{EndsBadly, EndsWell, IsAdded, IsBegun, IsEnding, IsLast, IsOpenAt, IsTextOf, IsTold, IsWritten, IsWrittenWhole, Reports, ReportsInput, SendsSome, SendsText}
+use Rattle.arrowflow_report.specs.Reports.{EndsBadly, EndsWell, IsAdded, IsBegun, IsEnding, IsLast, IsOpenAt, IsTextOf, IsTold, IsWritten, Reports, ReportsInput, SendsSome, SendsText}
 use Rattle.arrowflow_report.specs.SchemaCall.{AreNoMessage}
 use Rattle.arrowflow_report.specs.Telling.{HasTold, IsLastBy, LeftAre, ShowsOrLacks, ShowsSo, TellingBegan, TellsSo}
 use Rattle.arrowflow_report.specs.declared.report.Report.{Report}
@@ -30,12 +28,12 @@ use Rattle.arrowflow_report.specs.declared.tool_fault.ToolFault.{ToolFault}
 use Rattle.arrowflow_report.specs.declared.tool_fault.ToolFault.TheVariants.{Input, Output, Stream, Refused, Memory}
 use Rattle.arrowflow_report.proofs.Driving.{badly_at, read_while_so, standing_of, well_at}
 use Rattle.arrowflow_report.proofs.First.{one_entry, state_stays}
-use Rattle.arrowflow_report.proofs.FirstReported.{first_longer, begun_so, ending_cut, ending_told, first_badly, first_enough_flushed, first_input, first_memory, first_open, flushed_by}
+use Rattle.arrowflow_report.proofs.FirstReported.{first_longer, begun_so, ending_cut, ending_told, first_badly, first_enough_flushed, first_input, first_memory, flushed_by}
 use Rattle.arrowflow_report.proofs.FirstRows.{none_last, not_there, rows_text, stays_all}
 use Rattle.arrowflow_report.proofs.FirstTold.{first_cut, first_enough, first_last_cut, first_left}
 use Rattle.arrowflow_report.proofs.Growing.{have_before, text_before}
 use Rattle.arrowflow_report.proofs.Lacking.{lack_waits, lacks_rows, lacks_schema, none_before}
-use Rattle.arrowflow_report.proofs.Reporting.{cut_begun, flushed, more_begun, more_written, open_at, written}
+use Rattle.arrowflow_report.proofs.Reporting.{cut_begun, flushed, more_begun, more_written, written}
 use Rattle.arrowflow_report.proofs.Sent.{begun_all, begun_behind}
 use Rattle.arrowflow_report.proofs.Told.{cut_next, told_next}
 

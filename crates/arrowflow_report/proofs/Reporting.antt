@@ -1,22 +1,18 @@
 -- How a stream ends that was told piece by piece.
-use Rattle.std.proofs.Common.{◌≡◌, ℕ, ◌+◌, List, [], ◌++◌, Option, Result, Ok, Err, ◌⊎◌, inl, inr, refl, sym, ap, ◌∙◌, subst, append_assoc, append-nil, is_some, true}
-use Rattle.std.specs.Io.KnownBytes.{Appends, IsAtEnd}
-use Rattle.std.proofs.KnownBytes.{Appends-kept, Appends-nil, Appends-trans}
+use Rattle.std.proofs.Common.{◌≡◌, ℕ, ◌+◌, List, [], ◌++◌, Option, Result, Ok, Err, ◌⊎◌, inl, inr, refl, sym, ap, ◌∙◌, subst, append_assoc, append-nil}
+use Rattle.std.specs.Io.KnownBytes.{Appends}
+use Rattle.std.proofs.KnownBytes.{Appends-trans}
 use Rattle.arrow_types.specs.Limits.{LimitNumbers}
-use Rattle.arrow_csv.specs.Named.{choice_by}
 use Rattle.arrow_sink.specs.Sinks.{AcceptsBeginning}
 use Rattle.arrow_stream_reader.specs.Front.{Entry, Standing, FrontOf}
-use Rattle.arrow_stream_reader.specs.Stream.{ReaderView, ReaderStands, ended_by, ended_so}
+use Rattle.arrow_stream_reader.specs.Stream.{ReaderView, ReaderStands}
 use Rattle.arrow_stream_reader.specs.declared.reader.Verdict.{Verdict}
 use Rattle.arrow_stream_reader.specs.declared.reader.Verdict.TheVariants.{Open, Done, Bad}
-use Rattle.arrowflow_report.specs.Reports.{IsOpenAt, IsTextOf, IsEnding, IsLast, SendsText, IsTold, IsCutOff, IsWritten, IsWrittenWhole, IsBegun, EndsWell, Reports}
+use Rattle.arrowflow_report.specs.Reports.{IsOpenAt, IsEnding, IsLast, SendsText, IsTold, IsCutOff, IsWritten, IsWrittenWhole, IsBegun, EndsWell, Reports}
 use Rattle.arrowflow_report.specs.declared.report.Report.{Report}
-use Rattle.arrowflow_report.specs.declared.report.Report.TheVariants.{Messages, Rows}
 use Rattle.arrowflow_report.specs.declared.tool_fault.ToolFault.{ToolFault}
 use Rattle.arrowflow_report.specs.declared.tool_fault.ToolFault.TheVariants.{Input, Output, Stream, Refused, Memory}
 use Rattle.arrowflow_report.proofs.Driving.{standing_of}
-use Rattle.arrowflow_report.proofs.First.{state_stays}
-use Rattle.arrowflow_report.proofs.Growing.{have_before, text_before}
 use Rattle.arrowflow_report.proofs.Sent.{begun_behind}
 
 -- a stream goes on at the bytes at which an open reader stands

@@ -1,44 +1,26 @@
 -- A stream that is told message by message.
-use Rattle.std.proofs.Common.{◌≡◌, ℕ, ◌+◌, Bool, true, false, List, [], ◌∷◌, ◌++◌, length, take, drop, Option, None, Some, Result, Ok, Err, ◌⊎◌, inl, inr, refl, sym, ap, ◌∙◌, subst, arith, append_assoc, append-nil, take-append-drop}
+use Rattle.std.proofs.Common.{◌≡◌, ℕ, ◌+◌, List, [], ◌∷◌, ◌++◌, length, take, drop, Option, sym, ap, ◌∙◌, subst, arith, take-append-drop}
 use Rattle.std.specs.Io.KnownBytes.{Appends}
 use Rattle.std.proofs.KnownBytes.{Appends-trans}
-use Rattle.std.proofs.lemmas.Bool.{false≢true}
 use Rattle.std.proofs.lemmas.List.{length-append}
 use Rattle.arrow_types.specs.Limits.{LimitNumbers}
 use Rattle.arrow_csv.specs.Named.{choice_by, chosen_schema}
 use Rattle.arrow_sink.specs.Sinks.{AcceptsBeginning}
-use Rattle.arrow_stream_reader.specs.declared.fault.Fault.{Fault}
 use Rattle.arrow_stream_reader.specs.declared.item.Item.{Item}
-use Rattle.arrow_stream_reader.specs.declared.item.Item.TheVariants.{End}
-use Rattle.arrow_stream_reader.specs.declared.kind.Refusal.{Refusal}
-use Rattle.arrow_stream_reader.specs.declared.reader.Verdict.{Verdict}
-use Rattle.arrow_stream_reader.specs.declared.reader.Verdict.TheVariants.{Open, Done, Bad}
-use Rattle.arrow_stream_reader.specs.Frame.{BodySays, schema_comes, dictionary_comes, batch_comes, Outcome, First, whole}
-use Rattle.arrow_stream_reader.specs.Front.{Entry, Standing, Front, FrontOf, rests, fails, closes, goes_on}
-use Rattle.arrow_stream_reader.specs.Kind.{kind_of}
-use Rattle.arrow_stream_reader.specs.State.{StreamState, Given, ended, schema_given, dictionary_given, batch_given}
-use Rattle.arrow_stream_reader.specs.Stream.{ReaderView, ReaderStands, GoesOn, GivesNext, TakesOn, RefusesMessage, WantsMemory}
+use Rattle.arrow_stream_reader.specs.declared.reader.Verdict.TheVariants.{Open}
+use Rattle.arrow_stream_reader.specs.Front.{Entry, Standing, FrontOf}
+use Rattle.arrow_stream_reader.specs.Stream.{ReaderView, GivesNext}
 use Rattle.arrow_stream_reader.specs.Views.{given}
-use Rattle.arrow_stream_reader.proofs.Firsts.{whole_says}
-use Rattle.arrow_stream_reader.proofs.Fronts.{more_bytes}
-use Rattle.arrow_stream_reader.proofs.Streams.{ended_stands}
 use Rattle.arrowflow_report.specs.Chosen.{chosen_given, chosen_text}
-use Rattle.arrowflow_report.specs.Faults.{told}
 use Rattle.arrowflow_report.specs.Lines.{IsLine}
 use Rattle.arrowflow_report.specs.Reports.{IsTextOf, IsAdded, IsTold, IsCutOff}
 use Rattle.arrow_stream_reader.specs.Tables.{table_in, tables_of}
 use Rattle.arrowflow_report.specs.Shown.{text_in}
 use Rattle.arrowflow_report.specs.declared.report.Report.{Report}
 use Rattle.arrowflow_report.specs.declared.report.Report.TheVariants.{Messages, Rows}
-use Rattle.arrowflow_report.specs.declared.tool_fault.ToolFault.{ToolFault}
-use Rattle.arrowflow_report.specs.declared.tool_fault.ToolFault.TheVariants.{Input, Output, Stream, Refused, Memory}
-use Rattle.arrowflow_report.proofs.Feeding.{taken_all}
-use Rattle.arrowflow_report.proofs.First.{state_stays}
-use Rattle.arrowflow_report.proofs.Found.{told_refusal}
 use Rattle.arrowflow_report.proofs.Growing.{have_next, one_table, text_grows}
 use Rattle.arrowflow_report.proofs.Lined.{end_of, front_end, lines_kept, lines_more}
-use Rattle.arrowflow_report.proofs.Schemas.{front_behind, given_in}
-use Rattle.arrowflow_report.proofs.Sent.{begun_all, begun_behind}
+use Rattle.arrowflow_report.proofs.Sent.{begun_behind}
 
 -- ---- one message more
 

@@ -1,5 +1,5 @@
 -- What is written of a stream of which the first rows alone are asked for, and how that ends.
-use Rattle.std.specs.Prelude.{◌≡◌, ℕ, ◌+◌, ◌-◌, ◌<◌, ◌≤◌, ◌⊎◌, min, List, [], ◌∷◌, ◌++◌, true, false, Bool, Option, None, Some, is_some, Result, Ok, Err, ⊤}
+use Rattle.std.specs.Prelude.{◌≡◌, ℕ, ◌+◌, ◌-◌, ◌<◌, ◌≤◌, ◌⊎◌, min, List, [], ◌∷◌, ◌++◌, true, Option, None, Some, is_some, Result, Ok, Err, ⊤}
 use Rattle.std.specs.Io.KnownBytes.{Appends, Consumes}
 use Rattle.arrow_types.specs.Limits.{LimitNumbers}
 use Rattle.arrow_types.specs.Notes.{SchemaShape}
@@ -12,7 +12,7 @@ use Rattle.arrow_stream_reader.specs.Front.{Entry, Standing, FrontOf}
 use Rattle.arrow_stream_reader.specs.State.{Given, schema_given, dictionary_given, batch_given, ended}
 use Rattle.arrow_stream_reader.specs.Stream.{ReaderView, ReaderStands}
 use Rattle.arrow_stream_reader.specs.Tables.{tables_of}
-use Rattle.arrowflow_report.specs.Chosen.{AreRows, HaveChosen, choice_of}
+use Rattle.arrowflow_report.specs.Chosen.{HaveChosen}
 use Rattle.arrowflow_report.specs.Reads.{IsReadWhile}
 use Rattle.arrowflow_report.specs.Reports.{EndsBadly, EndsWell, IsOpenAt, IsTold}
 use Rattle.arrowflow_report.specs.Shown.{header_in}

@@ -1,6 +1,6 @@
 -- What is written of a stream, and how that ends (Columnar Format, "IPC Streaming Format").
-use Rattle.std.specs.Prelude.{◌≡◌, ℕ, ◌+◌, ◌⊎◌, List, [], ◌++◌, length, Bool, IsTrue, Option, Result, Ok, Err}
-use Rattle.std.specs.Io.KnownBytes.{Appends, Consumes, IsAtEnd, Keeps}
+use Rattle.std.specs.Prelude.{◌≡◌, ℕ, ◌+◌, ◌⊎◌, List, [], ◌++◌, length, Option, Result, Ok, Err}
+use Rattle.std.specs.Io.KnownBytes.{Appends, Consumes, IsAtEnd}
 use Rattle.arrow_types.specs.Limits.{LimitNumbers}
 use Rattle.arrow_types.specs.Notes.{SchemaShape}
 use Rattle.arrow_csv.specs.Named.{choice_by, chosen_schema}

@@ -1,4 +1,4 @@
-use Rattle.std.proofs.Common.{◌≡◌, ◌∙◌, Ok, Err, refl, sym, ap, subst}
+use Rattle.std.proofs.Common.{◌≡◌, ◌∙◌, [], Err, sym, ap, subst, rules}
 use Rattle.arrow_stream_reader.specs.Stream.{ReaderView}
 use Rattle.arrowflow_report.specs.Driver.{Driven}
 use Rattle.arrowflow_report.specs.Kept.{HasKept}
@@ -18,7 +18,8 @@ connection_of-requires g c none =
     let batches = c.drive-batches.result.0.items in
     let reader = c.drive-batches.new.reader in
     let limits_are : c.new-reader.result.limits ≡ terms.limits = ap (λ (r : ReaderView). r.limits) c.new-reader.ensures.fresh in
-    let driven = c.drive-batches.ensures.driven tt refl in
+    let nothing : c.new-batches.result.items ≡ [] = search rules in
+    let driven = c.drive-batches.ensures.driven tt nothing in
     let kept = subst (Driven (keeping batches) (HasKept batches) driven.0 left reader) c.in-Ok.is driven.3 in
     let whole = stream_whole (asks_of terms) c.args.number driven.0 left batches reader (c.drive-batches.ensures.limits ∙ limits_are) kept in
     whole_schema (asks_of terms).limits driven.0 left reader.at.state.schema batches whole none
@@ -31,7 +32,8 @@ returns-in-Ok g c =
     let batches = c.drive-batches.result.0.items in
     let reader = c.drive-batches.new.reader in
     let limits_are : c.new-reader.result.limits ≡ terms.limits = ap (λ (r : ReaderView). r.limits) c.new-reader.ensures.fresh in
-    let driven = c.drive-batches.ensures.driven tt refl in
+    let nothing : c.new-batches.result.items ≡ [] = search rules in
+    let driven = c.drive-batches.ensures.driven tt nothing in
     let kept = subst (Driven (keeping batches) (HasKept batches) driven.0 left reader) c.in-Ok.is driven.3 in
     let whole = stream_whole asks c.args.number driven.0 left batches reader (c.drive-batches.ensures.limits ∙ limits_are) kept in (
       driven.0,
@@ -40,8 +42,8 @@ returns-in-Ok g c =
       made_so terms c.args.number driven.0 left reader.at.state.schema batches whole c.connection_of.result c.connection_of.ensures,
     )
 
-pub returns-in-Err : goal.returns-in-Err
-returns-in-Err g c =
+pub returns : goal.returns
+returns g c =
     let terms = c.args.terms.now in
     let asks = asks_of terms in
     let left = g.R.Read.remaining c.drive-batches.new.input in
@@ -49,7 +51,8 @@ returns-in-Err g c =
     let reader = c.drive-batches.new.reader in
     let fault = c.in-Err.fault in
     let limits_are : c.new-reader.result.limits ≡ terms.limits = ap (λ (r : ReaderView). r.limits) c.new-reader.ensures.fresh in
-    let driven = c.drive-batches.ensures.driven tt refl in
+    let nothing : c.new-batches.result.items ≡ [] = search rules in
+    let driven = c.drive-batches.ensures.driven tt nothing in
     let ended = subst (Driven (keeping batches) (HasKept batches) driven.0 left reader) c.in-Err.is driven.3 in (
       driven.0,
       driven.1,

@@ -1,7 +1,6 @@
-use Rattle.std.proofs.Common.{◌≡◌, ◌++◌, ℕ, List, Ok, Err, refl, sym, ap, ◌∙◌, subst, ◌⊎◌}
+use Rattle.std.proofs.Common.{◌++◌, ℕ, List, Ok, Err, sym, ap, ◌∙◌, subst, ◌⊎◌}
 use Rattle.std.proofs.lemmas.List.{take_rest}
 use Rattle.arrow_stream_reader.specs.Front.{Entry}
-use Rattle.arrow_stream_reader.specs.State.{ended}
 use Rattle.arrow_stream_reader.specs.Stream.{ReaderStands, GivesNext, TakesOn, RefusesMessage, WantsMemory}
 use Rattle.arrow_stream_reader.specs.Views.{given}
 use Rattle.arrowflow_report.specs.Driver.{PieceTaken}

@@ -1,5 +1,4 @@
 use Rattle.std.proofs.Common.{◌++◌}
-use Rattle.arrowflow_report.proofs.Feeding.{on_err-always}
 use Rattle.arrowflow_report.proofs.Kept.{out_given, piece_inside, piece_kept}
 use Rattle.arrowflow_report.proofs.session.feed.Goals as goal
 

@@ -1,6 +1,6 @@
-use Rattle.std.proofs.Common.{[], ◌++◌, ◌-◌, length, take, drop, ap, ◌∙◌, append-nil}
+use Rattle.std.proofs.Common.{◌++◌, ◌-◌, length, take, drop, ap, ◌∙◌}
 use Rattle.std.proofs.lemmas.List.{take-append-drop, take_rest}
-use Rattle.arrowflow_report.proofs.Feeding.{receiving_next, handed_out, stopped_inside, on_err-always}
+use Rattle.arrowflow_report.proofs.Feeding.{receiving_next, stopped_inside, on_err-always}
 use Rattle.arrowflow_report.proofs.session.hand_out.Goals as goal
 
 pub returns-in_err-handed-clause-inside : goal.returns-in_err-handed-clause-inside

@@ -1,4 +1,4 @@
-use Rattle.std.proofs.Common.{◌≡◌, ◌<◌, Ok, Err, sym, subst}
+use Rattle.std.proofs.Common.{◌<◌, sym, subst}
 use Rattle.arrow_stream_reader.specs.Views.{given}
 use Rattle.arrow_stream_writer.specs.Shown.{options_view}
 use Rattle.arrowflow_copy.specs.Copying.{TakesItem}

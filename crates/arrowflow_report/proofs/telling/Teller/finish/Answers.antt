@@ -1,4 +1,3 @@
-use Rattle.std.proofs.Common.{refl}
 use Rattle.std.proofs.lemmas.Result.{err_from_is_err_and}
 use Rattle.arrowflow_report.proofs.Messages.{end_broken, end_told}
 use Rattle.arrowflow_report.proofs.telling.Teller.finish.Goals as goal

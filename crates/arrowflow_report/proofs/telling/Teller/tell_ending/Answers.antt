@@ -1,4 +1,4 @@
-use Rattle.std.proofs.Common.{◌≡◌, subst, sym, refl, ap, ◌∙◌, Bool, true, false}
+use Rattle.std.proofs.Common.{◌≡◌, subst, sym, refl, Bool, true, false}
 use Rattle.std.proofs.lemmas.Result.{err_from_is_err_and}
 use Rattle.arrowflow_report.specs.Lines.{end_line}
 use Rattle.arrowflow_report.specs.Telling.{IsLastBy}
