@@ -1,8 +1,13 @@
 //! What `show_first` and `show_columns` write of streams, and what a check that writes nothing tells.
 
 use super::columns::THREE_COLUMNS;
-use super::told::{Call, LETTERS, NUMBERS, assert_told};
+use super::copying::with_more;
+use super::told::{Call, LETTERS, NUMBERS, assert_told, told};
+use arrow_sink::probe::Trickle;
 use arrow_test_streams::streams::{GROWING, ONE_BATCH};
+use arrow_types::Limits;
+use std::alloc::Global;
+use std::process::Abort;
 
 /// The fault of one batch whose bytes go no further than to this place: all that a check that
 /// writes nothing tells.
@@ -121,7 +126,7 @@ static COLUMNS_OF_THREE: [Asked; 8] = [
         895,
         "batch,b\n0,x\n0,\"y,z\"\n1 fault at byte 600: Truncated",
     ),
-    (&["b"], Some(0), 288, "batch,b\n"),
+    (&["b"], Some(0), 600, "batch,b\n"),
     (&["b", "c", "a", "d"], Some(2), 288, "lacks 1"),
     (&["a", "b", "a", "B"], None, 904, "lacks 3"),
 ];
@@ -132,5 +137,42 @@ fn columns_of_a_stream_of_three(rt: HostRuntime) {
     for (columns, rows, place, text) in &COLUMNS_OF_THREE {
         let bytes = &stream[..(*place).min(stream.len())];
         assert_told(&rt, rt.alloc(), Call::Columns(*columns, *rows), bytes, text);
+    }
+}
+
+// A call that is given one batch with more behind it, how many bytes come at once, how many of them
+// it takes, and what it tells: no piece is read behind the message that decides.
+static READ: [(Call, usize, usize, &str); 8] = [
+    (Call::Schema, 152, 152, "n: int32\n"),
+    (Call::Schema, 151, 302, "n: int32\n"),
+    (Call::First(0), 152, 152, "batch,n\n"),
+    (Call::First(3), 328, 328, NUMBERS),
+    (Call::First(3), 1_000_000, 65_536, NUMBERS),
+    (
+        Call::Columns(&["n"], Some(2)),
+        164,
+        328,
+        "batch,n\n0,1\n0,\n",
+    ),
+    (Call::Columns(&["x"], None), 152, 152, "lacks 0"),
+    (Call::Show, 112, 336, NUMBERS),
+];
+
+fn assert_read(rt: &impl Abort, alloc: Global, row: &(Call, usize, usize, &str)) {
+    let (call, at_once, given, text) = row;
+    let bytes = with_more(rt, alloc, 100_000);
+    let mut input = Trickle::new(&bytes, *at_once, None);
+    let answer = told(rt, alloc, *call, &mut input, &Limits::standard());
+    assert_eq!(rt;
+        (answer.as_str(), input.given()),
+        (*text, *given),
+        "{at_once} bytes at once"
+    );
+}
+
+#[test]
+fn bytes_behind_what_is_wanted(rt: HostRuntime) {
+    for row in &READ {
+        assert_read(&rt, rt.alloc(), row);
     }
 }
