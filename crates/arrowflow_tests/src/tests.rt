@@ -1,6 +1,6 @@
 //! What no clause says and no stream shows: lines and pages, faults that no stream has, limits, how
-//! far inputs are read, and numbers of many digits. What the calls make of streams is compared in
-//! `arrow_vectors_walk`.
+//! far inputs are read, columns that are chosen, and numbers of many digits. What the calls make of
+//! streams else is compared in `arrow_vectors_walk`.
 
 mod columns;
 mod command_line;
