@@ -38,10 +38,6 @@ node_length : (t : TypeShape) (e : Option Encoding) (len : ℕ) (b : List (List 
 node_length t None len b cs values = length_slots len (λ j. value_slot (form_of t.tag) b (map (λ (c : Column). c.raw) cs) j)
 node_length t (Some e) len b cs values = length_slots len (λ j. index_slot e b j)
 
--- the form of the field's own node
-pub form_is : (f : Field) (form : Form) → form ≡ node_form (type_view f.data_type).tag f.dictionary → form ≡ node_form (field_view f).head.tag (field_view f).head.encoding
-form_is f form is = is ∙ ap (λ (t : TypeShape). node_form t.tag f.dictionary) (field_type f) ∙ ap (node_form (field_view f).head.tag) (field_encoding f)
-
 -- the columns have the types of the fields
 pub columns_typed : (body : List ℕ) (ds : List (ℤ × ValueList)) (fields : Fields) (ns : List FieldNode) (bs : List Buffer) → AreOf fields (columns_of body ds fields ns bs)
 columns_typed body ds none ns bs = tt
