@@ -10,8 +10,8 @@ ghost use Rattle.arrow_data.specs.Listed.{dictionary_for};
 
 use crate::held::bytes_at;
 use crate::listed::Listed;
-use arrow_data::ByteRange;
 use arrow_data::layout::are_indices;
+use arrow_data::{ByteRange, NumberBuffers};
 use arrow_types::Encoding;
 
 // Whether the valid slots of a node with this encoding have their values; without a dictionary
@@ -40,10 +40,12 @@ pub(crate) fn have_values(
     };
     are_indices(
         len,
-        (encoding.index.bits.bits() / 8) as usize,
-        encoding.index.signed,
-        bytes_at(body, ranges, 0),
-        bytes_at(body, ranges, 1),
+        NumberBuffers {
+            width: (encoding.index.bits.bits() / 8) as usize,
+            signed: encoding.index.signed,
+            validity: bytes_at(body, ranges, 0),
+            values: bytes_at(body, ranges, 1),
+        },
         count,
     )
 }

@@ -14,9 +14,9 @@ ghost use Rattle.arrow_body_reader.specs.Taken.{below, own_buffers};
 
 use crate::held::bytes_at;
 use arrow_bits::Bits;
-use arrow_data::ByteRange;
 use arrow_data::form::Form;
 use arrow_data::layout::{has_bits, has_bools, has_fixed, has_lists, has_strings};
+use arrow_data::{ByteRange, OffsetBuffer, StringBuffers};
 use arrow_types::{Field, FieldNode};
 
 // How many slots the first node has, 0 where a number stands there that is none.
@@ -90,18 +90,22 @@ pub(crate) fn are_buffers_laid(
             bytes_at(body, ranges, 1),
         ),
         Form::Bytes(width) | Form::Texts(width) => has_strings(
-            width,
             len,
-            bytes_at(body, ranges, 0),
-            bytes_at(body, ranges, 1),
-            bytes_at(body, ranges, 2),
+            StringBuffers {
+                width,
+                validity: bytes_at(body, ranges, 0),
+                offsets: bytes_at(body, ranges, 1),
+                bytes: bytes_at(body, ranges, 2),
+            },
         ),
         Form::Lists(width) => has_lists(
-            width,
-            len,
             bytes_at(body, ranges, 0),
-            bytes_at(body, ranges, 1),
-            slots(nodes),
+            OffsetBuffer {
+                width,
+                len,
+                top: slots(nodes),
+                bytes: bytes_at(body, ranges, 1),
+            },
         ),
         Form::Structs => has_bits(len, bytes_at(body, ranges, 0)) && len <= least,
     }

@@ -7,9 +7,9 @@ ghost use Rattle.arrow_data.specs.Node.{bytes_of, IsInside};
 ghost use Rattle.arrow_data.specs.declared.form.Form.TheVariants as forms;
 
 use crate::held::bytes_at;
-use arrow_data::ByteRange;
 use arrow_data::form::OffsetWidth;
 use arrow_data::layout::are_texts;
+use arrow_data::{ByteRange, StringBuffers};
 
 // Whether the valid slots of a node of texts are UTF-8.
 pub(crate) fn are_texts_in(
@@ -25,10 +25,12 @@ pub(crate) fn are_texts_in(
         ↔ HoldsTexts (forms.Texts width) len (map (bytes_of body.now) ranges.now) }
 {
     are_texts(
-        width,
         len,
-        bytes_at(body, ranges, 0),
-        bytes_at(body, ranges, 1),
-        bytes_at(body, ranges, 2),
+        StringBuffers {
+            width,
+            validity: bytes_at(body, ranges, 0),
+            offsets: bytes_at(body, ranges, 1),
+            bytes: bytes_at(body, ranges, 2),
+        },
     )
 }

@@ -18,7 +18,8 @@ use crate::buffers::{Bools, Fixed, Ints, Strings};
 use crate::byte_range::{ByteRange, bytes_in};
 use crate::dictionary::Dictionary;
 use crate::form::OffsetWidth;
-use crate::slot::{first_invalid, is_valid, range_at};
+use crate::offsets::OffsetBuffer;
+use crate::slot::{first_invalid, is_valid};
 use arrow_types::{DataType, Encoding};
 use bytes::Bytes;
 use std::marker::Model;
@@ -210,7 +211,13 @@ impl Array {
                 child,
             } => {
                 let (marks, places) = (bytes_in(body, *validity), bytes_in(body, *offsets));
-                match range_at(*width, marks, places, self.len, child.len(), i) {
+                let offsets = OffsetBuffer {
+                    width: *width,
+                    len: self.len,
+                    top: child.len(),
+                    bytes: places,
+                };
+                match offsets.range_at(marks, i) {
                     Some((start, end)) => Seen::Items(start, end, child),
                     None => Seen::Nothing,
                 }

@@ -13,6 +13,7 @@ ghost use Rattle.arrow_data.specs.Slots.{AreTexts, place_of};
 use crate::byte_range::{ByteRange, bytes_in};
 use crate::form::OffsetWidth;
 use crate::slot;
+use crate::view::{NumberBuffers, StringBuffers};
 
 // The bytes of a range of `len` slots that have `width` bytes each.
 #[tactic(auto, using(crate::proofs::Shown::parts_inside))]
@@ -66,13 +67,7 @@ impl Ints {
         ensures { MatchOption result (int_at body.now self i ≡ null_value)
             (λ z. int_at body.now self i ≡ int_value z) }
     {
-        slot::number_at(
-            bytes_in(body, self.validity),
-            bytes_in(body, self.values),
-            self.width,
-            self.signed,
-            i,
-        )
+        NumberBuffers::of(self, body).number_at(i)
     }
 
     // The bytes of the numbers of a range of the `len` slots.
@@ -142,14 +137,7 @@ impl Strings {
         ensures { MatchOption result (binary_at body.now self i ≡ null_value)
             (λ b. binary_at body.now self i ≡ binary_value b.now) }
     {
-        slot::binary_at(
-            self.width,
-            bytes_in(body, self.validity),
-            bytes_in(body, self.offsets),
-            bytes_in(body, self.bytes),
-            len,
-            i,
-        )
+        StringBuffers::of(self, body).binary_at(len, i)
     }
 
     // The text of slot `i` of `len`, where it is valid.
@@ -161,15 +149,9 @@ impl Strings {
         ensures { MatchOption result (utf8_at body.now self i ≡ null_value)
             (λ t. utf8_at body.now self i ≡ utf8_value t.now) }
     {
-        slot::text_at(
-            self.width,
-            bytes_in(body, self.validity),
-            bytes_in(body, self.offsets),
-            bytes_in(body, self.bytes),
-            len,
-            i,
-        )
+        StringBuffers::of(self, body).text_at(len, i)
     }
+
     // The bytes of a range of the `len` slots, one slot after another, without regard to nulls.
     pub(crate) fn part(self, body: &[u8], len: usize, start: usize, stop: usize) -> &[u8]
         requires order { start < stop }
@@ -181,9 +163,8 @@ impl Strings {
         ensures rising { IsNonDecreasing (plain_list (offset_bytes self.width) len
             (bytes_of body.now self.offsets)) }
     {
-        let bytes = bytes_in(body, self.bytes);
-        let offsets = bytes_in(body, self.offsets);
-        let (first, end) = slot::places_at(self.width, offsets, len, bytes.len(), start, stop);
-        &bytes[first..end]
+        let strings = StringBuffers::of(self, body);
+        let (first, end) = strings.ranges(len).places_at(start, stop);
+        &strings.bytes[first..end]
     }
 }

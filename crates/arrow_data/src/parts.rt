@@ -8,14 +8,14 @@ ghost use Rattle.arrow_types.specs.View.{type_view};
 ghost use Rattle.arrow_data.specs.Column.{AreOf, Column, IsColumn, IsValueList, counts_of};
 ghost use Rattle.arrow_data.specs.Form.{IsLeaf, form_of};
 ghost use Rattle.arrow_data.specs.Layout.{buffer_count, IsLaid, IsText, IsIndexed};
-ghost use Rattle.arrow_data.specs.Node.{bytes_of, column_by, AreBytes, AreRanges, IsFormat};
+ghost use Rattle.arrow_data.specs.Node.{bytes_of, column_by, AreRanges, IsFormat};
 ghost use Rattle.arrow_data.specs.Node.{IsInside};
 ghost use Rattle.arrow_data.specs.declared.form.Form.TheVariants as forms;
 ghost use Rattle.arrow_data.specs.Parts.{node_column, values_in, AreChildren, IsOfType};
 
 use crate::array::{Array, Ranges};
 use crate::buffers::{Bools, Fixed, Ints, Strings};
-use crate::byte_range::ByteRange;
+use crate::byte_range::{ByteRange, hold_bytes};
 use crate::dictionary::Dictionary;
 use crate::form::{Form, OffsetWidth, form_of, number_width};
 use crate::shared_type::SharedType;
@@ -161,14 +161,6 @@ fn of_ranges(
         body: body.clone()?,
         ranges,
     })
-}
-
-// What every slice of bytes holds.
-#[inline(always)]
-fn hold_bytes(bytes: &[u8])
-    ensures { AreBytes bytes.now }
-{
-    bytes.len();
 }
 
 // The dictionary, or the empty one where there is none.
