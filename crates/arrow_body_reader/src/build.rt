@@ -17,7 +17,7 @@ use crate::look::Node;
 use crate::source::Source;
 use crate::taken::Left;
 use arrow_data::form::{Form, form_of};
-use arrow_data::{Array, Dictionary};
+use arrow_data::{Array, ChildData, Dictionary, NodeBuffers};
 use arrow_types::{Encoding, Field};
 use bytes::Bytes;
 use std::alloc::{AllocError, Global};
@@ -181,8 +181,12 @@ fn with_leaf<'a>(
     let Some((shared, _)) = left.types.split_first() else {
         unreachable!();
     };
-    let Ok(array) = Array::from_leaf_parts(shared, node.len, builder.body, &node.ranges[..own])
-    else {
+    let buffers = NodeBuffers {
+        len: node.len,
+        body: builder.body,
+        ranges: &node.ranges[..own],
+    };
+    let Ok(array) = Array::from_leaf_parts(builder.alloc, shared, buffers) else {
         return None;
     };
     let mut arrays = builder.arrays;
@@ -246,16 +250,16 @@ fn with_array<'a>(
         unreachable!();
     };
     let dictionary = dictionary_of(builder.alloc, field.dictionary, source.dictionaries).ok()?;
-    let array = Array::from_shared_parts(
-        builder.alloc,
-        shared,
-        node.len,
-        builder.body,
-        &node.ranges[..own],
-        inner.arrays,
+    let buffers = NodeBuffers {
+        len: node.len,
+        body: builder.body,
+        ranges: &node.ranges[..own],
+    };
+    let below = ChildData {
+        children: inner.arrays,
         dictionary,
-    )
-    .ok()?;
+    };
+    let array = Array::from_shared_parts(builder.alloc, shared, buffers, below).ok()?;
     let mut arrays = builder.arrays;
     arrays.push(array).ok()?;
     Some(Builder {

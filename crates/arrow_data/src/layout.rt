@@ -20,6 +20,7 @@ ghost use Rattle.arrow_data.specs.Slots.{HasBits, HasOffsets, AreIndices, AreTex
 use crate::byte_range::{ByteRange, bytes_in, hold_bytes};
 use crate::form::{Form, OffsetWidth, node_form, number_width};
 use crate::offsets::OffsetBuffer;
+use crate::parts::NodeBuffers;
 use crate::texts::are_slots_utf8;
 use crate::view::{NumberBuffers, StringBuffers};
 use arrow_bits::{LargeOffsets, Offsets, are_at_most};
@@ -191,22 +192,23 @@ pub fn buffer_count(data_type: &DataType, encoding: Option<Encoding>) -> usize
     }
 }
 
-/// Whether the buffers of a node of this type and encoding, and children of so many slots, hold
-/// `len` slots.
+/// Whether the buffers of a node of this type and encoding, and children of so many slots, hold its
+/// slots.
 #[inline(always)]
 pub fn is_laid(
     data_type: &DataType,
     encoding: Option<Encoding>,
-    len: usize,
-    body: &[u8],
-    buffers: &[ByteRange],
+    node: NodeBuffers<'_>,
     counts: &[usize],
 ) -> bool
-    requires count { buffer_count (type_view data_type.now).tag encoding ≤ length buffers.now }
-    requires inside { AllByRecursion (IsInside body.now) buffers.now }
-    ensures { IsTrue result ↔ IsLaid (type_view data_type.now).tag encoding
-        len (map (bytes_of body.now) buffers.now) counts.now }
+    requires count { buffer_count (type_view data_type.now).tag encoding
+        ≤ length node.ranges.now }
+    requires inside { AllByRecursion (IsInside node.body.now) node.ranges.now }
+    ensures { IsTrue result ↔ IsLaid (type_view data_type.now).tag encoding node.entry.len
+        (map (bytes_of node.entry.body.now) node.entry.ranges.now) counts.now }
 {
+    let len = node.len;
+    let (body, buffers) = (node.body.as_slice(), node.ranges);
     match node_form(data_type, encoding) {
         Form::Nulls => true,
         Form::Bits => has_bools(len, buffer(body, buffers, 0), buffer(body, buffers, 1)),

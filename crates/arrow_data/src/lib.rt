@@ -60,6 +60,7 @@ pub use batch::{Batch, BatchFault};
 pub use byte_range::ByteRange;
 pub use dictionary::Dictionary;
 pub use offsets::OffsetBuffer;
+pub use parts::{ChildData, NodeBuffers};
 pub use shared_type::{SharedType, shared_types};
 pub use slots::Slots;
 pub use value::Value;
