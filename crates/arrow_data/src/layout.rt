@@ -67,8 +67,7 @@ pub fn has_strings(len: usize, strings: StringBuffers<'_>) -> bool
 #[inline(always)]
 pub fn has_lists(validity: &[u8], offsets: OffsetBuffer<'_>) -> bool
     ensures { IsTrue result ↔ HasLists offsets.entry.width offsets.entry.len validity.now
-        offsets.entry.bytes.now
-        offsets.entry.top }
+        offsets.entry.bytes.now offsets.entry.top }
 {
     has_bits(offsets.len, validity) && has_offsets(offsets)
 }
@@ -85,8 +84,7 @@ pub fn has_offsets(offsets: OffsetBuffer<'_>) -> bool
 // The same where the offsets are not left out.
 fn are_offsets(offsets: OffsetBuffer<'_>) -> bool
     ensures { IsTrue result ↔ AreOffsetsOf (offset_bytes offsets.entry.width)
-        offsets.entry.bytes.now
-        offsets.entry.len offsets.entry.top }
+        offsets.entry.bytes.now offsets.entry.len offsets.entry.top }
 {
     let top = offsets.top as u64;
     match offsets.width {
@@ -115,8 +113,7 @@ pub fn are_indices(len: usize, indices: NumberBuffers<'_>, count: usize) -> bool
     requires width { IsWidth indices.width }
     requires laid { HasFixed len indices.width indices.validity.now indices.values.now }
     ensures { IsTrue result ↔ AreIndices len indices.entry.width indices.entry.signed
-        indices.entry.validity.now
-        indices.entry.values.now count }
+        indices.entry.validity.now indices.entry.values.now count }
 {
     are_all_indices(len, indices, count)
         || (!indices.validity.is_empty() && are_indices_one_by_one(len, indices, count))
@@ -127,8 +124,7 @@ fn are_indices_one_by_one(len: usize, indices: NumberBuffers<'_>, count: usize) 
     requires width { IsWidth indices.width }
     requires laid { HasFixed len indices.width indices.validity.now indices.values.now }
     ensures { IsTrue result ↔ AreIndices len indices.entry.width indices.entry.signed
-        indices.entry.validity.now
-        indices.entry.values.now count }
+        indices.entry.validity.now indices.entry.values.now count }
 {
     for j in 0..len {
         let Some(index) = indices.number_at(j) else {
@@ -147,8 +143,7 @@ fn are_all_indices(len: usize, indices: NumberBuffers<'_>, count: usize) -> bool
     requires width { IsWidth indices.width }
     requires inside { indices.width * len ≤ length indices.values.now }
     ensures { IsTrue result ↔ AreIndices len indices.entry.width indices.entry.signed []
-        indices.entry.values.now
-        count }
+        indices.entry.values.now count }
 {
     if count == 0 {
         return len == 0;

@@ -1,11 +1,11 @@
 //! Arrays out of the parts of a node: its buffers in a body, its children, its dictionary.
 
-ghost use Rattle.std.specs.Prelude.{◌≡◌, ◌≤◌, IfOk, List, None, Some, length, map, false, [], ◌∷◌};
+ghost use Rattle.std.specs.Prelude.{◌≡◌, ◌≤◌, IfOk, None, Some, length, map, false, [], ◌∷◌};
 ghost use Rattle.std.specs.Prelude.{slice_index_or};
 ghost use Rattle.std.specs.List.{AllByRecursion};
 ghost use Rattle.arrow_types.specs.Schema.{has_encoding};
 ghost use Rattle.arrow_types.specs.View.{type_view};
-ghost use Rattle.arrow_data.specs.Column.{AreOf, Column, IsColumn, IsValueList, counts_of};
+ghost use Rattle.arrow_data.specs.Column.{AreOf, IsColumn, IsValueList, counts_of};
 ghost use Rattle.arrow_data.specs.Form.{IsLeaf, form_of};
 ghost use Rattle.arrow_data.specs.Layout.{buffer_count, IsLaid, IsText, IsIndexed};
 ghost use Rattle.arrow_data.specs.Node.{bytes_of, column_by, AreRanges, IsFormat};
