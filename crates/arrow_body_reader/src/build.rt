@@ -13,7 +13,7 @@ use crate::listed::Listed;
 use crate::look::Node;
 use crate::place::{Laid, Place};
 use arrow_data::form::{Form, form_of};
-use arrow_data::{Array, Dictionary};
+use arrow_data::{Array, ChildData, Dictionary, NodeBuffers};
 use arrow_types::{Encoding, Field};
 use bytes::Bytes;
 use std::alloc::{AllocError, Global};
@@ -94,7 +94,7 @@ pub(crate) fn with_node<'a>(
         return None;
     }
     let array = if is_leaf(place.field) {
-        leaf_of(builder.body, place, node.laid)?
+        leaf_of(builder.alloc, builder.body, place, node.laid)?
     } else {
         array_of(inner, place, node.laid)?
     };
@@ -122,7 +122,7 @@ fn is_leaf(field: &Field) -> bool
 // The array of a node whose texts are as they should be, and which has neither children nor a
 // dictionary; None where a growth is refused.
 #[inline(always)]
-fn leaf_of(body: &Bytes, place: Place<'_>, laid: Laid) -> Option<Array>
+fn leaf_of(alloc: Global, body: &Bytes, place: Place<'_>, laid: Laid) -> Option<Array>
     requires leaf { IsLeafNode (head_at place) (children_at place) }
     requires laid { IsLaidAt place }
     requires text { IsTextAt place }
@@ -134,7 +134,12 @@ fn leaf_of(body: &Bytes, place: Place<'_>, laid: Laid) -> Option<Array>
     ensures { IfSome result (λ array. array ≡ column_at place.entry) }
 {
     let shared = place.left.types.first()?;
-    Array::from_leaf_parts(shared, laid.len, body, &laid.ranges[..place.own]).ok()
+    let buffers = NodeBuffers {
+        len: laid.len,
+        body,
+        ranges: &laid.ranges[..place.own],
+    };
+    Array::from_leaf_parts(alloc, shared, buffers).ok()
 }
 
 // The array of a node whose texts and indices are as they should be, with those below it; None where
@@ -157,16 +162,16 @@ fn array_of(inner: Builder<'_>, place: Place<'_>, laid: Laid) -> Option<Array>
     let shared = place.left.types.first()?;
     let encoding = place.field.dictionary;
     let dictionary = dictionary_of(inner.alloc, encoding, place.source.dictionaries).ok()?;
-    Array::from_shared_parts(
-        inner.alloc,
-        shared,
-        laid.len,
-        inner.body,
-        &laid.ranges[..place.own],
-        inner.arrays,
+    let buffers = NodeBuffers {
+        len: laid.len,
+        body: inner.body,
+        ranges: &laid.ranges[..place.own],
+    };
+    let below = ChildData {
+        children: inner.arrays,
         dictionary,
-    )
-    .ok()
+    };
+    Array::from_shared_parts(inner.alloc, shared, buffers, below).ok()
 }
 
 // The dictionary that is listed for a field with this encoding, shared.

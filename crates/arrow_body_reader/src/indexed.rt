@@ -11,6 +11,7 @@ ghost use Rattle.arrow_body_reader.specs.Place.{buffers_in};
 
 use crate::held::Ranges;
 use crate::listed::Listed;
+use arrow_data::NumberBuffers;
 use arrow_data::layout::are_indices;
 use arrow_types::Encoding;
 
@@ -37,10 +38,12 @@ pub(crate) fn have_values(
     };
     are_indices(
         len,
-        (encoding.index.bits.bits() / 8) as usize,
-        encoding.index.signed,
-        held.bytes(0),
-        held.bytes(1),
+        NumberBuffers {
+            width: (encoding.index.bits.bits() / 8) as usize,
+            signed: encoding.index.signed,
+            validity: held.bytes(0),
+            values: held.bytes(1),
+        },
         count,
     )
 }

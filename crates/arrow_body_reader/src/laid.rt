@@ -20,6 +20,7 @@ use crate::place::{Laid, Place};
 use arrow_bits::Bits;
 use arrow_data::form::Form;
 use arrow_data::layout::{has_bits, has_bools, has_fixed, has_lists, has_strings};
+use arrow_data::{OffsetBuffer, StringBuffers};
 use arrow_types::FieldNode;
 
 // How many slots the first node has, 0 where a number stands there that is none.
@@ -107,18 +108,22 @@ impl Place<'_> {
                 has_fixed(len, width as usize, held.bytes(0), held.bytes(1))
             }
             Form::Bytes(width) | Form::Texts(width) => has_strings(
-                width,
                 len,
-                held.bytes(0),
-                held.bytes(1),
-                held.bytes(2),
+                StringBuffers {
+                    width,
+                    validity: held.bytes(0),
+                    offsets: held.bytes(1),
+                    bytes: held.bytes(2),
+                },
             ),
             Form::Lists(width) => has_lists(
-                width,
-                len,
                 held.bytes(0),
-                held.bytes(1),
-                slots(&self.left.nodes[1..]),
+                OffsetBuffer {
+                    width,
+                    len,
+                    top: slots(&self.left.nodes[1..]),
+                    bytes: held.bytes(1),
+                },
             ),
             Form::Structs => has_bits(len, held.bytes(0)) && len <= least,
         }

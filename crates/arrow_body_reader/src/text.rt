@@ -8,6 +8,7 @@ ghost use Rattle.arrow_data.specs.declared.form.Form.TheVariants as forms;
 ghost use Rattle.arrow_body_reader.specs.Place.{buffers_in};
 
 use crate::held::Ranges;
+use arrow_data::StringBuffers;
 use arrow_data::form::OffsetWidth;
 use arrow_data::layout::are_texts;
 
@@ -18,5 +19,13 @@ pub(crate) fn are_texts_in(width: OffsetWidth, len: usize, held: Ranges<'_>) -> 
     requires laid { HoldsSlots (forms.Texts width) len (buffers_in held) [] }
     ensures { IsTrue result ↔ HoldsTexts (forms.Texts width) len (buffers_in held.entry) }
 {
-    are_texts(width, len, held.bytes(0), held.bytes(1), held.bytes(2))
+    are_texts(
+        len,
+        StringBuffers {
+            width,
+            validity: held.bytes(0),
+            offsets: held.bytes(1),
+            bytes: held.bytes(2),
+        },
+    )
 }
