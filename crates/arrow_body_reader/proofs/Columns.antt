@@ -1,5 +1,5 @@
 -- The columns of fields, one by one.
-use Rattle.std.proofs.Common.{rules, ◌≡◌, ◌+◌, ℕ, ℤ, List, [], ◌∷◌, length, drop, map, Option, Some, None, IsTrue, is_some, false, refl, sym, ap, ◌∙◌}
+use Rattle.std.proofs.Common.{rules, ◌≡◌, ◌+◌, ℕ, ℤ, List, [], ◌∷◌, length, drop, map, Option, Some, None, IsTrue, is_some, false, refl, sym, ap}
 use Rattle.arrow_types.specs.Field.{Fields, Head, none, more, TypeShape}
 use Rattle.arrow_types.specs.Schema.{has_encoding}
 use Rattle.arrow_types.specs.View.{field_view, type_view}
@@ -8,8 +8,7 @@ use Rattle.arrow_types.specs.declared.field.Field.{Field, the_lemmas}
 use Rattle.arrow_types.specs.declared.node.FieldNode.{FieldNode}
 use Rattle.arrow_types.specs.declared.node.Buffer.{Buffer}
 use Rattle.arrow_data.specs.Column.{Column, ValueList, AreOf, counts_of}
-use Rattle.arrow_data.specs.Form.{form_of, node_form}
-use Rattle.arrow_data.specs.declared.form.Form.{Form}
+use Rattle.arrow_data.specs.Form.{form_of}
 use Rattle.arrow_data.specs.Parts.{node_column, value_slot, index_slot, values_in, AreChildren}
 use Rattle.arrow_data.specs.PlainValue.{PlainValue}
 use Rattle.arrow_data.proofs.Shown.{length_slots}
