@@ -12,7 +12,7 @@ use Rattle.arrow_bits.specs.Numbers.{int_bytes, number_at}
 use Rattle.arrow_bits.proofs.Listed.{length_bits}
 use Rattle.arrow_bits.proofs.Rising.{offsets_from_numbers}
 use Rattle.arrow_types.specs.Field.{Fields, width}
-use Rattle.arrow_data.specs.Form.{number_width, offset_bytes}
+use Rattle.arrow_data.specs.Form.{greatest_offset, number_width, offset_bytes}
 use Rattle.arrow_data.specs.Layout.{HasBools, HasFixed, HasStrings, HoldsSlots, HoldsTexts, buffer}
 use Rattle.arrow_data.specs.PlainValue.{PlainValue, null_value, bool_value, int_value, binary_value, utf8_value, list_value, struct_value, value_at, is_null_value, field_value}
 use Rattle.arrow_data.specs.Slots.{HasBits, HasOffsets, AreTexts}
@@ -21,7 +21,7 @@ use Rattle.arrow_data.specs.declared.form.Form.TheVariants as forms
 use Rattle.arrow_data.specs.declared.form.OffsetWidth.{OffsetWidth}
 use Rattle.arrow_body_reader.specs.Sound.{IsCount, IsCountOf, nulls_of}
 use Rattle.arrow_body_laws.specs.Packed.{packed, offsets_bytes}
-use Rattle.arrow_body_laws.specs.Raws.{IsOwn, IsSmall, bytes_in_value, fixed_in, greatest_offset, items_in_value, number_in, raws_below, truth_in}
+use Rattle.arrow_body_laws.specs.Raws.{IsOwn, IsSmall, bytes_in_value, fixed_in, items_in_value, number_in, raws_below, truth_in}
 use Rattle.arrow_body_laws.specs.Stored.{nulls_in, number_buffer, own_chunks, own_node, validity_bytes}
 use Rattle.arrow_body_laws.proofs.Bits.{packed_few}
 use Rattle.arrow_body_laws.proofs.Pieces.{all_wide, length_int, offset_half, offsets_long, pieces_long, place_read, sum_next}

@@ -9,11 +9,10 @@ use Rattle.std.proofs.lemmas.Int.{ints}
 use Rattle.std.proofs.lemmas.List.Sums.{sum_by-cons, sum_by-take-le}
 use Rattle.arrow_bits.specs.Numbers.{number_of, number_at, signed_at, twos_complement, int_of, FitsInt, number_bytes, int_bytes}
 use Rattle.arrow_bits.proofs.Written.{int_behind}
-use Rattle.arrow_data.specs.Form.{offset_bytes}
+use Rattle.arrow_data.specs.Form.{greatest_offset, offset_bytes}
 use Rattle.arrow_data.specs.declared.form.OffsetWidth.{OffsetWidth}
 use Rattle.arrow_data.specs.declared.form.OffsetWidth.TheVariants.{Small, Large}
 use Rattle.arrow_body_laws.specs.Packed.{ints_bytes, sums_from, offsets_bytes}
-use Rattle.arrow_body_laws.specs.Raws.{greatest_offset}
 
 -- the pieces of these are of one width
 abbrev pub HaveWidth : {X : Type 0} → (X → List ℕ) → ℕ → List X → Type 0

@@ -12,7 +12,7 @@ use Rattle.arrow_bits.specs.Numbers.{FitsInt, int_of}
 use Rattle.arrow_types.specs.Field.{Fields, width}
 use Rattle.arrow_types.specs.declared.data_type.BitWidth.{BitWidth}
 use Rattle.arrow_types.specs.declared.data_type.BitWidth.TheVariants as widths
-use Rattle.arrow_data.specs.Form.{number_width}
+use Rattle.arrow_data.specs.Form.{greatest_offset, number_width}
 use Rattle.arrow_data.specs.PlainValue.{PlainValue, PlainValues, null_value, bool_value, int_value, binary_value, utf8_value, list_value, struct_value, no_values, more_values, values_of, value_at, is_null_value, field_value, nth_value, list_of_values}
 use Rattle.arrow_data.specs.Slots.{is_valid_at, or_null, bool_slot, int_slot, fixed_slot, binary_slot, utf8_slot, list_slot, struct_slot, slots, place_of, range_of}
 use Rattle.arrow_data.specs.declared.form.Form.TheVariants as forms
@@ -20,7 +20,7 @@ use Rattle.arrow_data.specs.declared.form.OffsetWidth.{OffsetWidth}
 use Rattle.arrow_data.proofs.Shown.{length_slots}
 use Rattle.arrow_data.proofs.Lists.{values_again}
 use Rattle.arrow_body_laws.specs.Packed.{packed, offsets_bytes}
-use Rattle.arrow_body_laws.specs.Raws.{IsOwn, bytes_in_value, fixed_in, greatest_offset, items_in_value, number_in, raws_below, truth_in}
+use Rattle.arrow_body_laws.specs.Raws.{IsOwn, bytes_in_value, fixed_in, items_in_value, number_in, raws_below, truth_in}
 use Rattle.arrow_body_laws.specs.Stored.{nulls_in, number_buffer, validity_bytes}
 use Rattle.arrow_body_laws.proofs.Bits.{packed_bit, packed_few}
 use Rattle.arrow_body_laws.proofs.Pieces.{HaveWidth, cut, int_read, piece, place_read, sum_next}

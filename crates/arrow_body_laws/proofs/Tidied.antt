@@ -17,7 +17,7 @@ use Rattle.arrow_types.specs.Field.{Fields, Head, none, more, width}
 use Rattle.arrow_types.specs.declared.field.Encoding.{Encoding}
 use Rattle.arrow_types.specs.declared.node.FieldNode.{FieldNode}
 use Rattle.arrow_types.specs.declared.node.Buffer.{Buffer}
-use Rattle.arrow_data.specs.Form.{node_form, number_width, offset_bytes}
+use Rattle.arrow_data.specs.Form.{greatest_offset, node_form, number_width, offset_bytes}
 use Rattle.arrow_data.specs.Layout.{buffer}
 use Rattle.arrow_data.specs.PlainValue.{PlainValue, null_value, bool_value, int_value, binary_value, utf8_value, list_value, struct_value, value_at, is_null_value, field_value}
 use Rattle.arrow_data.specs.Slots.{is_valid_at}
@@ -28,7 +28,7 @@ use Rattle.arrow_body_reader.specs.Sound.{lengths_of, nulls_of, own_bytes}
 use Rattle.arrow_body_reader.specs.Taken.{below, flattened, own_buffers, taken_buffers, taken_nodes}
 use Rattle.arrow_body_laws.specs.Laws.{StoredIsTidy}
 use Rattle.arrow_body_laws.specs.Packed.{packed, offsets_bytes}
-use Rattle.arrow_body_laws.specs.Raws.{IsOwn, IsSmall, bytes_in_value, fixed_in, greatest_offset, items_in_value, number_in, raws_below, truth_in}
+use Rattle.arrow_body_laws.specs.Raws.{IsOwn, IsSmall, bytes_in_value, fixed_in, items_in_value, number_in, raws_below, truth_in}
 use Rattle.arrow_body_laws.specs.Stored.{nulls_in, number_buffer, own_chunks, padded, places_from, rounded, stored, stored_chunks, validity_bytes}
 use Rattle.arrow_body_laws.specs.Tidy.{AreAsLong, AreNullSlots, BelowNulls, IsNextMultiple, IsNodeTidy, IsNullSlot, IsSpare, IsTidyBools, IsTidyFixed, IsTidyLayout, IsTidyOffsets, IsTidyValidity, StandInOrder, null_count_of}
 use Rattle.arrow_body_laws.proofs.Bits.{packed_bit, packed_few, packed_spare, empty_spare}

@@ -1,14 +1,12 @@
 -- Raw values of columns, and what they hold.
-use Rattle.std.specs.Prelude.{◌≡◌, ◌≤◌, ◌-◌, ◌^◌, ℕ, ℤ, pos, Bool, false, List, [], ◌∷◌, length, map, replicate, ⊤}
+use Rattle.std.specs.Prelude.{◌≡◌, ◌≤◌, ℕ, ℤ, pos, Bool, false, List, [], ◌∷◌, length, map, replicate, ⊤}
 use Rattle.std.specs.List.{AllByRecursion, flat_map, range_with_len, sum_by}
 use Rattle.arrow_types.specs.Field.{Fields, none, more, width}
 use Rattle.arrow_data.specs.Fits.{HoldsBinary, HoldsInt, HoldsUtf8}
-use Rattle.arrow_data.specs.Form.{IsLists, node_form}
+use Rattle.arrow_data.specs.Form.{IsLists, greatest_offset, node_form}
 use Rattle.arrow_data.specs.PlainValue.{PlainValue, null_value, bool_value, int_value, binary_value, utf8_value, list_value, struct_value, field_value, list_of_values}
 use Rattle.arrow_data.specs.declared.form.Form.{Form}
 use Rattle.arrow_data.specs.declared.form.Form.TheVariants as forms
-use Rattle.arrow_data.specs.declared.form.OffsetWidth.{OffsetWidth}
-use Rattle.arrow_data.specs.declared.form.OffsetWidth.TheVariants.{Small, Large}
 use Rattle.arrow_body_reader.specs.Taken.{IfFlattened}
 
 -- the truth value of a slot, false under a null
@@ -104,11 +102,6 @@ last_offset (forms.Texts w) vs = sum_by (λ v. length (bytes_in_value v)) vs
 last_offset (forms.FixedBytes w) vs = 0
 last_offset (forms.Lists w) vs = sum_by (λ v. length (items_in_value v)) vs
 last_offset forms.Structs vs = 0
-
--- the greatest offset of a width
-abbrev pub greatest_offset : OffsetWidth → ℕ
-greatest_offset Small = 2147483647
-greatest_offset Large = 2 ^ 63 - 1
 
 -- the greatest that the offsets of a node of the form can tell
 abbrev pub offset_limit : Form → ℕ

@@ -1,5 +1,5 @@
 -- The columns of fields, one by one.
-use Rattle.std.proofs.Common.{rules, ◌≡◌, ◌+◌, ℕ, ℤ, List, [], ◌∷◌, length, drop, map, Option, Some, None, IsTrue, is_some, false, refl, sym, ap, ◌∙◌}
+use Rattle.std.proofs.Common.{rules, ◌≡◌, ◌+◌, ℕ, ℤ, List, [], ◌∷◌, length, drop, map, Option, Some, None, IsTrue, is_some, false, refl, sym, ap}
 use Rattle.arrow_types.specs.Field.{Fields, Head, none, more, TypeShape}
 use Rattle.arrow_types.specs.Schema.{has_encoding}
 use Rattle.arrow_types.specs.View.{field_view, type_view}
@@ -8,8 +8,7 @@ use Rattle.arrow_types.specs.declared.field.Field.{Field, the_lemmas}
 use Rattle.arrow_types.specs.declared.node.FieldNode.{FieldNode}
 use Rattle.arrow_types.specs.declared.node.Buffer.{Buffer}
 use Rattle.arrow_data.specs.Column.{Column, ValueList, AreOf, counts_of}
-use Rattle.arrow_data.specs.Form.{form_of, node_form}
-use Rattle.arrow_data.specs.declared.form.Form.{Form}
+use Rattle.arrow_data.specs.Form.{form_of}
 use Rattle.arrow_data.specs.Parts.{node_column, value_slot, index_slot, values_in, AreChildren}
 use Rattle.arrow_data.specs.PlainValue.{PlainValue}
 use Rattle.arrow_data.proofs.Shown.{length_slots}
@@ -37,10 +36,6 @@ node_encoding t (Some e) len b cs values = refl
 node_length : (t : TypeShape) (e : Option Encoding) (len : ℕ) (b : List (List ℕ)) (cs : List Column) (values : List PlainValue) → length (node_column t e len b cs values).raw ≡ len
 node_length t None len b cs values = length_slots len (λ j. value_slot (form_of t.tag) b (map (λ (c : Column). c.raw) cs) j)
 node_length t (Some e) len b cs values = length_slots len (λ j. index_slot e b j)
-
--- the form of the field's own node
-pub form_is : (f : Field) (form : Form) → form ≡ node_form (type_view f.data_type).tag f.dictionary → form ≡ node_form (field_view f).head.tag (field_view f).head.encoding
-form_is f form is = is ∙ ap (λ (t : TypeShape). node_form t.tag f.dictionary) (field_type f) ∙ ap (node_form (field_view f).head.tag) (field_encoding f)
 
 -- the columns have the types of the fields
 pub columns_typed : (body : List ℕ) (ds : List (ℤ × ValueList)) (fields : Fields) (ns : List FieldNode) (bs : List Buffer) → AreOf fields (columns_of body ds fields ns bs)

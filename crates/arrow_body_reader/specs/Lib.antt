@@ -6,3 +6,4 @@ pub mod Leaf
 pub mod Sound
 pub mod Rising
 pub mod Inside
+pub mod Place

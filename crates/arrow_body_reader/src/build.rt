@@ -1,23 +1,19 @@
 //! The arrays of nodes and buffers that were looked at and are as they should be.
 
 ghost use Rattle.std.specs.Prelude.{◌≡◌, ◌++◌, IfOk, IfSome, IsTrue, MatchOption, Some, ⊤};
-ghost use Rattle.std.specs.Prelude.{drop, slice_get, take, [], ◌∷◌};
-ghost use Rattle.arrow_data.specs.Parts.{node_column, values_in};
+ghost use Rattle.std.specs.Prelude.{slice_get, [], ◌∷◌};
 ghost use Rattle.arrow_data.specs.Listed.{IsNodeFit, dictionary_for};
 ghost use Rattle.arrow_data.specs.Shared.{node_type};
 ghost use Rattle.arrow_types.specs.View.{field_view};
-ghost use Rattle.arrow_body_reader.specs.Held.{AreRangesOf};
 ghost use Rattle.arrow_body_reader.specs.Leaf.{IsLeafNode};
-ghost use Rattle.arrow_body_reader.specs.Sound.{IsNodeIndexed, IsNodeLaid, IsNodeText};
-ghost use Rattle.arrow_body_reader.specs.Sound.{columns_of, own_bytes, slots_at};
-ghost use Rattle.arrow_body_reader.specs.Taken.{below, own_buffers};
+ghost use Rattle.arrow_body_reader.specs.Place.{AreRangesAt, IsIndexedAt, IsLaidAt, IsTextAt};
+ghost use Rattle.arrow_body_reader.specs.Place.{children_at, column_at, columns_below, head_at, len_at};
 
 use crate::listed::Listed;
 use crate::look::Node;
-use crate::source::Source;
-use crate::taken::Left;
+use crate::place::{Laid, Place};
 use arrow_data::form::{Form, form_of};
-use arrow_data::{Array, Dictionary};
+use arrow_data::{Array, ChildData, Dictionary, NodeBuffers};
 use arrow_types::{Encoding, Field};
 use bytes::Bytes;
 use std::alloc::{AllocError, Global};
@@ -45,6 +41,16 @@ impl<'a> Builder<'a> {
             Err(_) => None,
         }
     }
+
+    // It with one more array, None where the growth is refused.
+    #[inline(always)]
+    fn with(mut self, array: Array) -> Option<Builder<'a>>
+        ensures { IfSome result (λ new. (new.body.now ≡ self.entry.body.now)
+            × (new.arrays.items ≡ self.entry.arrays.items ++ array ∷ [])) }
+    {
+        self.arrays.push(array).ok()?;
+        Some(self)
+    }
 }
 
 // One for the fields below one, where a builder is left.
@@ -59,68 +65,40 @@ pub(crate) fn builder_below<'a>(builder: &Option<Builder<'a>>, count: usize) -> 
     }
 }
 
-// The builder with the array of the field's own node, None where there is none so far or none for
-// what stands below, the node's texts or indices are not as they should be, or a growth is refused.
+// The builder with the array of the place's node, None where there is none so far or none for what
+// stands below, the node's texts or indices are not as they should be, or a growth is refused.
 #[inline(always)]
 pub(crate) fn with_node<'a>(
     builder: Option<Builder<'a>>,
     inner: Option<Builder<'a>>,
-    field: &Field,
-    own: usize,
-    left: Left<'_>,
+    place: Place<'_>,
     node: &Node,
-    source: Source<'_>,
 ) -> Option<Builder<'a>>
-    requires own { own ≡ own_buffers (field_view field.now).head }
-    requires laid { IsNodeLaid source.body.now (field_view field.now).head
-        (field_view field.now).children left.nodes.now left.buffers.now }
-    requires texts { IsTrue node.now.seen.texts → IsNodeText source.body.now
-        (field_view field.now).head (field_view field.now).children
-        left.nodes.now left.buffers.now }
-    requires indices { IsTrue node.now.seen.indices → IsNodeIndexed source.body.now
-        source.dictionaries.entries.now (field_view field.now).head (field_view field.now).children
-        left.nodes.now left.buffers.now }
-    requires len { node.now.len ≡ slots_at left.nodes.now }
-    requires lies { AreRangesOf source.body.now
-        (take (own_buffers (field_view field.now).head) left.buffers.now)
-        (take (own_buffers (field_view field.now).head) node.now.ranges) }
-    requires building { IfSome builder (λ b. (b.body.now ≡ source.body.now)
-        × (slice_get left.types.now 0
-        ≡ Some (node_type (field_view field.now).head (field_view field.now).children))
-        × IsNodeFit source.dictionaries.entries.now (field_view field.now).head
-        (field_view field.now).children) }
-    requires children { IfSome inner (λ b. b.arrays.items
-        ≡ columns_of source.body.now source.dictionaries.entries.now
-        (below (field_view field.now).head.encoding (field_view field.now).children)
-        (drop 1 left.nodes.now)
-        (drop (own_buffers (field_view field.now).head) left.buffers.now)) }
+    requires laid { IsLaidAt place }
+    requires texts { IsTrue node.now.seen.texts → IsTextAt place }
+    requires indices { IsTrue node.now.seen.indices → IsIndexedAt place }
+    requires len { node.now.laid.len ≡ len_at place }
+    requires lies { AreRangesAt place node.now.laid.ranges }
+    requires building { IfSome builder (λ b. (b.body.now ≡ place.source.body.now)
+        × (slice_get place.left.types.now 0 ≡ Some (node_type (head_at place) (children_at place)))
+        × IsNodeFit place.source.dictionaries.entries.now (head_at place) (children_at place)) }
+    requires children { IfSome inner (λ b. (b.body.now ≡ place.source.body.now)
+        × (b.arrays.items ≡ columns_below place)) }
     ensures { MatchOption result ⊤ (λ new. MatchOption builder.entry ⊥
-        (λ b. (new.body.now ≡ b.body.now) × (new.arrays.items ≡ b.arrays.items
-        ++ node_column
-        (node_type (field_view field.now).head (field_view field.now).children).data_type
-        (field_view field.now).head.encoding (slots_at left.entry.nodes.now)
-        (own_bytes source.entry.body.now (field_view field.now).head left.entry.buffers.now)
-        (columns_of source.entry.body.now source.entry.dictionaries.entries.now
-        (below (field_view field.now).head.encoding (field_view field.now).children)
-        (drop 1 left.entry.nodes.now)
-        (drop (own_buffers (field_view field.now).head) left.entry.buffers.now))
-        (values_in (dictionary_for source.entry.dictionaries.entries.now
-        (field_view field.now).head.encoding)) ∷ []))) }
+        (λ b. (new.body.now ≡ b.body.now)
+        × (new.arrays.items ≡ b.arrays.items ++ column_at place.entry ∷ []))) }
 {
-    let Some(builder) = builder else {
-        return None;
-    };
-    let Some(inner) = inner else {
-        return None;
-    };
+    let builder = builder?;
+    let inner = inner?;
     if !node.seen.texts || !node.seen.indices {
         return None;
     }
-    if is_leaf(field) {
-        with_leaf(builder, field, own, left, node, source)
+    let array = if is_leaf(place.field) {
+        leaf_of(builder.alloc, builder.body, place, node.laid)?
     } else {
-        with_array(builder, inner, field, own, left, node, source)
-    }
+        array_of(inner, place, node.laid)?
+    };
+    builder.with(array)
 }
 
 // Whether the field's node has neither children nor a dictionary.
@@ -141,128 +119,59 @@ fn is_leaf(field: &Field) -> bool
         }
 }
 
-// The same of a node whose texts are as they should be, and which has neither children nor a
-// dictionary.
+// The array of a node whose texts are as they should be, and which has neither children nor a
+// dictionary; None where a growth is refused.
 #[inline(always)]
-fn with_leaf<'a>(
-    builder: Builder<'a>,
-    field: &Field,
-    own: usize,
-    left: Left<'_>,
-    node: &Node,
-    source: Source<'_>,
-) -> Option<Builder<'a>>
-    requires leaf { IsLeafNode (field_view field.now).head (field_view field.now).children }
-    requires own { own ≡ own_buffers (field_view field.now).head }
-    requires laid { IsNodeLaid source.body.now (field_view field.now).head
-        (field_view field.now).children left.nodes.now left.buffers.now }
-    requires text { IsNodeText source.body.now (field_view field.now).head
-        (field_view field.now).children left.nodes.now left.buffers.now }
-    requires len { node.now.len ≡ slots_at left.nodes.now }
-    requires lies { AreRangesOf source.body.now
-        (take (own_buffers (field_view field.now).head) left.buffers.now)
-        (take (own_buffers (field_view field.now).head) node.now.ranges) }
-    requires same { builder.body.now ≡ source.body.now }
-    requires typed { slice_get left.types.now 0
-        ≡ Some (node_type (field_view field.now).head (field_view field.now).children) }
-    ensures { IfSome result
-        (λ new. (new.body.now ≡ builder.entry.body.now)
-        × (new.arrays.items ≡ builder.entry.arrays.items ++ node_column
-        (node_type (field_view field.now).head (field_view field.now).children).data_type
-        (field_view field.now).head.encoding (slots_at left.entry.nodes.now)
-        (own_bytes source.entry.body.now (field_view field.now).head left.entry.buffers.now)
-        (columns_of source.entry.body.now source.entry.dictionaries.entries.now
-        (below (field_view field.now).head.encoding (field_view field.now).children)
-        (drop 1 left.entry.nodes.now)
-        (drop (own_buffers (field_view field.now).head) left.entry.buffers.now))
-        (values_in (dictionary_for source.entry.dictionaries.entries.now
-        (field_view field.now).head.encoding)) ∷ [])) }
+fn leaf_of(alloc: Global, body: &Bytes, place: Place<'_>, laid: Laid) -> Option<Array>
+    requires leaf { IsLeafNode (head_at place) (children_at place) }
+    requires laid { IsLaidAt place }
+    requires text { IsTextAt place }
+    requires len { laid.len ≡ len_at place }
+    requires lies { AreRangesAt place laid.ranges }
+    requires same { body.now ≡ place.source.body.now }
+    requires typed { slice_get place.left.types.now 0
+        ≡ Some (node_type (head_at place) (children_at place)) }
+    ensures { IfSome result (λ array. array ≡ column_at place.entry) }
 {
-    let Some((shared, _)) = left.types.split_first() else {
-        unreachable!();
+    let shared = place.left.types.first()?;
+    let buffers = NodeBuffers {
+        len: laid.len,
+        body,
+        ranges: &laid.ranges[..place.own],
     };
-    let Ok(array) = Array::from_leaf_parts(shared, node.len, builder.body, &node.ranges[..own])
-    else {
-        return None;
-    };
-    let mut arrays = builder.arrays;
-    if arrays.push(array).is_err() {
-        return None;
-    }
-    Some(Builder {
-        alloc: builder.alloc,
-        body: builder.body,
-        arrays,
-    })
+    Array::from_leaf_parts(alloc, shared, buffers).ok()
 }
 
-// The same of a node whose texts and indices are as they should be.
+// The array of a node whose texts and indices are as they should be, with those below it; None where
+// a growth is refused.
 #[inline(always)]
-fn with_array<'a>(
-    builder: Builder<'a>,
-    inner: Builder<'a>,
-    field: &Field,
-    own: usize,
-    left: Left<'_>,
-    node: &Node,
-    source: Source<'_>,
-) -> Option<Builder<'a>>
-    requires own { own ≡ own_buffers (field_view field.now).head }
-    requires laid { IsNodeLaid source.body.now (field_view field.now).head
-        (field_view field.now).children left.nodes.now left.buffers.now }
-    requires text { IsNodeText source.body.now (field_view field.now).head
-        (field_view field.now).children left.nodes.now left.buffers.now }
-    requires indexed { IsNodeIndexed source.body.now source.dictionaries.entries.now
-        (field_view field.now).head (field_view field.now).children
-        left.nodes.now left.buffers.now }
-    requires len { node.now.len ≡ slots_at left.nodes.now }
-    requires lies { AreRangesOf source.body.now
-        (take (own_buffers (field_view field.now).head) left.buffers.now)
-        (take (own_buffers (field_view field.now).head) node.now.ranges) }
-    requires same { builder.body.now ≡ source.body.now }
-    requires typed { slice_get left.types.now 0
-        ≡ Some (node_type (field_view field.now).head (field_view field.now).children) }
-    requires fit { IsNodeFit source.dictionaries.entries.now (field_view field.now).head
-        (field_view field.now).children }
-    requires children { inner.arrays.items
-        ≡ columns_of source.body.now source.dictionaries.entries.now
-        (below (field_view field.now).head.encoding (field_view field.now).children)
-        (drop 1 left.nodes.now)
-        (drop (own_buffers (field_view field.now).head) left.buffers.now) }
-    ensures { IfSome result
-        (λ new. (new.body.now ≡ builder.entry.body.now)
-        × (new.arrays.items ≡ builder.entry.arrays.items ++ node_column
-        (node_type (field_view field.now).head (field_view field.now).children).data_type
-        (field_view field.now).head.encoding (slots_at left.entry.nodes.now)
-        (own_bytes source.entry.body.now (field_view field.now).head left.entry.buffers.now)
-        (columns_of source.entry.body.now source.entry.dictionaries.entries.now
-        (below (field_view field.now).head.encoding (field_view field.now).children)
-        (drop 1 left.entry.nodes.now)
-        (drop (own_buffers (field_view field.now).head) left.entry.buffers.now))
-        (values_in (dictionary_for source.entry.dictionaries.entries.now
-        (field_view field.now).head.encoding)) ∷ [])) }
+fn array_of(inner: Builder<'_>, place: Place<'_>, laid: Laid) -> Option<Array>
+    requires laid { IsLaidAt place }
+    requires text { IsTextAt place }
+    requires indexed { IsIndexedAt place }
+    requires len { laid.len ≡ len_at place }
+    requires lies { AreRangesAt place laid.ranges }
+    requires same { inner.body.now ≡ place.source.body.now }
+    requires typed { slice_get place.left.types.now 0
+        ≡ Some (node_type (head_at place) (children_at place)) }
+    requires fit { IsNodeFit place.source.dictionaries.entries.now
+        (head_at place) (children_at place) }
+    requires children { inner.arrays.items ≡ columns_below place }
+    ensures { IfSome result (λ array. array ≡ column_at place.entry) }
 {
-    let Some((shared, _)) = left.types.split_first() else {
-        unreachable!();
+    let shared = place.left.types.first()?;
+    let encoding = place.field.dictionary;
+    let dictionary = dictionary_of(inner.alloc, encoding, place.source.dictionaries).ok()?;
+    let buffers = NodeBuffers {
+        len: laid.len,
+        body: inner.body,
+        ranges: &laid.ranges[..place.own],
     };
-    let dictionary = dictionary_of(builder.alloc, field.dictionary, source.dictionaries).ok()?;
-    let array = Array::from_shared_parts(
-        builder.alloc,
-        shared,
-        node.len,
-        builder.body,
-        &node.ranges[..own],
-        inner.arrays,
+    let below = ChildData {
+        children: inner.arrays,
         dictionary,
-    )
-    .ok()?;
-    let mut arrays = builder.arrays;
-    arrays.push(array).ok()?;
-    Some(Builder {
-        alloc: builder.alloc,
-        body: builder.body,
-        arrays,
-    })
+    };
+    Array::from_shared_parts(inner.alloc, shared, buffers, below).ok()
 }
 
 // The dictionary that is listed for a field with this encoding, shared.

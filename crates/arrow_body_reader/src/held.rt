@@ -1,10 +1,11 @@
 //! Buffers in a body.
 
-ghost use Rattle.std.specs.Prelude.{◌≡◌, ◌≤◌, ◌<◌, MatchOption, length, map, take};
+ghost use Rattle.std.specs.Prelude.{◌≡◌, ◌≤◌, ◌<◌, MatchOption, length, take};
 ghost use Rattle.std.specs.List.{AllByRecursion};
 ghost use Rattle.arrow_data.specs.Layout.{buffer};
 ghost use Rattle.arrow_data.specs.Node.{bytes_of, IsInside};
 ghost use Rattle.arrow_body_reader.specs.Held.{AreRangesOf, IsHeld, bytes_in};
+ghost use Rattle.arrow_body_reader.specs.Place.{buffers_in};
 
 use arrow_data::ByteRange;
 use arrow_types::Buffer;
@@ -58,12 +59,21 @@ pub(crate) fn own_ranges(body: &[u8], buffers: &[Buffer], own: usize) -> Option<
     }
 }
 
-// The bytes of range `k`.
-#[inline(always)]
-pub(crate) fn bytes_at<'a>(body: &'a [u8], ranges: &[ByteRange], k: usize) -> &'a [u8]
-    requires there { k < length ranges.now }
-    requires inside { AllByRecursion (IsInside body.now) ranges.now }
-    ensures { result.now ≡ buffer (map (bytes_of body.now) ranges.now) k }
-{
-    &body[ranges[k].start..ranges[k].end]
+// Ranges of a body.
+#[derive(Clone, Copy)]
+pub(crate) struct Ranges<'a> {
+    pub(crate) body: &'a [u8],
+    pub(crate) ranges: &'a [ByteRange],
+}
+
+impl<'a> Ranges<'a> {
+    // The bytes of range `k`.
+    #[inline(always)]
+    pub(crate) fn bytes(self, k: usize) -> &'a [u8]
+        requires there { k < length self.ranges.now }
+        requires inside { AllByRecursion (IsInside self.body.now) self.ranges.now }
+        ensures { result.now ≡ buffer (buffers_in self.entry) k }
+    {
+        &self.body[self.ranges[k].start..self.ranges[k].end]
+    }
 }

@@ -1,16 +1,17 @@
 //! Whether the indices of a body have their values.
 
-ghost use Rattle.std.specs.Prelude.{◌≤◌, ◌↔◌, IsTrue, Some, length, map};
+ghost use Rattle.std.specs.Prelude.{◌≤◌, ◌↔◌, IsTrue, Some, length};
 ghost use Rattle.std.specs.List.{AllByRecursion};
 ghost use Rattle.arrow_data.specs.Layout.{HasFixed, buffer};
-ghost use Rattle.arrow_data.specs.Node.{bytes_of, IsInside};
+ghost use Rattle.arrow_data.specs.Node.{IsInside};
 ghost use Rattle.arrow_data.specs.Parts.{values_in};
 ghost use Rattle.arrow_data.specs.Slots.{AreIndices, index_width};
 ghost use Rattle.arrow_data.specs.Listed.{dictionary_for};
+ghost use Rattle.arrow_body_reader.specs.Place.{buffers_in};
 
-use crate::held::bytes_at;
+use crate::held::Ranges;
 use crate::listed::Listed;
-use arrow_data::ByteRange;
+use arrow_data::NumberBuffers;
 use arrow_data::layout::are_indices;
 use arrow_types::Encoding;
 
@@ -19,19 +20,16 @@ use arrow_types::Encoding;
 pub(crate) fn have_values(
     encoding: Encoding,
     len: usize,
-    body: &[u8],
-    ranges: &[ByteRange],
+    held: Ranges<'_>,
     dictionaries: Listed<'_>,
 ) -> bool
-    requires count { 2 ≤ length ranges.now }
-    requires inside { AllByRecursion (IsInside body.now) ranges.now }
+    requires count { 2 ≤ length held.ranges.now }
+    requires inside { AllByRecursion (IsInside held.body.now) held.ranges.now }
     requires laid { HasFixed len (index_width encoding.index)
-        (buffer (map (bytes_of body.now) ranges.now) 0)
-        (buffer (map (bytes_of body.now) ranges.now) 1) }
+        (buffer (buffers_in held) 0) (buffer (buffers_in held) 1) }
     ensures { IsTrue result
         ↔ AreIndices len (index_width encoding.index) encoding.index.signed
-        (buffer (map (bytes_of body.now) ranges.now) 0)
-        (buffer (map (bytes_of body.now) ranges.now) 1)
+        (buffer (buffers_in held.entry) 0) (buffer (buffers_in held.entry) 1)
         (length (values_in (dictionary_for dictionaries.entry.entries.now (Some encoding)))) }
 {
     let count = match dictionaries.find(encoding.id) {
@@ -40,10 +38,12 @@ pub(crate) fn have_values(
     };
     are_indices(
         len,
-        (encoding.index.bits.bits() / 8) as usize,
-        encoding.index.signed,
-        bytes_at(body, ranges, 0),
-        bytes_at(body, ranges, 1),
+        NumberBuffers {
+            width: (encoding.index.bits.bits() / 8) as usize,
+            signed: encoding.index.signed,
+            validity: held.bytes(0),
+            values: held.bytes(1),
+        },
         count,
     )
 }

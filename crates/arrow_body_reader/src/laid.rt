@@ -1,23 +1,27 @@
 //! Whether nodes and buffers lie in the body as the types of their fields ask for.
 
-ghost use Rattle.std.specs.Prelude.{◌≡◌, ◌≤◌, ◌↔◌, IsTrue, length, map};
+ghost use Rattle.std.specs.Prelude.{◌≡◌, ◌≤◌, ◌↔◌, IsTrue, MatchOption, length, [], ◌∷◌};
 ghost use Rattle.std.specs.List.{AllByRecursion};
-ghost use Rattle.arrow_data.specs.Form.{buffers_of, node_form};
+ghost use Rattle.arrow_data.specs.Form.{buffers_of};
 ghost use Rattle.arrow_data.specs.Layout.{IsLaid, buffer};
-ghost use Rattle.arrow_data.specs.Node.{bytes_of, IsInside};
+ghost use Rattle.arrow_data.specs.Node.{IsInside};
 ghost use Rattle.arrow_data.specs.Slots.{HasBits};
+ghost use Rattle.arrow_types.specs.Field.{fields_of};
 ghost use Rattle.arrow_types.specs.View.{field_view};
 ghost use Rattle.arrow_body_reader.specs.Held.{count_of};
 ghost use Rattle.arrow_body_reader.specs.Least.{IsLeast};
-ghost use Rattle.arrow_body_reader.specs.Sound.{IsCount, IsCountOf, lengths_of, slots_at};
-ghost use Rattle.arrow_body_reader.specs.Taken.{below, own_buffers};
+ghost use Rattle.arrow_body_reader.specs.Place.{AreRangesAt, IsLaidAt, buffers_in, head_at};
+ghost use Rattle.arrow_body_reader.specs.Place.{len_at, lengths_below};
+ghost use Rattle.arrow_body_reader.specs.Sound.{IsCount, IsCountOf, slots_at};
+ghost use Rattle.arrow_body_reader.specs.Taken.{AreThere, own_buffers};
 
-use crate::held::bytes_at;
+use crate::held::{Ranges, own_ranges};
+use crate::place::{Laid, Place};
 use arrow_bits::Bits;
-use arrow_data::ByteRange;
 use arrow_data::form::Form;
 use arrow_data::layout::{has_bits, has_bools, has_fixed, has_lists, has_strings};
-use arrow_types::{Field, FieldNode};
+use arrow_data::{OffsetBuffer, StringBuffers};
+use arrow_types::FieldNode;
 
 // How many slots the first node has, 0 where a number stands there that is none.
 #[inline(always)]
@@ -49,80 +53,92 @@ fn is_count(node: FieldNode, len: usize, validity: &[u8]) -> bool
     }
 }
 
-// Whether the buffers, and the nodes below, of which the shortest has `least` slots, hold `len`
-// slots of the field.
-#[inline(always)]
-pub(crate) fn are_buffers_laid(
-    field: &Field,
-    form: Form,
-    len: usize,
-    body: &[u8],
-    ranges: &[ByteRange],
-    nodes: &[FieldNode],
-    least: usize,
-) -> bool
-    requires form { form
-        ≡ node_form (field_view field.now).head.tag (field_view field.now).head.encoding }
-    requires few { len ≤ 2147483647 }
-    requires count { own_buffers (field_view field.now).head ≡ length ranges.now }
-    requires inside { AllByRecursion (IsInside body.now) ranges.now }
-    requires least { IsLeast least (lengths_of
-        (below (field_view field.now).head.encoding (field_view field.now).children) nodes.now) }
-    ensures { IsTrue result
-        ↔ IsLaid (field_view field.now).head.tag (field_view field.now).head.encoding
-        len (map (bytes_of body.now) ranges.now)
-        (lengths_of (below (field_view field.now).head.encoding (field_view field.now).children)
-        nodes.now) }
-{
-    match form {
-        Form::Nulls => true,
-        Form::Bits => has_bools(len, bytes_at(body, ranges, 0), bytes_at(body, ranges, 1)),
-        Form::Numbers { bits, .. } => has_fixed(
-            len,
-            (bits.bits() / 8) as usize,
-            bytes_at(body, ranges, 0),
-            bytes_at(body, ranges, 1),
-        ),
-        Form::FixedBytes(width) => has_fixed(
-            len,
-            width as usize,
-            bytes_at(body, ranges, 0),
-            bytes_at(body, ranges, 1),
-        ),
-        Form::Bytes(width) | Form::Texts(width) => has_strings(
-            width,
-            len,
-            bytes_at(body, ranges, 0),
-            bytes_at(body, ranges, 1),
-            bytes_at(body, ranges, 2),
-        ),
-        Form::Lists(width) => has_lists(
-            width,
-            len,
-            bytes_at(body, ranges, 0),
-            bytes_at(body, ranges, 1),
-            slots(nodes),
-        ),
-        Form::Structs => has_bits(len, bytes_at(body, ranges, 0)) && len <= least,
+impl Place<'_> {
+    // How many slots the node has and where its own buffers lie, None where they do not lie in the
+    // body as its type asks for; of the fields below it the shortest has `least` slots.
+    #[inline(always)]
+    pub(crate) fn laid(self, least: usize) -> Option<Laid>
+        requires there { AreThere (fields_of (field_view self.field.now ∷ []))
+            self.left.nodes.now self.left.buffers.now }
+        requires least { IsLeast least (lengths_below self) }
+        ensures { MatchOption result (IsLaidAt self.entry → ⊥) (λ laid. IsLaidAt self.entry
+            × (laid.len ≡ len_at self.entry) × AreRangesAt self.entry laid.ranges) }
+    {
+        let node = self.left.nodes[0];
+        if node.length < 0 || node.length > 2147483647 {
+            return None;
+        }
+        let len = node.length as usize;
+        let body = self.source.body;
+        let ranges = own_ranges(body, self.left.buffers, self.own)?;
+        let held = Ranges {
+            body,
+            ranges: &ranges[..self.own],
+        };
+        if self.are_buffers_laid(len, held, least) && is_counted(self.form, node, len, held) {
+            Some(Laid { len, ranges })
+        } else {
+            None
+        }
+    }
+
+    // Whether the buffers, and the nodes below, of which the shortest has `least` slots, hold `len`
+    // slots of the field.
+    #[inline(always)]
+    fn are_buffers_laid(self, len: usize, held: Ranges<'_>, least: usize) -> bool
+        requires node { 1 ≤ length self.left.nodes.now }
+        requires few { len ≤ 2147483647 }
+        requires count { own_buffers (head_at self) ≡ length held.ranges.now }
+        requires inside { AllByRecursion (IsInside held.body.now) held.ranges.now }
+        requires least { IsLeast least (lengths_below self) }
+        ensures { IsTrue result
+            ↔ IsLaid (head_at self.entry).tag (head_at self.entry).encoding
+            len (buffers_in held.entry) (lengths_below self.entry) }
+    {
+        match self.form {
+            Form::Nulls => true,
+            Form::Bits => has_bools(len, held.bytes(0), held.bytes(1)),
+            Form::Numbers { bits, .. } => has_fixed(
+                len,
+                (bits.bits() / 8) as usize,
+                held.bytes(0),
+                held.bytes(1),
+            ),
+            Form::FixedBytes(width) => {
+                has_fixed(len, width as usize, held.bytes(0), held.bytes(1))
+            }
+            Form::Bytes(width) | Form::Texts(width) => has_strings(
+                len,
+                StringBuffers {
+                    width,
+                    validity: held.bytes(0),
+                    offsets: held.bytes(1),
+                    bytes: held.bytes(2),
+                },
+            ),
+            Form::Lists(width) => has_lists(
+                held.bytes(0),
+                OffsetBuffer {
+                    width,
+                    len,
+                    top: slots(&self.left.nodes[1..]),
+                    bytes: held.bytes(1),
+                },
+            ),
+            Form::Structs => has_bits(len, held.bytes(0)) && len <= least,
+        }
     }
 }
 
 // Whether the number of nulls of a node of the form is that of its bitmap; of one without buffers
 // any number is taken.
 #[inline(always)]
-pub(crate) fn is_counted(
-    form: Form,
-    node: FieldNode,
-    len: usize,
-    body: &[u8],
-    ranges: &[ByteRange],
-) -> bool
-    requires count { buffers_of form ≡ length ranges.now }
-    requires inside { AllByRecursion (IsInside body.now) ranges.now }
+fn is_counted(form: Form, node: FieldNode, len: usize, held: Ranges<'_>) -> bool
+    requires count { buffers_of form ≡ length held.ranges.now }
+    requires inside { AllByRecursion (IsInside held.body.now) held.ranges.now }
     requires slots { len ≡ count_of node.length }
-    requires bits { HasBits len (buffer (map (bytes_of body.now) ranges.now) 0) }
-    ensures { IsTrue result
-        ↔ IsCountOf form node (buffer (map (bytes_of body.now) ranges.now) 0) }
+    requires bits { HasBits len (buffer (buffers_in held) 0) }
+    ensures { IsTrue result ↔ IsCountOf form node (buffer (buffers_in held.entry) 0) }
 {
     match form {
         Form::Nulls => true,
@@ -132,6 +148,6 @@ pub(crate) fn is_counted(
         | Form::Texts(_)
         | Form::FixedBytes(_)
         | Form::Lists(_)
-        | Form::Structs => is_count(node, len, bytes_at(body, ranges, 0)),
+        | Form::Structs => is_count(node, len, held.bytes(0)),
     }
 }

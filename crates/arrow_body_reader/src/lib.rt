@@ -39,6 +39,7 @@ mod laid;
 pub mod laws;
 mod listed;
 mod look;
+mod place;
 mod source;
 mod taken;
 mod text;

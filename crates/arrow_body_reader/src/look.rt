@@ -2,28 +2,26 @@
 
 ghost use Rattle.std.specs.Prelude.{◌≡◌, ◌↔◌, IfSome, IsTrue, MatchOption, drop, length, take};
 ghost use Rattle.std.specs.Prelude.{[], ◌∷◌};
-ghost use Rattle.arrow_data.specs.Form.{node_form};
 ghost use Rattle.arrow_types.specs.Field.{fields_of};
 ghost use Rattle.arrow_types.specs.View.{field_view, fields_view};
 ghost use Rattle.arrow_body_reader.specs.Sound.{AreFit, AreIndexed, AreLaid, AreText};
-ghost use Rattle.arrow_body_reader.specs.Sound.{IsNodeIndexed, IsNodeLaid, IsNodeText};
-ghost use Rattle.arrow_body_reader.specs.Sound.{columns_of, lengths_of, slots_at};
+ghost use Rattle.arrow_body_reader.specs.Sound.{columns_of, lengths_of};
 ghost use Rattle.arrow_body_reader.specs.Held.{AreRangesOf};
 ghost use Rattle.arrow_body_reader.specs.Least.{IsLeast};
-ghost use Rattle.arrow_body_reader.specs.Taken.{AreThere, below, own_buffers};
+ghost use Rattle.arrow_body_reader.specs.Place.{AreRangesAt, IsIndexedAt, IsLaidAt, IsTextAt};
+ghost use Rattle.arrow_body_reader.specs.Place.{head_at, len_at, lengths_below};
+ghost use Rattle.arrow_body_reader.specs.Taken.{AreThere, own_buffers};
 ghost use Rattle.arrow_body_reader.specs.Taken.{taken_buffers, taken_nodes};
 ghost use Rattle.arrow_body_reader.specs.Types.{HaveTypes};
 
 use crate::build::{Builder, builder_below, with_node};
-use crate::held::own_ranges;
+use crate::held::Ranges;
 use crate::indexed::have_values;
-use crate::laid::{are_buffers_laid, is_counted};
-use crate::listed::Listed;
+use crate::place::{Laid, Place};
 use crate::source::Source;
-use crate::taken::{Left, below, inside, own_buffers};
+use crate::taken::{Left, below, inside};
 use crate::text::are_texts_in;
-use arrow_data::ByteRange;
-use arrow_data::form::{Form, node_form};
+use arrow_data::form::Form;
 use arrow_types::Field;
 
 // What was seen of nodes and buffers that lie in the body as their fields ask for.
@@ -60,175 +58,78 @@ pub(crate) struct Found<'a> {
     pub(crate) builder: Option<Builder<'a>>,
 }
 
-// Where a field's own node and buffers lie.
-#[derive(Clone, Copy)]
-struct Place {
-    len: usize,
-    ranges: [ByteRange; 3],
-}
-
 // A field's own node: how many slots it has, where its own buffers lie, and what was seen of them.
-// The ranges are made and tested in `laid` alone, and handed on.
 #[derive(Clone, Copy)]
 pub(crate) struct Node {
-    pub(crate) len: usize,
-    pub(crate) ranges: [ByteRange; 3],
+    pub(crate) laid: Laid,
     pub(crate) seen: Seen,
 }
 
-// Where the field's own node and buffers lie, None where they do not lie in the body as its type
-// asks for; of the fields below it the shortest has `least` slots.
-#[inline(always)]
-fn laid(
-    field: &Field,
-    form: Form,
-    own: usize,
-    left: Left<'_>,
-    least: usize,
-    body: &[u8],
-) -> Option<Place>
-    requires form { form
-        ≡ node_form (field_view field.now).head.tag (field_view field.now).head.encoding }
-    requires own { own ≡ own_buffers (field_view field.now).head }
-    requires there { AreThere
-        (fields_of (field_view field.now ∷ [])) left.nodes.now left.buffers.now }
-    requires least { IsLeast least (lengths_of
-        (below (field_view field.now).head.encoding (field_view field.now).children)
-        (drop 1 left.nodes.now)) }
-    ensures { MatchOption result
-        (IsNodeLaid body.now (field_view field.now).head (field_view field.now).children
-        left.entry.nodes.now left.entry.buffers.now → ⊥)
-        (λ place. IsNodeLaid body.now (field_view field.now).head (field_view field.now).children
-        left.entry.nodes.now left.entry.buffers.now
-        × (place.len ≡ slots_at left.entry.nodes.now)
-        × AreRangesOf body.now
-        (take (own_buffers (field_view field.now).head) left.entry.buffers.now)
-        (take (own_buffers (field_view field.now).head) place.ranges)) }
-{
-    let node = left.nodes[0];
-    if node.length < 0 || node.length > 2147483647 {
-        return None;
-    }
-    let len = node.length as usize;
-    let ranges = own_ranges(body, left.buffers, own)?;
-    if are_buffers_laid(
-        field,
-        form,
-        len,
-        body,
-        &ranges[..own],
-        &left.nodes[1..],
-        least,
-    ) && is_counted(form, node, len, body, &ranges[..own])
+impl Place<'_> {
+    // Whether the valid slots of the node, if it is one of texts, are UTF-8.
+    #[inline(always)]
+    fn has_texts(self, len: usize, held: Ranges<'_>) -> bool
+        requires laid { IsLaidAt self }
+        requires len { len ≡ len_at self }
+        requires body { held.body.now ≡ self.source.body.now }
+        requires lies { AreRangesOf self.source.body.now
+            (take (own_buffers (head_at self)) self.left.buffers.now) held.ranges.now }
+        requires count { own_buffers (head_at self) ≡ length held.ranges.now }
+        ensures { IsTrue result ↔ IsTextAt self.entry }
     {
-        Some(Place { len, ranges })
-    } else {
-        None
+        match self.form {
+            Form::Texts(width) => are_texts_in(width, len, held),
+            Form::Nulls
+            | Form::Bits
+            | Form::Numbers { .. }
+            | Form::Bytes(_)
+            | Form::FixedBytes(_)
+            | Form::Lists(_)
+            | Form::Structs => true,
+        }
     }
-}
 
-// Whether the valid slots of the field's own node, if it is one of texts, are UTF-8.
-#[inline(always)]
-fn has_texts(
-    field: &Field,
-    form: Form,
-    left: Left<'_>,
-    body: &[u8],
-    len: usize,
-    ranges: &[ByteRange],
-) -> bool
-    requires form { form
-        ≡ node_form (field_view field.now).head.tag (field_view field.now).head.encoding }
-    requires laid { IsNodeLaid body.now (field_view field.now).head
-        (field_view field.now).children left.nodes.now left.buffers.now }
-    requires len { len ≡ slots_at left.nodes.now }
-    requires lies { AreRangesOf body.now
-        (take (own_buffers (field_view field.now).head) left.buffers.now) ranges.now }
-    requires count { own_buffers (field_view field.now).head ≡ length ranges.now }
-    ensures { IsTrue result ↔ IsNodeText body.now (field_view field.now).head
-        (field_view field.now).children left.entry.nodes.now left.entry.buffers.now }
-{
-    match form {
-        Form::Texts(width) => are_texts_in(width, len, body, ranges),
-        Form::Nulls
-        | Form::Bits
-        | Form::Numbers { .. }
-        | Form::Bytes(_)
-        | Form::FixedBytes(_)
-        | Form::Lists(_)
-        | Form::Structs => true,
+    // Whether the valid slots of the node, if it is dictionary-encoded, have their values.
+    #[inline(always)]
+    fn has_values(self, len: usize, held: Ranges<'_>) -> bool
+        requires laid { IsLaidAt self }
+        requires len { len ≡ len_at self }
+        requires body { held.body.now ≡ self.source.body.now }
+        requires lies { AreRangesOf self.source.body.now
+            (take (own_buffers (head_at self)) self.left.buffers.now) held.ranges.now }
+        requires count { own_buffers (head_at self) ≡ length held.ranges.now }
+        ensures { IsTrue result ↔ IsIndexedAt self.entry }
+    {
+        match self.field.dictionary {
+            Some(encoding) => have_values(encoding, len, held, self.source.dictionaries),
+            None => true,
+        }
     }
-}
 
-// Whether the valid slots of the field's own node, if it is dictionary-encoded, have their values.
-#[inline(always)]
-fn has_values(
-    field: &Field,
-    left: Left<'_>,
-    body: &[u8],
-    len: usize,
-    ranges: &[ByteRange],
-    dictionaries: Listed<'_>,
-) -> bool
-    requires laid { IsNodeLaid body.now (field_view field.now).head
-        (field_view field.now).children left.nodes.now left.buffers.now }
-    requires len { len ≡ slots_at left.nodes.now }
-    requires lies { AreRangesOf body.now
-        (take (own_buffers (field_view field.now).head) left.buffers.now) ranges.now }
-    requires count { own_buffers (field_view field.now).head ≡ length ranges.now }
-    ensures { IsTrue result ↔ IsNodeIndexed body.now dictionaries.entry.entries.now
-        (field_view field.now).head (field_view field.now).children
-        left.entry.nodes.now left.entry.buffers.now }
-{
-    match field.dictionary {
-        Some(encoding) => have_values(encoding, len, body, ranges, dictionaries),
-        None => true,
+    // A look at the node: None where it does not lie in the body as its type asks for; of the fields
+    // below it the shortest has `least` slots.
+    #[inline(always)]
+    fn node(self, least: usize) -> Option<Node>
+        requires there { AreThere (fields_of (field_view self.field.now ∷ []))
+            self.left.nodes.now self.left.buffers.now }
+        requires least { IsLeast least (lengths_below self) }
+        ensures seen { MatchOption result (IsLaidAt self.entry → ⊥) (λ node. IsLaidAt self.entry
+            × (IsTrue node.seen.texts ↔ IsTextAt self.entry)
+            × (IsTrue node.seen.indices ↔ IsIndexedAt self.entry)) }
+        ensures len { IfSome result (λ node. node.laid.len ≡ len_at self.entry) }
+        ensures lies { IfSome result (λ node. AreRangesAt self.entry node.laid.ranges) }
+    {
+        let laid = self.laid(least)?;
+        let held = Ranges {
+            body: self.source.body,
+            ranges: &laid.ranges[..self.own],
+        };
+        let seen = Seen {
+            texts: self.has_texts(laid.len, held),
+            indices: self.has_values(laid.len, held),
+        };
+        Some(Node { laid, seen })
     }
-}
-
-// A look at the field's own node: None where it does not lie in the body as its type asks for; of
-// the fields below it the shortest has `least` slots.
-#[inline(always)]
-fn look_at(
-    field: &Field,
-    form: Form,
-    own: usize,
-    left: Left<'_>,
-    least: usize,
-    source: Source<'_>,
-) -> Option<Node>
-    requires form { form
-        ≡ node_form (field_view field.now).head.tag (field_view field.now).head.encoding }
-    requires own { own ≡ own_buffers (field_view field.now).head }
-    requires there { AreThere
-        (fields_of (field_view field.now ∷ [])) left.nodes.now left.buffers.now }
-    requires least { IsLeast least (lengths_of
-        (below (field_view field.now).head.encoding (field_view field.now).children)
-        (drop 1 left.nodes.now)) }
-    ensures seen { MatchOption result
-        (IsNodeLaid source.entry.body.now (field_view field.now).head
-        (field_view field.now).children left.entry.nodes.now left.entry.buffers.now → ⊥)
-        (λ node. IsNodeLaid source.entry.body.now (field_view field.now).head
-        (field_view field.now).children left.entry.nodes.now left.entry.buffers.now
-        × (IsTrue node.seen.texts ↔ IsNodeText source.entry.body.now (field_view field.now).head
-        (field_view field.now).children left.entry.nodes.now left.entry.buffers.now)
-        × (IsTrue node.seen.indices
-        ↔ IsNodeIndexed source.entry.body.now source.entry.dictionaries.entries.now
-        (field_view field.now).head (field_view field.now).children
-        left.entry.nodes.now left.entry.buffers.now)) }
-    ensures len { IfSome result (λ node. node.len ≡ slots_at left.entry.nodes.now) }
-    ensures lies { IfSome result (λ node. AreRangesOf source.entry.body.now
-        (take (own_buffers (field_view field.now).head) left.entry.buffers.now)
-        (take (own_buffers (field_view field.now).head) node.ranges)) }
-{
-    let body = source.body;
-    let Place { len, ranges } = laid(field, form, own, left, least, body)?;
-    let held = &ranges[..own];
-    let seen = Seen {
-        texts: has_texts(field, form, left, body, len, held),
-        indices: has_values(field, left, body, len, held, source.dictionaries),
-    };
-    Some(Node { len, ranges, seen })
 }
 
 // A look at all nodes of the fields, on every level: None where there are fewer nodes or buffers
@@ -279,22 +180,21 @@ pub(crate) fn look<'a>(
     let mut rest = left;
     let mut making = builder;
     for field in fields {
-        let form = node_form(&field.data_type, field.dictionary);
-        let own = own_buffers(form);
-        if rest.nodes.is_empty() || rest.buffers.len() < own {
+        let place = Place::new(field, rest, source);
+        if !place.is_there() {
             return None;
         }
         let under = below(field);
         let inner = look_below(
             under,
-            inside(own, rest),
+            inside(place.own, rest),
             source,
             builder_below(&making, under.len()),
         )?;
-        let node = look_at(field, form, own, rest, inner.least, source)?;
+        let node = place.node(inner.least)?;
         seen = seen.and(node.seen).and(inner.seen);
-        least = least.min(node.len);
-        making = with_node(making, inner.builder, field, own, rest, &node, source);
+        least = least.min(node.laid.len);
+        making = with_node(making, inner.builder, place, &node);
         rest = inner.rest;
     }
     Some(Found {

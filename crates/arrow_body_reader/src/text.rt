@@ -1,34 +1,31 @@
 //! Whether the texts of a body are UTF-8.
 
-ghost use Rattle.std.specs.Prelude.{◌≤◌, ◌↔◌, IsTrue, length, map, [], ◌∷◌};
+ghost use Rattle.std.specs.Prelude.{◌≤◌, ◌↔◌, IsTrue, length, [], ◌∷◌};
 ghost use Rattle.std.specs.List.{AllByRecursion};
 ghost use Rattle.arrow_data.specs.Layout.{HoldsSlots, HoldsTexts};
-ghost use Rattle.arrow_data.specs.Node.{bytes_of, IsInside};
+ghost use Rattle.arrow_data.specs.Node.{IsInside};
 ghost use Rattle.arrow_data.specs.declared.form.Form.TheVariants as forms;
+ghost use Rattle.arrow_body_reader.specs.Place.{buffers_in};
 
-use crate::held::bytes_at;
-use arrow_data::ByteRange;
+use crate::held::Ranges;
+use arrow_data::StringBuffers;
 use arrow_data::form::OffsetWidth;
 use arrow_data::layout::are_texts;
 
 // Whether the valid slots of a node of texts are UTF-8.
-pub(crate) fn are_texts_in(
-    width: OffsetWidth,
-    len: usize,
-    body: &[u8],
-    ranges: &[ByteRange],
-) -> bool
-    requires count { 3 ≤ length ranges.now }
-    requires inside { AllByRecursion (IsInside body.now) ranges.now }
-    requires laid { HoldsSlots (forms.Texts width) len (map (bytes_of body.now) ranges.now) [] }
-    ensures { IsTrue result
-        ↔ HoldsTexts (forms.Texts width) len (map (bytes_of body.now) ranges.now) }
+pub(crate) fn are_texts_in(width: OffsetWidth, len: usize, held: Ranges<'_>) -> bool
+    requires count { 3 ≤ length held.ranges.now }
+    requires inside { AllByRecursion (IsInside held.body.now) held.ranges.now }
+    requires laid { HoldsSlots (forms.Texts width) len (buffers_in held) [] }
+    ensures { IsTrue result ↔ HoldsTexts (forms.Texts width) len (buffers_in held.entry) }
 {
     are_texts(
-        width,
         len,
-        bytes_at(body, ranges, 0),
-        bytes_at(body, ranges, 1),
-        bytes_at(body, ranges, 2),
+        StringBuffers {
+            width,
+            validity: held.bytes(0),
+            offsets: held.bytes(1),
+            bytes: held.bytes(2),
+        },
     )
 }

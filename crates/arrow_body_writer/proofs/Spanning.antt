@@ -12,14 +12,14 @@ use Rattle.arrow_bits.specs.Offsets.{plain_list}
 use Rattle.arrow_bits.proofs.Places.{number_in_part}
 use Rattle.arrow_bits.proofs.Rising.{numbers_from_offsets, offsets_inside}
 use Rattle.arrow_data.specs.Column.{values_from}
-use Rattle.arrow_data.specs.Form.{offset_bytes}
+use Rattle.arrow_data.specs.Form.{greatest_offset, offset_bytes}
 use Rattle.arrow_data.specs.PlainValue.{PlainValue, value_at}
 use Rattle.arrow_data.specs.Slots.{HasOffsets, is_valid_at, place_of}
 use Rattle.arrow_data.specs.declared.form.OffsetWidth.{OffsetWidth}
 use Rattle.arrow_data.specs.declared.form.OffsetWidth.TheVariants.{Small, Large}
 use Rattle.arrow_data.proofs.FullSlots.{joined_range, places_rise}
 use Rattle.arrow_body_laws.specs.Packed.{offsets_bytes}
-use Rattle.arrow_body_laws.specs.Raws.{bytes_in_value, greatest_offset, items_in_value}
+use Rattle.arrow_body_laws.specs.Raws.{bytes_in_value, items_in_value}
 use Rattle.arrow_body_writer.proofs.Ranges.{from_next, none_from}
 use Rattle.arrow_body_writer.proofs.Steps.{offsets_more, sum_more}
 use Rattle.arrow_body_writer.specs.Offsets.{AreBetween, AreHeld, AreSpansOf}

@@ -6,11 +6,11 @@ use Rattle.std.proofs.lemmas.Grind.{flat_map-append}
 use Rattle.std.proofs.lemmas.List.{map-append}
 use Rattle.std.proofs.lemmas.List.Sums.{sum_by-append, sum_by-cons}
 use Rattle.arrow_bits.specs.Numbers.{int_bytes, number_bytes}
-use Rattle.arrow_data.specs.Form.{offset_bytes}
+use Rattle.arrow_data.specs.Form.{greatest_offset, offset_bytes}
 use Rattle.arrow_data.specs.PlainValue.{PlainValue, null_value}
 use Rattle.arrow_data.specs.declared.form.OffsetWidth.{OffsetWidth}
 use Rattle.arrow_body_laws.specs.Packed.{offsets_bytes, sums_from}
-use Rattle.arrow_body_laws.specs.Raws.{bytes_in_value, greatest_offset, items_in_value, number_in}
+use Rattle.arrow_body_laws.specs.Raws.{bytes_in_value, items_in_value, number_in}
 use Rattle.arrow_body_laws.specs.Stored.{number_buffer}
 use Rattle.arrow_body_writer.specs.Part.{HasNextOffset, IsWritten}
 use Rattle.arrow_body_writer.specs.declared.part.Part.{Part}

@@ -2,13 +2,13 @@
 use Rattle.std.specs.Prelude.{◌≡◌, ◌≤◌, ℕ, zero, suc, ◌+◌, not, List, ◌++◌, length, map, Option, None, Some, ⊤}
 use Rattle.std.specs.List.{flat_map, sum_by}
 use Rattle.arrow_bits.specs.Numbers.{FitsWidth, number_bytes}
-use Rattle.arrow_data.specs.Form.{number_width, offset_bytes}
+use Rattle.arrow_data.specs.Form.{greatest_offset, number_width, offset_bytes}
 use Rattle.arrow_data.specs.PlainValue.{PlainValue, is_null_value}
 use Rattle.arrow_data.specs.declared.form.Form.{Form}
 use Rattle.arrow_data.specs.declared.form.Form.TheVariants as forms
 use Rattle.arrow_data.specs.declared.form.OffsetWidth.{OffsetWidth}
 use Rattle.arrow_body_laws.specs.Packed.{offsets_bytes, packed}
-use Rattle.arrow_body_laws.specs.Raws.{bytes_in_value, fixed_in, greatest_offset, items_in_value, number_in, truth_in}
+use Rattle.arrow_body_laws.specs.Raws.{bytes_in_value, fixed_in, items_in_value, number_in, truth_in}
 use Rattle.arrow_body_laws.specs.Stored.{number_buffer, validity_bytes}
 use Rattle.arrow_body_writer.specs.Packing.{IsPacking}
 use Rattle.arrow_body_writer.specs.declared.part.Part.{Part}

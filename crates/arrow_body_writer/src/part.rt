@@ -2,8 +2,7 @@
 
 ghost use Rattle.std.specs.Prelude.{◌≡◌, None, MatchOption};
 ghost use Rattle.arrow_bits.specs.Numbers.{IsWidth};
-ghost use Rattle.arrow_data.specs.Form.{number_width, offset_bytes};
-ghost use Rattle.arrow_body_laws.specs.Raws.{greatest_offset};
+ghost use Rattle.arrow_data.specs.Form.{number_width};
 ghost use Rattle.arrow_body_writer.specs.Part.{part_of};
 
 use arrow_data::form::{Form, OffsetWidth};
@@ -60,25 +59,4 @@ pub(crate) fn number_width(bits: BitWidth) -> usize
     ensures whole { IsWidth result }
 {
     (bits.bits() / 8) as usize
-}
-
-// How many bytes an offset takes.
-pub(crate) fn offset_bytes(width: OffsetWidth) -> usize
-    ensures same { result ≡ offset_bytes width }
-    ensures whole { IsWidth result }
-{
-    match width {
-        OffsetWidth::Small => 4,
-        OffsetWidth::Large => 8,
-    }
-}
-
-// The greatest offset of a width.
-pub(crate) fn greatest_offset(width: OffsetWidth) -> u64
-    ensures { result ≡ greatest_offset width }
-{
-    match width {
-        OffsetWidth::Small => 2_147_483_647,
-        OffsetWidth::Large => 9_223_372_036_854_775_807,
-    }
 }

@@ -10,7 +10,7 @@ ghost use Rattle.arrow_body_writer.specs.Align.{alignment_of};
 ghost use Rattle.arrow_body_writer.specs.Tally.{IsTally, sizes_told};
 
 use crate::align::Align;
-use crate::part::{greatest_offset, number_width, offset_bytes};
+use crate::part::number_width;
 use crate::tally::Tally;
 use arrow_data::form::Form;
 
@@ -19,7 +19,7 @@ fn offset_limit(form: Form) -> u64
     ensures { result ≡ offset_limit form }
 {
     match form {
-        Form::Bytes(width) | Form::Texts(width) | Form::Lists(width) => greatest_offset(width),
+        Form::Bytes(width) | Form::Texts(width) | Form::Lists(width) => width.greatest(),
         Form::Nulls | Form::Bits | Form::Numbers { .. } | Form::FixedBytes(_) | Form::Structs => 0,
     }
 }
@@ -76,12 +76,12 @@ pub(crate) fn node_size(align: Align, form: Form, tally: Tally) -> u64
             validity + round_up(align, number_width(bits) as u64 * tally.slots)
         }
         Form::Bytes(width) | Form::Texts(width) => {
-            let offsets = round_up(align, offset_bytes(width) as u64 * (tally.slots + 1));
+            let offsets = round_up(align, width.bytes() as u64 * (tally.slots + 1));
             validity + offsets + round_up(align, tally.end)
         }
         Form::FixedBytes(width) => validity + round_up(align, u64::from(width) * tally.slots),
         Form::Lists(width) => {
-            validity + round_up(align, offset_bytes(width) as u64 * (tally.slots + 1))
+            validity + round_up(align, width.bytes() as u64 * (tally.slots + 1))
         }
         Form::Structs => validity,
     }

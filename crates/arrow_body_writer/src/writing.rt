@@ -4,10 +4,10 @@ ghost use Rattle.std.specs.Prelude.{◌≡◌, ◌<◌, ◌≤◌, ◌+◌, ◌+
 ghost use Rattle.std.specs.List.{AllByRecursion};
 ghost use Rattle.arrow_bits.specs.Numbers.{number_bytes};
 ghost use Rattle.arrow_data.specs.Column.{values_from};
-ghost use Rattle.arrow_data.specs.Form.{offset_bytes};
+ghost use Rattle.arrow_data.specs.Form.{greatest_offset, offset_bytes};
 ghost use Rattle.arrow_data.specs.FullSlots.{AreFull};
 ghost use Rattle.arrow_data.specs.PlainValue.{PlainValue, null_value, value_at};
-ghost use Rattle.arrow_body_laws.specs.Raws.{fixed_in, greatest_offset};
+ghost use Rattle.arrow_body_laws.specs.Raws.{fixed_in};
 ghost use Rattle.arrow_body_writer.specs.Part.{AreOffsetsTo, HasNextOffset, HasRoom, IsTold};
 ghost use Rattle.arrow_body_writer.specs.Part.{IsWritten, part_bytes};
 ghost use Rattle.arrow_body_writer.specs.Runs.{IsPiece, IsThere};
@@ -16,7 +16,7 @@ ghost use Rattle.arrow_body_writer.specs.Spans.{AreSpans, AreThere};
 use crate::bitmap::bitmap;
 use crate::masked::numbers_of;
 use crate::packing::Pending;
-use crate::part::{Part, greatest_offset, number_width, offset_bytes};
+use crate::part::{Part, number_width};
 use crate::pieces::{Piece, pieces, spanned};
 use crate::slots::{put_number, put_string, span, string, truth};
 use crate::spans::Spans;
@@ -72,7 +72,7 @@ fn next_end(width: OffsetWidth, end: u64, len: usize) -> u64
     ensures known { result ≤ greatest_offset width }
     ensures same { end + len ≤ greatest_offset width → result ≡ end + len }
 {
-    let greatest = greatest_offset(width);
+    let greatest = width.greatest();
     let next = end.saturating_add(len as u64);
     if next < greatest { next } else { greatest }
 }
@@ -83,7 +83,7 @@ fn put_offset(out: &mut Vec<u8>, width: OffsetWidth, offset: u64) -> Result<(), 
     ensures { OnOk result (out.new.items
         ≡ out.old.items ++ number_bytes (offset_bytes width) offset) }
 {
-    put_int(out, offset_bytes(width), i128::from(offset))
+    put_int(out, width.bytes(), i128::from(offset))
 }
 
 impl Writing {

@@ -9,7 +9,6 @@ ghost use Rattle.arrow_types.specs.View.{field_view, fields_view};
 
 use crate::leaf::Buffers;
 use crate::node::Node;
-use crate::slots::offset_bytes;
 use arrow_data::form::{Form, OffsetWidth, form_of, node_form};
 use arrow_types::Field;
 use std::alloc::{AllocError, Global};
@@ -81,6 +80,6 @@ fn first_offset(alloc: Global, width: OffsetWidth) -> Result<Vec<u8>, AllocError
     ensures { IfOk result (λ v. (validity : List ℕ) → KeepsRanges width 0 validity v.items) }
 {
     let mut offsets = Vec::new(alloc);
-    offsets.resize(offset_bytes(width), 0)?;
+    offsets.resize(width.bytes(), 0)?;
     Ok(offsets)
 }

@@ -16,7 +16,7 @@ ghost use Rattle.arrow_types.specs.View.{type_view};
 use crate::dictionaries::dictionary_for;
 use crate::leaf::Buffers;
 use crate::node::Node;
-use arrow_data::{Array, ByteRange, Dictionary};
+use arrow_data::{Array, ByteRange, ChildData, Dictionary, NodeBuffers};
 use arrow_types::Field;
 use bytes::Bytes;
 use std::alloc::{AllocError, Global};
@@ -85,7 +85,16 @@ pub(crate) fn array_of(
         field.now.dictionary len (buffers_in buffers.now) children.items (values_in dictionary)) }
 {
     let (body, ranges) = body_of(alloc, buffers)?;
-    Array::from_parts(alloc, field, len, &body, &ranges, children, dictionary)
+    let buffers = NodeBuffers {
+        len,
+        body: &body,
+        ranges: &ranges,
+    };
+    let below = ChildData {
+        children,
+        dictionary,
+    };
+    Array::from_parts(alloc, field, buffers, below)
 }
 
 // The bytes of the buffers behind each other, and where each lies.

@@ -9,8 +9,8 @@ ghost use Rattle.arrow_builder.specs.Finished.{AreIndexed, IsIndexed};
 use crate::dictionaries::find;
 use crate::leaf::number_width;
 use crate::node::Node;
-use arrow_data::Dictionary;
 use arrow_data::layout::are_indices;
+use arrow_data::{Dictionary, NumberBuffers};
 use arrow_types::Encoding;
 
 /// Whether each index in the first `len` slots, and in what these show of the columns below, has
@@ -50,10 +50,12 @@ fn is_indexed(node: &Node, len: usize, dictionaries: &[(i64, Dictionary)]) -> bo
     };
     are_indices(
         len,
-        number_width(encoding.index.bits),
-        encoding.index.signed,
-        &node.buffers.validity,
-        &node.buffers.values,
+        NumberBuffers {
+            width: number_width(encoding.index.bits),
+            signed: encoding.index.signed,
+            validity: &node.buffers.validity,
+            values: &node.buffers.values,
+        },
         count_for(encoding, dictionaries),
     )
 }

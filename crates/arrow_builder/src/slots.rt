@@ -128,24 +128,13 @@ fn append_zeros(values: &mut Vec<u8>, count: usize) -> Result<(), AllocError>
     values.resize(end, 0)
 }
 
-// How many bytes an offset takes.
-pub(crate) fn offset_bytes(width: OffsetWidth) -> usize
-    ensures same { result ≡ offset_bytes width }
-    ensures whole { IsWidth result }
-{
-    match width {
-        OffsetWidth::Small => 4,
-        OffsetWidth::Large => 8,
-    }
-}
-
 /// The offset in which the first `at` slots end.
 pub(crate) fn place_at(width: OffsetWidth, offsets: &[u8], at: usize) -> usize
     requires there { offset_bytes width * (at + 1) ≤ length offsets.now }
     requires low { place_of width offsets.now at < offset_bound width }
     ensures { result ≡ place_of width offsets.now at }
 {
-    int_at(offsets, offset_bytes(width), false, at) as usize
+    int_at(offsets, width.bytes(), false, at) as usize
 }
 
 // Whether the number is one of a signed offset.
@@ -179,8 +168,8 @@ pub(crate) fn put_range(
     if !is_offset(width, end) {
         return Err(AllocError);
     }
-    offsets.truncate(offset_bytes(width) * (at + 1));
-    put_int(offsets, offset_bytes(width), end as i128)?;
+    offsets.truncate(width.bytes() * (at + 1));
+    put_int(offsets, width.bytes(), end as i128)?;
     put_bit(validity, at, valid)
 }
 

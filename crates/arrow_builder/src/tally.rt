@@ -36,11 +36,8 @@ pub(crate) struct Tally {
     below: Vec<Tally>,
 }
 
-// The most bytes of data behind offsets of 32 bits.
-const MOST_SMALL: u64 = 2_147_483_647;
-
-// The most bytes of data of other columns.
-const MOST_LARGE: u64 = 1_099_511_627_776;
+// The most bytes of data of a column, where its offsets set no lower limit.
+const MOST_BYTES: u64 = 1_099_511_627_776;
 
 /// The tally of a field's column without values.
 #[cycle(nothing)]
@@ -198,7 +195,7 @@ fn most_bytes(form: Form) -> u64
 {
     match form {
         Form::Bytes(width) | Form::Texts(width) => most_behind(width),
-        Form::FixedBytes(_) => MOST_LARGE,
+        Form::FixedBytes(_) => MOST_BYTES,
         Form::Nulls | Form::Bits | Form::Numbers { .. } | Form::Lists(_) | Form::Structs => 0,
     }
 }
@@ -208,7 +205,7 @@ fn most_behind(width: OffsetWidth) -> u64
     ensures { result ≡ most_behind width }
 {
     match width {
-        OffsetWidth::Small => MOST_SMALL,
-        OffsetWidth::Large => MOST_LARGE,
+        OffsetWidth::Small => width.greatest(),
+        OffsetWidth::Large => MOST_BYTES,
     }
 }

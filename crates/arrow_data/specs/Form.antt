@@ -1,6 +1,6 @@
 -- The layouts of nodes, and which of them each type has (Columnar Format, "Physical Memory Layout" and "Buffer Listing for
 -- Each Layout"; Schema.fbs, union "Type"). All that is said of buffers and slots goes by this one table.
-use Rattle.std.specs.Prelude.{◌≡◌, ◌/◌, ℕ, true, Option, Some, None, ⊤}
+use Rattle.std.specs.Prelude.{◌≡◌, ◌-◌, ◌/◌, ◌^◌, ℕ, true, Option, Some, None, ⊤}
 use Rattle.arrow_types.specs.DataType.{Tag, null, boolean, int, binary, large_binary, fixed_size_binary, utf8, large_utf8, date, time, timestamp, duration, list, large_list, struct, bits_of, date_width_of, time_width_of}
 use Rattle.arrow_types.specs.Field.{Fields, none, more}
 use Rattle.arrow_types.specs.declared.data_type.BitWidth.{BitWidth}
@@ -38,6 +38,11 @@ node_form tag (Some e) = forms.Numbers e.index.bits e.index.signed
 abbrev pub offset_bytes : OffsetWidth → ℕ
 offset_bytes Small = 4
 offset_bytes Large = 8
+
+-- the greatest offset of a width: offsets have a sign (Columnar Format, "Variable-size Binary Layout")
+abbrev pub greatest_offset : OffsetWidth → ℕ
+greatest_offset Small = 2147483647
+greatest_offset Large = 2 ^ 63 - 1
 
 -- how many bytes a number takes (Schema.fbs, "Int")
 abbrev pub number_width : BitWidth → ℕ

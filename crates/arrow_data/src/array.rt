@@ -14,11 +14,12 @@ ghost use Rattle.arrow_data.specs.Node.{validity_in};
 ghost use Rattle.arrow_data.specs.Shown.{HoldsValue, Shows, value_shown};
 ghost use Rattle.std.specs.List.{flat_map};
 
-use crate::buffers::{Bools, Fixed, Ints, Strings};
+use crate::buffers::{Bools, Fixed, Ints, SlotRange, Strings};
 use crate::byte_range::{ByteRange, bytes_in};
 use crate::dictionary::Dictionary;
 use crate::form::OffsetWidth;
-use crate::slot::{first_invalid, is_valid, range_at};
+use crate::offsets::OffsetBuffer;
+use crate::slot::{first_invalid, is_valid};
 use arrow_types::{DataType, Encoding};
 use bytes::Bytes;
 use std::marker::Model;
@@ -210,7 +211,13 @@ impl Array {
                 child,
             } => {
                 let (marks, places) = (bytes_in(body, *validity), bytes_in(body, *offsets));
-                match range_at(*width, marks, places, self.len, child.len(), i) {
+                let offsets = OffsetBuffer {
+                    width: *width,
+                    len: self.len,
+                    top: child.len(),
+                    bytes: places,
+                };
+                match offsets.range_at(marks, i) {
                     Some((start, end)) => Seen::Items(start, end, child),
                     None => Seen::Nothing,
                 }
@@ -259,16 +266,17 @@ impl Array {
             return &[];
         }
         let body = self.body.as_slice();
+        let slots = SlotRange { start, stop };
         match &self.ranges {
             Ranges::Nulls => &[],
             Ranges::Bools(_) => &[],
-            Ranges::Ints(ints) => ints.part(body, self.len, start, stop),
-            Ranges::Binaries(strings) => strings.part(body, self.len, start, stop),
-            Ranges::Texts(strings) => strings.part(body, self.len, start, stop),
-            Ranges::FixedBytes(fixed) => fixed.part(body, self.len, start, stop),
+            Ranges::Ints(ints) => ints.part(body, self.len, slots),
+            Ranges::Binaries(strings) => strings.part(body, self.len, slots),
+            Ranges::Texts(strings) => strings.part(body, self.len, slots),
+            Ranges::FixedBytes(fixed) => fixed.part(body, self.len, slots),
             Ranges::Lists { .. } => &[],
             Ranges::Structs { .. } => &[],
-            Ranges::Indices(ints, _) => ints.part(body, self.len, start, stop),
+            Ranges::Indices(ints, _) => ints.part(body, self.len, slots),
         }
     }
 

@@ -13,16 +13,24 @@ ghost use Rattle.arrow_data.specs.Slots.{AreTexts, place_of};
 use crate::byte_range::{ByteRange, bytes_in};
 use crate::form::OffsetWidth;
 use crate::slot;
+use crate::view::{NumberBuffers, StringBuffers};
+
+// The slots from `start` up to `stop`.
+#[derive(Clone, Copy)]
+pub(crate) struct SlotRange {
+    pub(crate) start: usize,
+    pub(crate) stop: usize,
+}
 
 // The bytes of a range of `len` slots that have `width` bytes each.
 #[tactic(auto, using(crate::proofs::Shown::parts_inside))]
-fn cells(values: &[u8], width: usize, len: usize, start: usize, stop: usize) -> &[u8]
-    requires order { start ≤ stop }
-    requires inside { stop ≤ len }
+fn cells(values: &[u8], width: usize, len: usize, slots: SlotRange) -> &[u8]
+    requires order { slots.start ≤ slots.stop }
+    requires inside { slots.stop ≤ len }
     requires long { width * len ≤ length values.now }
-    ensures { result.now ≡ slice_range values.now (width * start) (width * stop) }
+    ensures { result.now ≡ slice_range values.now (width * slots.start) (width * slots.stop) }
 {
-    &values[width * start..width * stop]
+    &values[width * slots.start..width * slots.stop]
 }
 
 // Truth values: bit j is that of slot j.
@@ -66,24 +74,18 @@ impl Ints {
         ensures { MatchOption result (int_at body.now self i ≡ null_value)
             (λ z. int_at body.now self i ≡ int_value z) }
     {
-        slot::number_at(
-            bytes_in(body, self.validity),
-            bytes_in(body, self.values),
-            self.width,
-            self.signed,
-            i,
-        )
+        NumberBuffers::of(self, body).number_at(i)
     }
 
     // The bytes of the numbers of a range of the `len` slots.
-    pub(crate) fn part(self, body: &[u8], len: usize, start: usize, stop: usize) -> &[u8]
-        requires order { start ≤ stop }
-        requires inside { stop ≤ len }
+    pub(crate) fn part(self, body: &[u8], len: usize, slots: SlotRange) -> &[u8]
+        requires order { slots.start ≤ slots.stop }
+        requires inside { slots.stop ≤ len }
         requires lies { AreInts len body.now self }
         ensures { result.now ≡ slice_range (bytes_of body.now self.values)
-            (self.width * start) (self.width * stop) }
+            (self.width * slots.start) (self.width * slots.stop) }
     {
-        cells(bytes_in(body, self.values), self.width, len, start, stop)
+        cells(bytes_in(body, self.values), self.width, len, slots)
     }
 }
 
@@ -113,14 +115,14 @@ impl Fixed {
     }
 
     // The byte strings of a range of the `len` slots.
-    pub(crate) fn part(self, body: &[u8], len: usize, start: usize, stop: usize) -> &[u8]
-        requires order { start ≤ stop }
-        requires inside { stop ≤ len }
+    pub(crate) fn part(self, body: &[u8], len: usize, slots: SlotRange) -> &[u8]
+        requires order { slots.start ≤ slots.stop }
+        requires inside { slots.stop ≤ len }
         requires lies { AreFixed len body.now self }
         ensures { result.now ≡ slice_range (bytes_of body.now self.values)
-            (self.width * start) (self.width * stop) }
+            (self.width * slots.start) (self.width * slots.stop) }
     {
-        cells(bytes_in(body, self.values), self.width, len, start, stop)
+        cells(bytes_in(body, self.values), self.width, len, slots)
     }
 }
 
@@ -142,14 +144,7 @@ impl Strings {
         ensures { MatchOption result (binary_at body.now self i ≡ null_value)
             (λ b. binary_at body.now self i ≡ binary_value b.now) }
     {
-        slot::binary_at(
-            self.width,
-            bytes_in(body, self.validity),
-            bytes_in(body, self.offsets),
-            bytes_in(body, self.bytes),
-            len,
-            i,
-        )
+        StringBuffers::of(self, body).binary_at(len, i)
     }
 
     // The text of slot `i` of `len`, where it is valid.
@@ -161,29 +156,22 @@ impl Strings {
         ensures { MatchOption result (utf8_at body.now self i ≡ null_value)
             (λ t. utf8_at body.now self i ≡ utf8_value t.now) }
     {
-        slot::text_at(
-            self.width,
-            bytes_in(body, self.validity),
-            bytes_in(body, self.offsets),
-            bytes_in(body, self.bytes),
-            len,
-            i,
-        )
+        StringBuffers::of(self, body).text_at(len, i)
     }
+
     // The bytes of a range of the `len` slots, one slot after another, without regard to nulls.
-    pub(crate) fn part(self, body: &[u8], len: usize, start: usize, stop: usize) -> &[u8]
-        requires order { start < stop }
-        requires inside { stop ≤ len }
+    pub(crate) fn part(self, body: &[u8], len: usize, slots: SlotRange) -> &[u8]
+        requires order { slots.start < slots.stop }
+        requires inside { slots.stop ≤ len }
         requires lies { AreStrings len body.now self }
         ensures bytes { result.now ≡ slice_range (bytes_of body.now self.bytes)
-            (place_of self.width (bytes_of body.now self.offsets) start)
-            (place_of self.width (bytes_of body.now self.offsets) stop) }
+            (place_of self.width (bytes_of body.now self.offsets) slots.start)
+            (place_of self.width (bytes_of body.now self.offsets) slots.stop) }
         ensures rising { IsNonDecreasing (plain_list (offset_bytes self.width) len
             (bytes_of body.now self.offsets)) }
     {
-        let bytes = bytes_in(body, self.bytes);
-        let offsets = bytes_in(body, self.offsets);
-        let (first, end) = slot::places_at(self.width, offsets, len, bytes.len(), start, stop);
-        &bytes[first..end]
+        let strings = StringBuffers::of(self, body);
+        let (first, end) = strings.ranges(len).places_at(slots.start, slots.stop);
+        &strings.bytes[first..end]
     }
 }

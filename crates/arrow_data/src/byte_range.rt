@@ -1,7 +1,7 @@
 //! Ranges of a message body.
 
 ghost use Rattle.std.specs.Prelude.{◌≡◌};
-ghost use Rattle.arrow_data.specs.Node.{bytes_of, IsInside};
+ghost use Rattle.arrow_data.specs.Node.{bytes_of, AreBytes, IsInside};
 
 /// The bytes of a body from `start` up to `end`, counted from its first byte.
 #[derive(Clone, Copy, Debug)]
@@ -27,4 +27,12 @@ pub(crate) fn bytes_in(body: &[u8], range: ByteRange) -> &[u8]
     ensures { result.now ≡ bytes_of body.now range }
 {
     &body[range.start..range.end]
+}
+
+// What every slice of bytes holds.
+#[inline(always)]
+pub(crate) fn hold_bytes(bytes: &[u8])
+    ensures { AreBytes bytes.now }
+{
+    bytes.len();
 }

@@ -13,7 +13,7 @@ ghost use Rattle.arrow_data.specs.Segments.{block_segments, block_starts, column
 ghost use Rattle.arrow_data.specs.Segments.{joined, starts_of};
 
 use crate::array::Array;
-use crate::same::same_items;
+use crate::same::{Items, same_items};
 use arrow_types::DataType;
 use std::alloc::{AllocError, Global};
 use std::marker::Model;
@@ -184,7 +184,17 @@ impl Dictionary {
             let (values, place) = self.value(i);
             let (others, from) = other.value(i);
             let count = (values.len() - place).min(others.len() - from);
-            if !same_items(values, place, place + count, others, from, from + count) {
+            let run = Items {
+                array: values,
+                start: place,
+                end: place + count,
+            };
+            let other_run = Items {
+                array: others,
+                start: from,
+                end: from + count,
+            };
+            if !same_items(run, other_run) {
                 return false;
             }
             i += count;

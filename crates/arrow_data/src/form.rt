@@ -4,7 +4,8 @@
 ghost use Rattle.std.specs.Prelude.{◌≡◌, true};
 ghost use Rattle.arrow_bits.specs.Numbers.{IsWidth};
 ghost use Rattle.arrow_types.specs.View.{type_view};
-ghost use Rattle.arrow_data.specs.Form.{form_of, node_form, number_width, HasFieldsOf};
+ghost use Rattle.arrow_data.specs.Form.{form_of, greatest_offset, node_form, number_width};
+ghost use Rattle.arrow_data.specs.Form.{HasFieldsOf, offset_bytes};
 ghost use Rattle.arrow_data.specs.declared.form.Form.TheVariants as forms;
 
 use arrow_types::{BitWidth, DataType, Encoding};
@@ -17,6 +18,31 @@ pub enum OffsetWidth {
     Small,
     /// 64 bits: the large variants.
     Large,
+}
+
+impl OffsetWidth {
+    /// How many bytes an offset takes.
+    #[inline(always)]
+    pub fn bytes(self) -> usize
+        ensures same { result ≡ offset_bytes self }
+        ensures whole { IsWidth result }
+    {
+        match self {
+            OffsetWidth::Small => 4,
+            OffsetWidth::Large => 8,
+        }
+    }
+
+    /// The greatest offset: offsets have a sign, and none is negative.
+    #[inline(always)]
+    pub fn greatest(self) -> u64
+        ensures { result ≡ greatest_offset self }
+    {
+        match self {
+            OffsetWidth::Small => i32::MAX as u64,
+            OffsetWidth::Large => i64::MAX as u64,
+        }
+    }
 }
 
 /// How the buffers of a node hold its slots (Columnar Format, "Physical Memory Layout").

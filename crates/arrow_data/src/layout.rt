@@ -17,10 +17,12 @@ ghost use Rattle.arrow_data.specs.Layout.{buffer_count};
 ghost use Rattle.arrow_data.specs.Node.{bytes_of, IsInside};
 ghost use Rattle.arrow_data.specs.Slots.{HasBits, HasOffsets, AreIndices, AreTexts, IsIndex};
 
-use crate::byte_range::{ByteRange, bytes_in};
+use crate::byte_range::{ByteRange, bytes_in, hold_bytes};
 use crate::form::{Form, OffsetWidth, node_form, number_width};
-use crate::slot::number_at;
+use crate::offsets::OffsetBuffer;
+use crate::parts::NodeBuffers;
 use crate::texts::are_slots_utf8;
+use crate::view::{NumberBuffers, StringBuffers};
 use arrow_bits::{LargeOffsets, Offsets, are_at_most};
 use arrow_types::{DataType, Encoding};
 
@@ -52,65 +54,53 @@ pub fn has_fixed(len: usize, width: usize, validity: &[u8], values: &[u8]) -> bo
         }
 }
 
-/// Whether there is a range of the bytes, behind offsets of this width, for each of `len` slots.
+/// Whether there is a range of the bytes, behind the offsets, for each of `len` slots.
 #[inline(always)]
-pub fn has_strings(
-    width: OffsetWidth,
-    len: usize,
-    validity: &[u8],
-    offsets: &[u8],
-    bytes: &[u8],
-) -> bool
-    ensures { IsTrue result ↔ HasStrings width len validity.now offsets.now bytes.now }
+pub fn has_strings(len: usize, strings: StringBuffers<'_>) -> bool
+    ensures { IsTrue result ↔ HasStrings strings.entry.width len strings.entry.validity.now
+        strings.entry.offsets.now strings.entry.bytes.now }
 {
-    has_bits(len, validity) && has_offsets(width, len, offsets, bytes.len())
+    has_bits(len, strings.validity) && has_offsets(strings.ranges(len))
 }
 
-/// Whether there is a range of a child's `count` slots, behind offsets of this width, for each of
-/// `len` slots.
+/// Whether there is a range of the child's slots, behind the offsets, for each of theirs.
 #[inline(always)]
-pub fn has_lists(
-    width: OffsetWidth,
-    len: usize,
-    validity: &[u8],
-    offsets: &[u8],
-    count: usize,
-) -> bool
-    ensures { IsTrue result ↔ HasLists width len validity.now offsets.now count }
+pub fn has_lists(validity: &[u8], offsets: OffsetBuffer<'_>) -> bool
+    ensures { IsTrue result ↔ HasLists offsets.entry.width offsets.entry.len validity.now
+        offsets.entry.bytes.now offsets.entry.top }
 {
-    has_bits(len, validity) && has_offsets(width, len, offsets, count)
+    has_bits(offsets.len, validity) && has_offsets(offsets)
 }
 
-/// Whether there are offsets of this width of `len` ranges, which end at `top` or before.
+/// Whether there are offsets for each of the slots, none of which passes the top.
 #[inline(always)]
-pub fn has_offsets(width: OffsetWidth, len: usize, offsets: &[u8], top: usize) -> bool
-    ensures { IsTrue result ↔ HasOffsets width len top offsets.now }
+pub fn has_offsets(offsets: OffsetBuffer<'_>) -> bool
+    ensures { IsTrue result ↔ HasOffsets offsets.entry.width offsets.entry.len offsets.entry.top
+        offsets.entry.bytes.now }
 {
-    (len == 0 && offsets.is_empty()) || are_offsets(width, len, offsets, top)
+    (offsets.len == 0 && offsets.bytes.is_empty()) || are_offsets(offsets)
 }
 
 // The same where the offsets are not left out.
-fn are_offsets(width: OffsetWidth, len: usize, offsets: &[u8], top: usize) -> bool
-    ensures { IsTrue result ↔ AreOffsetsOf (offset_bytes width) offsets.now len top }
+fn are_offsets(offsets: OffsetBuffer<'_>) -> bool
+    ensures { IsTrue result ↔ AreOffsetsOf (offset_bytes offsets.entry.width)
+        offsets.entry.bytes.now offsets.entry.len offsets.entry.top }
 {
-    match width {
-        OffsetWidth::Small => Offsets::check(offsets, len, top as u64),
-        OffsetWidth::Large => LargeOffsets::check(offsets, len, top as u64),
+    let top = offsets.top as u64;
+    match offsets.width {
+        OffsetWidth::Small => Offsets::check(offsets.bytes, offsets.len, top),
+        OffsetWidth::Large => LargeOffsets::check(offsets.bytes, offsets.len, top),
     }
 }
 
 /// Whether each valid slot of `len` is UTF-8, where the buffers hold as many slots (`has_strings`).
-pub fn are_texts(
-    width: OffsetWidth,
-    len: usize,
-    validity: &[u8],
-    offsets: &[u8],
-    bytes: &[u8],
-) -> bool
-    requires { HasStrings width len validity.now offsets.now bytes.now }
-    ensures { IsTrue result ↔ AreTexts width len validity.now offsets.now bytes.now }
+pub fn are_texts(len: usize, strings: StringBuffers<'_>) -> bool
+    requires { HasStrings strings.width len strings.validity.now strings.offsets.now
+        strings.bytes.now }
+    ensures { IsTrue result ↔ AreTexts strings.entry.width len strings.entry.validity.now
+        strings.entry.offsets.now strings.entry.bytes.now }
 {
-    are_slots_utf8(width, len, validity, offsets, bytes)
+    are_slots_utf8(strings, len)
 }
 
 /// Whether each valid slot of `len` has an index to one of `count` values, where the buffers hold
@@ -119,38 +109,25 @@ pub fn are_texts(
 /// All slots are looked at first, 64 bytes of indices at once, as if none were null: mostly null
 /// slots hold an index too, as 0. Only where that fails and there is a bitmap, the valid ones are
 /// looked at one after another.
-pub fn are_indices(
-    len: usize,
-    width: usize,
-    signed: bool,
-    validity: &[u8],
-    indices: &[u8],
-    count: usize,
-) -> bool
-    requires width { IsWidth width }
-    requires laid { HasFixed len width validity.now indices.now }
-    ensures { IsTrue result ↔ AreIndices len width signed validity.now indices.now count }
+pub fn are_indices(len: usize, indices: NumberBuffers<'_>, count: usize) -> bool
+    requires width { IsWidth indices.width }
+    requires laid { HasFixed len indices.width indices.validity.now indices.values.now }
+    ensures { IsTrue result ↔ AreIndices len indices.entry.width indices.entry.signed
+        indices.entry.validity.now indices.entry.values.now count }
 {
-    are_all_indices(len, width, signed, indices, count)
-        || (!validity.is_empty()
-            && are_indices_one_by_one(len, width, signed, validity, indices, count))
+    are_all_indices(len, indices, count)
+        || (!indices.validity.is_empty() && are_indices_one_by_one(len, indices, count))
 }
 
 // The same of `len` indices, one slot after another.
-fn are_indices_one_by_one(
-    len: usize,
-    width: usize,
-    signed: bool,
-    validity: &[u8],
-    indices: &[u8],
-    count: usize,
-) -> bool
-    requires width { IsWidth width }
-    requires laid { HasFixed len width validity.now indices.now }
-    ensures { IsTrue result ↔ AreIndices len width signed validity.now indices.now count }
+fn are_indices_one_by_one(len: usize, indices: NumberBuffers<'_>, count: usize) -> bool
+    requires width { IsWidth indices.width }
+    requires laid { HasFixed len indices.width indices.validity.now indices.values.now }
+    ensures { IsTrue result ↔ AreIndices len indices.entry.width indices.entry.signed
+        indices.entry.validity.now indices.entry.values.now count }
 {
     for j in 0..len {
-        let Some(index) = number_at(validity, indices, width, signed, j) else {
+        let Some(index) = indices.number_at(j) else {
             continue;
         };
         if index < 0 || index >= count as i128 {
@@ -162,15 +139,19 @@ fn are_indices_one_by_one(
 
 // The same of `len` indices that all are looked at, also those of null slots. They are compared
 // without a sign: a negative one is then above the rest.
-fn are_all_indices(len: usize, width: usize, signed: bool, indices: &[u8], count: usize) -> bool
-    requires width { IsWidth width }
-    requires inside { width * len ≤ length indices.now }
-    ensures { IsTrue result ↔ AreIndices len width signed [] indices.now count }
+fn are_all_indices(len: usize, indices: NumberBuffers<'_>, count: usize) -> bool
+    requires width { IsWidth indices.width }
+    requires inside { indices.width * len ≤ length indices.values.now }
+    ensures { IsTrue result ↔ AreIndices len indices.entry.width indices.entry.signed []
+        indices.entry.values.now count }
 {
     if count == 0 {
         return len == 0;
     }
-    are_at_most(indices, width, len, last_index(width, signed, count))
+    // Called for what it says of every slice of bytes.
+    hold_bytes(indices.values);
+    let last = last_index(indices.width, indices.signed, count);
+    are_at_most(indices.values, indices.width, len, last)
 }
 
 // The last index of this width to one of `count` values. A number of the width is an index, by its
@@ -206,22 +187,23 @@ pub fn buffer_count(data_type: &DataType, encoding: Option<Encoding>) -> usize
     }
 }
 
-/// Whether the buffers of a node of this type and encoding, and children of so many slots, hold
-/// `len` slots.
+/// Whether the buffers of a node of this type and encoding, and children of so many slots, hold its
+/// slots.
 #[inline(always)]
 pub fn is_laid(
     data_type: &DataType,
     encoding: Option<Encoding>,
-    len: usize,
-    body: &[u8],
-    buffers: &[ByteRange],
+    node: NodeBuffers<'_>,
     counts: &[usize],
 ) -> bool
-    requires count { buffer_count (type_view data_type.now).tag encoding ≤ length buffers.now }
-    requires inside { AllByRecursion (IsInside body.now) buffers.now }
-    ensures { IsTrue result ↔ IsLaid (type_view data_type.now).tag encoding
-        len (map (bytes_of body.now) buffers.now) counts.now }
+    requires count { buffer_count (type_view data_type.now).tag encoding
+        ≤ length node.ranges.now }
+    requires inside { AllByRecursion (IsInside node.body.now) node.ranges.now }
+    ensures { IsTrue result ↔ IsLaid (type_view data_type.now).tag encoding node.entry.len
+        (map (bytes_of node.entry.body.now) node.entry.ranges.now) counts.now }
 {
+    let len = node.len;
+    let (body, buffers) = (node.body.as_slice(), node.ranges);
     match node_form(data_type, encoding) {
         Form::Nulls => true,
         Form::Bits => has_bools(len, buffer(body, buffers, 0), buffer(body, buffers, 1)),
@@ -238,18 +220,22 @@ pub fn is_laid(
             buffer(body, buffers, 1),
         ),
         Form::Bytes(width) | Form::Texts(width) => has_strings(
-            width,
             len,
-            buffer(body, buffers, 0),
-            buffer(body, buffers, 1),
-            buffer(body, buffers, 2),
+            StringBuffers {
+                width,
+                validity: buffer(body, buffers, 0),
+                offsets: buffer(body, buffers, 1),
+                bytes: buffer(body, buffers, 2),
+            },
         ),
         Form::Lists(width) => has_lists(
-            width,
-            len,
             buffer(body, buffers, 0),
-            buffer(body, buffers, 1),
-            counts.first().copied().unwrap_or(0),
+            OffsetBuffer {
+                width,
+                len,
+                top: counts.first().copied().unwrap_or(0),
+                bytes: buffer(body, buffers, 1),
+            },
         ),
         Form::Structs => has_bits(len, buffer(body, buffers, 0)) && are_longer(len, counts),
     }

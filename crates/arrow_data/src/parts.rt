@@ -1,21 +1,21 @@
 //! Arrays out of the parts of a node: its buffers in a body, its children, its dictionary.
 
-ghost use Rattle.std.specs.Prelude.{◌≡◌, ◌≤◌, IfOk, List, None, Some, length, map, false, [], ◌∷◌};
+ghost use Rattle.std.specs.Prelude.{◌≡◌, ◌≤◌, IfOk, None, Some, length, map, false, [], ◌∷◌};
 ghost use Rattle.std.specs.Prelude.{slice_index_or};
 ghost use Rattle.std.specs.List.{AllByRecursion};
 ghost use Rattle.arrow_types.specs.Schema.{has_encoding};
 ghost use Rattle.arrow_types.specs.View.{type_view};
-ghost use Rattle.arrow_data.specs.Column.{AreOf, Column, IsColumn, IsValueList, counts_of};
+ghost use Rattle.arrow_data.specs.Column.{AreOf, IsColumn, IsValueList, counts_of};
 ghost use Rattle.arrow_data.specs.Form.{IsLeaf, form_of};
 ghost use Rattle.arrow_data.specs.Layout.{buffer_count, IsLaid, IsText, IsIndexed};
-ghost use Rattle.arrow_data.specs.Node.{bytes_of, column_by, AreBytes, AreRanges, IsFormat};
+ghost use Rattle.arrow_data.specs.Node.{bytes_of, column_by, AreRanges, IsFormat};
 ghost use Rattle.arrow_data.specs.Node.{IsInside};
 ghost use Rattle.arrow_data.specs.declared.form.Form.TheVariants as forms;
 ghost use Rattle.arrow_data.specs.Parts.{node_column, values_in, AreChildren, IsOfType};
 
 use crate::array::{Array, Ranges};
 use crate::buffers::{Bools, Fixed, Ints, Strings};
-use crate::byte_range::ByteRange;
+use crate::byte_range::{ByteRange, hold_bytes};
 use crate::dictionary::Dictionary;
 use crate::form::{Form, OffsetWidth, form_of, number_width};
 use crate::shared_type::SharedType;
@@ -24,43 +24,61 @@ use bytes::Bytes;
 use std::alloc::{AllocError, Global};
 use std::rc::Rc;
 
+/// The slots and the buffers of a node in a body.
+#[derive(Clone, Copy)]
+pub struct NodeBuffers<'a> {
+    /// How many slots the node has.
+    pub len: usize,
+    /// The body.
+    pub body: &'a Bytes,
+    /// Where each buffer lies in the body, in the order of the format. An empty range stands for an
+    /// absent validity bitmap, and for the offsets of no slots.
+    pub ranges: &'a [ByteRange],
+}
+
+/// The arrays that a node refers to.
+#[derive(Drop)]
+pub struct ChildData {
+    /// Those of its children, in their order.
+    pub children: Vec<Array>,
+    /// The dictionary of a dictionary-encoded node; without one, the empty dictionary is meant.
+    pub dictionary: Option<Dictionary>,
+}
+
 impl Array {
-    /// The array of one node: `len` slots of the field's type, out of its buffers, in the order of
-    /// the format, its children, and for a dictionary-encoded field its dictionary (without one,
-    /// the empty dictionary).
+    /// The array of one node: slots of the field's type, out of its buffers, its children, and for
+    /// a dictionary-encoded field its dictionary.
     ///
     /// The body is shared and nothing of it is copied; `AllocError` where another growth was
-    /// refused. An empty range stands for an absent validity bitmap, and for the offsets of no
-    /// slots. That the buffers hold `len` slots, that texts are UTF-8 and indices have their
+    /// refused. That the buffers hold the slots, that texts are UTF-8 and indices have their
     /// values, is known by the caller, and not tested.
     pub fn from_parts(
         alloc: Global,
         field: &Field,
-        len: usize,
-        body: &Bytes,
-        buffers: &[ByteRange],
-        children: Vec<Array>,
-        dictionary: Option<Dictionary>,
+        node: NodeBuffers<'_>,
+        below: ChildData,
     ) -> Result<Array, AllocError>
-        requires few { len ≤ 2147483647 }
+        requires few { node.len ≤ 2147483647 }
         requires children { AreChildren (type_view field.now.data_type) field.now.dictionary
-            children.items }
-        requires dictionary { IsOfType (type_view field.now.data_type) dictionary }
+            below.children.items }
+        requires dictionary { IsOfType (type_view field.now.data_type) below.dictionary }
         requires count { buffer_count (type_view field.now.data_type).tag field.now.dictionary
-            ≤ length buffers.now }
-        requires inside { AllByRecursion (IsInside body.now) buffers.now }
+            ≤ length node.ranges.now }
+        requires inside { AllByRecursion (IsInside node.body.now) node.ranges.now }
         requires layout { IsLaid (type_view field.now.data_type).tag field.now.dictionary
-            len (map (bytes_of body.now) buffers.now) (counts_of children.items) }
+            node.len (map (bytes_of node.body.now) node.ranges.now) (counts_of
+            below.children.items) }
         requires text { IsText (type_view field.now.data_type).tag field.now.dictionary
-            len (map (bytes_of body.now) buffers.now) }
+            node.len (map (bytes_of node.body.now) node.ranges.now) }
         requires index { IsIndexed field.now.dictionary
-            len (map (bytes_of body.now) buffers.now) (values_in dictionary) }
+            node.len (map (bytes_of node.body.now) node.ranges.now) (values_in below.dictionary) }
         ensures { IfOk result
             (λ a. a ≡ node_column (type_view field.now.data_type) field.now.dictionary
-            len (map (bytes_of body.now) buffers.now) children.items (values_in dictionary)) }
+            node.entry.len (map (bytes_of node.entry.body.now) node.entry.ranges.now)
+            below.children.items (values_in below.dictionary)) }
     {
         let shared = SharedType::of(alloc, field)?;
-        Array::from_shared_parts(alloc, &shared, len, body, buffers, children, dictionary)
+        Array::from_shared_parts(alloc, &shared, node, below)
     }
 
     /// As `from_parts`, of a type of which no copy is made: the array shares it.
@@ -68,41 +86,41 @@ impl Array {
     pub fn from_shared_parts(
         alloc: Global,
         shared: &SharedType,
-        len: usize,
-        body: &Bytes,
-        buffers: &[ByteRange],
-        children: Vec<Array>,
-        dictionary: Option<Dictionary>,
+        node: NodeBuffers<'_>,
+        below: ChildData,
     ) -> Result<Array, AllocError>
-        requires few { len ≤ 2147483647 }
-        requires children { AreChildren shared.now.data_type shared.now.encoding children.items }
-        requires dictionary { IsOfType shared.now.data_type dictionary }
+        requires few { node.len ≤ 2147483647 }
+        requires children { AreChildren shared.now.data_type shared.now.encoding
+            below.children.items }
+        requires dictionary { IsOfType shared.now.data_type below.dictionary }
         requires count { buffer_count shared.now.data_type.tag shared.now.encoding
-            ≤ length buffers.now }
-        requires inside { AllByRecursion (IsInside body.now) buffers.now }
+            ≤ length node.ranges.now }
+        requires inside { AllByRecursion (IsInside node.body.now) node.ranges.now }
         requires layout { IsLaid shared.now.data_type.tag shared.now.encoding
-            len (map (bytes_of body.now) buffers.now) (counts_of children.items) }
+            node.len (map (bytes_of node.body.now) node.ranges.now) (counts_of
+            below.children.items) }
         requires text { IsText shared.now.data_type.tag shared.now.encoding
-            len (map (bytes_of body.now) buffers.now) }
+            node.len (map (bytes_of node.body.now) node.ranges.now) }
         requires index { IsIndexed shared.now.encoding
-            len (map (bytes_of body.now) buffers.now) (values_in dictionary) }
+            node.len (map (bytes_of node.body.now) node.ranges.now) (values_in below.dictionary) }
         ensures { IfOk result (λ a. a ≡ node_column shared.now.data_type shared.now.encoding
-            len (map (bytes_of body.now) buffers.now) children.items (values_in dictionary)) }
+            node.entry.len (map (bytes_of node.entry.body.now) node.entry.ranges.now)
+            below.children.items (values_in below.dictionary)) }
     {
         let encoding = shared.encoding();
         let shared = shared.data_type();
         let data_type: &DataType = shared;
         match encoding {
             Some(encoding) => {
-                let dictionary = Box::new(alloc, or_empty(alloc, data_type, dictionary)?)?;
+                let dictionary = Box::new(alloc, or_empty(alloc, data_type, below.dictionary)?)?;
                 let index = encoding.index;
-                let indices = numbers(index.bits, index.signed, buffers);
+                let indices = numbers(index.bits, index.signed, node.ranges);
                 let ranges = Ranges::Indices(indices, dictionary);
-                of_ranges(shared, Some(encoding), len, body, ranges)
+                of_ranges(shared, Some(encoding), node, ranges)
             }
             None => {
-                let ranges = value_ranges(alloc, data_type, len, body, buffers, children)?;
-                of_ranges(shared, None, len, body, ranges)
+                let ranges = value_ranges(alloc, data_type, node, below.children)?;
+                of_ranges(shared, None, node, ranges)
             }
         }
     }
@@ -111,29 +129,28 @@ impl Array {
     /// values themselves: it has no children and no dictionary.
     #[inline(always)]
     pub fn from_leaf_parts(
+        alloc: Global,
         shared: &SharedType,
-        len: usize,
-        body: &Bytes,
-        buffers: &[ByteRange],
+        node: NodeBuffers<'_>,
     ) -> Result<Array, AllocError>
-        requires few { len ≤ 2147483647 }
+        requires few { node.len ≤ 2147483647 }
         requires own { shared.now.encoding ≡ None }
         requires leaf { IsLeaf (form_of shared.now.data_type.tag) }
-        requires count { buffer_count shared.now.data_type.tag None ≤ length buffers.now }
-        requires inside { AllByRecursion (IsInside body.now) buffers.now }
+        requires count { buffer_count shared.now.data_type.tag None ≤ length node.ranges.now }
+        requires inside { AllByRecursion (IsInside node.body.now) node.ranges.now }
         requires layout { IsLaid shared.now.data_type.tag None
-            len (map (bytes_of body.now) buffers.now) [] }
+            node.len (map (bytes_of node.body.now) node.ranges.now) [] }
         requires text { IsText shared.now.data_type.tag None
-            len (map (bytes_of body.now) buffers.now) }
+            node.len (map (bytes_of node.body.now) node.ranges.now) }
         ensures { IfOk result (λ a. a ≡ node_column shared.now.data_type shared.now.encoding
-            len (map (bytes_of body.now) buffers.now) [] []) }
+            node.entry.len (map (bytes_of node.entry.body.now) node.entry.ranges.now) [] []) }
     {
         let shared = shared.data_type();
         let data_type: &DataType = shared;
         // Called for what it says of every type.
         form_of(data_type);
-        let ranges = leaf_ranges(data_type, len, body, buffers);
-        of_ranges(shared, None, len, body, ranges)
+        let ranges = value_ranges(alloc, data_type, node, Vec::new(alloc))?;
+        of_ranges(shared, None, node, ranges)
     }
 }
 
@@ -142,33 +159,25 @@ impl Array {
 fn of_ranges(
     data_type: &Rc<DataType>,
     encoding: Option<Encoding>,
-    len: usize,
-    body: &Bytes,
+    node: NodeBuffers<'_>,
     ranges: Ranges,
 ) -> Result<Array, AllocError>
-    requires few { len ≤ 2147483647 }
-    requires lies { AreRanges len (type_view data_type.now.value) encoding body.now ranges }
-    ensures { IfOk result
-        (λ a. a ≡ column_by (type_view data_type.now.value) encoding len body.now ranges) }
+    requires few { node.len ≤ 2147483647 }
+    requires lies { AreRanges node.len (type_view data_type.now.value) encoding node.body.now
+        ranges }
+    ensures { IfOk result (λ a. a ≡ column_by (type_view data_type.now.value) encoding
+        node.entry.len node.entry.body.now ranges) }
 {
     // Called for what they say of every slice of bytes and of every type.
-    hold_bytes(body.as_slice());
+    hold_bytes(node.body.as_slice());
     form_of(data_type);
     Ok(Array {
         data_type: data_type.clone()?,
         encoding,
-        len,
-        body: body.clone()?,
+        len: node.len,
+        body: node.body.clone()?,
         ranges,
     })
-}
-
-// What every slice of bytes holds.
-#[inline(always)]
-fn hold_bytes(bytes: &[u8])
-    ensures { AreBytes bytes.now }
-{
-    bytes.len();
 }
 
 // The dictionary, or the empty one where there is none.
@@ -254,15 +263,11 @@ fn strings(width: OffsetWidth, buffers: &[ByteRange]) -> Strings
 }
 
 // The one array there is.
-fn only(arrays: Vec<Array>) -> Array
+fn only(mut arrays: Vec<Array>) -> Array
     requires { length arrays.items ≡ 1 }
     ensures { arrays.items ≡ result ∷ [] }
 {
-    let mut arrays = arrays;
-    match arrays.pop() {
-        Some(array) => array,
-        None => unreachable!(),
-    }
+    arrays.swap_remove(0)
 }
 
 // The ranges of a node of values.
@@ -270,72 +275,47 @@ fn only(arrays: Vec<Array>) -> Array
 fn value_ranges(
     alloc: Global,
     data_type: &DataType,
-    len: usize,
-    body: &Bytes,
-    buffers: &[ByteRange],
+    node: NodeBuffers<'_>,
     children: Vec<Array>,
 ) -> Result<Ranges, AllocError>
     requires children { AreOf (type_view data_type.now).children children.items }
-    requires count { buffer_count (type_view data_type.now).tag None ≤ length buffers.now }
-    requires inside { AllByRecursion (IsInside body.now) buffers.now }
+    requires count { buffer_count (type_view data_type.now).tag None ≤ length node.ranges.now }
+    requires inside { AllByRecursion (IsInside node.body.now) node.ranges.now }
     requires layout { IsLaid (type_view data_type.now).tag None
-        len (map (bytes_of body.now) buffers.now) (counts_of children.items) }
+        node.len (map (bytes_of node.body.now) node.ranges.now) (counts_of children.items) }
     requires text { IsText (type_view data_type.now).tag None
-        len (map (bytes_of body.now) buffers.now) }
-    ensures lies { IfOk result (λ r. AreRanges len (type_view data_type.now) None body.now r) }
-    ensures same { IfOk result (λ r. column_by (type_view data_type.now) None len body.now r
+        node.len (map (bytes_of node.body.now) node.ranges.now) }
+    ensures lies { IfOk result (λ r. AreRanges node.entry.len (type_view data_type.now) None
+        node.entry.body.now r) }
+    ensures same { IfOk result (λ r. column_by (type_view data_type.now) None node.entry.len
+        node.entry.body.now r
         ≡ node_column (type_view data_type.now) None
-        len (map (bytes_of body.now) buffers.now) children.items []) }
+        node.entry.len (map (bytes_of node.entry.body.now) node.entry.ranges.now) children.items
+        []) }
 {
     opened(&children);
     match form_of(data_type) {
         Form::Lists(width) => Ok(Ranges::Lists {
             width,
-            validity: buffers[0],
-            offsets: buffers[1],
+            validity: node.ranges[0],
+            offsets: node.ranges[1],
             child: Box::new(alloc, only(children))?,
         }),
         Form::Structs => Ok(Ranges::Structs {
-            validity: buffers[0],
+            validity: node.ranges[0],
             children,
         }),
-        Form::Nulls
-        | Form::Bits
-        | Form::Numbers { .. }
-        | Form::Bytes(_)
-        | Form::Texts(_)
-        | Form::FixedBytes(_) => Ok(leaf_ranges(data_type, len, body, buffers)),
-    }
-}
-
-// The ranges of a node of values that has no children.
-#[inline(always)]
-fn leaf_ranges(data_type: &DataType, len: usize, body: &Bytes, buffers: &[ByteRange]) -> Ranges
-    requires leaf { IsLeaf (form_of (type_view data_type.now).tag) }
-    requires count { buffer_count (type_view data_type.now).tag None ≤ length buffers.now }
-    requires inside { AllByRecursion (IsInside body.now) buffers.now }
-    requires layout { IsLaid (type_view data_type.now).tag None
-        len (map (bytes_of body.now) buffers.now) [] }
-    requires text { IsText (type_view data_type.now).tag None
-        len (map (bytes_of body.now) buffers.now) }
-    ensures lies { AreRanges len (type_view data_type.now) None body.now result }
-    ensures same { (children : List Column) → AreOf (type_view data_type.now).children children
-        → column_by (type_view data_type.now) None len body.now result
-        ≡ node_column (type_view data_type.now) None
-        len (map (bytes_of body.now) buffers.now) children [] }
-{
-    match form_of(data_type) {
-        Form::Nulls => Ranges::Nulls,
-        Form::Bits => Ranges::Bools(bools(buffers)),
-        Form::Numbers { bits, signed } => Ranges::Ints(numbers(bits, signed, buffers)),
-        Form::Bytes(width) => Ranges::Binaries(strings(width, buffers)),
-        Form::Texts(width) => Ranges::Texts(strings(width, buffers)),
-        Form::FixedBytes(width) => Ranges::FixedBytes(fixed(width, buffers)),
-        Form::Lists(_) | Form::Structs => unreachable!(),
+        Form::Nulls => Ok(Ranges::Nulls),
+        Form::Bits => Ok(Ranges::Bools(bools(node.ranges))),
+        Form::Numbers { bits, signed } => Ok(Ranges::Ints(numbers(bits, signed, node.ranges))),
+        Form::Bytes(width) => Ok(Ranges::Binaries(strings(width, node.ranges))),
+        Form::Texts(width) => Ok(Ranges::Texts(strings(width, node.ranges))),
+        Form::FixedBytes(width) => Ok(Ranges::FixedBytes(fixed(width, node.ranges))),
     }
 }
 
 // Goes over the arrays, so that what is known of each is known of all.
+#[inline(always)]
 fn opened(arrays: &[Array])
     ensures { AllByRecursion IsColumn arrays.now }
 {

@@ -7,6 +7,14 @@ ghost use Rattle.arrow_data.specs.Same.{HaveSlot};
 
 use crate::array::{Array, Seen};
 
+// The items in the slots of an array from `start` up to `end`.
+#[derive(Clone, Copy)]
+pub(crate) struct Items<'a> {
+    pub(crate) array: &'a Array,
+    pub(crate) start: usize,
+    pub(crate) end: usize,
+}
+
 impl Array {
     /// Whether slot `i` and slot `j` of another array hold equal values, whatever the types of the
     /// two arrays are. Two nulls are equal. Lists and structs are compared value by value, wherever
@@ -23,9 +31,18 @@ impl Array {
             (Seen::Number(a), Seen::Number(b)) => a == b,
             (Seen::Binary(a), Seen::Binary(b)) => a == b,
             (Seen::Text(a), Seen::Text(b)) => a == b,
-            (Seen::Items(start, end, items), Seen::Items(from, to, others)) => {
-                same_items(items, start, end, others, from, to)
-            }
+            (Seen::Items(start, end, items), Seen::Items(from, to, others)) => same_items(
+                Items {
+                    array: items,
+                    start,
+                    end,
+                },
+                Items {
+                    array: others,
+                    start: from,
+                    end: to,
+                },
+            ),
             (Seen::Parts(children), Seen::Parts(others)) => same_parts(children, i, others, j),
             (Seen::Nothing, _)
             | (Seen::Truth(_), _)
@@ -38,28 +55,24 @@ impl Array {
     }
 }
 
-// Whether the values in two ranges of slots are equal, one by one.
+// Whether the items are equal, one by one.
 #[cycle(same)]
-pub(crate) fn same_items(
-    items: &Array,
-    start: usize,
-    end: usize,
-    others: &Array,
-    from: usize,
-    to: usize,
-) -> bool
-    requires order { start ≤ end }
-    requires inside { end ≤ length items.now.raw }
-    requires other_order { from ≤ to }
-    requires other_inside { to ≤ length others.now.raw }
+pub(crate) fn same_items(items: Items<'_>, others: Items<'_>) -> bool
+    requires order { items.start ≤ items.end }
+    requires inside { items.end ≤ length items.array.now.raw }
+    requires other_order { others.start ≤ others.end }
+    requires other_inside { others.end ≤ length others.array.now.raw }
     ensures { IsTrue result
-        ↔ (values_from items.now.raw start end ≡ values_from others.now.raw from to) }
+        ↔ (values_from items.entry.array.now.raw items.entry.start items.entry.end
+        ≡ values_from others.entry.array.now.raw others.entry.start others.entry.end) }
 {
-    if end - start != to - from {
+    let count = items.end - items.start;
+    if count != others.end - others.start {
         return false;
     }
-    for k in 0..end - start {
-        if !items.same_slot(start + k, others, from + k) {
+    for k in 0..count {
+        let j = others.start + k;
+        if !items.array.same_slot(items.start + k, others.array, j) {
             return false;
         }
     }

@@ -5,7 +5,7 @@ ghost use Rattle.arrow_data.specs.Shown.{HoldsValue};
 ghost use Rattle.arrow_data.specs.View.{HasNoEntry, RefersTo};
 
 use crate::array::{Array, SlotValue};
-use crate::slot::{binary_at, bool_at, fixed_at, number_at, text_at};
+use crate::slot::{bool_at, fixed_at};
 use crate::view::Buffers;
 use std::marker::Model;
 
@@ -63,26 +63,18 @@ impl<'a> Slots<'a> {
                 Some(truth) => SlotValue::Bool(truth),
                 None => SlotValue::Null,
             },
-            Buffers::Numbers(of) => match number_at(
-                of.validity,
-                of.values,
-                of.width,
-                of.signed,
-                i,
-            ) {
+            Buffers::Numbers(of) => match of.number_at(i) {
                 Some(number) => SlotValue::Int(number),
                 None => SlotValue::Null,
             },
             Buffers::Binaries(of) => {
-                let len = self.array.len();
-                match binary_at(of.width, of.validity, of.offsets, of.bytes, len, i) {
+                match of.binary_at(self.array.len(), i) {
                     Some(bytes) => SlotValue::Bytes(bytes),
                     None => SlotValue::Null,
                 }
             }
             Buffers::Texts(of) => {
-                let len = self.array.len();
-                match text_at(of.width, of.validity, of.offsets, of.bytes, len, i) {
+                match of.text_at(self.array.len(), i) {
                     Some(text) => SlotValue::Text(text),
                     None => SlotValue::Null,
                 }
@@ -112,7 +104,7 @@ impl<'a> Slots<'a> {
     {
         match &self.buffers {
             Buffers::Indices(of, _) => {
-                let index = number_at(of.validity, of.values, of.width, of.signed, i)?;
+                let index = of.number_at(i)?;
                 Some(index as usize)
             }
             Buffers::Nulls

@@ -14,55 +14,54 @@ ghost use Rattle.arrow_data.specs.Layout.{HasStrings};
 ghost use Rattle.arrow_data.specs.Cuts.{AreCuts};
 ghost use Rattle.arrow_data.specs.Slots.{place_of, range_of, is_valid_at, AreTexts, HasOffsets};
 
-use crate::form::OffsetWidth;
-use crate::slot::{binary_at, is_valid, places_at};
+use crate::offsets::OffsetBuffer;
+use crate::slot::is_valid;
+use crate::view::StringBuffers;
 
 // Whether each valid slot of `len` is UTF-8.
-pub(crate) fn are_slots_utf8(
-    width: OffsetWidth,
-    len: usize,
-    validity: &[u8],
-    offsets: &[u8],
-    bytes: &[u8],
-) -> bool
-    requires { HasStrings width len validity.now offsets.now bytes.now }
-    ensures { IsTrue result ↔ AreTexts width len validity.now offsets.now bytes.now }
+pub(crate) fn are_slots_utf8(strings: StringBuffers<'_>, len: usize) -> bool
+    requires { HasStrings strings.width len strings.validity.now strings.offsets.now
+        strings.bytes.now }
+    ensures { IsTrue result ↔ AreTexts strings.entry.width len strings.entry.validity.now
+        strings.entry.offsets.now strings.entry.bytes.now }
 {
     if len == 0 {
         return true;
     }
-    match simdutf8::basic::from_utf8(all_slots(width, len, offsets, bytes)) {
-        Ok(text) => {
-            are_cuts(width, len, offsets, bytes.len(), text)
-                || are_parts(width, len, validity, offsets, bytes, text)
-        }
-        Err(_) => are_utf8_one_by_one(width, len, validity, offsets, bytes),
+    match simdutf8::basic::from_utf8(all_slots(strings, len)) {
+        Ok(text) => are_cuts(strings.ranges(len), text) || are_parts(strings, len, text),
+        Err(_) => are_utf8_one_by_one(strings, len),
     }
 }
 
 // The bytes of all slots, whether these are valid or not.
 #[tactic(auto, using(crate::proofs::Cuts::offsets))]
-fn all_slots<'a>(width: OffsetWidth, len: usize, offsets: &[u8], bytes: &'a [u8]) -> &'a [u8]
+fn all_slots(strings: StringBuffers<'_>, len: usize) -> &[u8]
     requires slots { 0 < len }
-    requires rising { HasOffsets width len (length bytes.now) offsets.now }
-    ensures same { result.now
-        ≡ slice_range bytes.now (place_of width offsets.now 0) (place_of width offsets.now len) }
-    ensures inside { place_of width offsets.now len ≤ length bytes.now }
-    ensures rising { IsNonDecreasing (plain_list (offset_bytes width) len offsets.now) }
+    requires rising { HasOffsets strings.width len (length strings.bytes.now)
+        strings.offsets.now }
+    ensures same { result.now ≡ slice_range strings.entry.bytes.now
+        (place_of strings.entry.width strings.entry.offsets.now 0)
+        (place_of strings.entry.width strings.entry.offsets.now len) }
+    ensures inside { place_of strings.entry.width strings.entry.offsets.now len ≤ length
+        strings.entry.bytes.now }
+    ensures rising { IsNonDecreasing (plain_list (offset_bytes strings.entry.width) len
+        strings.entry.offsets.now) }
 {
-    let (start, end) = places_at(width, offsets, len, bytes.len(), 0, len);
-    &bytes[start..end]
+    let (start, end) = strings.ranges(len).places_at(0, len);
+    &strings.bytes[start..end]
 }
 
-// Whether the text, which is the bytes of all slots, may be cut where each slot of `len` ends. (A
-// slot begins where the one before ends.)
-fn are_cuts(width: OffsetWidth, len: usize, offsets: &[u8], top: usize, text: &str) -> bool
-    requires slots { 0 < len }
-    requires rising { HasOffsets width len top offsets.now }
-    ensures { IsTrue result ↔ AreCuts width len offsets.now text.now }
+// Whether the text, which is the bytes of all slots, may be cut where each slot ends. (A slot
+// begins where the one before ends.)
+fn are_cuts(offsets: OffsetBuffer<'_>, text: &str) -> bool
+    requires slots { 0 < offsets.len }
+    requires rising { HasOffsets offsets.width offsets.len offsets.top offsets.bytes.now }
+    ensures { IsTrue result ↔ AreCuts offsets.entry.width offsets.entry.len offsets.entry.bytes.now
+        text.now }
 {
-    for j in 0..len {
-        let (first, end) = places_at(width, offsets, len, top, 0, j + 1);
+    for j in 0..offsets.len {
+        let (first, end) = offsets.places_at(0, j + 1);
         if !text.is_char_boundary(end - first) {
             return false;
         }
@@ -71,22 +70,18 @@ fn are_cuts(width: OffsetWidth, len: usize, offsets: &[u8], top: usize, text: &s
 }
 
 // Whether each valid slot of `len` is UTF-8, where the bytes of all slots are the text.
-fn are_parts(
-    width: OffsetWidth,
-    len: usize,
-    validity: &[u8],
-    offsets: &[u8],
-    bytes: &[u8],
-    text: &str,
-) -> bool
-    requires laid { HasStrings width len validity.now offsets.now bytes.now }
-    requires inside { place_of width offsets.now len ≤ length bytes.now }
-    requires whole { text.now
-        ≡ slice_range bytes.now (place_of width offsets.now 0) (place_of width offsets.now len) }
-    ensures { IsTrue result ↔ AreTexts width len validity.now offsets.now bytes.now }
+fn are_parts(strings: StringBuffers<'_>, len: usize, text: &str) -> bool
+    requires laid { HasStrings strings.width len strings.validity.now strings.offsets.now
+        strings.bytes.now }
+    requires inside { place_of strings.width strings.offsets.now len ≤ length strings.bytes.now }
+    requires whole { text.now ≡ slice_range strings.bytes.now
+        (place_of strings.width strings.offsets.now 0)
+        (place_of strings.width strings.offsets.now len) }
+    ensures { IsTrue result ↔ AreTexts strings.entry.width len strings.entry.validity.now
+        strings.entry.offsets.now strings.entry.bytes.now }
 {
     for j in 0..len {
-        if !is_part(width, len, validity, offsets, bytes, text, j) {
+        if !is_part(strings, len, text, j) {
             return false;
         }
     }
@@ -94,43 +89,43 @@ fn are_parts(
 }
 
 // Whether slot `j` is null or UTF-8, where the bytes of all slots are the text.
-fn is_part(
-    width: OffsetWidth,
-    len: usize,
-    validity: &[u8],
-    offsets: &[u8],
-    bytes: &[u8],
-    text: &str,
-    j: usize,
-) -> bool
+fn is_part(strings: StringBuffers<'_>, len: usize, text: &str, j: usize) -> bool
     requires slot { j < len }
-    requires laid { HasStrings width len validity.now offsets.now bytes.now }
-    requires inside { place_of width offsets.now len ≤ length bytes.now }
-    requires whole { text.now
-        ≡ slice_range bytes.now (place_of width offsets.now 0) (place_of width offsets.now len) }
-    ensures { IsTrue result
-        ↔ (is_valid_at validity.now j ≡ true → IsUtf8 (range_of width offsets.now bytes.now j)) }
+    requires laid { HasStrings strings.width len strings.validity.now strings.offsets.now
+        strings.bytes.now }
+    requires inside { place_of strings.width strings.offsets.now len ≤ length strings.bytes.now }
+    requires whole { text.now ≡ slice_range strings.bytes.now
+        (place_of strings.width strings.offsets.now 0)
+        (place_of strings.width strings.offsets.now len) }
+    ensures { IsTrue result ↔ (is_valid_at strings.entry.validity.now j ≡ true
+        → IsUtf8 (range_of strings.entry.width strings.entry.offsets.now strings.entry.bytes.now
+        j)) }
 {
-    if !is_valid(validity, j) {
+    if !is_valid(strings.validity, j) {
         return true;
     }
-    let (start, end) = places_of(width, len, offsets, bytes.len(), j);
+    let (start, end) = places_of(strings.ranges(len), j);
     is_text(text, start, end)
 }
 
 // Where slot `j` begins and ends in the bytes of all slots.
 #[tactic(auto, using(crate::proofs::Cuts::offsets))]
-fn places_of(width: OffsetWidth, len: usize, offsets: &[u8], top: usize, j: usize) -> (usize, usize)
-    requires slot { j < len }
-    requires rising { HasOffsets width len top offsets.now }
-    ensures before { place_of width offsets.now 0 ≤ place_of width offsets.now j }
-    ensures order { place_of width offsets.now j ≤ place_of width offsets.now (j + 1) }
-    ensures after { place_of width offsets.now (j + 1) ≤ place_of width offsets.now len }
-    ensures start { result.0 ≡ place_of width offsets.now j - place_of width offsets.now 0 }
-    ensures stop { result.1 ≡ place_of width offsets.now (j + 1) - place_of width offsets.now 0 }
+fn places_of(offsets: OffsetBuffer<'_>, j: usize) -> (usize, usize)
+    requires slot { j < offsets.len }
+    requires rising { HasOffsets offsets.width offsets.len offsets.top offsets.bytes.now }
+    ensures before { place_of offsets.entry.width offsets.entry.bytes.now 0
+        ≤ place_of offsets.entry.width offsets.entry.bytes.now j }
+    ensures order { place_of offsets.entry.width offsets.entry.bytes.now j
+        ≤ place_of offsets.entry.width offsets.entry.bytes.now (j + 1) }
+    ensures after { place_of offsets.entry.width offsets.entry.bytes.now (j + 1)
+        ≤ place_of offsets.entry.width offsets.entry.bytes.now offsets.entry.len }
+    ensures start { result.0 ≡ place_of offsets.entry.width offsets.entry.bytes.now j
+        - place_of offsets.entry.width offsets.entry.bytes.now 0 }
+    ensures stop { result.1 ≡ place_of offsets.entry.width offsets.entry.bytes.now (j + 1)
+        - place_of offsets.entry.width offsets.entry.bytes.now 0 }
 {
-    let (first, start) = places_at(width, offsets, len, top, 0, j);
-    let (_, end) = places_at(width, offsets, len, top, j, j + 1);
+    let (first, start) = offsets.places_at(0, j);
+    let (_, end) = offsets.places_at(j, j + 1);
     (start - first, end - first)
 }
 
@@ -154,18 +149,14 @@ fn is_cut(text: &str, start: usize, end: usize) -> bool
 }
 
 // Whether each valid slot of `len` is UTF-8, one after another.
-fn are_utf8_one_by_one(
-    width: OffsetWidth,
-    len: usize,
-    validity: &[u8],
-    offsets: &[u8],
-    bytes: &[u8],
-) -> bool
-    requires { HasStrings width len validity.now offsets.now bytes.now }
-    ensures { IsTrue result ↔ AreTexts width len validity.now offsets.now bytes.now }
+fn are_utf8_one_by_one(strings: StringBuffers<'_>, len: usize) -> bool
+    requires { HasStrings strings.width len strings.validity.now strings.offsets.now
+        strings.bytes.now }
+    ensures { IsTrue result ↔ AreTexts strings.entry.width len strings.entry.validity.now
+        strings.entry.offsets.now strings.entry.bytes.now }
 {
     for j in 0..len {
-        let Some(text) = binary_at(width, validity, offsets, bytes, len, j) else {
+        let Some(text) = strings.binary_at(len, j) else {
             continue;
         };
         if std::str::from_utf8(text).is_err() {

@@ -71,7 +71,8 @@ pub struct NumberBuffers<'a> {
 
 impl<'a> NumberBuffers<'a> {
     // The numbers whose buffers are these ranges of a body.
-    fn of(ints: Ints, body: &'a [u8]) -> NumberBuffers<'a>
+    #[inline(always)]
+    pub(crate) fn of(ints: Ints, body: &'a [u8]) -> NumberBuffers<'a>
         requires validity { IsInside body.now ints.validity }
         requires values { IsInside body.now ints.values }
         ensures width { result.width ≡ ints.width }
@@ -104,7 +105,8 @@ pub struct StringBuffers<'a> {
 
 impl<'a> StringBuffers<'a> {
     // The byte strings whose buffers are these ranges of a body.
-    fn of(strings: Strings, body: &'a [u8]) -> StringBuffers<'a>
+    #[inline(always)]
+    pub(crate) fn of(strings: Strings, body: &'a [u8]) -> StringBuffers<'a>
         requires validity { IsInside body.now strings.validity }
         requires offsets { IsInside body.now strings.offsets }
         requires bytes { IsInside body.now strings.bytes }

@@ -28,16 +28,16 @@ pub array::Array::same_slot-returns-in-Parts-Parts : goal.array::Array::same_slo
 array::Array::same_slot-returns-in-Parts-Parts t c =
     parts_agree c.args.self.now c.args.other.now c.args.i c.args.j _ _ c.same_parts.result c.in-Parts-Parts.ensures c.in-Parts-Parts.ensures' c.same_parts.ensures
 
-pub same::same_items-returns-then-end-start : goal.same::same_items-returns-then-end-start
-same::same_items-returns-then-end-start t c = (
+pub same::same_items-returns-then-count-others : goal.same::same_items-returns-then-count-others
+same::same_items-returns-then-count-others t c = (
   λ h. absurd (false≢true h),
-  λ e. absurd (c.if-end-start.true (sym (length-values_from c.args.items.now.raw c.args.start c.args.end c.requires.inside) ∙ ap length e ∙ length-values_from c.args.others.now.raw c.args.from c.args.to c.requires.other_inside)),
+  λ e. absurd (c.if-count-others.true (sym (length-values_from c.args.items.array.now.raw c.args.items.start c.args.items.end c.requires.inside) ∙ ap length e ∙ length-values_from c.args.others.array.now.raw c.args.others.start c.args.others.end c.requires.other_inside)),
 )
 
 pub same::same_items-returns : goal.same::same_items-returns
 same::same_items-returns t c =
-    let done : c.args.end - c.args.start ≤ c.loop-k.k = omega arith in
-    (λ _. items_same c.args.items.now c.args.others.now c.args.start c.args.end c.args.from c.args.to c.requires.inside c.requires.other_inside (search rules) (λ k h. c.loop-k.invariant k (omega arith)), λ _. refl)
+    let done : c.args.items.end - c.args.items.start ≤ c.loop-k.k = omega arith in
+    (λ _. items_same c.args.items.array.now c.args.others.array.now c.args.items.start c.args.items.end c.args.others.start c.args.others.end c.requires.inside c.requires.other_inside (search rules) (λ k h. c.loop-k.invariant k (omega arith)), λ _. refl)
 
 pub same::same_parts-returns-then-not-same_slot : goal.same::same_parts-returns-then-not-same_slot
 same::same_parts-returns-then-not-same_slot t c =

@@ -6,6 +6,7 @@ ghost use Rattle.arrow_data.specs.Slots.{index_width};
 
 use super::making::{column, dictionary, listed};
 use super::told::shows;
+use arrow_data::NumberBuffers;
 use arrow_data::form::{Form, node_form};
 use arrow_data::layout::{are_indices, has_fixed};
 use arrow_test_fields::fields_of;
@@ -66,7 +67,13 @@ fn all_lead(
 ) {
     let width = index_width(index);
     assert!(rt; has_fixed(len, width, validity, bytes));
-    let lead = are_indices(len, width, index.signed, validity, bytes, count);
+    let indices = NumberBuffers {
+        width,
+        signed: index.signed,
+        validity,
+        values: bytes,
+    };
+    let lead = are_indices(len, indices, count);
     assert_eq!(rt; lead, want, "{index:?} {bytes:?} of {count}");
 }
 

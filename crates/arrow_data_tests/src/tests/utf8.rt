@@ -1,5 +1,6 @@
 // Whether slots are texts: bytes that all are one, and bytes that are not.
 
+use arrow_data::StringBuffers;
 use arrow_data::form::OffsetWidth;
 use arrow_data::layout::{are_texts, has_strings};
 use std::process::Abort;
@@ -17,8 +18,14 @@ fn are_utf8(
         put_offset(rt, &mut offsets, width, *place);
     }
     let len = places.len().saturating_sub(1);
-    if has_strings(width, len, validity, &offsets, bytes) {
-        Some(are_texts(width, len, validity, &offsets, bytes))
+    let strings = StringBuffers {
+        width,
+        validity,
+        offsets: &offsets,
+        bytes,
+    };
+    if has_strings(len, strings) {
+        Some(are_texts(len, strings))
     } else {
         None
     }

@@ -9,7 +9,7 @@ ghost use Rattle.arrow_data.specs.Layout.{IsText, buffer_count};
 ghost use Rattle.arrow_data.specs.Listed.{listed};
 
 use arrow_data::layout::is_laid;
-use arrow_data::{Array, ByteRange, Dictionary};
+use arrow_data::{Array, ByteRange, ChildData, Dictionary, NodeBuffers};
 use arrow_dict::{Store, StoreFault};
 use arrow_types::{BitWidth, DataType, Field};
 use bytes::Bytes;
@@ -49,9 +49,17 @@ fn column(rt: &impl Abort, alloc: Global, data_type: DataType, len: usize, bytes
     let buffers = [ByteRange::EMPTY, range];
     assert!(rt; len <= 2147483647);
     assert!(rt; is_simple(&field.data_type));
-    assert!(rt; is_laid(&field.data_type, None, len, body.as_slice(), &buffers, &[]));
-    let children = Vec::new(alloc);
-    Array::from_parts(alloc, &field, len, &body, &buffers, children, None).expect(rt, "memory")
+    let node = NodeBuffers {
+        len,
+        body: &body,
+        ranges: &buffers,
+    };
+    assert!(rt; is_laid(&field.data_type, None, node, &[]));
+    let below = ChildData {
+        children: Vec::new(alloc),
+        dictionary: None,
+    };
+    Array::from_parts(alloc, &field, node, below).expect(rt, "memory")
 }
 
 // The column of a text: numbers between brackets, or nulls, which lie in no body.

@@ -1,11 +1,12 @@
-use Rattle.std.proofs.Common.{◌≡◌, ◌≤◌, ◌+◌, ◌++◌, length, drop, ap, sym, ◌∙◌, subst, arith, rules}
-use Rattle.std.specs.Prelude.{IsTrue}
+use Rattle.std.proofs.Common.{◌≡◌, ◌≤◌, ◌+◌, ◌++◌, ◌↔◌, MatchOption, [], ◌∷◌, length, drop, ap, sym, ◌∙◌, subst, arith, rules}
+use Rattle.std.specs.Prelude.{IsTrue, ⊤}
 use Rattle.std.specs.List.{AllByRecursion}
 use Rattle.std.proofs.lemmas.List.{at_drop_all}
 use Rattle.arrow_types.specs.Field.{count, none}
 use Rattle.arrow_types.specs.View.{field_view, fields_view}
+use Rattle.arrow_types.specs.declared.field.Field.{Field}
 use Rattle.arrow_types.proofs.Fields.{fields_from}
-use Rattle.arrow_data.specs.Form.{buffers_of}
+use Rattle.arrow_data.specs.Column.{Column}
 use Rattle.arrow_data.specs.Listed.{dictionary_for}
 use Rattle.arrow_data.specs.Parts.{node_column, values_in}
 use Rattle.arrow_data.specs.Shared.{node_type}
@@ -14,7 +15,7 @@ use Rattle.arrow_body_reader.specs.Taken.{AreThere, below, own_buffers, taken_no
 use Rattle.arrow_body_reader.specs.Types.{HaveTypes}
 use Rattle.arrow_body_reader.specs.declared.build.Builder.{Builder}
 use Rattle.arrow_body_reader.proofs.Building.{inner_building, last_building, next_building}
-use Rattle.arrow_body_reader.proofs.Columns.{columns_step, fit_inside, form_is}
+use Rattle.arrow_body_reader.proofs.Columns.{columns_step, fit_inside}
 use Rattle.arrow_body_reader.proofs.Least.{least_next}
 use Rattle.arrow_body_reader.proofs.Taking.{all_after, all_told, fewer_taken, there_after}
 use Rattle.arrow_body_reader.proofs.Types.{typed_inside, typed_next, types_left}
@@ -43,17 +44,19 @@ look-look_below-requires t c =
           (λ fit. rw c.below-under.ensures (fit_inside ds h.encoding ch (subst (AreFit ds) step fit).1)) c.builder_below.ensures,
     )
 
-pub look-look_at-requires-clause-there : goal.look-look_at-requires-clause-there
-look-look_at-requires-clause-there t c =
+pub look-node-requires-clause-there : goal.look-node-requires-clause-there
+look-node-requires-clause-there t c =
     let f = c.field-item.result in
     let h = (field_view f).head in
     let ns = c.loop-field.rest.nodes.now in
     let bs = c.loop-field.rest.buffers.now in
-    let own : c.own_buffers-own.result ≡ own_buffers h = c.own_buffers-own.ensures ∙ ap buffers_of (form_is f c.node_form-form.result c.node_form-form.ensures) in
+    let place = c.new-place.result in
+    let own : place.own ≡ own_buffers h = rw c.new-place.ensures.field at place.counted in
     let found = rw (c.below-under.ensures, c.inside.ensures.nodes, c.inside.ensures.buffers, own) at c.in_ok-inner.ensures.seen in
-    let one : 1 ≤ length ns = search rules in
-    let room : own_buffers h ≤ length bs = omega (arith, own, c.if-rest-own.false) in
-    (there_after h (field_view f).children none ns c.in_ok-inner.inner.rest.nodes.now bs c.in_ok-inner.inner.rest.buffers.now one room found.0 found.4 found.5).0.0 (omega arith, omega arith)
+    let holds : IsTrue c.is_there.result = search rules in
+    let there : (1 ≤ length ns) × (own_buffers h ≤ length bs) = rw (c.new-place.ensures.field, c.new-place.ensures.left) at (c.is_there.ensures.0 holds) in
+    rw (c.new-place.ensures.field, c.new-place.ensures.left)
+    ((there_after h (field_view f).children none ns c.in_ok-inner.inner.rest.nodes.now bs c.in_ok-inner.inner.rest.buffers.now there.0 there.1 found.0 found.4 found.5).0.0 (omega arith, omega arith))
 
 pub look-loop-field-preserved : goal.look-loop-field-preserved
 look-loop-field-preserved t c =
@@ -73,19 +76,31 @@ look-loop-field-preserved t c =
     let ts' = c.in_ok-inner.inner.rest.types.now in
     let inv = c.loop-field.invariant in
     let step = fields_from c.args.fields.now c.loop-field.field-index f c.loop-field-test.true c.field-item.is in
-    let own : c.own_buffers-own.result ≡ own_buffers h = c.own_buffers-own.ensures ∙ ap buffers_of (form_is f c.node_form-form.result c.node_form-form.ensures) in
+    let place = c.new-place.result in
+    let own : place.own ≡ own_buffers h = rw c.new-place.ensures.field at place.counted in
     let found = rw (c.below-under.ensures, c.inside.ensures.nodes, c.inside.ensures.buffers, own) at c.in_ok-inner.ensures.seen in
     let behind = rw (c.below-under.ensures, c.inside.ensures.types) at c.in_ok-inner.ensures.types in
-    let here_seen = c.in_ok-node.ensures.seen in
-    let one : 1 ≤ length ns = search rules in
-    let room : own_buffers h ≤ length bs = omega (arith, own, c.if-rest-own.false) in
-    let after = there_after h ch rest ns ns' bs bs' one room found.0 found.4 found.5 in
+    let here_seen =
+    subst
+    (λ (x : Field). IsNodeLaid body (field_view x).head (field_view x).children ns bs
+    × (IsTrue c.in_ok-node.node.seen.texts ↔ IsNodeText body (field_view x).head (field_view x).children ns bs)
+    × (IsTrue c.in_ok-node.node.seen.indices ↔ IsNodeIndexed body ds (field_view x).head (field_view x).children ns bs))
+    c.new-place.ensures.field (simp (c.new-place.ensures.left, c.new-place.ensures.source) at c.in_ok-node.ensures.seen) in
+    let here_len = simp c.new-place.ensures.left at c.in_ok-node.ensures.len in
+    let holds : IsTrue c.is_there.result = search rules in
+    let there : (1 ≤ length ns) × (own_buffers h ≤ length bs) = rw (c.new-place.ensures.field, c.new-place.ensures.left) at (c.is_there.ensures.0 holds) in
+    let after = there_after h ch rest ns ns' bs bs' there.0 there.1 found.0 found.4 found.5 in
     let laid = all_after (IsNodeLaid body) h ch rest ns ns' bs bs' here_seen.0 found.1 found.4 found.5 in
     let texts = all_told (IsNodeText body) (IsTrue c.in_ok-node.node.seen.texts) (IsTrue c.in_ok-inner.inner.seen.texts) h ch rest ns ns' bs bs' here_seen.1 found.2 found.4 found.5 in
     let indices = all_told (IsNodeIndexed body ds) (IsTrue c.in_ok-node.node.seen.indices) (IsTrue c.in_ok-inner.inner.seen.indices) h ch rest ns ns' bs bs' here_seen.2 found.3 found.4 found.5 in
     let seen = c.and.ensures in
     let both_seen = c.and-seen.ensures in
-    let column = node_column (node_type h ch).data_type h.encoding (slots_at ns) (own_bytes body h bs) (columns_of body ds (below h.encoding ch) (drop 1 ns) (drop (own_buffers h) bs)) (values_in (dictionary_for ds h.encoding)) in
+    let column : Field → Column = λ x.
+    node_column (node_type (field_view x).head (field_view x).children).data_type (field_view x).head.encoding (slots_at ns) (own_bytes body (field_view x).head bs)
+    (columns_of body ds (below (field_view x).head.encoding (field_view x).children) (drop 1 ns) (drop (own_buffers (field_view x).head) bs)) (values_in (dictionary_for ds (field_view x).head.encoding)) in
+    let made =
+    subst (λ (x : Field). MatchOption c.with_node-making.result ⊤ (λ n. MatchOption c.loop-field.making ⊥ (λ b. (n.body.now ≡ b.body.now) × (n.arrays.items ≡ b.arrays.items ++ column x ∷ []))))
+    c.new-place.ensures.field (simp (c.new-place.ensures.left, c.new-place.ensures.source) at c.with_node-making.ensures) in
     let columns = ap (λ v. columns_of body ds v ns bs) step ∙ columns_step body ds h ch rest ns ns' bs bs' found.4 found.5 in
     record {
       there = (
@@ -119,16 +134,16 @@ look-loop-field-preserved t c =
       nodes = after.1 ∙ ap (λ v. drop (taken_nodes v) ns) (sym step) ∙ inv.nodes;
       buffers = after.2 ∙ ap (λ v. drop (taken_buffers v) bs) (sym step) ∙ inv.buffers;
       types = types_left h ch rest ts ts' behind ∙ ap (λ v. drop (taken_nodes v) ts) (sym step) ∙ inv.types;
-      least = λ n few. least_next h ch rest ns ns' n c.loop-field.least c.in_ok-node.node.len c.min-least.result (AllByRecursion (λ k. n ≤ k) (lengths_of all c.args.left.nodes.now))
-          found.4 c.in_ok-node.ensures.len c.min-least.ensures (
+      least = λ n few. least_next h ch rest ns ns' n c.loop-field.least c.in_ok-node.node.laid.len c.min-least.result (AllByRecursion (λ k. n ≤ k) (lengths_of all c.args.left.nodes.now))
+          found.4 here_len c.min-least.ensures (
             λ x. (inv.least n few).0 (x.0, subst (λ v. AllByRecursion (λ k. n ≤ k) (lengths_of v ns)) (sym step) x.1),
             λ w.
                 let before = (inv.least n few).1 w in
                 (before.0, subst (λ v. AllByRecursion (λ k. n ≤ k) (lengths_of v ns)) step before.1),
           );
-      building = next_building (λ (b : Builder). b.body.now) (λ (b : Builder). b.arrays.items) body c.loop-field.making c.with_node-making.result column (columns_of body ds here ns bs) (columns_of body ds rest ns' bs')
+      building = next_building (λ (b : Builder). b.body.now) (λ (b : Builder). b.arrays.items) body c.loop-field.making c.with_node-making.result (column f) (columns_of body ds here ns bs) (columns_of body ds rest ns' bs')
           (columns_of body ds all c.args.left.nodes.now c.args.left.buffers.now) (HaveTypes here ts) (AreFit ds here) (HaveTypes rest ts') (AreFit ds rest) columns inv.building
-          (λ typed. typed_next h ch rest ts ts' (subst (λ v. HaveTypes v ts) step typed) behind) (λ fit. (subst (AreFit ds) step fit).2) c.with_node-making.ensures;
+          (λ typed. typed_next h ch rest ts ts' (subst (λ v. HaveTypes v ts) step typed) behind) (λ fit. (subst (AreFit ds) step fit).2) made;
     }
 
 pub look-returns-clause-least : goal.look-returns-clause-least

@@ -11,4 +11,4 @@ invariant_of-result c =
 
 -- so the array is the column of what was lent
 pub returns : goal.returns
-returns c = λ i. column_by (type_view (c.in_ok-clone.ensures.cases i)) c.args.encoding c.args.len (c.in_ok-clone-2.ensures.cases i) c.args.ranges
+returns c = λ i. column_by (type_view (c.in_ok-clone.ensures.cases i)) c.args.encoding c.args.node.len (c.in_ok-clone-2.ensures.cases i) c.args.ranges

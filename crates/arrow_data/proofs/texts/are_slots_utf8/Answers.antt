@@ -5,8 +5,9 @@ use Rattle.arrow_data.proofs.texts.are_slots_utf8.Goals as goal
 
 pub returns-then-are_cuts : goal.returns-then-are_cuts
 returns-then-are_cuts c =
-    let a = c.args in
-    let whole : c.in-Ok.text.now ≡ slice_range a.bytes.now (place_of a.width a.offsets.now 0) (place_of a.width a.offsets.now a.len) = search rules in
+    let s = c.args.strings in
+    let whole : c.in-Ok.text.now ≡ slice_range s.bytes.now (place_of s.width s.offsets.now 0) (place_of s.width s.offsets.now c.args.len) = search rules in
     let utf8 : IsUtf8 c.in-Ok.text.now = search rules in
-    let cuts = c.are_cuts.ensures.0 c.if-are_cuts.true in
-    (λ _. cuts_texts a.width a.len a.validity.now a.offsets.now a.bytes.now c.in-Ok.text.now c.all_slots.ensures.rising whole utf8 cuts, λ _. c.if-are_cuts.true)
+    let of = c.ranges-in-Ok.ensures in
+    let cuts = rw (of.width, of.len, of.bytes) at (c.are_cuts.ensures.0 c.if-are_cuts.true) in
+    (λ _. cuts_texts s.width c.args.len s.validity.now s.offsets.now s.bytes.now c.in-Ok.text.now c.all_slots.ensures.rising whole utf8 cuts, λ _. c.if-are_cuts.true)

@@ -4,4 +4,4 @@ use Rattle.arrow_data.proofs.texts.places_of.Goals as goal
 
 pub returns-clause-after : goal.returns-clause-after
 returns-clause-after c =
-    places_order c.args.width c.args.offsets.now c.args.len (c.args.j + 1) c.args.len c.places_at-end.ensures.rising (omega (arith, c.requires.slot)) (omega arith)
+    places_order c.args.offsets.width c.args.offsets.bytes.now c.args.offsets.len (c.args.j + 1) c.args.offsets.len c.places_at-end.ensures.rising (omega (arith, c.requires.slot)) (omega arith)

@@ -1,4 +1,4 @@
-use Rattle.arrow_data.proofs.parts.hold_bytes.Goals as goal
+use Rattle.arrow_data.proofs.byte_range.hold_bytes.Goals as goal
 
 -- each element of the slice is a byte
 pub returns : goal.returns

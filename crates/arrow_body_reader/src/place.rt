@@ -1,0 +1,64 @@
+//! A field's own node where it stands in a batch.
+
+ghost use Rattle.std.specs.Prelude.{◌≡◌, ◌≤◌, ◌↔◌, IsTrue, length, take};
+ghost use Rattle.arrow_data.specs.Form.{node_form};
+ghost use Rattle.arrow_types.specs.View.{field_view};
+ghost use Rattle.arrow_body_reader.specs.Taken.{own_buffers};
+
+use crate::source::Source;
+use crate::taken::{Left, own_buffers};
+use arrow_data::ByteRange;
+use arrow_data::form::{Form, node_form};
+use arrow_types::Field;
+
+// A field, the nodes and buffers from its own on, and what they refer to.
+#[derive(Clone, Copy)]
+pub(crate) struct Place<'a> {
+    pub(crate) field: &'a Field,
+    // The form of its node.
+    pub(crate) form: Form,
+    // How many buffers its node has of its own.
+    pub(crate) own: usize,
+    pub(crate) left: Left<'a>,
+    pub(crate) source: Source<'a>,
+    ghost formed: { form
+        ≡ node_form (field_view field.now).head.tag (field_view field.now).head.encoding },
+    ghost counted: { own ≡ own_buffers (field_view field.now).head },
+}
+
+// How many slots a node has, and where its own buffers lie. The ranges are made and tested in
+// `Place::laid` alone, and handed on.
+#[derive(Clone, Copy)]
+pub(crate) struct Laid {
+    pub(crate) len: usize,
+    pub(crate) ranges: [ByteRange; 3],
+}
+
+impl<'a> Place<'a> {
+    // The place of a field that is the next.
+    #[inline(always)]
+    pub(crate) fn new(field: &'a Field, left: Left<'a>, source: Source<'a>) -> Place<'a>
+        ensures field { result.field.now ≡ field.now }
+        ensures left { result.left ≡ left.entry }
+        ensures source { result.source ≡ source.entry }
+    {
+        let form = node_form(&field.data_type, field.dictionary);
+        Place {
+            field,
+            form,
+            own: own_buffers(form),
+            left,
+            source,
+        }
+    }
+
+    // Whether its node and its own buffers are there.
+    #[inline(always)]
+    pub(crate) fn is_there(self) -> bool
+        ensures { IsTrue result ↔ (1 ≤ length self.entry.left.nodes.now)
+            × (own_buffers (field_view self.entry.field.now).head
+            ≤ length self.entry.left.buffers.now) }
+    {
+        !self.left.nodes.is_empty() && self.own <= self.left.buffers.len()
+    }
+}

@@ -1,0 +1,74 @@
+//! The offsets of a node, as a buffer has them.
+
+ghost use Rattle.std.specs.Prelude.{◌≡◌, ◌+◌, ◌<◌, ◌≤◌, MatchOption, true, false};
+ghost use Rattle.std.specs.List.Sorted.{IsNonDecreasing};
+ghost use Rattle.arrow_bits.specs.Offsets.{plain_list};
+ghost use Rattle.arrow_data.specs.Form.{offset_bytes};
+ghost use Rattle.arrow_data.specs.Slots.{is_valid_at, place_of, HasBits, HasOffsets};
+
+use crate::form::OffsetWidth;
+use crate::slot::is_valid;
+use arrow_bits::{LargeOffsets, Offsets};
+
+/// The offsets of the slots of a node: what slot j holds lies from offset j up to offset j + 1, of
+/// the bytes of the node or of the slots of its child (Columnar Format, "Variable-size Binary
+/// Layout").
+#[derive(Clone, Copy)]
+pub struct OffsetBuffer<'a> {
+    /// How wide an offset is.
+    pub width: OffsetWidth,
+    /// How many slots there are.
+    pub len: usize,
+    /// The offset that none may pass: how many bytes, or slots of the child, there are.
+    pub top: usize,
+    /// The offsets, one more than there are slots; where there is no slot, it may be empty.
+    pub bytes: &'a [u8],
+}
+
+impl OffsetBuffer<'_> {
+    // Offset `i` and offset `k`.
+    #[inline(always)]
+    #[tactic(auto, using(crate::proofs::Cuts::offsets))]
+    pub(crate) fn places_at(self, i: usize, k: usize) -> (usize, usize)
+        requires some { 0 < self.len }
+        requires order { i ≤ k }
+        requires slots { k ≤ self.len }
+        requires offsets { HasOffsets self.width self.len self.top self.bytes.now }
+        ensures start { result.0 ≡ place_of self.entry.width self.entry.bytes.now i }
+        ensures stop { result.1 ≡ place_of self.entry.width self.entry.bytes.now k }
+        ensures ordered { result.0 ≤ result.1 }
+        ensures within { result.1 ≤ self.entry.top }
+        ensures rising { IsNonDecreasing (plain_list (offset_bytes self.entry.width) self.entry.len
+            self.entry.bytes.now) }
+    {
+        match self.width {
+            OffsetWidth::Small => {
+                let places = Offsets::new_unchecked(self.bytes, self.len, self.top as u64);
+                (places.at(i), places.at(k))
+            }
+            OffsetWidth::Large => {
+                let places = LargeOffsets::new_unchecked(self.bytes, self.len, self.top as u64);
+                (places.at(i), places.at(k))
+            }
+        }
+    }
+
+    // Where what slot `i` holds begins and ends, where the slot is valid.
+    #[inline(always)]
+    pub(crate) fn range_at(self, validity: &[u8], i: usize) -> Option<(usize, usize)>
+        requires slot { i < self.len }
+        requires bits { HasBits self.len validity.now }
+        requires offsets { HasOffsets self.width self.len self.top self.bytes.now }
+        ensures { MatchOption result (is_valid_at validity.now i ≡ false)
+            (λ r. (is_valid_at validity.now i ≡ true)
+            × (r.0 ≡ place_of self.entry.width self.entry.bytes.now i)
+            × (r.1 ≡ place_of self.entry.width self.entry.bytes.now (i + 1)) × (r.0 ≤ r.1)
+            × (r.1 ≤ self.entry.top)) }
+    {
+        if is_valid(validity, i) {
+            Some(self.places_at(i, i + 1))
+        } else {
+            None
+        }
+    }
+}
