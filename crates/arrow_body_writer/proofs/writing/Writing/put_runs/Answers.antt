@@ -9,15 +9,15 @@ use Rattle.arrow_body_writer.proofs.writing.Writing.put_runs.Goals as goal
 -- each number has room
 pub put_run-requires-clause-room : goal.put_run-requires-clause-room
 put_run-requires-clause-room c =
-    let raw = c.args.array.now.raw in
-    all_last (HasRoom c.args.part) (values_from raw c.args.start c.loop-i.i) (values_from raw c.loop-i.i c.args.stop)
-    (subst (AllByRecursion (HasRoom c.args.part)) (from_both raw c.args.start c.loop-i.i c.args.stop c.loop-i.invariant.0 c.loop-i.invariant.1) c.requires.room)
+    let raw = c.args.slice.array.now.raw in
+    all_last (HasRoom c.args.part) (values_from raw c.args.slice.start c.loop-i.i) (values_from raw c.loop-i.i c.args.slice.stop)
+    (subst (AllByRecursion (HasRoom c.args.part)) (from_both raw c.args.slice.start c.loop-i.i c.args.slice.stop c.loop-i.invariant.0 c.loop-i.invariant.1) c.requires.room)
 
 -- the slots up to the next null more
 pub loop-i-preserved : goal.loop-i-preserved
 loop-i-preserved c =
-    let raw = c.args.array.now.raw in
-    let start = c.args.start in
+    let raw = c.args.slice.array.now.raw in
+    let start = c.args.slice.start in
     let i = c.loop-i.i in
     let next = c.in_ok-i.i in
     let low : i ≤ next = omega (arith, c.in_ok-i.ensures.next.0) in (
