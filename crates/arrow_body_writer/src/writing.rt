@@ -238,13 +238,34 @@ impl Writing {
         }
     }
 
-    // Adds what the slots are in the buffer, run by run.
-    fn put_runs(&mut self, part: Part, slice: Slice<'_>) -> Result<(), AllocError>
+    // Adds what the slots are in the buffer. Where they have a bitmap its bits are copied, and of
+    // numbers all bytes, in which those of nulls are cleared. Offsets and the bytes between them are
+    // copied where nothing lies under a null. All else is added run by run.
+    pub(crate) fn put_slots(&mut self, part: Part, slice: Slice<'_>) -> Result<(), AllocError>
         requires slots { IsSlice slice }
         requires room { AllByRecursion (HasRoom part) (values_in slice) }
         ensures { OnOk result (Puts part (values_in slice.entry) self.old self.new) }
     {
         let Slice { array, start, stop } = slice;
+        match part {
+            Part::Validity => {
+                if let Some(bytes) = bitmap(array) {
+                    let bits = BitRange { bytes, start, stop };
+                    return self.pending.push_range(&mut self.out, bits);
+                }
+            }
+            Part::Numbers(width) => {
+                if let Some(numbers) = numbers_of(array, number_width(width)) {
+                    return numbers.put(&mut self.out, start, stop);
+                }
+            }
+            Part::StringOffsets(_) | Part::ListOffsets(_) | Part::Strings => {
+                if let Some(piece) = spanned(part, slice) {
+                    return self.put_piece(part, piece);
+                }
+            }
+            Part::Truths | Part::FixedBytes(_) => {}
+        }
         let mut i = start;
         while i < stop {
             let rest = Slice {
@@ -255,36 +276,5 @@ impl Writing {
             i = self.put_run(part, rest)?;
         }
         Ok(())
-    }
-
-    // Adds what the slots are in the buffer. Where they have a bitmap its bits are copied, and of
-    // numbers all bytes, in which those of nulls are cleared. Offsets and the bytes between them are
-    // copied where nothing lies under a null.
-    pub(crate) fn put_slots(&mut self, part: Part, slice: Slice<'_>) -> Result<(), AllocError>
-        requires slots { IsSlice slice }
-        requires room { AllByRecursion (HasRoom part) (values_in slice) }
-        ensures { OnOk result (Puts part (values_in slice.entry) self.old self.new) }
-    {
-        let Slice { array, start, stop } = slice;
-        match part {
-            Part::Validity => match bitmap(array) {
-                Some(bytes) => {
-                    let bits = BitRange { bytes, start, stop };
-                    self.pending.push_range(&mut self.out, bits)
-                }
-                None => self.put_runs(part, slice),
-            },
-            Part::Numbers(width) => match numbers_of(array, number_width(width)) {
-                Some(numbers) => numbers.put(&mut self.out, start, stop),
-                None => self.put_runs(part, slice),
-            },
-            Part::StringOffsets(_) | Part::ListOffsets(_) | Part::Strings => {
-                match spanned(part, slice) {
-                    Some(piece) => self.put_piece(part, piece),
-                    None => self.put_runs(part, slice),
-                }
-            }
-            Part::Truths | Part::FixedBytes(_) => self.put_runs(part, slice),
-        }
     }
 }
