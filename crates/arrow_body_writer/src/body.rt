@@ -39,7 +39,7 @@ pub struct Body {
     pub bytes: Vec<u8>,
 }
 
-// Appends a buffer of a node of the column.
+// Appends a buffer of the node.
 fn put_chunk(body: Body, align: Align, part: Part, node: &Counted) -> Result<Body, AllocError>
     requires counted { IsCounted node.now }
     requires room { AllByRecursion (HasRoom part) (sent_at node.now) }

@@ -6,7 +6,7 @@ ghost use Rattle.arrow_data.specs.Form.{offset_bytes};
 ghost use Rattle.arrow_data.specs.PlainValue.{PlainValue};
 ghost use Rattle.arrow_data.specs.Slots.{HasBits};
 ghost use Rattle.arrow_body_laws.specs.Raws.{bytes_in_value, items_in_value};
-ghost use Rattle.arrow_body_writer.specs.Offsets.{AreBetween, AreHeld, AreOf, AreSpansOf};
+ghost use Rattle.arrow_body_writer.specs.Offsets.{AreBetween, AreHeld, AreOf, HasSpans};
 ghost use Rattle.arrow_body_writer.specs.Slice.{IsSlice, values_in};
 
 use crate::slice::Slice;
@@ -115,8 +115,7 @@ fn part(bytes: &[u8], first: u64, last: u64) -> &[u8]
 pub(crate) fn strings_between(slice: Slice<'_>) -> Option<(Spans<'_>, &[u8])>
     requires { IsSlice slice }
     ensures spans { IfSome result (λ r.
-        AreSpansOf r.0 (λ v. length (bytes_in_value v)) slice.entry.array.now.raw
-        slice.entry.start slice.entry.stop) }
+        HasSpans slice.entry (λ v. length (bytes_in_value v)) r.0) }
     ensures bytes { IfSome result (λ r. r.1.now ≡ flat_map bytes_in_value (values_in slice.entry)) }
 {
     let Slice { array, start, stop } = slice;
@@ -128,9 +127,7 @@ pub(crate) fn strings_between(slice: Slice<'_>) -> Option<(Spans<'_>, &[u8])>
 // The same of the lists of a slice.
 pub(crate) fn lists_between(slice: Slice<'_>) -> Option<Spans<'_>>
     requires { IsSlice slice }
-    ensures { IfSome result (λ spans.
-        AreSpansOf spans (λ v. length (items_in_value v)) slice.entry.array.now.raw
-        slice.entry.start slice.entry.stop) }
+    ensures { IfSome result (HasSpans slice.entry (λ v. length (items_in_value v))) }
 {
     let Slice { array, start, stop } = slice;
     let offsets = lists_of(array)?;
