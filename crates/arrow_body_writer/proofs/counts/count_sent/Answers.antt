@@ -1,4 +1,4 @@
-use Rattle.std.proofs.Common.{[], subst, OnOk}
+use Rattle.std.proofs.Common.{[]}
 use Rattle.arrow_body_writer.proofs.Counting.{all_counted}
 use Rattle.arrow_body_writer.specs.Pass.{Takes}
 use Rattle.arrow_body_writer.specs.Sent.{sent_to}

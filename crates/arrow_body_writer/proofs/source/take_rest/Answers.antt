@@ -1,4 +1,4 @@
-use Rattle.std.proofs.Common.{◌≡◌, ◌+◌, ◌-◌, None, sym, subst, arith}
+use Rattle.std.proofs.Common.{◌+◌, ◌-◌, None, sym, subst, arith}
 use Rattle.std.specs.List.{AllByRecursion}
 use Rattle.arrow_data.specs.Column.{values_from}
 use Rattle.arrow_body_writer.proofs.Sources.{all_of_range, rest_more, rest_none, run_inside, run_sent}

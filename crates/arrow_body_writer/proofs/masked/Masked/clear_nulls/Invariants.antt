@@ -1,4 +1,4 @@
-use Rattle.std.proofs.Common.{◌≡◌, ◌≤◌, ◌<◌, ◌-◌, ◌*◌, ◌++◌, ℕ, List, false, length}
+use Rattle.std.proofs.Common.{◌≡◌, ◌≤◌, ◌<◌, ◌-◌, ◌*◌, List, false, length}
 use Rattle.std.specs.Prelude.{slice_range}
 use Rattle.arrow_bits.specs.Bitmap.{bit_of}
 use Rattle.arrow_data.specs.PlainValue.{PlainValue}

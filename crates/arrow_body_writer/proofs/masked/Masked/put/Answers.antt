@@ -1,4 +1,4 @@
-use Rattle.std.proofs.Common.{rules, arith, ◌≡◌, ◌-◌, ◌*◌, ◌++◌, length, take, drop, ap, ◌∙◌}
+use Rattle.std.proofs.Common.{rules, arith, ◌*◌, ◌++◌, ap, ◌∙◌}
 use Rattle.std.proofs.lemmas.Grind.{common_steps}
 use Rattle.std.specs.Prelude.{slice_range}
 use Rattle.arrow_body_writer.proofs.Numbering.{last_part}
