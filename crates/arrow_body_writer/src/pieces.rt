@@ -19,8 +19,8 @@ pub(crate) enum Piece<'a> {
     Offsets(Spans<'a>),
 }
 
-// What the byte strings, texts or lists of a range of slots are in the buffer, where nothing lies
-// under the nulls among these; None also where there are no slots, or other ones.
+// What the byte strings, texts or lists of a slice are in the buffer, where nothing lies under the
+// nulls among these; None also where there are no slots, or other ones.
 pub(crate) fn spanned(part: Part, slice: Slice<'_>) -> Option<Piece<'_>>
     requires { IsSlice slice }
     ensures { IfSome result (IsPiece part (values_in slice.entry)) }
@@ -42,8 +42,8 @@ pub(crate) fn spanned(part: Part, slice: Slice<'_>) -> Option<Piece<'_>>
     }
 }
 
-// What the slots of a range are in the buffer, of which none is null; None where they do not lie so
-// in the array.
+// What the slots are in the buffer, of which none is null; None where they do not lie so in the
+// array.
 pub(crate) fn pieces(part: Part, slice: Slice<'_>) -> Option<Piece<'_>>
     requires slots { IsSlice slice }
     requires full { IsFull slice }

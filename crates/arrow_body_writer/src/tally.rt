@@ -24,7 +24,7 @@ pub(crate) struct Tally {
     pub(crate) end: u64,
 }
 
-// How far the offsets of a range of slots go on, of which none is null: 0 where the form has none.
+// How far the offsets of slots go on of which none is null: 0 where the form has none.
 fn stretch(form: Form, slice: Slice<'_>) -> usize
     requires slots { IsSlice slice }
     requires full { IsFull slice }
@@ -41,8 +41,8 @@ fn stretch(form: Form, slice: Slice<'_>) -> usize
     }
 }
 
-// How far the offsets of the byte strings or texts of a range of slots go on, where nothing lies
-// under the nulls among these. None also where there are no slots, or other ones.
+// How far the offsets of the byte strings or texts of a slice go on, where nothing lies under the
+// nulls among these. None also where there are no slots, or other ones.
 fn string_reach(slice: Slice<'_>) -> Option<usize>
     requires { IsSlice slice }
     ensures { IfSome result (λ len. len
@@ -52,7 +52,7 @@ fn string_reach(slice: Slice<'_>) -> Option<usize>
     Some(spans.len())
 }
 
-// The same of the lists of a range of slots.
+// The same of the lists of a slice.
 fn list_reach(slice: Slice<'_>) -> Option<usize>
     requires { IsSlice slice }
     ensures { IfSome result (λ len. len
@@ -97,7 +97,7 @@ impl Tally {
         self.nulls = self.nulls.saturating_add(1);
     }
 
-    // Counts the slots of a range, of which none is null.
+    // Counts slots of which none is null.
     fn add_full(&mut self, form: Form, slice: Slice<'_>)
         requires slots { IsSlice slice }
         requires full { IsFull slice }
@@ -107,8 +107,7 @@ impl Tally {
         self.end = self.end.saturating_add(stretch(form, slice) as u64);
     }
 
-    // Counts the slots of a range up to the first null and that one, and tells where the next one
-    // is.
+    // Counts the slots up to the first null and that one, and tells where the next one is.
     fn add_run(&mut self, form: Form, slice: Slice<'_>) -> usize
         requires slots { IsSlice slice }
         requires some { slice.start < slice.stop }
@@ -133,7 +132,7 @@ impl Tally {
         }
     }
 
-    // Counts the slots of a range, run by run.
+    // Counts the slots, run by run.
     fn add_runs(&mut self, form: Form, slice: Slice<'_>)
         requires { IsSlice slice }
         ensures { Counts form (values_in slice.entry) self.old self.new }
@@ -165,26 +164,19 @@ impl Tally {
     }
 
     // Counts slots beside a bitmap: by its bits, where nothing lies under a null.
-    fn add_beside(&mut self, form: Form, slice: Slice<'_>, bits: &[u8])
+    fn add_beside(&mut self, form: Form, slice: Slice<'_>, bytes: &[u8])
         requires slots { IsSlice slice }
-        requires bits { AreMarked slice.array.now.raw bits.now }
+        requires bits { AreMarked slice.array.now.raw bytes.now }
         ensures { Counts form (values_in slice.entry) self.old self.new }
     {
         let Slice { start, stop, .. } = slice;
         match reach(form, slice) {
-            Some(len) => self.add_marked(
-                BitRange {
-                    bytes: bits,
-                    start,
-                    stop,
-                },
-                len,
-            ),
+            Some(len) => self.add_marked(BitRange { bytes, start, stop }, len),
             None => self.add_runs(form, slice),
         }
     }
 
-    // Counts the slots of a range.
+    // Counts the slots.
     pub(crate) fn add_slots(&mut self, form: Form, slice: Slice<'_>)
         requires { IsSlice slice }
         ensures { Counts form (values_in slice.entry) self.old self.new }
