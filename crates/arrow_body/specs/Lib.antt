@@ -23,8 +23,10 @@ pub use Rattle.arrow_body_writer.specs.Pass
 pub use Rattle.arrow_body_writer.specs.Storable
 pub use Rattle.arrow_body_writer.specs.Storing
 pub use Rattle.arrow_body_writer.specs.Source
+pub use Rattle.arrow_body_writer.specs.Counts
 pub use Rattle.arrow_body_writer.specs.Runs
 pub use Rattle.arrow_body_writer.specs.Whole
+pub use Rattle.arrow_body_writer.specs.Slice
 pub use Rattle.arrow_body_writer.specs.Marks
 pub use Rattle.arrow_body_writer.specs.Spans
 pub use Rattle.arrow_body_writer.specs.Offsets

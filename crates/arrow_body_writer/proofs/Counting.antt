@@ -1,5 +1,5 @@
 -- Slots counted one by one.
-use Rattle.std.proofs.Common.{◌≡◌, ℕ, zero, suc, ◌+◌, ◌-◌, ◌<◌, List, [], ◌∷◌, ◌++◌, length, cond, false, refl, sym, ap, ◌∙◌, subst, arith, append_assoc, append-nil, length-append, Option, Some, not, map, if◌then◌else◌, replicate}
+use Rattle.std.proofs.Common.{◌≡◌, ℕ, zero, suc, ◌+◌, ◌-◌, ◌<◌, List, [], ◌∷◌, ◌++◌, length, cond, false, refl, sym, ap, ◌∙◌, subst, arith, append_assoc, append-nil, length-append, not, map, if◌then◌else◌, replicate}
 use Rattle.arrow_data.specs.PlainValue.{PlainValue, null_value, is_null_value}
 use Rattle.arrow_data.specs.declared.form.Form.{Form}
 use Rattle.arrow_data.specs.declared.form.Form.TheVariants as forms
@@ -8,7 +8,7 @@ use Rattle.arrow_body_laws.proofs.Slotted.{not_zero}
 use Rattle.arrow_body_laws.specs.Packed.{packed}
 use Rattle.arrow_body_laws.specs.Stored.{nulls_in, padded, rounded}
 use Rattle.arrow_body_writer.specs.Part.{chunk_of, part_bytes}
-use Rattle.arrow_body_writer.specs.Pass.{Takes}
+use Rattle.arrow_body_writer.specs.Pass.{IsPassed, Takes}
 use Rattle.arrow_body_writer.specs.declared.part.Part.{Part}
 use Rattle.arrow_body_writer.specs.declared.part.Part.TheVariants.{Validity, Truths, Numbers, StringOffsets, ListOffsets, Strings, FixedBytes}
 use Rattle.arrow_body_writer.specs.declared.pass.Pass.{Pass}
@@ -83,12 +83,8 @@ no_tally form = record { slots = refl; nulls = refl; end = of_form form }
     of_form forms.Structs = refl
 
 -- what was taken since is counted
-pub all_counted : (form grown : Form) (t none : Tally) (new : Pass) (vs : List PlainValue) → none ≡ record { slots = 0; nulls = 0; end = 0 } → Takes (Count form none) new vs → new ≡ Count grown t
-    → IsTally form vs t
-all_counted form grown t none new vs empty taken is =
-    let here = subst (λ p. Takes (Count form none) p vs) is taken in
-    let same : grown ≡ form = let some : ◌≡◌ {A = Option Form} (Some grown) (Some form) = here.same in cc in
-    subst (λ f. IsTally f vs t) same (here.added [] [] (subst (IsTally form []) (sym empty) (no_tally form)))
+pub all_counted : (form : Form) (none : Tally) (new : Pass) (vs : List PlainValue) → none ≡ record { slots = 0; nulls = 0; end = 0 } → Takes (Count form none) new vs → IsPassed [] vs new
+all_counted form none new vs empty taken = taken.added [] [] (subst (IsTally form []) (sym empty) (no_tally form))
 
 -- the bytes that are sent of a buffer, where some slot is null or it is no validity
 pub chunk_is : (part : Part) (vs : List PlainValue) (nulls : ℕ) → nulls ≡ capped (nulls_in vs) → (nulls ≡ 0 → part ≡ Validity → ⊥) → chunk_of part vs ≡ part_bytes part vs

@@ -5,7 +5,7 @@ use Rattle.std.specs.List.{flat_map}
 use Rattle.std.proofs.Math.Nat.{mul-suc}
 use Rattle.std.proofs.Math.Seq.{take-add, drop-append_seam, take-append_seam}
 use Rattle.std.proofs.lemmas.Grind.{flat_map-append}
-use Rattle.std.proofs.lemmas.List.{drop-drop, length-take, length-drop, map-append, length-replicate}
+use Rattle.std.proofs.lemmas.List.{take_all, drop-drop, length-take, length-drop, map-append, length-replicate}
 use Rattle.std.proofs.lemmas.Nat.{mul-le}
 use Rattle.arrow_bits.specs.Bitmap.{bit_of, IsFirstUnset}
 use Rattle.arrow_bits.specs.Numbers.{IsWidth, int_bytes, int_of, number_bytes}
@@ -132,33 +132,39 @@ replaced front old rest new at w here wide =
     λ i. first i ++ (new ++ behind i)
 
 -- a null is cleared
-pub cleared_more : (n : Masked) (raw : List PlainValue) (front out : List ℕ) (start stop i at : ℕ) → HasNumbers n raw → start ≤ i → i < stop → stop ≤ length raw → bit_of n.bits.now i ≡ false
-    → length front ≡ at → out ≡ front ++ ClearedTo n raw start stop i
-    → take (at + n.width * (i - start)) out ++ (replicate n.width 0 ++ drop (at + n.width * (i - start) + n.width) out) ≡ front ++ ClearedTo n raw start stop (i + 1)
-cleared_more n raw front out start stop i at has low high inside unset here is =
+pub cleared_more : (n : Masked) (raw : List PlainValue) (out : List ℕ) (start stop i : ℕ) → HasNumbers n raw → start ≤ i → i < stop → stop ≤ length raw → bit_of n.bits.now i ≡ false
+    → out ≡ ClearedTo n raw start stop i
+    → take (n.width * (i - start)) out ++ (replicate n.width 0 ++ drop (n.width * (i - start) + n.width) out) ≡ ClearedTo n raw start stop (i + 1)
+cleared_more n raw out start stop i has low high inside unset is =
     let w = n.width in
     let values = n.values.now in
     let done = number_buffer w (values_from raw start i) in
     let own = slice_range values (w * i) (w * (i + 1)) in
     let rest = slice_range values (w * (i + 1)) (w * stop) in
     let null : is_null_value (value_at raw i) ≡ true = is_true (is_null_value (value_at raw i)) (has.marks.same i (omega (arith, high, inside)) ∙ unset) in
-    let parts : out ≡ (front ++ done) ++ (own ++ rest) =
-    is ∙ ap (λ bytes. front ++ (done ++ bytes)) (part_both values (w * i) (w * (i + 1)) (w * stop) (omega (arith, next_place w i)) (rise w (i + 1) stop (omega (arith, high)))) ∙ sym (append_assoc front done (own ++ rest)) in
-    let long : length (front ++ done) ≡ at + w * (i - start) =
-    length-append front done ∙ (λ k. here k + ints_long w (values_from raw start i) k) ∙ ap (λ m. at + w * m) (length-values_from raw start i (omega (arith, high, inside))) in
+    let parts : out ≡ done ++ (own ++ rest) =
+    is ∙ ap (λ bytes. done ++ bytes) (part_both values (w * i) (w * (i + 1)) (w * stop) (omega (arith, next_place w i)) (rise w (i + 1) stop (omega (arith, high)))) in
+    let long : length done ≡ w * (i - start) =
+    ints_long w (values_from raw start i) ∙ ap (λ m. w * m) (length-values_from raw start i (omega (arith, high, inside))) in
     let within : w * (i + 1) ≤ length values = omega (arith, has.numbers.long, rise w (i + 1) (length raw) (omega (arith, high, inside))) in
     let wide : length own ≡ w = omega (arith, length-take (w * (i + 1) - w * i) (drop (w * i) values), length-drop (w * i) values, within, next_place w i) in
-    let place = at + w * (i - start) in
+    let place = w * (i - start) in
     ap (λ bytes. take place bytes ++ (replicate w 0 ++ drop (place + w) bytes)) parts
-    ∙ replaced (front ++ done) own rest (replicate w 0) place w long wide
-    ∙ append_assoc front done (replicate w 0 ++ rest)
-    ∙ ap (λ bytes. front ++ bytes) (sym (append_assoc done (replicate w 0) rest)
+    ∙ replaced done own rest (replicate w 0) place w long wide
+    ∙ sym (append_assoc done (replicate w 0) rest)
     ∙ ap (λ bytes. bytes ++ rest) (ap (λ bytes. done ++ bytes) (sym (null_number w)) ∙ sym (numbers_both w (values_from raw start i) (null_value ∷ []))
-    ∙ ap (number_buffer w) (null_next raw start i low (omega (arith, high, inside)) null)))
+    ∙ ap (number_buffer w) (null_next raw start i low (omega (arith, high, inside)) null))
   where
     is_true : (b : Bool) → not b ≡ false → b ≡ true
     is_true true e = refl
     is_true false e = sym e
+
+-- bytes behind others, whose end they are
+pub last_part : (all front back : List ℕ) (at : ℕ) → all ≡ front ++ back → at ≡ length front → take (length all - at) (drop at all) ≡ back
+last_part all front back at is here =
+    (λ i. take (length (is i) - here i) (drop (here i) (is i)))
+    ∙ ap (take (length (front ++ back) - length front)) (drop-append_seam front back)
+    ∙ take_all (length (front ++ back) - length front) back (omega (arith, length-append front back))
 
 -- there are as many bytes as before
 pub as_long : (out new : List ℕ) (place w : ℕ) → place + w ≤ length out → new ≡ take place out ++ (replicate w 0 ++ drop (place + w) out) → length new ≡ length out
@@ -167,15 +173,15 @@ as_long out new place w inside is =
     ∙ omega (arith, length-append (take place out) (replicate w 0 ++ drop (place + w) out), length-append (replicate w 0) (drop (place + w) out), length-take place out, length-drop (place + w) out, length-replicate {A = ℕ} w 0, inside)
 
 -- all are
-pub cleared_all : (n : Masked) (raw : List PlainValue) (front out : List ℕ) (start stop i : ℕ) → i ≡ stop → out ≡ front ++ ClearedTo n raw start stop i → out ≡ front ++ number_buffer n.width (values_from raw start stop)
-cleared_all n raw front out start stop i end is =
-    is ∙ ap (λ k. front ++ ClearedTo n raw start stop k) end
-    ∙ ap (λ bytes. front ++ (number_buffer n.width (values_from raw start stop) ++ bytes)) (no_part n.values.now (n.width * stop))
-    ∙ ap (λ bytes. front ++ bytes) (append-nil (number_buffer n.width (values_from raw start stop)))
+pub cleared_all : (n : Masked) (raw : List PlainValue) (out : List ℕ) (start stop i : ℕ) → i ≡ stop → out ≡ ClearedTo n raw start stop i → out ≡ number_buffer n.width (values_from raw start stop)
+cleared_all n raw out start stop i end is =
+    is ∙ ap (λ k. ClearedTo n raw start stop k) end
+    ∙ ap (λ bytes. number_buffer n.width (values_from raw start stop) ++ bytes) (no_part n.values.now (n.width * stop))
+    ∙ append-nil (number_buffer n.width (values_from raw start stop))
 
 -- where a number stands there is room for it
-pub room_for : (w i start stop at long : ℕ) → start ≤ i → i < stop → at + w * (stop - start) ≤ long → at + w * (i - start) + w ≤ long
-room_for w i start stop at long low high room =
+pub room_for : (w i start stop long : ℕ) → start ≤ i → i < stop → w * (stop - start) ≤ long → w * (i - start) + w ≤ long
+room_for w i start stop long low high room =
     omega (arith, next_place w (i - start), rise w (i - start + 1) (stop - start) (omega (arith, low, high)), room)
 
 -- the numbers of slots are added to their buffer

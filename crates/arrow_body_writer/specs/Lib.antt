@@ -7,8 +7,10 @@ pub mod Pass
 pub mod Storable
 pub mod Storing
 pub mod Source
+pub mod Counts
 pub mod Runs
 pub mod Whole
+pub mod Slice
 pub mod Marks
 pub mod Spans
 pub mod Offsets

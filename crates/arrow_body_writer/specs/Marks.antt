@@ -8,10 +8,20 @@ use Rattle.arrow_data.specs.declared.view.Buffers.{Buffers}
 use Rattle.arrow_data.specs.declared.view.Buffers.TheVariants as buffers
 use Rattle.arrow_body_laws.specs.Raws.{number_in}
 use Rattle.arrow_body_writer.specs.declared.masked.Masked.{Masked}
+use Rattle.arrow_body_writer.specs.declared.packing.BitRange.{BitRange}
 
 -- the bits from one up to another
 abbrev pub bits_from : List ℕ → ℕ → ℕ → List Bool
 bits_from bytes start stop = map (bit_of bytes) (range_with_len start (stop - start))
+
+-- the bytes have these bits
+pub record IsBitRange (r : BitRange) : Type 0 where
+  pub order : r.start ≤ r.stop
+  pub inside : r.stop ≤ 8 * length r.bytes.now
+
+-- the bits
+abbrev pub bits_in : BitRange → List Bool
+bits_in r = bits_from r.bytes.now r.start r.stop
 
 -- Each slot has its bit, which is set where the slot is not null (Columnar Format, "Validity bitmaps").
 pub record AreMarked (raw : List PlainValue) (bits : List ℕ) : Type 0 where

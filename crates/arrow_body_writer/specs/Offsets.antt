@@ -5,6 +5,7 @@ use Rattle.arrow_data.specs.Slots.{HasBits, HasOffsets, is_valid_at, place_of, r
 use Rattle.arrow_data.specs.declared.form.OffsetWidth.{OffsetWidth}
 use Rattle.arrow_body_writer.specs.Spans.{AreSpans, AreThere}
 use Rattle.arrow_body_writer.specs.declared.offsets.Offsets.{Offsets}
+use Rattle.arrow_body_writer.specs.declared.slice.Slice.{Slice}
 use Rattle.arrow_body_writer.specs.declared.spans.Spans.{Spans}
 
 -- they are these, and each of them is made of bytes
@@ -37,3 +38,7 @@ pub record AreSpansOf (s : Spans) (long : PlainValue → ℕ) (raw : List PlainV
   pub spans : AreSpans s long raw
   pub first : s.start ≡ start
   pub last : s.stop ≡ stop
+
+-- they are those of a slice, whose slots have so much each
+abbrev pub HasSpans : Slice → (PlainValue → ℕ) → Spans → Type 0
+HasSpans slice long spans = AreSpansOf spans long slice.array.now.raw slice.start slice.stop

@@ -103,3 +103,7 @@ IsWritten (StringOffsets width) before vs w = AreOffsetsTo width (λ v. length (
 IsWritten (ListOffsets width) before vs w = AreOffsetsTo width (λ v. length (items_in_value v)) before vs w
 IsWritten Strings before vs w = w.out.items ≡ before ++ flat_map bytes_in_value vs
 IsWritten (FixedBytes width) before vs w = w.out.items ≡ before ++ flat_map (fixed_in width) vs
+
+-- Slots with these values are added to the buffer.
+abbrev pub Puts : Part → List PlainValue → Writing → Writing → Type 0
+Puts part vs old new = (before : List ℕ) (was : List PlainValue) → IsWritten part before was old → IsWritten part before (was ++ vs) new

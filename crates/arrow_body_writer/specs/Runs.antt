@@ -14,6 +14,7 @@ use Rattle.arrow_body_writer.specs.declared.part.Part.{Part}
 use Rattle.arrow_body_writer.specs.declared.part.Part.TheVariants.{Validity, Truths, Numbers, StringOffsets, ListOffsets, Strings, FixedBytes}
 use Rattle.arrow_body_writer.specs.declared.pieces.Piece.{Piece}
 use Rattle.arrow_body_writer.specs.declared.pieces.Piece.TheVariants as pieces
+use Rattle.arrow_body_writer.specs.declared.slice.Slice.{Slice}
 use Rattle.arrow_body_writer.specs.declared.spans.Spans.{Spans}
 
 -- slots of the form hold byte strings or texts
@@ -34,6 +35,10 @@ pub record HasRun (c : Column) (start stop first last : ℕ) (child : Column) : 
   pub ordered : first ≤ last
   pub inside : last ≤ length child.raw
   pub same : flat_map items_in_value (values_from c.raw start stop) ≡ values_from child.raw first last
+
+-- they are the items of all lists of a slice
+abbrev pub HasItems : Slice → Slice → Type 0
+HasItems lists items = HasRun lists.array.now lists.start lists.stop items.start items.stop items.array.now
 
 -- bytes are what slots with these values are in the buffer, which has bytes for each slot
 abbrev pub AreBytesOf : Part → List PlainValue → List ℕ → Type 0

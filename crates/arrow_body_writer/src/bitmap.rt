@@ -1,8 +1,10 @@
 //! The validity bitmap of an array, and ranges of its bits.
 
 ghost use Rattle.std.specs.Prelude.{◌≡◌, ◌≤◌, ◌*◌, IfSome, count_by, length, not, option_map};
-ghost use Rattle.arrow_body_writer.specs.Marks.{AreMarked, bits_from, validity_of};
+ghost use Rattle.arrow_bits.specs.Bitmap.{bits_of};
+ghost use Rattle.arrow_body_writer.specs.Marks.{AreMarked, IsBitRange, bits_in, validity_of};
 
+use crate::packing::BitRange;
 use arrow_bits::Bits;
 use arrow_data::{Array, Buffers};
 
@@ -29,19 +31,23 @@ pub(crate) fn bitmap(array: &Array) -> Option<&[u8]>
     if bits.is_empty() { None } else { Some(bits) }
 }
 
-// How many bits of a range are 0.
-pub(crate) fn zeros(bits: &[u8], start: usize, stop: usize) -> usize
-    requires order { start ≤ stop }
-    requires inside { stop ≤ 8 * length bits.now }
-    ensures { result ≡ count_by not (bits_from bits.now start stop) }
+// How many of the first bits of bytes are 0.
+fn zeros_of(bytes: &[u8], len: usize) -> usize
+    requires { len ≤ 8 * length bytes.now }
+    ensures { result ≡ count_by not (bits_of len bytes.now) }
 {
-    let first = start / 8;
-    let bytes = &bits[first..];
-    match (
-        Bits::new(bytes, stop - 8 * first),
-        Bits::new(bytes, start % 8),
-    ) {
-        (Some(all), Some(before)) => all.count_zero() - before.count_zero(),
-        (Some(_), None) | (None, _) => unreachable!(),
+    match Bits::new(bytes, len) {
+        Some(bits) => bits.count_zero(),
+        None => 0,
     }
+}
+
+// How many bits of a range are 0.
+pub(crate) fn zeros(bits: BitRange<'_>) -> usize
+    requires { IsBitRange bits }
+    ensures { result ≡ count_by not (bits_in bits.entry) }
+{
+    let first = bits.start / 8;
+    let bytes = &bits.bytes[first..];
+    zeros_of(bytes, bits.stop - 8 * first) - zeros_of(bytes, bits.start % 8)
 }

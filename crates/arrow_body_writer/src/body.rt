@@ -4,25 +4,24 @@ ghost use Rattle.std.specs.Prelude.{◌≡◌, ◌<◌, ℕ, Some, [], ◌∷◌
 ghost use Rattle.arrow_body_laws.specs.Laws.{IsBodyOf, raws_of};
 ghost use Rattle.arrow_body_laws.specs.Tidy.{IsTidy};
 ghost use Rattle.arrow_body_laws.specs.Raws.{AreRaws, IsSmall};
-ghost use Rattle.arrow_body_laws.specs.Stored.{fields_of_columns, nulls_in, own_chunks, own_node};
+ghost use Rattle.arrow_body_laws.specs.Stored.{fields_of_columns, own_chunks, own_node};
 ghost use Rattle.arrow_body_laws.specs.Stored.{stored, stored_chunks, stored_nodes};
 ghost use Rattle.std.specs.List.{AllByRecursion};
 ghost use Rattle.arrow_body_writer.specs.Align.{alignment_of};
+ghost use Rattle.arrow_body_writer.specs.Counts.{IsCounted, sent_at};
 ghost use Rattle.arrow_body_writer.specs.Part.{HasRoom, IsTold, chunk_of};
 ghost use Rattle.arrow_body_writer.specs.Sent.{form_of_column, nodes_of_column, sent_to};
 ghost use Rattle.arrow_body_writer.specs.Source.{column_in, rest_of};
 ghost use Rattle.arrow_body_writer.specs.Storable.{AreTold, CanBeStored};
 ghost use Rattle.arrow_body_writer.specs.Storing.{IsEmpty, Stores, body_view};
-ghost use Rattle.arrow_body_writer.specs.Tally.{capped};
 
 use crate::align::Align;
 use crate::buffers::put_buffer;
-use crate::counts::count_sent;
+use crate::counts::{Counted, count_sent};
 use crate::forms::{form_of_node, nodes_in, nodes_in_all};
 use crate::measured::{body_size, rest_size};
 use crate::part::{Part, part_of};
 use crate::source::Source;
-use crate::tally::Tally;
 use crate::whole::whole_below;
 use arrow_data::{Array, Dictionary};
 use arrow_types::{Buffer, FieldNode};
@@ -40,27 +39,16 @@ pub struct Body {
     pub bytes: Vec<u8>,
 }
 
-// Appends a buffer of a node of the column.
-fn put_chunk(
-    body: Body,
-    align: Align,
-    part: Part,
-    tally: Tally,
-    source: &Source,
-    node: usize,
-) -> Result<Body, AllocError>
-    requires there { node < nodes_of_column (column_in source.now) }
-    requires room { AllByRecursion (HasRoom part)
-        (sent_to (column_in source.now) node) }
-    requires told { IsTold part
-        (sent_to (column_in source.now) node) }
-    requires nulls { tally.nulls ≡ capped (nulls_in
-        (sent_to (column_in source.now) node)) }
-    ensures { IfOk result (Stores (alignment_of align) [] (chunk_of part
-        (sent_to (column_in source.now) node) ∷ []) body) }
+// Appends a buffer of the node.
+fn put_chunk(body: Body, align: Align, part: Part, node: &Counted) -> Result<Body, AllocError>
+    requires counted { IsCounted node.now }
+    requires room { AllByRecursion (HasRoom part) (sent_at node.now) }
+    requires told { IsTold part (sent_at node.now) }
+    ensures { IfOk result (Stores (alignment_of align) []
+        (chunk_of part (sent_at node.now) ∷ []) body) }
 {
     let offset = body.bytes.len();
-    let (bytes, len) = put_buffer(body.bytes, align, part, tally, source, node)?;
+    let (bytes, len) = put_buffer(body.bytes, align, part, node)?;
     let mut buffers = body.buffers;
     buffers.push(Buffer {
         offset: offset as i64,
@@ -96,9 +84,14 @@ fn put_node(body: Body, align: Align, source: &Source, node: usize) -> Result<Bo
         buffers: body.buffers,
         bytes: body.bytes,
     };
+    let counted = Counted {
+        source: *source,
+        number: node,
+        tally,
+    };
     for k in 0..3 {
         if let Some(part) = part_of(form, k) {
-            written = put_chunk(written, align, part, tally, source, node)?;
+            written = put_chunk(written, align, part, &counted)?;
         }
     }
     Ok(written)
@@ -194,9 +187,8 @@ pub fn store(alloc: Global, arrays: &[Array], align: Align) -> Result<Body, Allo
     ensures tidy { IfOk result (λ b. IsTidy (alignment_of align)
         (fields_of_columns arrays.now) b.nodes.items b.buffers.items b.bytes.items) }
 {
-    let Some(size) = body_size(arrays, align) else {
-        unreachable!();
-    };
+    // A body that can be stored has a size.
+    let size = body_size(arrays, align).unwrap_or(0);
     let mut room = Body::new(alloc);
     room.make_room(size as usize)?;
     store_in(room, arrays, align)
@@ -250,9 +242,7 @@ pub fn store_rest(
         (fields_of_columns (rest_of dictionary.now from ∷ []))
         b.nodes.items b.buffers.items b.bytes.items) }
 {
-    let Some(size) = rest_size(dictionary, from, align) else {
-        unreachable!();
-    };
+    let size = rest_size(dictionary, from, align).unwrap_or(0);
     let mut room = Body::new(alloc);
     room.make_room(size as usize)?;
     store_rest_in(room, dictionary, from, align)

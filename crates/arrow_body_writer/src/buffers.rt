@@ -1,32 +1,27 @@
 //! The buffers of a node, one after another.
 
-ghost use Rattle.std.specs.Prelude.{◌≡◌, ◌<◌, ◌-◌, ◌++◌, IfOk, OnOk, length, replicate};
+ghost use Rattle.std.specs.Prelude.{◌≡◌, ◌-◌, ◌++◌, IfOk, OnOk, length, replicate};
 ghost use Rattle.std.specs.List.{AllByRecursion};
-ghost use Rattle.arrow_body_laws.specs.Stored.{nulls_in, padded, rounded};
+ghost use Rattle.arrow_body_laws.specs.Stored.{padded, rounded};
 ghost use Rattle.arrow_body_writer.specs.Align.{alignment_of};
+ghost use Rattle.arrow_body_writer.specs.Counts.{IsCounted, sent_at};
 ghost use Rattle.arrow_body_writer.specs.Part.{HasRoom, IsTold, chunk_of, part_bytes};
-ghost use Rattle.arrow_body_writer.specs.Sent.{nodes_of_column, sent_to};
-ghost use Rattle.arrow_body_writer.specs.Source.{column_in};
-ghost use Rattle.arrow_body_writer.specs.Tally.{capped};
 
 use crate::align::Align;
+use crate::counts::Counted;
 use crate::packing::Pending;
 use crate::part::Part;
 use crate::pass::Pass;
-use crate::source::Source;
-use crate::tally::Tally;
 use crate::writing::{Writing, put_zeros};
 use std::alloc::AllocError;
 
-// Appends what a buffer of a node of the column holds of the slots that the node is sent.
-fn put_part(out: Vec<u8>, part: Part, source: &Source, node: usize) -> Result<Vec<u8>, AllocError>
-    requires there { node < nodes_of_column (column_in source.now) }
-    requires room { AllByRecursion (HasRoom part)
-        (sent_to (column_in source.now) node) }
-    requires told { IsTold part
-        (sent_to (column_in source.now) node) }
-    ensures { IfOk result (λ written. written.items ≡ out.items
-        ++ part_bytes part (sent_to (column_in source.now) node)) }
+// Appends what a buffer of the node holds of the slots that it is sent.
+fn put_part(out: Vec<u8>, part: Part, node: &Counted) -> Result<Vec<u8>, AllocError>
+    requires counted { IsCounted node.now }
+    requires room { AllByRecursion (HasRoom part) (sent_at node.now) }
+    requires told { IsTold part (sent_at node.now) }
+    ensures { IfOk result (λ written.
+        written.items ≡ out.items ++ part_bytes part (sent_at node.now)) }
 {
     let mut writing = Writing {
         out,
@@ -35,7 +30,7 @@ fn put_part(out: Vec<u8>, part: Part, source: &Source, node: usize) -> Result<Ve
     };
     writing.begin(part)?;
     let mut pass = Pass::Put(part, writing);
-    source.send(&mut pass, node)?;
+    node.source.send(&mut pass, node.number)?;
     match pass {
         Pass::Put(part, mut writing) => {
             writing.finish(part)?;
@@ -58,34 +53,28 @@ fn put_padding(out: &mut Vec<u8>, align: Align, len: usize) -> Result<(), AllocE
     }
 }
 
-// Appends a buffer of a node of the column, padded, and tells its length without the padding.
-// No validity is sent where no slot is null (Columnar Format, "Validity bitmaps").
+// Appends a buffer of the node, padded, and tells its length without the padding. No validity is
+// sent where no slot is null (Columnar Format, "Validity bitmaps").
 pub(crate) fn put_buffer(
     out: Vec<u8>,
     align: Align,
     part: Part,
-    tally: Tally,
-    source: &Source,
-    node: usize,
+    node: &Counted,
 ) -> Result<(Vec<u8>, usize), AllocError>
-    requires there { node < nodes_of_column (column_in source.now) }
-    requires room { AllByRecursion (HasRoom part)
-        (sent_to (column_in source.now) node) }
-    requires told { IsTold part
-        (sent_to (column_in source.now) node) }
-    requires nulls { tally.nulls ≡ capped (nulls_in
-        (sent_to (column_in source.now) node)) }
+    requires counted { IsCounted node.now }
+    requires room { AllByRecursion (HasRoom part) (sent_at node.now) }
+    requires told { IsTold part (sent_at node.now) }
     ensures { IfOk result (λ written.
-        (written.0.items ≡ out.items ++ padded (alignment_of align)
-        (chunk_of part (sent_to (column_in source.now) node)))
-        × (written.1 ≡ length (chunk_of part
-        (sent_to (column_in source.now) node)))) }
+        (written.0.items
+        ≡ out.items ++ padded (alignment_of align) (chunk_of part (sent_at node.now)))
+        × (written.1 ≡ length (chunk_of part (sent_at node.now)))) }
 {
+    let tally = node.tally;
     if tally.nulls == 0 && matches!(part, Part::Validity) {
         return Ok((out, 0));
     }
     let start = out.len();
-    let mut written = put_part(out, part, source, node)?;
+    let mut written = put_part(out, part, node)?;
     let len = written.len() - start;
     put_padding(&mut written, align, len)?;
     Ok((written, len))

@@ -10,6 +10,14 @@ use crate::source::Source;
 use crate::tally::Tally;
 use arrow_data::form::Form;
 
+// A node of a column, and its slots, counted.
+#[derive(Clone, Copy)]
+pub(crate) struct Counted<'a> {
+    pub(crate) source: Source<'a>,
+    pub(crate) number: usize,
+    pub(crate) tally: Tally,
+}
+
 // Counts the slots that a node of the column is sent; the node has this form.
 pub(crate) fn count_sent(form: Form, source: &Source, node: usize) -> Tally
     requires { node < nodes_of_column (column_in source.now) }
@@ -17,9 +25,9 @@ pub(crate) fn count_sent(form: Form, source: &Source, node: usize) -> Tally
         (sent_to (column_in source.now) node) result }
 {
     let mut pass = Pass::Count(form, Tally::new());
-    let counted = source.send(&mut pass, node);
-    match (counted, pass) {
-        (Ok(()), Pass::Count(_, tally)) => tally,
-        (Ok(()), Pass::Put(..)) | (Err(_), _) => unreachable!(),
+    match source.send(&mut pass, node) {
+        Ok(()) => pass.tally(),
+        // Where slots are counted no memory is asked for.
+        Err(_) => Tally::new(),
     }
 }

@@ -26,6 +26,8 @@
 //! | what is added to a body | `specs/Storing.antt`: `Stores` |
 //! | where values come from | `specs/Source.antt`: `rest_of`, `column_in` |
 //! | nodes by their numbers, and what each is sent | `specs/Sent.antt`: `IsNodeOf`, `sent_to` |
+//! | slots one after another | `specs/Slice.antt`: `IsSlice`, `values_in` |
+//! | a node whose slots are counted | `specs/Counts.antt`: `IsCounted`, `sent_at` |
 //! | slots passed, and counted | `specs/Pass.antt`: `Takes`; `specs/Tally.antt`: `IsTally` |
 //! | children that are sent whole | `specs/Whole.antt`: `AreSentWhole` |
 //! | a buffer on its way | `specs/Part.antt`: `IsWritten`; `specs/Packing.antt`; `specs/Runs.antt` |
@@ -54,6 +56,7 @@ pub(crate) mod part;
 pub(crate) mod pass;
 pub(crate) mod pieces;
 pub(crate) mod sizes;
+pub(crate) mod slice;
 pub(crate) mod slots;
 pub(crate) mod source;
 pub(crate) mod spans;

@@ -59,31 +59,28 @@ pub(crate) fn numbers_of(array: &Array, width: usize) -> Option<Masked<'_>>
 }
 
 // Puts zero bytes in place of so many from a place on.
-fn clear(out: &mut Vec<u8>, at: usize, width: usize)
-    requires { at + width ≤ length out.old.items }
-    ensures { out.new.items ≡ take at out.old.items
-        ++ (replicate width 0 ++ drop (at + width) out.old.items) }
+fn clear(bytes: &mut [u8], at: usize, width: usize)
+    requires { at + width ≤ length bytes.old }
+    ensures { bytes.new ≡ take at bytes.old
+        ++ (replicate width 0 ++ drop (at + width) bytes.old) }
 {
-    out[at..at + width].fill(0);
+    bytes[at..at + width].fill(0);
 }
 
 impl<'a> Masked<'a> {
-    // Puts 0 in place of the number of each null slot of a range, whose numbers stand from a place
-    // on.
-    fn clear_nulls(self, out: &mut Vec<u8>, at: usize, start: usize, stop: usize)
+    // Puts 0 in place of the number of each null slot of a range, whose numbers these are.
+    fn clear_nulls(self, numbers: &mut [u8], start: usize, stop: usize)
         requires order { start ≤ stop }
         requires bits { stop ≤ 8 * length self.bits.now }
-        requires room { at + self.width * (stop - start) ≤ length out.old.items }
-        ensures { (before : List ℕ) (raw : List PlainValue) → HasNumbers self.entry raw
-            → stop ≤ length raw → length before ≡ at
-            → out.old.items ≡ before ++ slice_range self.entry.values.now
+        requires room { self.width * (stop - start) ≤ length numbers.old }
+        ensures { (raw : List PlainValue) → HasNumbers self.entry raw → stop ≤ length raw
+            → numbers.old ≡ slice_range self.entry.values.now
             (self.entry.width * start) (self.entry.width * stop)
-            → out.new.items
-            ≡ before ++ number_buffer self.entry.width (values_from raw start stop) }
+            → numbers.new ≡ number_buffer self.entry.width (values_from raw start stop) }
     {
         let mut i = first_unset(self.bits, start, stop);
         while i < stop {
-            clear(out, at + self.width * (i - start), self.width);
+            clear(numbers, self.width * (i - start), self.width);
             i = first_unset(self.bits, i + 1, stop);
         }
     }
@@ -99,7 +96,7 @@ impl<'a> Masked<'a> {
     {
         let at = out.len();
         out.extend_from_slice(&self.values[self.width * start..self.width * stop])?;
-        self.clear_nulls(out, at, start, stop);
+        self.clear_nulls(&mut out[at..], start, stop);
         Ok(())
     }
 }

@@ -2,13 +2,14 @@
 
 ghost use Rattle.std.specs.Prelude.{◌≡◌, ◌≤◌, ◌<◌, ◌+◌, ◌*◌, List, IfSome, length, slice_range};
 ghost use Rattle.std.specs.List.{flat_map};
-ghost use Rattle.arrow_data.specs.Column.{values_from};
 ghost use Rattle.arrow_data.specs.Form.{offset_bytes};
 ghost use Rattle.arrow_data.specs.PlainValue.{PlainValue};
 ghost use Rattle.arrow_data.specs.Slots.{HasBits};
 ghost use Rattle.arrow_body_laws.specs.Raws.{bytes_in_value, items_in_value};
-ghost use Rattle.arrow_body_writer.specs.Offsets.{AreBetween, AreHeld, AreOf, AreSpansOf};
+ghost use Rattle.arrow_body_writer.specs.Offsets.{AreBetween, AreHeld, AreOf, HasSpans};
+ghost use Rattle.arrow_body_writer.specs.Slice.{IsSlice, values_in};
 
+use crate::slice::Slice;
 use crate::spans::Spans;
 use arrow_data::form::OffsetWidth;
 use arrow_data::{Array, Buffers};
@@ -109,33 +110,26 @@ fn part(bytes: &[u8], first: u64, last: u64) -> &[u8]
     &bytes[first as usize..last as usize]
 }
 
-// The offsets of the byte strings or texts of a range of slots, and their bytes, where nothing lies
-// under the nulls among these. None also where there are no slots, or where they hold something
-// else.
-pub(crate) fn strings_between(
-    array: &Array,
-    start: usize,
-    stop: usize,
-) -> Option<(Spans<'_>, &[u8])>
-    requires order { start ≤ stop }
-    requires inside { stop ≤ length array.now.raw }
+// The offsets of the byte strings or texts of a slice, and their bytes, where nothing lies under the
+// nulls among these. None also where there are no slots, or where they hold something else.
+pub(crate) fn strings_between(slice: Slice<'_>) -> Option<(Spans<'_>, &[u8])>
+    requires { IsSlice slice }
     ensures spans { IfSome result (λ r.
-        AreSpansOf r.0 (λ v. length (bytes_in_value v)) array.now.raw start stop) }
-    ensures bytes { IfSome result (λ r.
-        r.1.now ≡ flat_map bytes_in_value (values_from array.now.raw start stop)) }
+        HasSpans slice.entry (λ v. length (bytes_in_value v)) r.0) }
+    ensures bytes { IfSome result (λ r. r.1.now ≡ flat_map bytes_in_value (values_in slice.entry)) }
 {
+    let Slice { array, start, stop } = slice;
     let (offsets, bytes) = strings_of(array)?;
     let spans = offsets.between(start, stop)?;
     Some((spans, part(bytes, spans.at(start), spans.at(stop))))
 }
 
-// The same of the lists of a range of slots.
-pub(crate) fn lists_between(array: &Array, start: usize, stop: usize) -> Option<Spans<'_>>
-    requires order { start ≤ stop }
-    requires inside { stop ≤ length array.now.raw }
-    ensures { IfSome result (λ spans.
-        AreSpansOf spans (λ v. length (items_in_value v)) array.now.raw start stop) }
+// The same of the lists of a slice.
+pub(crate) fn lists_between(slice: Slice<'_>) -> Option<Spans<'_>>
+    requires { IsSlice slice }
+    ensures { IfSome result (HasSpans slice.entry (λ v. length (items_in_value v))) }
 {
+    let Slice { array, start, stop } = slice;
     let offsets = lists_of(array)?;
     offsets.between(start, stop)
 }

@@ -1,12 +1,20 @@
 //! Bits that are appended one by one, eight to a byte.
 
-ghost use Rattle.std.specs.Prelude.{◌≡◌, ◌≤◌, ℕ, ◌*◌, Bool, List, [], ◌∷◌, ◌++◌, length, OnOk};
-ghost use Rattle.arrow_body_writer.specs.Marks.{bits_from};
+ghost use Rattle.std.specs.Prelude.{◌≡◌, ℕ, Bool, List, [], ◌∷◌, ◌++◌, length, OnOk};
+ghost use Rattle.arrow_body_writer.specs.Marks.{IsBitRange, bits_in};
 ghost use Rattle.arrow_body_writer.specs.Packing.{IsPacking};
 ghost use Rattle.arrow_body_laws.specs.Packed.{number_of_bits, packed};
 
 use arrow_bits::bit;
 use std::alloc::AllocError;
+
+// The bits of bytes from one up to another.
+#[derive(Clone, Copy)]
+pub(crate) struct BitRange<'a> {
+    pub(crate) bytes: &'a [u8],
+    pub(crate) start: usize,
+    pub(crate) stop: usize,
+}
 
 // The bits of a byte that is not full yet, the first the least significant, and the weight of the
 // bit that comes next (Columnar Format, "Validity bitmaps").
@@ -59,70 +67,52 @@ impl Pending {
         Ok(())
     }
 
-    // Adds the bits of whole bytes, from one up to another.
-    fn push_bytes(
-        &mut self,
-        out: &mut Vec<u8>,
-        bytes: &[u8],
-        first: usize,
-        last: usize,
-    ) -> Result<(), AllocError>
-        requires order { first ≤ last }
-        requires inside { last ≤ length bytes.now }
+    // Adds bits of bytes, one by one.
+    fn push_each(&mut self, out: &mut Vec<u8>, bits: BitRange<'_>) -> Result<(), AllocError>
+        requires { IsBitRange bits }
         ensures { OnOk result ((before : List ℕ) (was : List Bool)
             → IsPacking before was self.old.byte self.old.weight out.old.items
-            → IsPacking before (was ++ bits_from bytes.now (8 * first) (8 * last))
+            → IsPacking before (was ++ bits_in bits.entry)
             self.new.byte self.new.weight out.new.items) }
     {
-        for i in first..last {
-            self.push_byte(out, bytes[i])?;
+        for i in bits.start..bits.stop {
+            self.push(out, bit(bits.bytes, i))?;
         }
         Ok(())
     }
 
-    // Adds the bits of a range of bytes, one by one.
-    fn push_each(
-        &mut self,
-        out: &mut Vec<u8>,
-        bytes: &[u8],
-        start: usize,
-        stop: usize,
-    ) -> Result<(), AllocError>
-        requires order { start ≤ stop }
-        requires inside { stop ≤ 8 * length bytes.now }
-        ensures { OnOk result ((before : List ℕ) (was : List Bool)
-            → IsPacking before was self.old.byte self.old.weight out.old.items
-            → IsPacking before (was ++ bits_from bytes.now start stop)
-            self.new.byte self.new.weight out.new.items) }
-    {
-        for i in start..stop {
-            self.push(out, bit(bytes, i))?;
-        }
-        Ok(())
-    }
-
-    // Adds the bits of a range of bytes.
+    // Adds bits of bytes: those of whole bytes eight at once.
     pub(crate) fn push_range(
         &mut self,
         out: &mut Vec<u8>,
-        bytes: &[u8],
-        start: usize,
-        stop: usize,
+        bits: BitRange<'_>,
     ) -> Result<(), AllocError>
-        requires order { start ≤ stop }
-        requires inside { stop ≤ 8 * length bytes.now }
+        requires { IsBitRange bits }
         ensures { OnOk result ((before : List ℕ) (was : List Bool)
             → IsPacking before was self.old.byte self.old.weight out.old.items
-            → IsPacking before (was ++ bits_from bytes.now start stop)
+            → IsPacking before (was ++ bits_in bits.entry)
             self.new.byte self.new.weight out.new.items) }
     {
+        let BitRange { bytes, start, stop } = bits;
         let (first, last) = (start.div_ceil(8), stop / 8);
         if last < first {
-            return self.push_each(out, bytes, start, stop);
+            return self.push_each(out, bits);
         }
-        self.push_each(out, bytes, start, 8 * first)?;
-        self.push_bytes(out, bytes, first, last)?;
-        self.push_each(out, bytes, 8 * last, stop)
+        let before = BitRange {
+            bytes,
+            start,
+            stop: 8 * first,
+        };
+        self.push_each(out, before)?;
+        for i in first..last {
+            self.push_byte(out, bytes[i])?;
+        }
+        let after = BitRange {
+            bytes,
+            start: 8 * last,
+            stop,
+        };
+        self.push_each(out, after)
     }
 
     // Appends the byte that is not full, if it has bits.

@@ -1,19 +1,23 @@
 //! A pass over the slots that a node is sent, on its own level and below lists and structs.
 
-ghost use Rattle.std.specs.Prelude.{◌≡◌, ◌≤◌, ◌<◌, [], ◌∷◌, OnErr, OnOk, None, length, suc};
+ghost use Rattle.std.specs.Prelude.{◌≡◌, ◌<◌, ℕ, List, [], ◌∷◌, OnErr, OnOk, None, Some, suc};
 ghost use Rattle.std.specs.Prelude.{if◌then◌else◌};
 ghost use Rattle.std.specs.List.{AllByRecursion};
 ghost use Rattle.arrow_types.specs.View.{fields_view};
-ghost use Rattle.arrow_data.specs.Column.{HasFields, IsList, values_from};
-ghost use Rattle.arrow_data.specs.PlainValue.{null_value};
+ghost use Rattle.arrow_data.specs.Column.{HasFields, IsList};
+ghost use Rattle.arrow_data.specs.PlainValue.{PlainValue, null_value};
+ghost use Rattle.arrow_data.specs.declared.form.Form.{Form};
 ghost use Rattle.arrow_data.specs.declared.form.Form.TheVariants as forms;
 ghost use Rattle.arrow_body_reader.specs.Taken.{flattened, taken_nodes};
 ghost use Rattle.arrow_body_laws.specs.Raws.{raws_below};
-ghost use Rattle.arrow_body_writer.specs.Pass.{HasPlace, Takes, part_in};
-ghost use Rattle.arrow_body_writer.specs.Sent.{nodes_of_type, sent_by, sent_in};
+ghost use Rattle.arrow_body_writer.specs.Pass.{HasPlace, IsPassed, Takes, form_in, part_in};
+ghost use Rattle.arrow_body_writer.specs.Sent.{nodes_of_column, sent_in};
+ghost use Rattle.arrow_body_writer.specs.Slice.{IsSlice, sent_of, values_in};
+ghost use Rattle.arrow_body_writer.specs.Tally.{IsTally};
 
 use crate::nodes::find;
 use crate::part::Part;
+use crate::slice::Slice;
 use crate::slots::items;
 use crate::tally::Tally;
 use crate::writing::Writing;
@@ -60,22 +64,30 @@ pub(crate) fn sends_null(fields: &[Field], node: usize) -> bool
 }
 
 impl Pass {
-    // Takes the slots of a range, which are the node's own.
-    fn take_slots(&mut self, array: &Array, start: usize, stop: usize) -> Result<(), AllocError>
-        requires order { start ≤ stop }
-        requires inside { stop ≤ length array.now.raw }
-        requires room { AllByRecursion (HasPlace (part_in self.old))
-            (values_from array.now.raw start stop) }
-        ensures ok { OnOk result
-            (Takes self.old self.new (values_from array.now.raw start stop)) }
+    // The slots that are counted, none where a buffer is written.
+    pub(crate) fn tally(self) -> Tally
+        ensures { (form : Form) (before : List ℕ) (vs : List PlainValue)
+            → form_in self ≡ Some form → IsPassed before vs self → IsTally form vs result }
+    {
+        match self {
+            Pass::Count(_, tally) => tally,
+            Pass::Put(..) => Tally::new(),
+        }
+    }
+
+    // Takes the slots, which are the node's own.
+    fn take_slots(&mut self, slice: Slice<'_>) -> Result<(), AllocError>
+        requires slots { IsSlice slice }
+        requires room { AllByRecursion (HasPlace (part_in self.old)) (values_in slice) }
+        ensures ok { OnOk result (Takes self.old self.new (values_in slice.entry)) }
         ensures err { OnErr result (part_in self.old ≡ None → ⊥) }
     {
         match self {
             Pass::Count(form, tally) => {
-                tally.add_slots(*form, array, start, stop);
+                tally.add_slots(*form, slice);
                 Ok(())
             }
-            Pass::Put(part, writing) => writing.put_slots(*part, array, start, stop),
+            Pass::Put(part, writing) => writing.put_slots(*part, slice),
         }
     }
 
@@ -102,94 +114,73 @@ impl Pass {
         if null { self.take_null() } else { Ok(()) }
     }
 
-    // Takes what the slots of a range send to a node, of the nodes of the array's column in
-    // pre-order (Columnar Format, "RecordBatch message").
+    // Takes what the slots send to a node, of the nodes of the array's column in pre-order (Columnar
+    // Format, "RecordBatch message").
     #[cycle(sent)]
-    pub(crate) fn take_sent(
-        &mut self,
-        array: &Array,
-        start: usize,
-        stop: usize,
-        node: usize,
-    ) -> Result<(), AllocError>
-        requires order { start ≤ stop }
-        requires inside { stop ≤ length array.now.raw }
-        requires there { node < nodes_of_type array.now.data_type array.now.encoding }
-        requires room { AllByRecursion (HasPlace (part_in self.old)) (sent_by
-            array.now.data_type array.now.encoding (values_from array.now.raw start stop) node) }
-        ensures ok { OnOk result (Takes self.old self.new (sent_by
-            array.now.data_type array.now.encoding (values_from array.now.raw start stop) node)) }
+    pub(crate) fn take_sent(&mut self, slice: Slice<'_>, node: usize) -> Result<(), AllocError>
+        requires slots { IsSlice slice }
+        requires there { node < nodes_of_column slice.array.now }
+        requires room { AllByRecursion (HasPlace (part_in self.old)) (sent_of slice node) }
+        ensures ok { OnOk result (Takes self.old self.new (sent_of slice.entry node)) }
         ensures err { OnErr result (part_in self.old ≡ None → ⊥) }
     {
         if node == 0 {
-            return self.take_slots(array, start, stop);
+            return self.take_slots(slice);
         }
-        match (array.items(), array.fields()) {
-            (Some(_), _) => self.take_items(array, start, stop, node - 1),
-            (None, Some(children)) => self.take_parts(array, children, start, stop, node - 1),
+        match (slice.array.items(), slice.array.fields()) {
+            (Some(_), _) => self.take_items(slice, node - 1),
+            (None, Some(children)) => self.take_parts(slice, children, node - 1),
             (None, None) => Ok(()),
         }
     }
 
-    // Takes what the lists of a range of slots send to a node below them: the items of one list
-    // after those of the one before (Columnar Format, "Variable-size List Layout"). Lists between
-    // two nulls are taken at once.
+    // Takes what lists send to a node below them: the items of one list after those of the one before
+    // (Columnar Format, "Variable-size List Layout"). Lists between two nulls are taken at once.
     #[cycle(sent)]
-    fn take_items(
-        &mut self,
-        array: &Array,
-        start: usize,
-        stop: usize,
-        node: usize,
-    ) -> Result<(), AllocError>
-        requires lists { IsList array.now }
-        requires order { start ≤ stop }
-        requires inside { stop ≤ length array.now.raw }
-        requires there { node < flattened array.now.encoding
-            (taken_nodes array.now.data_type.children) }
-        requires room { AllByRecursion (HasPlace (part_in self.old)) (sent_by
-            array.now.data_type array.now.encoding (values_from array.now.raw start stop)
-            (suc node)) }
-        ensures ok { OnOk result (Takes self.old self.new (sent_by
-            array.now.data_type array.now.encoding (values_from array.now.raw start stop)
-            (suc node))) }
+    fn take_items(&mut self, lists: Slice<'_>, node: usize) -> Result<(), AllocError>
+        requires lists { IsList lists.array.now }
+        requires slots { IsSlice lists }
+        requires there { node < flattened lists.array.now.encoding
+            (taken_nodes lists.array.now.data_type.children) }
+        requires room { AllByRecursion (HasPlace (part_in self.old)) (sent_of lists (suc node)) }
+        ensures ok { OnOk result (Takes self.old self.new (sent_of lists.entry (suc node))) }
         ensures err { OnErr result (part_in self.old ≡ None → ⊥) }
     {
+        let Slice { array, start, stop } = lists;
         let mut i = start;
         while i < stop {
             let end = array.first_null(i, stop);
-            if let Some((first, last, child)) = items(array, i, end) {
-                self.take_sent(child, first, last, node)?;
+            let full = Slice {
+                array,
+                start: i,
+                stop: end,
+            };
+            if let Some(items) = items(full) {
+                self.take_sent(items, node)?;
             }
             i = end.saturating_add(1).min(stop);
         }
         Ok(())
     }
 
-    // Takes what the structs of a range of slots send to a node below them: the slot of a child, or
-    // a null under a null (Columnar Format, "Struct Layout").
+    // Takes what structs send to a node below them: the slot of a child, or a null under a null
+    // (Columnar Format, "Struct Layout").
     #[cycle(sent)]
     fn take_parts(
         &mut self,
-        array: &Array,
+        structs: Slice<'_>,
         children: &[Array],
-        start: usize,
-        stop: usize,
         node: usize,
     ) -> Result<(), AllocError>
-        requires fields { HasFields array.now children.now }
-        requires order { start ≤ stop }
-        requires inside { stop ≤ length array.now.raw }
-        requires there { node < flattened array.now.encoding
-            (taken_nodes array.now.data_type.children) }
-        requires room { AllByRecursion (HasPlace (part_in self.old)) (sent_by
-            array.now.data_type array.now.encoding (values_from array.now.raw start stop)
-            (suc node)) }
-        ensures ok { OnOk result (Takes self.old self.new (sent_by
-            array.now.data_type array.now.encoding (values_from array.now.raw start stop)
-            (suc node))) }
+        requires fields { HasFields structs.array.now children.now }
+        requires slots { IsSlice structs }
+        requires there { node < flattened structs.array.now.encoding
+            (taken_nodes structs.array.now.data_type.children) }
+        requires room { AllByRecursion (HasPlace (part_in self.old)) (sent_of structs (suc node)) }
+        ensures ok { OnOk result (Takes self.old self.new (sent_of structs.entry (suc node))) }
         ensures err { OnErr result (part_in self.old ≡ None → ⊥) }
     {
+        let Slice { array, start, stop } = structs;
         let fields = array.data_type().children();
         let Some(found) = find(fields, node) else {
             return Ok(());
@@ -199,7 +190,12 @@ impl Pass {
         let mut i = start;
         while i < stop {
             let end = array.first_null(i, stop);
-            self.take_sent(child, i, end, found.node)?;
+            let full = Slice {
+                array: child,
+                start: i,
+                stop: end,
+            };
+            self.take_sent(full, found.node)?;
             i = end;
             if i < stop {
                 self.take_hidden(null)?;

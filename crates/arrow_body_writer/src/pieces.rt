@@ -1,15 +1,14 @@
 //! What slots are in a buffer, where it lies so in the array.
 
-ghost use Rattle.std.specs.Prelude.{◌≡◌, ◌≤◌, IfSome, length};
-ghost use Rattle.arrow_data.specs.Column.{values_from};
-ghost use Rattle.arrow_data.specs.FullSlots.{AreFull};
+ghost use Rattle.std.specs.Prelude.{IfSome};
 ghost use Rattle.arrow_body_writer.specs.Runs.{IsPiece};
+ghost use Rattle.arrow_body_writer.specs.Slice.{IsFull, IsSlice, values_in};
 
 use crate::offsets::{lists_between, strings_between};
 use crate::part::Part;
+use crate::slice::Slice;
 use crate::slots::{fixed, numbers};
 use crate::spans::Spans;
-use arrow_data::Array;
 
 // What slots one after another are in a buffer.
 #[derive(Clone, Copy)]
@@ -20,23 +19,22 @@ pub(crate) enum Piece<'a> {
     Offsets(Spans<'a>),
 }
 
-// What the byte strings, texts or lists of a range of slots are in the buffer, where nothing lies
-// under the nulls among these; None also where there are no slots, or other ones.
-pub(crate) fn spanned(part: Part, array: &Array, start: usize, stop: usize) -> Option<Piece<'_>>
-    requires order { start ≤ stop }
-    requires inside { stop ≤ length array.now.raw }
-    ensures { IfSome result (IsPiece part (values_from array.now.raw start stop)) }
+// What the byte strings, texts or lists of a slice are in the buffer, where nothing lies under the
+// nulls among these; None also where there are no slots, or other ones.
+pub(crate) fn spanned(part: Part, slice: Slice<'_>) -> Option<Piece<'_>>
+    requires { IsSlice slice }
+    ensures { IfSome result (IsPiece part (values_in slice.entry)) }
 {
     match part {
-        Part::StringOffsets(width) => match strings_between(array, start, stop) {
+        Part::StringOffsets(width) => match strings_between(slice) {
             Some((spans, _)) if spans.width == width => Some(Piece::Offsets(spans)),
             Some(_) | None => None,
         },
-        Part::ListOffsets(width) => match lists_between(array, start, stop) {
+        Part::ListOffsets(width) => match lists_between(slice) {
             Some(spans) if spans.width == width => Some(Piece::Offsets(spans)),
             Some(_) | None => None,
         },
-        Part::Strings => match strings_between(array, start, stop) {
+        Part::Strings => match strings_between(slice) {
             Some((_, bytes)) => Some(Piece::Bytes(bytes)),
             None => None,
         },
@@ -44,26 +42,23 @@ pub(crate) fn spanned(part: Part, array: &Array, start: usize, stop: usize) -> O
     }
 }
 
-// What the slots of a range are in the buffer, of which none is null; None where they do not lie so
-// in the array.
-pub(crate) fn pieces(part: Part, array: &Array, start: usize, stop: usize) -> Option<Piece<'_>>
-    requires order { start ≤ stop }
-    requires inside { stop ≤ length array.now.raw }
-    requires full { AreFull array.now start stop }
-    ensures { IfSome result (IsPiece part (values_from array.now.raw start stop)) }
+// What the slots are in the buffer, of which none is null; None where they do not lie so in the
+// array.
+pub(crate) fn pieces(part: Part, slice: Slice<'_>) -> Option<Piece<'_>>
+    requires slots { IsSlice slice }
+    requires full { IsFull slice }
+    ensures { IfSome result (IsPiece part (values_in slice.entry)) }
 {
     match part {
-        Part::Numbers(bits) => match numbers(array, bits, start, stop) {
+        Part::Numbers(bits) => match numbers(slice, bits) {
             Some(bytes) => Some(Piece::Bytes(bytes)),
             None => None,
         },
-        Part::FixedBytes(width) => match fixed(array, width, start, stop) {
+        Part::FixedBytes(width) => match fixed(slice, width) {
             Some(bytes) => Some(Piece::Bytes(bytes)),
             None => None,
         },
-        Part::Strings | Part::StringOffsets(_) | Part::ListOffsets(_) => {
-            spanned(part, array, start, stop)
-        }
+        Part::Strings | Part::StringOffsets(_) | Part::ListOffsets(_) => spanned(part, slice),
         Part::Validity | Part::Truths => None,
     }
 }

@@ -3,16 +3,17 @@
 ghost use Rattle.std.specs.Prelude.{◌≡◌, ◌≤◌, ◌<◌, [], ◌++◌, Bool, IfSome, IsTrue, MatchOption, OnOk, length};
 ghost use Rattle.std.specs.List.{flat_map};
 ghost use Rattle.arrow_bits.specs.Numbers.{FitsWidth, IsWidth, int_bytes};
-ghost use Rattle.arrow_data.specs.Column.{IsColumn, values_from};
+ghost use Rattle.arrow_data.specs.Column.{IsColumn};
 ghost use Rattle.arrow_data.specs.Form.{node_form, number_width};
-ghost use Rattle.arrow_data.specs.FullSlots.{AreFull};
 ghost use Rattle.arrow_data.specs.PlainValue.{value_at};
 ghost use Rattle.arrow_body_laws.specs.Raws.{bytes_in_value, fixed_in, items_in_value};
 ghost use Rattle.arrow_body_laws.specs.Raws.{number_in, truth_in};
 ghost use Rattle.arrow_body_laws.specs.Stored.{number_buffer};
 ghost use Rattle.arrow_data.specs.declared.form.Form.TheVariants as forms;
-ghost use Rattle.arrow_body_writer.specs.Runs.{HasRun, are_strings};
+ghost use Rattle.arrow_body_writer.specs.Runs.{HasItems, are_strings};
+ghost use Rattle.arrow_body_writer.specs.Slice.{IsFull, IsSlice, values_in};
 
+use crate::slice::Slice;
 use arrow_bits::put_int;
 use arrow_data::Array;
 use arrow_data::form::{Form, node_form};
@@ -113,65 +114,61 @@ fn holds_fixed(form: Form, width: u32) -> bool
     }
 }
 
-// The bytes of the byte strings or texts of a range of slots, of which none is null.
-pub(crate) fn strings(array: &Array, start: usize, stop: usize) -> &[u8]
-    requires order { start ≤ stop }
-    requires inside { stop ≤ length array.now.raw }
-    requires full { AreFull array.now start stop }
-    ensures { result.now ≡ flat_map bytes_in_value (values_from array.now.raw start stop) }
+// The bytes of the byte strings or texts of a slice, of which none is null.
+pub(crate) fn strings(slice: Slice<'_>) -> &[u8]
+    requires slots { IsSlice slice }
+    requires full { IsFull slice }
+    ensures { result.now ≡ flat_map bytes_in_value (values_in slice.entry) }
 {
-    let form = own_form(array);
+    let form = own_form(slice.array);
     if holds_strings(form) {
-        array.value_bytes(start, stop)
+        slice.array.value_bytes(slice.start, slice.stop)
     } else {
         &[]
     }
 }
 
-// The bytes of the numbers of a range of slots, of which none is null. None where they do not have
-// this width.
-pub(crate) fn numbers(array: &Array, bits: BitWidth, start: usize, stop: usize) -> Option<&[u8]>
-    requires order { start ≤ stop }
-    requires inside { stop ≤ length array.now.raw }
-    requires full { AreFull array.now start stop }
-    ensures { IfSome result (λ bytes. bytes.now
-        ≡ number_buffer (number_width bits) (values_from array.now.raw start stop)) }
-{
-    let form = own_form(array);
-    if holds_numbers(form, bits) {
-        Some(array.value_bytes(start, stop))
-    } else {
-        None
-    }
-}
-
-// The byte strings of a range of slots, of which none is null. None where they do not have this
+// The bytes of the numbers of a slice, of which none is null. None where they do not have this
 // width.
-pub(crate) fn fixed(array: &Array, width: u32, start: usize, stop: usize) -> Option<&[u8]>
-    requires order { start ≤ stop }
-    requires inside { stop ≤ length array.now.raw }
-    requires full { AreFull array.now start stop }
+pub(crate) fn numbers(slice: Slice<'_>, bits: BitWidth) -> Option<&[u8]>
+    requires slots { IsSlice slice }
+    requires full { IsFull slice }
     ensures { IfSome result (λ bytes. bytes.now
-        ≡ flat_map (fixed_in width) (values_from array.now.raw start stop)) }
+        ≡ number_buffer (number_width bits) (values_in slice.entry)) }
 {
-    let form = own_form(array);
-    if holds_fixed(form, width) {
-        Some(array.value_bytes(start, stop))
+    let form = own_form(slice.array);
+    if holds_numbers(form, bits) {
+        Some(slice.array.value_bytes(slice.start, slice.stop))
     } else {
         None
     }
 }
 
-// Where the items of the lists of a range of slots stand, of which none is null, one after another:
-// the first and the end of their slots, and the array that has these. None where there is no list.
-pub(crate) fn items(array: &Array, start: usize, stop: usize) -> Option<(usize, usize, &Array)>
-    requires order { start ≤ stop }
-    requires inside { stop ≤ length array.now.raw }
-    requires full { AreFull array.now start stop }
-    ensures { MatchOption result
-        (flat_map items_in_value (values_from array.now.raw start stop) ≡ [])
-        (λ r. HasRun array.now start stop r.0 r.1 r.2.now) }
+// The byte strings of a slice, of which none is null. None where they do not have this width.
+pub(crate) fn fixed(slice: Slice<'_>, width: u32) -> Option<&[u8]>
+    requires slots { IsSlice slice }
+    requires full { IsFull slice }
+    ensures { IfSome result (λ bytes. bytes.now
+        ≡ flat_map (fixed_in width) (values_in slice.entry)) }
 {
+    let form = own_form(slice.array);
+    if holds_fixed(form, width) {
+        Some(slice.array.value_bytes(slice.start, slice.stop))
+    } else {
+        None
+    }
+}
+
+// The items of the lists of a slice, of which none is null, one after another: the slots of the
+// child that they are. None where there is no list.
+pub(crate) fn items(slice: Slice<'_>) -> Option<Slice<'_>>
+    requires slots { IsSlice slice }
+    requires full { IsFull slice }
+    ensures { MatchOption result
+        (flat_map items_in_value (values_in slice.entry) ≡ [])
+        (HasItems slice.entry) }
+{
+    let Slice { array, start, stop } = slice;
     if start == stop {
         return None;
     }
@@ -182,7 +179,11 @@ pub(crate) fn items(array: &Array, start: usize, stop: usize) -> Option<(usize, 
     };
     let (first, _, _) = array.list_at(start)?;
     let (_, end, _) = array.list_at(stop - 1)?;
-    Some((first, end, child))
+    Some(Slice {
+        array: child,
+        start: first,
+        stop: end,
+    })
 }
 
 // Appends the number of the slot.

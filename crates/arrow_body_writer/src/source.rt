@@ -9,6 +9,7 @@ ghost use Rattle.arrow_body_writer.specs.Sent.{nodes_of_column, sent_to};
 ghost use Rattle.arrow_body_writer.specs.Source.{column_in, rest_of};
 
 use crate::pass::Pass;
+use crate::slice::Slice;
 use arrow_data::{Array, Dictionary};
 use arrow_types::{DataType, Encoding};
 use std::alloc::AllocError;
@@ -59,7 +60,14 @@ impl<'a> Source<'a> {
         ensures err { OnErr result (part_in pass.old ≡ None → ⊥) }
     {
         match self {
-            Source::Slots(array) => pass.take_sent(array, 0, array.len(), node),
+            Source::Slots(array) => {
+                let all = Slice {
+                    array,
+                    start: 0,
+                    stop: array.len(),
+                };
+                pass.take_sent(all, node)
+            }
             Source::Rest(dictionary, from) => take_rest(pass, dictionary, *from, node),
         }
     }
@@ -80,9 +88,10 @@ fn take_rest(
 {
     let mut i = from;
     while i < dictionary.len() {
-        let (array, place) = dictionary.value(i);
-        pass.take_sent(array, place, array.len(), node)?;
-        i += array.len() - place;
+        let (array, start) = dictionary.value(i);
+        let stop = array.len();
+        pass.take_sent(Slice { array, start, stop }, node)?;
+        i += stop - start;
     }
     Ok(())
 }

@@ -6,6 +6,7 @@ ghost use Rattle.arrow_data.specs.Column.{Column};
 ghost use Rattle.arrow_data.specs.FullSlots.{AreFull};
 ghost use Rattle.arrow_body_writer.specs.Whole.{AreSentWhole};
 
+use crate::slice::Slice;
 use crate::slots::items;
 use arrow_data::Array;
 
@@ -37,8 +38,9 @@ fn whole_items(array: &Array) -> Option<&Array>
     if !is_full(array) {
         return None;
     }
-    match items(array, 0, array.len()) {
-        Some((first, last, child)) if first == 0 && last == child.len() => Some(child),
+    let (start, stop) = (0, array.len());
+    match items(Slice { array, start, stop }) {
+        Some(all) if all.start == 0 && all.stop == all.array.len() => Some(all.array),
         None if own.len() == 0 => Some(own),
         Some(_) | None => None,
     }

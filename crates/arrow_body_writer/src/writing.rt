@@ -5,19 +5,20 @@ ghost use Rattle.std.specs.List.{AllByRecursion};
 ghost use Rattle.arrow_bits.specs.Numbers.{number_bytes};
 ghost use Rattle.arrow_data.specs.Column.{values_from};
 ghost use Rattle.arrow_data.specs.Form.{greatest_offset, offset_bytes};
-ghost use Rattle.arrow_data.specs.FullSlots.{AreFull};
 ghost use Rattle.arrow_data.specs.PlainValue.{PlainValue, null_value, value_at};
 ghost use Rattle.arrow_body_laws.specs.Raws.{fixed_in};
 ghost use Rattle.arrow_body_writer.specs.Part.{AreOffsetsTo, HasNextOffset, HasRoom, IsTold};
-ghost use Rattle.arrow_body_writer.specs.Part.{IsWritten, part_bytes};
+ghost use Rattle.arrow_body_writer.specs.Part.{IsWritten, Puts, part_bytes};
 ghost use Rattle.arrow_body_writer.specs.Runs.{IsPiece, IsThere};
+ghost use Rattle.arrow_body_writer.specs.Slice.{IsFull, IsSlice, values_in};
 ghost use Rattle.arrow_body_writer.specs.Spans.{AreSpans, AreThere};
 
 use crate::bitmap::bitmap;
 use crate::masked::numbers_of;
-use crate::packing::Pending;
+use crate::packing::{BitRange, Pending};
 use crate::part::{Part, number_width};
 use crate::pieces::{Piece, pieces, spanned};
+use crate::slice::Slice;
 use crate::slots::{put_number, put_string, span, string, truth};
 use crate::spans::Spans;
 use arrow_bits::put_int;
@@ -117,9 +118,7 @@ impl Writing {
     pub(crate) fn put(&mut self, part: Part, array: &Array, i: usize) -> Result<(), AllocError>
         requires inside { i < length array.now.raw }
         requires room { HasRoom part (value_at array.now.raw i) }
-        ensures { OnOk result ((before : List ℕ) (vs : List PlainValue)
-            → IsWritten part before vs self.old
-            → IsWritten part before (vs ++ value_at array.now.raw i ∷ []) self.new) }
+        ensures { OnOk result (Puts part (value_at array.now.raw i ∷ []) self.old self.new) }
     {
         match part {
             Part::Validity => self.pending.push(&mut self.out, !array.is_null(i)),
@@ -134,9 +133,7 @@ impl Writing {
 
     // Adds what a null is in the buffer.
     pub(crate) fn put_null(&mut self, part: Part) -> Result<(), AllocError>
-        ensures { OnOk result ((before : List ℕ) (vs : List PlainValue)
-            → IsWritten part before vs self.old
-            → IsWritten part before (vs ++ null_value ∷ []) self.new) }
+        ensures { OnOk result (Puts part (null_value ∷ []) self.old self.new) }
     {
         match part {
             Part::Validity | Part::Truths => self.pending.push(&mut self.out, false),
@@ -181,8 +178,7 @@ impl Writing {
     fn put_piece(&mut self, part: Part, piece: Piece<'_>) -> Result<(), AllocError>
         requires { IsThere piece }
         ensures { OnOk result ((values : List PlainValue) → IsPiece part values piece.entry
-            → (before : List ℕ) (vs : List PlainValue) → IsWritten part before vs self.old
-            → IsWritten part before (vs ++ values) self.new) }
+            → Puts part values self.old self.new) }
     {
         match piece {
             Piece::Bytes(bytes) => put_bytes(&mut self.out, bytes),
@@ -190,69 +186,50 @@ impl Writing {
         }
     }
 
-    // Adds what the slots of a range are in the buffer, one by one.
-    fn put_each(
-        &mut self,
-        part: Part,
-        array: &Array,
-        start: usize,
-        stop: usize,
-    ) -> Result<(), AllocError>
-        requires order { start ≤ stop }
-        requires inside { stop ≤ length array.now.raw }
-        requires room { AllByRecursion (HasRoom part) (values_from array.now.raw start stop) }
-        ensures { OnOk result ((before : List ℕ) (vs : List PlainValue)
-            → IsWritten part before vs self.old
-            → IsWritten part before (vs ++ values_from array.now.raw start stop) self.new) }
+    // Adds what the slots are in the buffer, one by one.
+    fn put_each(&mut self, part: Part, slice: Slice<'_>) -> Result<(), AllocError>
+        requires slots { IsSlice slice }
+        requires room { AllByRecursion (HasRoom part) (values_in slice) }
+        ensures { OnOk result (Puts part (values_in slice.entry) self.old self.new) }
     {
-        for i in start..stop {
-            self.put(part, array, i)?;
+        for i in slice.start..slice.stop {
+            self.put(part, slice.array, i)?;
         }
         Ok(())
     }
 
-    // Adds what the slots of a range are in the buffer, of which none is null: they are copied
-    // where they lie as they are to be written.
-    fn put_full(
-        &mut self,
-        part: Part,
-        array: &Array,
-        start: usize,
-        stop: usize,
-    ) -> Result<(), AllocError>
-        requires order { start ≤ stop }
-        requires inside { stop ≤ length array.now.raw }
-        requires full { AreFull array.now start stop }
-        requires room { AllByRecursion (HasRoom part) (values_from array.now.raw start stop) }
-        ensures { OnOk result ((before : List ℕ) (vs : List PlainValue)
-            → IsWritten part before vs self.old
-            → IsWritten part before (vs ++ values_from array.now.raw start stop) self.new) }
+    // Adds what the slots are in the buffer, of which none is null: they are copied where they lie
+    // as they are to be written.
+    fn put_full(&mut self, part: Part, slice: Slice<'_>) -> Result<(), AllocError>
+        requires slots { IsSlice slice }
+        requires full { IsFull slice }
+        requires room { AllByRecursion (HasRoom part) (values_in slice) }
+        ensures { OnOk result (Puts part (values_in slice.entry) self.old self.new) }
     {
-        match pieces(part, array, start, stop) {
+        match pieces(part, slice) {
             Some(piece) => self.put_piece(part, piece),
-            None => self.put_each(part, array, start, stop),
+            None => self.put_each(part, slice),
         }
     }
 
-    // Adds what the slots of a range up to the first null and that one are in the buffer, and tells
-    // where the next one is.
-    fn put_run(
-        &mut self,
-        part: Part,
-        array: &Array,
-        start: usize,
-        stop: usize,
-    ) -> Result<usize, AllocError>
-        requires order { start < stop }
-        requires inside { stop ≤ length array.now.raw }
-        requires room { AllByRecursion (HasRoom part) (values_from array.now.raw start stop) }
-        ensures next { IfOk result (λ next. (start < next) × (next ≤ stop)) }
-        ensures written { IfOk result (λ next. (before : List ℕ) (vs : List PlainValue)
-            → IsWritten part before vs self.old
-            → IsWritten part before (vs ++ values_from array.now.raw start next) self.new) }
+    // Adds what the slots up to the first null and that one are in the buffer, and tells where the
+    // next one is.
+    fn put_run(&mut self, part: Part, slice: Slice<'_>) -> Result<usize, AllocError>
+        requires slots { IsSlice slice }
+        requires some { slice.start < slice.stop }
+        requires room { AllByRecursion (HasRoom part) (values_in slice) }
+        ensures next { IfOk result (λ next. (slice.entry.start < next) × (next ≤ slice.entry.stop)) }
+        ensures written { IfOk result (λ next. Puts part
+            (values_from slice.entry.array.now.raw slice.entry.start next) self.old self.new) }
     {
+        let Slice { array, start, stop } = slice;
         let end = array.first_null(start, stop);
-        self.put_full(part, array, start, end)?;
+        let full = Slice {
+            array,
+            start,
+            stop: end,
+        };
+        self.put_full(part, full)?;
         if end < stop {
             self.put_null(part)?;
             Ok(end + 1)
@@ -261,61 +238,43 @@ impl Writing {
         }
     }
 
-    // Adds what the slots of a range are in the buffer, run by run.
-    fn put_runs(
-        &mut self,
-        part: Part,
-        array: &Array,
-        start: usize,
-        stop: usize,
-    ) -> Result<(), AllocError>
-        requires order { start ≤ stop }
-        requires inside { stop ≤ length array.now.raw }
-        requires room { AllByRecursion (HasRoom part) (values_from array.now.raw start stop) }
-        ensures { OnOk result ((before : List ℕ) (vs : List PlainValue)
-            → IsWritten part before vs self.old
-            → IsWritten part before (vs ++ values_from array.now.raw start stop) self.new) }
+    // Adds what the slots are in the buffer. Where they have a bitmap its bits are copied, and of
+    // numbers all bytes, in which those of nulls are cleared. Offsets and the bytes between them are
+    // copied where nothing lies under a null. All else is added run by run.
+    pub(crate) fn put_slots(&mut self, part: Part, slice: Slice<'_>) -> Result<(), AllocError>
+        requires slots { IsSlice slice }
+        requires room { AllByRecursion (HasRoom part) (values_in slice) }
+        ensures { OnOk result (Puts part (values_in slice.entry) self.old self.new) }
     {
-        let mut i = start;
-        while i < stop {
-            i = self.put_run(part, array, i, stop)?;
-        }
-        Ok(())
-    }
-
-    // Adds what the slots of a range are in the buffer. Where they have a bitmap its bits are
-    // copied, and of numbers all bytes, in which those of nulls are cleared. Offsets and the bytes
-    // between them are copied where nothing lies under a null.
-    pub(crate) fn put_slots(
-        &mut self,
-        part: Part,
-        array: &Array,
-        start: usize,
-        stop: usize,
-    ) -> Result<(), AllocError>
-        requires order { start ≤ stop }
-        requires inside { stop ≤ length array.now.raw }
-        requires room { AllByRecursion (HasRoom part) (values_from array.now.raw start stop) }
-        ensures { OnOk result ((before : List ℕ) (vs : List PlainValue)
-            → IsWritten part before vs self.old
-            → IsWritten part before (vs ++ values_from array.now.raw start stop) self.new) }
-    {
+        let Slice { array, start, stop } = slice;
         match part {
-            Part::Validity => match bitmap(array) {
-                Some(bits) => self.pending.push_range(&mut self.out, bits, start, stop),
-                None => self.put_runs(part, array, start, stop),
-            },
-            Part::Numbers(width) => match numbers_of(array, number_width(width)) {
-                Some(numbers) => numbers.put(&mut self.out, start, stop),
-                None => self.put_runs(part, array, start, stop),
-            },
-            Part::StringOffsets(_) | Part::ListOffsets(_) | Part::Strings => {
-                match spanned(part, array, start, stop) {
-                    Some(piece) => self.put_piece(part, piece),
-                    None => self.put_runs(part, array, start, stop),
+            Part::Validity => {
+                if let Some(bytes) = bitmap(array) {
+                    let bits = BitRange { bytes, start, stop };
+                    return self.pending.push_range(&mut self.out, bits);
                 }
             }
-            Part::Truths | Part::FixedBytes(_) => self.put_runs(part, array, start, stop),
+            Part::Numbers(width) => {
+                if let Some(numbers) = numbers_of(array, number_width(width)) {
+                    return numbers.put(&mut self.out, start, stop);
+                }
+            }
+            Part::StringOffsets(_) | Part::ListOffsets(_) | Part::Strings => {
+                if let Some(piece) = spanned(part, slice) {
+                    return self.put_piece(part, piece);
+                }
+            }
+            Part::Truths | Part::FixedBytes(_) => {}
         }
+        let mut i = start;
+        while i < stop {
+            let rest = Slice {
+                array,
+                start: i,
+                stop,
+            };
+            i = self.put_run(part, rest)?;
+        }
+        Ok(())
     }
 }

@@ -7,17 +7,21 @@ use Rattle.arrow_body_writer.proofs.bitmap.zeros.Goals as goal
 -- so there are no more before it
 pub overflow_sub-result : goal.overflow_sub-result
 overflow_sub-result c =
-    let bytes = c.args.bits.now in
-    let first = c.args.start / 8 in
-    let all = c.count_zero.ensures ∙ ap (count_by not) (c.in-Some-Some.ensures.value ∙ ap (bits_of (c.args.stop - 8 * first)) (rest_of_bytes bytes first)) in
-    let before = c.count_zero-in-Some-Some.ensures ∙ ap (count_by not) (c.in-Some-Some.ensures'.value ∙ ap (bits_of (c.args.start % 8)) (rest_of_bytes bytes first)) in
-    omega (arith, all, before, zeros_between bytes c.args.start c.args.stop c.requires.order)
+    let bytes = c.args.bits.bytes.now in
+    let start = c.args.bits.start in
+    let stop = c.args.bits.stop in
+    let first = start / 8 in
+    let all = c.zeros_of.ensures ∙ ap (count_by not) (ap (bits_of (stop - 8 * first)) (rest_of_bytes bytes first)) in
+    let before = c.zeros_of-2.ensures ∙ ap (count_by not) (ap (bits_of (start % 8)) (rest_of_bytes bytes first)) in
+    omega (arith, all, before, zeros_between bytes start stop c.requires.order)
 
 -- and those that are left are its own
 pub returns : goal.returns
 returns c =
-    let bytes = c.args.bits.now in
-    let first = c.args.start / 8 in
-    let all = c.count_zero.ensures ∙ ap (count_by not) (c.in-Some-Some.ensures.value ∙ ap (bits_of (c.args.stop - 8 * first)) (rest_of_bytes bytes first)) in
-    let before = c.count_zero-in-Some-Some.ensures ∙ ap (count_by not) (c.in-Some-Some.ensures'.value ∙ ap (bits_of (c.args.start % 8)) (rest_of_bytes bytes first)) in
-    omega (arith, all, before, zeros_between bytes c.args.start c.args.stop c.requires.order)
+    let bytes = c.args.bits.bytes.now in
+    let start = c.args.bits.start in
+    let stop = c.args.bits.stop in
+    let first = start / 8 in
+    let all = c.zeros_of.ensures ∙ ap (count_by not) (ap (bits_of (stop - 8 * first)) (rest_of_bytes bytes first)) in
+    let before = c.zeros_of-2.ensures ∙ ap (count_by not) (ap (bits_of (start % 8)) (rest_of_bytes bytes first)) in
+    omega (arith, all, before, zeros_between bytes start stop c.requires.order)

@@ -10,9 +10,9 @@ use Rattle.arrow_body_writer.proofs.slots.fixed.Goals as goal
 -- they are those of the array's values
 pub returns-then-holds_fixed : goal.returns-then-holds_fixed
 returns-then-holds_fixed c =
-    let a = c.args.array.now in
-    let vs = values_from a.raw c.args.start c.args.stop in
+    let a = c.args.slice.array.now in
+    let vs = values_from a.raw c.args.slice.start c.args.slice.stop in
     let known = c.own_form-form.ensures in
     let form : node_form a.data_type.tag a.encoding ≡ forms.FixedBytes c.args.width = sym known.form ∙ c.if-holds_fixed.ensures refl in
-    let all = subst (λ f. AllByRecursion (IsFullOf f a.data_type.children) vs) form (full_of a c.args.start c.args.stop known.known c.requires.inside c.requires.full) in
+    let all = subst (λ f. AllByRecursion (IsFullOf f a.data_type.children) vs) form (full_of a c.args.slice.start c.args.slice.stop known.known c.requires.slots.inside c.requires.full) in
     c.value_bytes.ensures ∙ ap (λ f. flat_map (value_bytes f) vs) form ∙ fixed_are c.args.width a.data_type.children vs all

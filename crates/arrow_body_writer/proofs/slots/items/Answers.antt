@@ -7,20 +7,20 @@ use Rattle.arrow_body_writer.proofs.slots.items.Goals as goal
 
 -- no slots
 pub returns-then-start-stop : goal.returns-then-start-stop
-returns-then-start-stop c = no_slots items_in_value c.args.array.now.raw c.args.start c.args.stop c.if-start-stop.true
+returns-then-start-stop c = no_slots items_in_value c.args.slice.array.now.raw c.args.slice.start c.args.slice.stop c.if-start-stop.true
 
 -- no lists
 pub returns-in_default : goal.returns-in_default
 returns-in_default c =
-    let a = c.args.array.now in
-    let all = full_of a c.args.start c.args.stop c.len-slots.ensures.known c.requires.inside c.requires.full in
-    no_lists (node_form a.data_type.tag a.encoding) a.data_type.children (values_from a.raw c.args.start c.args.stop) c.in_default.ensures all
+    let a = c.args.slice.array.now in
+    let all = full_of a c.args.slice.start c.args.slice.stop c.len-slots.ensures.known c.requires.slots.inside c.requires.full in
+    no_lists (node_form a.data_type.tag a.encoding) a.data_type.children (values_from a.raw c.args.slice.start c.args.slice.stop) c.in_default.ensures all
 
 -- the items of all lists
 pub returns : goal.returns
 returns c =
-    let a = c.args.array.now in
-    let some : c.args.start < c.args.stop = omega (arith, c.requires.order, c.if-start-stop.false) in
-    let before : c.args.stop - 1 + 1 ≡ c.args.stop = omega (arith, some) in
-    items_run a c.in-Some.child.now c.args.start c.args.stop c.in_ok-first.first c.in_ok-end.end c.in-Some.ensures some c.requires.inside c.requires.full
+    let a = c.args.slice.array.now in
+    let some : c.args.slice.start < c.args.slice.stop = omega (arith, c.requires.slots.order, c.if-start-stop.false) in
+    let before : c.args.slice.stop - 1 + 1 ≡ c.args.slice.stop = omega (arith, some) in
+    items_run a c.in-Some.child.now c.args.slice.start c.args.slice.stop c.in_ok-first.first c.in_ok-end.end c.in-Some.ensures some c.requires.slots.inside c.requires.full
     c.in_ok-first.ensures.starts (c.in_ok-end.ensures.stops ∙ ap (λ j. get_or a.offsets j 0) before)

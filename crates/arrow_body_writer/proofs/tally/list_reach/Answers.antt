@@ -10,6 +10,6 @@ len-requires c = c.in_ok-spans.ensures.spans.there
 -- they say how much the slots have
 pub returns : goal.returns
 returns c =
-    let raw = c.args.array.now.raw in
+    let raw = c.args.slice.array.now.raw in
     let are = c.in_ok-spans.ensures in
-    reach_range c.in_ok-spans.spans (λ v. length (items_in_value v)) raw c.args.start c.args.stop c.len.result are (c.len.ensures (λ v. length (items_in_value v)) raw are.spans)
+    reach_range c.in_ok-spans.spans (λ v. length (items_in_value v)) raw c.args.slice.start c.args.slice.stop c.len.result are (c.len.ensures (λ v. length (items_in_value v)) raw are.spans)

@@ -8,24 +8,24 @@ use Rattle.arrow_body_writer.proofs.tally.stretch.Goals as goal
 -- the bytes of byte strings
 pub returns-in-Bytes : goal.returns-in-Bytes
 returns-in-Bytes c =
-    let vs = values_from c.args.array.now.raw c.args.start c.args.stop in
+    let vs = values_from c.args.slice.array.now.raw c.args.slice.start c.args.slice.stop in
     ap length c.strings.ensures ∙ length-flat_map bytes_in_value vs ∙ ap (λ f. last_offset f vs) (sym c.in-Bytes.is)
 
 -- and of texts
 pub returns-in-Texts : goal.returns-in-Texts
 returns-in-Texts c =
-    let vs = values_from c.args.array.now.raw c.args.start c.args.stop in
+    let vs = values_from c.args.slice.array.now.raw c.args.slice.start c.args.slice.stop in
     ap length c.strings-in-Texts.ensures ∙ length-flat_map bytes_in_value vs ∙ ap (λ f. last_offset f vs) (sym c.in-Texts.is)
 
 -- the items of lists
 pub returns-in-Some : goal.returns-in-Some
 returns-in-Some c =
-    let vs = values_from c.args.array.now.raw c.args.start c.args.stop in
+    let vs = values_from c.args.slice.array.now.raw c.args.slice.start c.args.slice.stop in
     let run = c.in-Some.ensures in
-    sym (length-values_from c.in-Some.field-0-2.now.raw c.in-Some.first c.in-Some.last run.inside) ∙ ap length (sym run.same)
+    sym (length-values_from c.in-Some.items.array.now.raw c.in-Some.items.start c.in-Some.items.stop run.inside) ∙ ap length (sym run.same)
     ∙ length-flat_map items_in_value vs ∙ ap (λ f. last_offset f vs) (sym c.in-Lists.is)
 
 pub returns-in-None : goal.returns-in-None
 returns-in-None c =
-    let vs = values_from c.args.array.now.raw c.args.start c.args.stop in
+    let vs = values_from c.args.slice.array.now.raw c.args.slice.start c.args.slice.stop in
     ap length (sym c.in-None.ensures) ∙ length-flat_map items_in_value vs ∙ ap (λ f. last_offset f vs) (sym c.in-Lists.is)

@@ -1,4 +1,4 @@
-use Rattle.std.proofs.Common.{◌≤◌, ◌+◌, ◌-◌, ◌*◌, ◌++◌, length, refl, ap, ◌∙◌, arith}
+use Rattle.std.proofs.Common.{◌≤◌, ◌+◌, ◌-◌, ◌*◌, length, refl, ◌∙◌, arith}
 use Rattle.arrow_body_writer.proofs.Numbering.{as_long, cleared_all, cleared_first, cleared_more, cleared_on, room_for}
 use Rattle.arrow_body_writer.proofs.masked.Masked.clear_nulls.Goals as goal
 
@@ -13,8 +13,7 @@ loop-i-init c =
       first.high,
       first.unset,
       refl,
-      λ before raw has inside here is.
-          is ∙ ap (λ bytes. before ++ bytes) (cleared_first n raw start stop ∙ cleared_on n raw start stop start c.first_unset-i.result has (omega arith) inside first),
+      λ raw has inside is. is ∙ cleared_first n raw start stop ∙ cleared_on n raw start stop start c.first_unset-i.result has (omega arith) inside first,
     )
 
 -- one null more, and what stands up to the next
@@ -24,25 +23,24 @@ loop-i-preserved c =
     let start = c.args.start in
     let stop = c.args.stop in
     let i = c.loop-i.i in
-    let at = c.args.at in
-    let out = c.loop-i.out.items in
+    let numbers = c.loop-i.numbers in
     let next = c.first_unset-i-in-loop-i.ensures in
     let low = c.loop-i.invariant.0 in
     let here_is = c.loop-i-test.true in
-    let room : at + n.width * (i - start) + n.width ≤ length out =
-    room_for n.width i start stop at (length out) low here_is (omega (arith, c.requires.room, c.loop-i.invariant.3)) in (
+    let room : n.width * (i - start) + n.width ≤ length numbers =
+    room_for n.width i start stop (length numbers) low here_is (omega (arith, c.requires.room, c.loop-i.invariant.3)) in (
       omega (arith, next.low, low),
       next.high,
       next.unset,
-      as_long out c.clear.new.out.items (at + n.width * (i - start)) n.width room c.clear.ensures ∙ c.loop-i.invariant.3,
-      λ before raw has inside here is.
+      as_long numbers c.clear.new.bytes (n.width * (i - start)) n.width room c.clear.ensures ∙ c.loop-i.invariant.3,
+      λ raw has inside is.
           c.clear.ensures
-          ∙ cleared_more n raw before out start stop i at has low here_is inside (c.loop-i.invariant.2 here_is) here (c.loop-i.invariant.4 before raw has inside here is)
-          ∙ ap (λ bytes. before ++ bytes) (cleared_on n raw start stop (i + 1) c.first_unset-i-in-loop-i.result has (omega (arith, low)) inside next),
+          ∙ cleared_more n raw numbers start stop i has low here_is inside (c.loop-i.invariant.2 here_is) (c.loop-i.invariant.4 raw has inside is)
+          ∙ cleared_on n raw start stop (i + 1) c.first_unset-i-in-loop-i.result has (omega (arith, low)) inside next,
     )
 
 -- all nulls are cleared
 pub returns : goal.returns
-returns c before raw has inside here is =
-    cleared_all c.args.self raw before c.loop-i.out.items c.args.start c.args.stop c.loop-i.i (omega (arith, c.loop-i-test.false, c.loop-i.invariant.1))
-    (c.loop-i.invariant.4 before raw has inside here is)
+returns c raw has inside is =
+    cleared_all c.args.self raw c.loop-i.numbers c.args.start c.args.stop c.loop-i.i (omega (arith, c.loop-i-test.false, c.loop-i.invariant.1))
+    (c.loop-i.invariant.4 raw has inside is)

@@ -1,4 +1,4 @@
-use Rattle.std.proofs.Common.{◌≡◌, ◌≤◌, ◌<◌, ◌-◌, ◌*◌, ◌++◌, ℕ, List, false, length}
+use Rattle.std.proofs.Common.{◌≡◌, ◌≤◌, ◌<◌, ◌-◌, ◌*◌, List, false, length}
 use Rattle.std.specs.Prelude.{slice_range}
 use Rattle.arrow_bits.specs.Bitmap.{bit_of}
 use Rattle.arrow_data.specs.PlainValue.{PlainValue}
@@ -9,10 +9,10 @@ use Rattle.arrow_body_writer.proofs.masked.Masked.clear_nulls.Given as goal
 -- slot i is the next null, and those before it are cleared
 abbrev pub invariant-loop-i : goal.invariant-loop-i
 invariant-loop-i l =
-    (l.start ≤ l.i) × (l.i ≤ l.stop) × (l.i < l.stop → bit_of l.self.bits.now l.i ≡ false) × (length l.out.items ≡ length l.fn.out.items)
-    × ((before : List ℕ) (raw : List PlainValue) → HasNumbers l.self raw → l.stop ≤ length raw → length before ≡ l.at
-    → l.fn.out.items ≡ before ++ slice_range l.self.values.now (l.self.width * l.start) (l.self.width * l.stop)
-    → l.out.items ≡ before ++ ClearedTo l.self raw l.start l.stop l.i)
+    (l.start ≤ l.i) × (l.i ≤ l.stop) × (l.i < l.stop → bit_of l.self.bits.now l.i ≡ false) × (length l.numbers ≡ length l.fn.numbers)
+    × ((raw : List PlainValue) → HasNumbers l.self raw → l.stop ≤ length raw
+    → l.fn.numbers ≡ slice_range l.self.values.now (l.self.width * l.start) (l.self.width * l.stop)
+    → l.numbers ≡ ClearedTo l.self raw l.start l.stop l.i)
 
 -- the slots that are left
 abbrev pub decreases-loop-i : goal.decreases-loop-i

@@ -10,14 +10,14 @@ loop-i-init c = (
   omega arith,
   c.requires.order,
   λ before was p. subst (λ bs. IsPacking before bs c.args.self.now.byte c.args.self.now.weight c.args.out.now.items)
-      (sym (append-nil was) ∙ ap (λ bs. was ++ bs) (sym (bits_none c.args.bytes.now c.args.start))) p,
+      (sym (append-nil was) ∙ ap (λ bs. was ++ bs) (sym (bits_none c.args.bits.bytes.now c.args.bits.start))) p,
 )
 
 -- one bit more
 pub loop-i-preserved : goal.loop-i-preserved
 loop-i-preserved c =
-    let bytes = c.args.bytes.now in
-    let start = c.args.start in
+    let bytes = c.args.bits.bytes.now in
+    let start = c.args.bits.start in
     let i = c.loop-i.i in (
       omega (arith, c.loop-i.invariant.0),
       omega (arith, c.loop-i-test.true),

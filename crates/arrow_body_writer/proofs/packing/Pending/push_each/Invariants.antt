@@ -6,6 +6,6 @@ use Rattle.arrow_body_writer.proofs.packing.Pending.push_each.Given as goal
 -- the bits so far are added
 abbrev pub invariant-loop-i : goal.invariant-loop-i
 invariant-loop-i l =
-    (l.start ≤ l.i) × (l.i ≤ l.stop)
+    (l.bits.start ≤ l.i) × (l.i ≤ l.bits.stop)
     × ((before : List ℕ) (was : List Bool) → IsPacking before was l.fn.self.byte l.fn.self.weight l.fn.out.items
-    → IsPacking before (was ++ bits_from l.bytes l.start l.i) l.self.byte l.self.weight l.out.items)
+    → IsPacking before (was ++ bits_from l.bits.bytes.now l.bits.start l.i) l.self.byte l.self.weight l.out.items)

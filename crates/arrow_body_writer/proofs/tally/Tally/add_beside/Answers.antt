@@ -7,8 +7,8 @@ use Rattle.arrow_body_writer.proofs.tally.Tally.add_beside.Goals as goal
 -- they are counted by their bits
 pub returns-in-Some : goal.returns-in-Some
 returns-in-Some c =
-    let raw = c.args.array.now.raw in
-    marked_counted c.args.form (values_from raw c.args.start c.args.stop) c.args.self.now c.add_marked.new.self
-    (omega (arith, c.add_marked.ensures.slots, length-values_from raw c.args.start c.args.stop c.requires.inside))
-    (omega (arith, c.add_marked.ensures.nulls, nulls_are raw c.args.bits.now c.args.start c.args.stop c.requires.bits c.requires.order c.requires.inside))
+    let raw = c.args.slice.array.now.raw in
+    marked_counted c.args.form (values_from raw c.args.slice.start c.args.slice.stop) c.args.self.now c.add_marked.new.self
+    (omega (arith, c.add_marked.ensures.slots, length-values_from raw c.args.slice.start c.args.slice.stop c.requires.slots.inside))
+    (omega (arith, c.add_marked.ensures.nulls, nulls_are raw c.args.bytes.now c.args.slice.start c.args.slice.stop c.requires.bits c.requires.slots.order c.requires.slots.inside))
     (omega (arith, c.add_marked.ensures.end, c.in-Some.ensures))

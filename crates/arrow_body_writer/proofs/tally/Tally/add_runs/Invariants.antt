@@ -5,7 +5,7 @@ use Rattle.arrow_body_writer.proofs.tally.Tally.add_runs.Given as goal
 
 -- the slots so far are counted
 abbrev pub invariant-loop-i : goal.invariant-loop-i
-invariant-loop-i l = (l.start ≤ l.i) × (l.i ≤ l.stop) × Counts l.form (values_from l.array.raw l.start l.i) l.fn.self l.self
+invariant-loop-i l = (l.slice.start ≤ l.i) × (l.i ≤ l.slice.stop) × Counts l.form (values_from l.slice.array.now.raw l.slice.start l.i) l.fn.self l.self
 
 abbrev pub decreases-loop-i : goal.decreases-loop-i
-decreases-loop-i l = l.stop - l.i
+decreases-loop-i l = l.slice.stop - l.i

@@ -8,15 +8,15 @@ use Rattle.arrow_body_writer.proofs.writing.Writing.put_each.Goals as goal
 -- each number has room
 pub put-requires-clause-room : goal.put-requires-clause-room
 put-requires-clause-room c =
-    of_slot (HasRoom c.args.part) c.args.array.now.raw c.args.start c.args.stop c.loop-i.i c.requires.inside c.loop-i.invariant.0 c.loop-i-test.true c.requires.room
+    of_slot (HasRoom c.args.part) c.args.slice.array.now.raw c.args.slice.start c.args.slice.stop c.loop-i.i c.requires.slots.inside c.loop-i.invariant.0 c.loop-i-test.true c.requires.room
 
 -- one slot more
 pub loop-i-preserved : goal.loop-i-preserved
 loop-i-preserved c =
-    let raw = c.args.array.now.raw in
-    let start = c.args.start in
+    let raw = c.args.slice.array.now.raw in
+    let start = c.args.slice.start in
     let i = c.loop-i.i in
-    let here : i < length raw = omega (arith, c.loop-i-test.true, c.requires.inside) in (
+    let here : i < length raw = omega (arith, c.loop-i-test.true, c.requires.slots.inside) in (
       omega (arith, c.loop-i.invariant.0),
       omega (arith, c.loop-i-test.true),
       λ before vs was. subst (λ values. IsWritten c.args.part before values c.put.new.self)

@@ -7,5 +7,5 @@ use Rattle.arrow_body_writer.proofs.writing.Writing.put_each.Given as goal
 -- the slots so far are added
 abbrev pub invariant-loop-i : goal.invariant-loop-i
 invariant-loop-i l =
-    (l.start ≤ l.i) × (l.i ≤ l.stop)
-    × ((before : List ℕ) (vs : List PlainValue) → IsWritten l.part before vs l.fn.self → IsWritten l.part before (vs ++ values_from l.array.raw l.start l.i) l.self)
+    (l.slice.start ≤ l.i) × (l.i ≤ l.slice.stop)
+    × ((before : List ℕ) (vs : List PlainValue) → IsWritten l.part before vs l.fn.self → IsWritten l.part before (vs ++ values_from l.slice.array.now.raw l.slice.start l.i) l.self)
