@@ -36,7 +36,7 @@ impl EntryFields {
             let (values, place) = dictionary.value(n);
             // Called for what it says of every array.
             values.len();
-            push_field(alloc, &mut bytes, values, place, values.slot(place))?;
+            push_field(&mut bytes, values, place, values.slot(place))?;
             if bytes.len() > MOST_BYTES {
                 return Ok(None);
             }
@@ -87,7 +87,7 @@ impl<'a> ColumnText<'a> {
 
     /// Appends the field of slot `i`.
     #[inline(always)]
-    pub(crate) fn push(&self, alloc: Global, out: &mut Vec<u8>, i: usize) -> Result<(), AllocError>
+    pub(crate) fn push(&self, out: &mut Vec<u8>, i: usize) -> Result<(), AllocError>
         requires { i < length self.now.raw }
         ensures { OnOk result (out.new.items ≡ out.old.items ++ field_text default_writer
             (value_text [] self.now.data_type.children (value_at self.now.resolved i))) }
@@ -100,7 +100,7 @@ impl<'a> ColumnText<'a> {
                 }
                 None => Ok(()),
             },
-            None => push_field(alloc, out, self.slots.array(), i, self.slots.slot(i)),
+            None => push_field(out, self.slots.array(), i, self.slots.slot(i)),
         }
     }
 }

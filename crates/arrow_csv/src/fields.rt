@@ -4,7 +4,7 @@ ghost use Rattle.std.specs.Prelude.{◌≡◌, ◌≤◌, ◌++◌, OnOk, drop, 
 ghost use Rattle.csv.specs.Writing.{default_writer, field_text, quoted};
 
 use crate::chunks::{calls_for_quotes, quote_place};
-use std::alloc::{AllocError, Global};
+use std::alloc::AllocError;
 
 /// Appends a field between quotes, with its own written twice.
 #[tactic(auto, unfolding(csv::specs::Writing::escaped))]
@@ -39,7 +39,7 @@ pub(crate) fn push_field_text(out: &mut Vec<u8>, field: &[u8]) -> Result<(), All
 
 /// Puts quotes around the field that begins at this place and ends with the text, where it calls
 /// for them.
-pub(crate) fn quote_from(alloc: Global, out: &mut Vec<u8>, place: usize) -> Result<(), AllocError>
+pub(crate) fn quote_from(out: &mut Vec<u8>, place: usize) -> Result<(), AllocError>
     requires { place ≤ length out.old.items }
     ensures { OnOk result (out.new.items
         ≡ take place out.old.items ++ field_text default_writer (drop place out.old.items)) }
@@ -47,7 +47,7 @@ pub(crate) fn quote_from(alloc: Global, out: &mut Vec<u8>, place: usize) -> Resu
     if !calls_for_quotes(&out[place..]) {
         return Ok(());
     }
-    let field = Vec::from_slice(alloc, &out[place..])?;
+    let field = Vec::from_slice(*out.allocator(), &out[place..])?;
     out.truncate(place);
     push_quoted(out, &field)
 }

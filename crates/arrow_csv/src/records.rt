@@ -22,6 +22,7 @@ use csv::{ByteRecord, WriterBuilder};
 use itoa::Buffer;
 use std::alloc::{AllocError, Global};
 use std::marker::Model;
+use std::ops::Range;
 
 /// The first record: the word `batch` and the names of the columns.
 pub fn header(alloc: Global, schema: &Schema) -> Result<Vec<u8>, AllocError>
@@ -50,10 +51,7 @@ pub fn header_of(
     let Ok(()) = writer.write_byte_record(&record) else {
         return Err(AllocError);
     };
-    match writer.into_inner() {
-        Ok(text) => Ok(text),
-        Err(_) => Err(AllocError),
-    }
+    writer.into_inner().map_err(|_| AllocError)
 }
 
 /// Appends the names of fields.
@@ -100,20 +98,19 @@ fn push_name(
     }
 }
 
-/// The records of the rows from `start` up to `end` of the batch that has this number.
+/// The records of these rows of the batch that has this number.
 pub fn rows(
     alloc: Global,
     number: u64,
     batch: &Batch,
-    start: usize,
-    end: usize,
+    rows: Range<usize>,
 ) -> Result<Vec<u8>, AllocError>
-    requires order { start ≤ end }
-    requires inside { end ≤ batch.now.rows }
-    ensures { IfOk result (λ text. text.items ≡ batch_rows number batch.now start end) }
+    requires order { rows.start ≤ rows.end }
+    requires inside { rows.end ≤ batch.now.rows }
+    ensures { IfOk result (λ text. text.items ≡ batch_rows number batch.now rows.start rows.end) }
 {
     let mut out = Vec::new(alloc);
-    BatchRows::new(alloc, number, batch)?.push(alloc, &mut out, start, end)?;
+    BatchRows::new(alloc, number, batch)?.push(&mut out, rows)?;
     Ok(out)
 }
 
@@ -175,49 +172,36 @@ impl<'a> BatchRows<'a> {
         })
     }
 
-    /// Appends the records of the rows from `start` up to `end`. Where a growth is refused the text
-    /// is as it was.
+    /// Appends the records of these rows. Where a growth is refused the text is as it was.
     ///
     /// Behind no text they are made where they are to stand; else beside it, and copied once.
-    pub fn push(
-        &self,
-        alloc: Global,
-        out: &mut Vec<u8>,
-        start: usize,
-        end: usize,
-    ) -> Result<(), AllocError>
-        requires order { start ≤ end }
-        requires inside { end ≤ self.now.batch.rows }
+    pub fn push(&self, out: &mut Vec<u8>, rows: Range<usize>) -> Result<(), AllocError>
+        requires order { rows.start ≤ rows.end }
+        requires inside { rows.end ≤ self.now.batch.rows }
         ensures ok { OnOk result (out.new.items
-            ≡ out.old.items ++ batch_rows self.now.number self.now.batch start end) }
+            ≡ out.old.items ++ batch_rows self.now.number self.now.batch rows.start rows.end) }
         ensures err { OnErr result (out.new.items ≡ out.old.items) }
     {
         if out.is_empty() {
-            return self.push_first(alloc, out, start, end);
+            return self.push_first(out, rows);
         }
-        let mut records = Vec::new(alloc);
-        self.push_first(alloc, &mut records, start, end)?;
+        let mut records = Vec::new(*out.allocator());
+        self.push_first(&mut records, rows)?;
         out.extend_from_slice(&records)
     }
 
     // The same where no text stands before the records.
-    fn push_first(
-        &self,
-        alloc: Global,
-        out: &mut Vec<u8>,
-        start: usize,
-        end: usize,
-    ) -> Result<(), AllocError>
-        requires order { start ≤ end }
-        requires inside { end ≤ self.now.batch.rows }
+    fn push_first(&self, out: &mut Vec<u8>, rows: Range<usize>) -> Result<(), AllocError>
+        requires order { rows.start ≤ rows.end }
+        requires inside { rows.end ≤ self.now.batch.rows }
         requires empty { out.old.items ≡ [] }
         ensures ok { OnOk result
-            (out.new.items ≡ batch_rows self.now.number self.now.batch start end) }
+            (out.new.items ≡ batch_rows self.now.number self.now.batch rows.start rows.end) }
         ensures err { OnErr result (out.new.items ≡ []) }
     {
         // Called for what it says of every batch.
         self.batch.schema();
-        let Ok(()) = push_records(alloc, out, self.number, &self.columns, start, end) else {
+        let Ok(()) = push_records(out, self.number, &self.columns, rows) else {
             out.clear();
             return Err(AllocError);
         };
@@ -236,25 +220,22 @@ fn all_columns<'a>(alloc: Global, batch: &'a Batch) -> Result<Vec<ColumnText<'a>
     Ok(columns)
 }
 
-/// Appends the records of the rows from `start` up to `end` of these columns of the batch that has
-/// this number.
+/// Appends the records of these rows of these columns of the batch that has this number.
 fn push_records(
-    alloc: Global,
     out: &mut Vec<u8>,
     number: u64,
     columns: &[ColumnText],
-    start: usize,
-    end: usize,
+    rows: Range<usize>,
 ) -> Result<(), AllocError>
-    requires order { start ≤ end }
-    requires inside { HaveSlots end columns.now }
+    requires order { rows.start ≤ rows.end }
+    requires inside { HaveSlots rows.end columns.now }
     ensures { OnOk result (out.new.items
-        ≡ out.old.items ++ column_rows number columns.now start end) }
+        ≡ out.old.items ++ column_rows number columns.now rows.start rows.end) }
 {
     let mut buffer = Buffer::new();
     let head = buffer.format(number);
-    for i in start..end {
-        push_row(alloc, out, head.as_bytes(), columns, i)?;
+    for i in rows.start..rows.end {
+        push_row(out, head.as_bytes(), columns, i)?;
     }
     Ok(())
 }
@@ -262,7 +243,6 @@ fn push_records(
 /// Appends a record: its first field, which has this text, and the values of a row.
 #[tactic(auto, unfolding(csv::specs::Writing::fields_text))]
 fn push_row(
-    alloc: Global,
     out: &mut Vec<u8>,
     head: &[u8],
     columns: &[ColumnText],
@@ -275,7 +255,7 @@ fn push_row(
     out.extend_from_slice(head)?;
     for column in columns {
         out.push(b',')?;
-        column.push(alloc, out, i)?;
+        column.push(out, i)?;
     }
     out.push(b'\n')?;
     Ok(())
@@ -285,7 +265,6 @@ fn push_row(
 /// them, as no truth value does, no number and no byte string.
 #[inline(always)]
 pub(crate) fn push_field(
-    alloc: Global,
     out: &mut Vec<u8>,
     column: &Array,
     i: usize,
@@ -305,13 +284,13 @@ pub(crate) fn push_field(
         SlotValue::Text(text) => push_field_text(out, text.as_bytes()),
         SlotValue::List(start, end, items) => {
             let place = out.len();
-            push_items(alloc, out, items, start, end)?;
-            quote_from(alloc, out, place)
+            push_items(out, items, start, end)?;
+            quote_from(out, place)
         }
         SlotValue::Struct(children, place) => {
             let from = out.len();
-            push_parts(alloc, out, column.data_type().children(), children, place)?;
-            quote_from(alloc, out, from)
+            push_parts(out, column.data_type().children(), children, place)?;
+            quote_from(out, from)
         }
     }
 }

@@ -14,14 +14,13 @@ ghost use Rattle.arrow_csv.specs.Texts.{item_text, joined, part_texts};
 use arrow_data::{Array, SlotValue};
 use arrow_types::Field;
 use itoa::{Buffer, Integer};
-use std::alloc::{AllocError, Global};
+use std::alloc::AllocError;
 
 /// Appends the text of the value in slot `i`, which is at hand, as it shows inside of a list or a
 /// struct.
 #[cycle(text)]
 #[inline(always)]
 fn push_value(
-    alloc: Global,
     out: &mut Vec<u8>,
     column: &Array,
     i: usize,
@@ -39,9 +38,9 @@ fn push_value(
         SlotValue::Int(number) => push_number(out, number),
         SlotValue::Bytes(bytes) => push_bytes(out, bytes),
         SlotValue::Text(text) => out.extend_from_slice(text.as_bytes()),
-        SlotValue::List(start, end, items) => push_items(alloc, out, items, start, end),
+        SlotValue::List(start, end, items) => push_items(out, items, start, end),
         SlotValue::Struct(children, place) => {
-            push_parts(alloc, out, column.data_type().children(), children, place)
+            push_parts(out, column.data_type().children(), children, place)
         }
     }
 }
@@ -83,10 +82,7 @@ pub(crate) fn push_bytes(out: &mut Vec<u8>, bytes: &[u8]) -> Result<(), AllocErr
         return Err(AllocError);
     };
     out.resize(end, 0)?;
-    match hex::encode_to_slice(bytes, &mut out[place..]) {
-        Ok(()) => Ok(()),
-        Err(_) => Err(AllocError),
-    }
+    hex::encode_to_slice(bytes, &mut out[place..]).map_err(|_| AllocError)
 }
 
 /// Where the digits of so many bytes end that begin at this place; `None` where that passes 64 bits.
@@ -100,7 +96,6 @@ fn end_of_digits(place: usize, count: usize) -> Option<usize>
 #[cycle(text)]
 #[inline(never)]
 pub(crate) fn push_items(
-    alloc: Global,
     out: &mut Vec<u8>,
     items: &Array,
     start: usize,
@@ -118,7 +113,7 @@ pub(crate) fn push_items(
         if k > start {
             out.push(b';')?;
         }
-        push_value(alloc, out, items, k, items.slot(k))?;
+        push_value(out, items, k, items.slot(k))?;
     }
     out.push(b']')?;
     Ok(())
@@ -128,7 +123,6 @@ pub(crate) fn push_items(
 #[cycle(text)]
 #[inline(never)]
 pub(crate) fn push_parts(
-    alloc: Global,
     out: &mut Vec<u8>,
     fields: &[Field],
     children: &[Array],
@@ -147,7 +141,7 @@ pub(crate) fn push_parts(
         }
         out.extend_from_slice(fields[k].name.as_bytes())?;
         out.push(b'=')?;
-        push_value(alloc, out, &children[k], place, children[k].slot(place))?;
+        push_value(out, &children[k], place, children[k].slot(place))?;
     }
     out.push(b'}')?;
     Ok(())

@@ -10,7 +10,7 @@ ghost use Rattle.arrow_meta_writer.specs.Metadata.{size_of};
 use arrow_bits::put_int;
 use arrow_meta_reader::Message;
 use arrow_meta_writer::encode;
-use std::alloc::{AllocError, Global};
+use std::alloc::AllocError;
 
 // The bytes of a number, rounded up to a multiple of the alignment.
 fn rounded(align: usize, len: usize) -> usize
@@ -58,7 +58,6 @@ pub fn put_end_marker(out: &mut Vec<u8>) -> Result<(), AllocError>
 /// before.
 pub fn put_frame(
     out: &mut Vec<u8>,
-    alloc: Global,
     align: usize,
     message: &Message,
     body: &[u8],
@@ -71,7 +70,7 @@ pub fn put_frame(
         out.old.items out.new.items) }
     ensures err { OnErr result (out.new.items ≡ out.old.items) }
 {
-    let metadata = encode(alloc, message)?;
+    let metadata = encode(*out.allocator(), message)?;
     let size = rounded(align, 8 + metadata.len()) - 8;
     let before = out.len();
     match put_parts(out, size, &metadata, body) {

@@ -45,6 +45,14 @@ pub(crate) struct DictionaryBatch<'a> {
     pub(crate) dictionary: &'a Dictionary,
 }
 
+/// The part of a batch as it is built: the bytes of its frames, and the room of the body that was
+/// stored last.
+#[derive(Drop)]
+pub(crate) struct Part {
+    pub(crate) bytes: Vec<u8>,
+    pub(crate) room: Body,
+}
+
 // The header of the message that holds the batch.
 fn header_of(kind: BatchKind, batch: RecordBatch) -> Header
     ensures { header_view result ≡ header_of kind (batch_view batch) }
@@ -123,58 +131,53 @@ impl Settings {
         }
         // One growth makes room for all of the frame.
         out.reserve(8 + len as usize + body.len())?;
-        put_frame(out, self.alloc, self.align.bytes(), message, body)?;
+        put_frame(out, self.align.bytes(), message, body)?;
         Ok(())
     }
 
-    /// Appends the frame of a batch whose columns were stored. Of what was stored the room alone is
-    /// left. After a fault what stands behind the bytes is a rest of which nothing is said.
+    /// Appends the frame of a batch whose columns were stored in the part's room. Of what was stored
+    /// the room alone is left. After a fault what stands behind the bytes is a rest of which nothing
+    /// is said.
     pub(crate) fn put_stored(
         &self,
         kind: BatchKind,
         rows: usize,
-        body: &mut Body,
-        out: &mut Vec<u8>,
+        part: &mut Part,
     ) -> Result<(), WriteFault>
         ensures { (load : Load) → load.kind ≡ kind → load.rows ≡ rows
-            → IsStored (terms_of self.now).align load (body_view body.old)
-            → Puts (terms_of self.now) load out.old.items result out.new.items }
+            → IsStored (terms_of self.now).align load (body_view part.old.room)
+            → Puts (terms_of self.now) load part.old.bytes.items result part.new.bytes.items }
     {
         let max_rows = self.limits.max_rows();
         if rows as u64 > max_rows {
             return Err(WriteFault::TooLarge);
         }
-        if body.bytes.len() as u64 > self.limits.max_body() {
+        if part.room.bytes.len() as u64 > self.limits.max_body() {
             return Err(WriteFault::TooLarge);
         }
-        if have_bad_length(max_rows, &body.nodes) {
+        if have_bad_length(max_rows, &part.room.nodes) {
             return Err(WriteFault::TooLarge);
         }
         let batch = RecordBatch {
             length: rows as i64,
-            nodes: mem::replace(&mut body.nodes, Vec::new(self.alloc)),
-            buffers: mem::replace(&mut body.buffers, Vec::new(self.alloc)),
+            nodes: mem::replace(&mut part.room.nodes, Vec::new(self.alloc)),
+            buffers: mem::replace(&mut part.room.buffers, Vec::new(self.alloc)),
         };
         let message = Message {
             version: Message::V5,
             header: header_of(kind, batch),
-            body_len: body.bytes.len() as u64,
+            body_len: part.room.bytes.len() as u64,
         };
-        let answer = self.put_message(&message, &body.bytes, out);
-        give_back(message, body);
+        let answer = self.put_message(&message, &part.room.bytes, &mut part.bytes);
+        give_back(message, &mut part.room);
         answer
     }
 
-    /// Appends the frame of the batch's record batch, whose body is stored in a room that is kept.
-    /// After a fault what stands behind the bytes is a rest of which nothing is said.
-    pub(crate) fn put_record(
-        &self,
-        batch: &Batch,
-        room: &mut Body,
-        out: &mut Vec<u8>,
-    ) -> Result<(), WriteFault>
-        ensures { Puts (terms_of self.now) (record_load batch.now) out.old.items result
-            out.new.items }
+    /// Appends the frame of the batch's record batch, whose body is stored in the part's room. After
+    /// a fault what stands behind the bytes is a rest of which nothing is said.
+    pub(crate) fn put_record(&self, batch: &Batch, part: &mut Part) -> Result<(), WriteFault>
+        ensures { Puts (terms_of self.now) (record_load batch.now) part.old.bytes.items result
+            part.new.bytes.items }
     {
         // The proof has by it at hand what is known of every batch.
         let _ = batch.schema();
@@ -187,24 +190,23 @@ impl Settings {
         if batch.rows() as u64 > max_rows {
             return Err(WriteFault::TooLarge);
         }
-        room.make_room(size as usize)?;
-        let empty = mem::replace(room, Body::new(self.alloc));
-        *room = store_in(empty, columns, self.align)?;
-        self.put_stored(BatchKind::Record, batch.rows(), room, out)
+        part.room.make_room(size as usize)?;
+        let empty = mem::replace(&mut part.room, Body::new(self.alloc));
+        part.room = store_in(empty, columns, self.align)?;
+        self.put_stored(BatchKind::Record, batch.rows(), part)
     }
 
-    /// Appends the frame of the dictionary batch, whose body is stored in a room that is kept. After a
+    /// Appends the frame of the dictionary batch, whose body is stored in the part's room. After a
     /// fault what stands behind the bytes is a rest of which nothing is said.
     pub(crate) fn put_update(
         &self,
         update: &DictionaryBatch,
-        room: &mut Body,
-        out: &mut Vec<u8>,
+        part: &mut Part,
     ) -> Result<(), WriteFault>
         requires { update.now.from ≤ length update.now.dictionary.now.values }
         ensures { IsNamed self.now.schema.value.fields update.now.id update.now.dictionary.now.data_type
-            → PutsUpdate (terms_of self.now) (sending_of update.now) out.old.items result
-            out.new.items }
+            → PutsUpdate (terms_of self.now) (sending_of update.now) part.old.bytes.items result
+            part.new.bytes.items }
     {
         // The proof has by it at hand what is known of every schema.
         let _ = self.schema.fields();
@@ -218,10 +220,10 @@ impl Settings {
         if size > max_body {
             return Err(WriteFault::TooLarge);
         }
-        room.make_room(size as usize)?;
-        let empty = mem::replace(room, Body::new(self.alloc));
-        *room = store_rest_in(empty, dictionary, update.from, self.align)?;
+        part.room.make_room(size as usize)?;
+        let empty = mem::replace(&mut part.room, Body::new(self.alloc));
+        part.room = store_rest_in(empty, dictionary, update.from, self.align)?;
         let kind = BatchKind::Dictionary(update.id, update.is_delta);
-        self.put_stored(kind, len - update.from, room, out)
+        self.put_stored(kind, len - update.from, part)
     }
 }

@@ -9,6 +9,7 @@ ghost use Rattle.arrow_stream_writer.specs.Parts.{BuildsOrDrops, BuildsPart, Put
 ghost use Rattle.arrow_stream_writer.specs.Terms.{terms_of};
 ghost use Rattle.arrow_stream_writer.specs.Updating.{work_of};
 
+use crate::frames::Part;
 use crate::lists::{BatchLists, ListsFault};
 use crate::settings::Settings;
 use crate::stream_writer::Options;
@@ -29,10 +30,8 @@ pub(crate) struct PartBuilder {
     pub(crate) settings: Settings,
     /// The dictionaries that were sent, and those that the part in work brings.
     pub(crate) tracker: Tracker,
-    /// The bytes of the part that was built last. They keep their room.
-    pub(crate) part: Vec<u8>,
-    /// The room of the body that was stored last.
-    pub(crate) room: Body,
+    /// The part that was built last. Its bytes keep their room.
+    pub(crate) part: Part,
 }
 
 impl PartBuilder {
@@ -62,8 +61,10 @@ impl PartBuilder {
                 align: options.align,
             },
             tracker: Tracker::new(alloc),
-            part: Vec::new(alloc),
-            room: Body::new(alloc),
+            part: Part {
+                bytes: Vec::new(alloc),
+                room: Body::new(alloc),
+            },
         })
     }
 
@@ -74,18 +75,19 @@ impl PartBuilder {
         ensures known { IsNoted self.old.settings.schema.value }
         ensures ceiling { self.old.settings.limits.max_metadata ≤ 2 ^ 30 }
         ensures put { PutsMessage (terms_of self.old.settings)
-            (schema self.old.settings.schema.value) [] [] result self.new.part.items }
+            (schema self.old.settings.schema.value) [] [] result self.new.part.bytes.items }
     {
         // The proof has by it at hand what is known of every schema, and of all limits.
         let _ = self.settings.limits.max_metadata();
         let _ = self.settings.schema.metadata();
-        self.part.clear();
+        self.part.bytes.clear();
         let message = Message {
             version: Message::V5,
             header: Header::Schema(self.settings.schema.copy(self.settings.alloc)?),
             body_len: 0,
         };
-        self.settings.put_message(&message, &[], &mut self.part)
+        self.settings
+            .put_message(&message, &[], &mut self.part.bytes)
     }
 
     /// Builds the part of the batch, which is to begin at this place, and stages its dictionaries.
@@ -95,7 +97,7 @@ impl PartBuilder {
         requires committed { self.old.tracker.next ≡ self.old.tracker.sent }
         ensures settings { self.new.settings ≡ self.old.settings }
         ensures built { BuildsOrDrops (terms_of self.old.settings) place batch.now
-            self.old.tracker.sent result self.new.part.items self.new.tracker }
+            self.old.tracker.sent result self.new.part.bytes.items self.new.tracker }
     {
         match self.put_frames(place, batch) {
             Ok(()) => Ok(()),
@@ -113,36 +115,35 @@ impl PartBuilder {
         requires committed { self.old.tracker.next ≡ self.old.tracker.sent }
         ensures settings { self.new.settings ≡ self.old.settings }
         ensures built { BuildsPart (terms_of self.old.settings) place batch.now
-            self.old.tracker.sent result self.new.part.items self.new.tracker }
+            self.old.tracker.sent result self.new.part.bytes.items self.new.tracker }
     {
-        self.part.clear();
+        self.part.bytes.clear();
         let same = *batch.schema() == *self.settings.schema;
         if !same {
             return Err(WriteFault::SchemaDiffers);
         }
-        let (room, part) = (&mut self.room, &mut self.part);
-        put_updates(&self.settings, batch, &mut self.tracker, room, part)?;
-        self.settings.put_record(batch, room, part)?;
-        if self.part.len() as u64 > Limits::LAST_PLACE - place {
+        put_updates(&self.settings, batch, &mut self.tracker, &mut self.part)?;
+        self.settings.put_record(batch, &mut self.part)?;
+        if self.part.bytes.len() as u64 > Limits::LAST_PLACE - place {
             return Err(WriteFault::TooLarge);
         }
         Ok(())
     }
 }
 
-// Puts the frames of the batch's dictionaries into empty bytes, and stages the dictionaries.
+// Puts the frames of the batch's dictionaries into an empty part, and stages the dictionaries.
 fn put_updates(
     settings: &Settings,
     batch: &Batch,
     tracker: &mut Tracker,
-    room: &mut Body,
-    bytes: &mut Vec<u8>,
+    part: &mut Part,
 ) -> Result<(), WriteFault>
     requires schema { batch.now.schema ≡ settings.now.schema.value }
-    requires empty { bytes.old.items ≡ [] }
+    requires empty { part.old.bytes.items ≡ [] }
     requires committed { tracker.old.next ≡ tracker.old.sent }
     ensures { PutsUpdates (terms_of settings.now) batch.now
-        (work_of bytes.old.items tracker.old) result (work_of bytes.new.items tracker.new) }
+        (work_of part.old.bytes.items tracker.old) result
+        (work_of part.new.bytes.items tracker.new) }
 {
     match BatchLists::of(settings.alloc, batch) {
         Ok(lists) => {
@@ -150,7 +151,7 @@ fn put_updates(
                 settings,
                 lists: &lists,
             };
-            updater.add_all(tracker, room, bytes)
+            updater.add_all(tracker, part)
         }
         Err(ListsFault::DictionariesDiffer) => Err(WriteFault::DictionariesDiffer),
         Err(ListsFault::Memory) => Err(WriteFault::Memory),

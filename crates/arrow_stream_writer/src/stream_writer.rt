@@ -72,7 +72,7 @@ impl<S: Sink> StreamWriter<S> {
     /// Condition: the sink has failed less than 2^64 - 1 times.
     pub fn start(
         alloc: Global,
-        sink: S,
+        mut sink: S,
         schema: &Schema,
         options: Options,
         limits: Limits,
@@ -84,18 +84,15 @@ impl<S: Sink> StreamWriter<S> {
             (S.contents sink) (S.failed sink) e.0 (S.contents e.1) (S.failed e.1)) }
         ensures untouched { IfErr result (λ e. e.0 ≢ Sink → e.1 ≡ sink) }
     {
-        let mut sink = sink;
-        let mut builder = match PartBuilder::new(alloc, schema, options, limits) {
-            Ok(builder) => builder,
-            Err(_) => return Err((WriteFault::Memory, sink)),
+        let Ok(mut builder) = PartBuilder::new(alloc, schema, options, limits) else {
+            return Err((WriteFault::Memory, sink));
         };
-        match builder.put_schema() {
-            Ok(()) => {}
-            Err(fault) => return Err((fault, sink)),
+        if let Err(fault) = builder.put_schema() {
+            return Err((fault, sink));
         }
-        match send(&mut sink, &builder.part) {
+        match send(&mut sink, &builder.part.bytes) {
             Ok(()) => {
-                let place = builder.part.len() as u64;
+                let place = builder.part.bytes.len() as u64;
                 Ok(StreamWriter {
                     sink,
                     builder,
@@ -128,11 +125,11 @@ impl<S: Sink> StreamWriter<S> {
         self.builder.build(self.place, batch)?;
         match send_part(
             &mut self.sink,
-            &self.builder.part,
+            &self.builder.part.bytes,
             &mut self.builder.tracker,
         ) {
             Ok(()) => {
-                self.place += self.builder.part.len() as u64;
+                self.place += self.builder.part.bytes.len() as u64;
                 Ok(())
             }
             Err(fault) => {

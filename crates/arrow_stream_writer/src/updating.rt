@@ -6,10 +6,9 @@ ghost use Rattle.arrow_stream_writer.specs.Updating.{AddsId, AddsOne, AddsPlan};
 ghost use Rattle.arrow_stream_writer.specs.Terms.{terms_of};
 ghost use Rattle.arrow_stream_writer.specs.Updating.{IsNamed, sending_of, work_of};
 
-use crate::frames::DictionaryBatch;
+use crate::frames::{DictionaryBatch, Part};
 use crate::lists::BatchLists;
 use crate::settings::Settings;
-use arrow_body_writer::Body;
 use arrow_dict::{Tracker, Update};
 use arrow_sink::WriteFault;
 
@@ -21,38 +20,27 @@ pub(crate) struct Updater<'s, 'l, 'd> {
 }
 
 impl<'s, 'l, 'd> Updater<'s, 'l, 'd> {
-    /// Puts the frames of the batch's dictionaries into empty bytes, id by id in the order of the
+    /// Puts the frames of the batch's dictionaries into an empty part, id by id in the order of the
     /// schema, and stages the dictionaries.
-    pub(crate) fn add_all(
-        &self,
-        tracker: &mut Tracker,
-        room: &mut Body,
-        bytes: &mut Vec<u8>,
-    ) -> Result<(), WriteFault>
-        requires empty { bytes.old.items ≡ [] }
+    pub(crate) fn add_all(&self, tracker: &mut Tracker, part: &mut Part) -> Result<(), WriteFault>
+        requires empty { part.old.bytes.items ≡ [] }
         requires committed { tracker.old.next ≡ tracker.old.sent }
         ensures { AddsPlan (terms_of self.now.settings.now)
-            (dictionary_in self.now.lists.now) (work_of bytes.old.items tracker.old) result
-            (work_of bytes.new.items tracker.new) }
+            (dictionary_in self.now.lists.now) (work_of part.old.bytes.items tracker.old) result
+            (work_of part.new.bytes.items tracker.new) }
     {
         let ids = self.settings.schema.dictionary_ids();
         for k in 0..ids.len() {
-            self.add_one(ids[k], tracker, room, bytes)?;
+            self.add_one(ids[k], tracker, part)?;
         }
         Ok(())
     }
 
     // Appends the frame for one id, if there is one to send, and stages the dictionary.
-    fn add_one(
-        &self,
-        id: i64,
-        tracker: &mut Tracker,
-        room: &mut Body,
-        bytes: &mut Vec<u8>,
-    ) -> Result<(), WriteFault>
+    fn add_one(&self, id: i64, tracker: &mut Tracker, part: &mut Part) -> Result<(), WriteFault>
         ensures { AddsId (terms_of self.now.settings.now) (dictionary_in self.now.lists.now)
-            id (work_of bytes.old.items tracker.old) result
-            (work_of bytes.new.items tracker.new) }
+            id (work_of part.old.bytes.items tracker.old) result
+            (work_of part.new.bytes.items tracker.new) }
     {
         let Some(dictionary) = self.lists.get(id) else {
             return Ok(());
@@ -66,7 +54,7 @@ impl<'s, 'l, 'd> Updater<'s, 'l, 'd> {
                     from: 0,
                     dictionary,
                 };
-                self.send(&update, tracker, room, bytes)
+                self.send(&update, tracker, part)
             }
             Update::Delta(from) => {
                 let update = DictionaryBatch {
@@ -75,7 +63,7 @@ impl<'s, 'l, 'd> Updater<'s, 'l, 'd> {
                     from,
                     dictionary,
                 };
-                self.send(&update, tracker, room, bytes)
+                self.send(&update, tracker, part)
             }
         }
     }
@@ -85,17 +73,16 @@ impl<'s, 'l, 'd> Updater<'s, 'l, 'd> {
         &self,
         update: &DictionaryBatch,
         tracker: &mut Tracker,
-        room: &mut Body,
-        bytes: &mut Vec<u8>,
+        part: &mut Part,
     ) -> Result<(), WriteFault>
         requires inside { update.now.from ≤ length update.now.dictionary.now.values }
         ensures { IsNamed self.now.settings.now.schema.value.fields update.now.id
             update.now.dictionary.now.data_type
             → AddsOne (terms_of self.now.settings.now) (sending_of update.now ∷ [])
-            (work_of bytes.old.items tracker.old) result
-            (work_of bytes.new.items tracker.new) }
+            (work_of part.old.bytes.items tracker.old) result
+            (work_of part.new.bytes.items tracker.new) }
     {
-        self.settings.put_update(update, room, bytes)?;
+        self.settings.put_update(update, part)?;
         tracker.stage(self.settings.alloc, update.id, update.dictionary)?;
         Ok(())
     }

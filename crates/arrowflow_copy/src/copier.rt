@@ -126,13 +126,10 @@ fn add<S: Sink>(
     let Some(next) = before.checked_add(1) else {
         return Err(ToolFault::Memory);
     };
-    match writer.write(batch) {
-        Ok(()) => {
-            *number = next;
-            Ok(())
-        }
-        Err(kind) => Err(fault_of(What::Batch(before), kind)),
-    }
+    let written = writer.write(batch);
+    written.map_err(|kind| fault_of(What::Batch(before), kind))?;
+    *number = next;
+    Ok(())
 }
 
 /// What a writer makes of a message: of a batch its part, of others nothing.
@@ -188,10 +185,8 @@ pub(crate) fn close<S: Sink>(target: Target<S>) -> (Target<S>, Result<(), ToolFa
     match target {
         Target::Waiting(sink) => (Target::Waiting(sink), Ok(())),
         Target::Writing(mut writer) => {
-            let answer = match writer.finish() {
-                Ok(()) => Ok(()),
-                Err(kind) => Err(fault_of(What::Finish, kind)),
-            };
+            let finished = writer.finish();
+            let answer = finished.map_err(|kind| fault_of(What::Finish, kind));
             (Target::Writing(writer), answer)
         }
     }

@@ -1,3 +1,4 @@
 mod Streams
 mod Inputs
 mod Lined
+mod Told

@@ -6,7 +6,7 @@ ghost use Rattle.arrow_stream_writer.specs.Shown.{options_view};
 ghost use Rattle.arrowflow_drill.specs.Drill.{AskTheSame, Drills};
 ghost use Rattle.arrowflow_drill.specs.Lines.{lines_from};
 
-use crate::lines::{push_connection, size_of};
+use crate::lines::{Outcome, push_connection, size_of};
 use crate::reading::{Terms, read_all};
 use arrow_types::Limits;
 use arrowflow_report::ToolFault;
@@ -105,7 +105,11 @@ fn text_of(
 {
     let mut text = String::new(alloc);
     for (number, connection) in connections.iter().enumerate() {
-        push_connection(&mut text, number, connection, &reports[number], piece)?;
+        let outcome = Outcome {
+            connection,
+            report: &reports[number],
+        };
+        push_connection(&mut text, number, outcome, piece)?;
     }
     Ok(text)
 }

@@ -15,8 +15,8 @@
 //! | what is counted of a report | `specs/Counts.antt`: `bytes_in`, `rows_in` |
 //!
 //! Each input is read by `drive` of `arrowflow_report`, whose consumer keeps its batches. Of the
-//! proofs, `Streams` is of how a stream ends, `Inputs` of one input after another, `Lined` of the
-//! lines.
+//! proofs, `Streams` is of how a stream ends, `Told` of faults that are told as others, `Inputs` of
+//! one input after another, `Lined` of the lines.
 #![tactic(auto)]
 
 mod drilling;

@@ -17,18 +17,26 @@ use arrowflow_session::session::{Connection, Refusal, Report, What};
 use std::alloc::AllocError;
 use std::fmt::Write;
 
+/// A connection that was run, and what came of it.
+#[derive(Clone, Copy)]
+pub(crate) struct Outcome<'a> {
+    pub(crate) connection: &'a Connection,
+    pub(crate) report: &'a Report,
+}
+
 /// Appends the lines of the connection of this number, which was delivered in pieces of this
 /// length.
 pub(crate) fn push_connection(
     text: &mut String,
     number: usize,
-    connection: &Connection,
-    report: &Report,
+    outcome: Outcome,
     piece: u64,
 ) -> Result<(), AllocError>
     ensures { OnOk result (string_bytes text.new ≡ string_bytes text.old
-        ++ connection_lines piece number (asked_of connection.now) (told_by report.now)) }
+        ++ connection_lines piece number (asked_of outcome.entry.connection.now)
+        (told_by outcome.entry.report.now)) }
 {
+    let Outcome { connection, report } = outcome;
     push_written(text, number, report, (connection.deliver, piece))?;
     push_refusals(text, number, report)?;
     push_handed(text, number, report, &connection.batches)?;

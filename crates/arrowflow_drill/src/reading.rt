@@ -35,10 +35,7 @@ pub(crate) fn read_all<R: Read>(
     let mut connections = Vec::new(terms.alloc);
     for (number, input) in inputs.iter_mut().enumerate() {
         let connection = read_one(terms, number as u64, input)?;
-        match connections.push(connection) {
-            Ok(()) => {}
-            Err(_) => return Err(ToolFault::Memory),
-        }
+        connections.push(connection).map_err(|_| ToolFault::Memory)?;
     }
     Ok(connections)
 }
@@ -51,10 +48,8 @@ fn read_one<R: Read>(terms: &Terms, number: u64, input: &mut R) -> Result<Connec
     let mut reader = StreamReader::new(terms.alloc, terms.limits);
     let batches: Vec<Batch> = Vec::new(terms.alloc);
     let (batches, answer) = drive(terms.alloc, &mut reader, input, batches);
-    match answer {
-        Ok(()) => connection_of(terms, &reader, batches),
-        Err(fault) => Err(of_input(number, fault)),
-    }
+    answer.map_err(|fault| of_input(number, fault))?;
+    connection_of(terms, &reader, batches)
 }
 
 /// The connection of a stream that was read to its end.
@@ -67,9 +62,7 @@ fn connection_of(
     ensures { MatchResult result
         (IsMadeOf terms.now reader.now.at.state.schema batches.items) (λ fault. fault ≡ Memory) }
 {
-    let Some(schema) = reader.schema() else {
-        unreachable!();
-    };
+    let schema = reader.schema().unwrap();
     Ok(Connection {
         schema: schema.copy(terms.alloc)?,
         options: terms.options,

@@ -104,20 +104,21 @@ fn named<'a>(alloc: Global, name: &'a str, help: &'a str) -> Arg<'a>
     Arg::new(alloc, name).long(name).help(help)
 }
 
-/// An option with a value, and what stands for it where it is not given.
-fn option<'a>(
-    alloc: Global,
-    name: &'a str,
+/// The value of an option: what reads it, and what stands for it where it is not given.
+#[derive(Drop)]
+struct Value<'a> {
     parser: ValueParser<'a>,
     default: &'a str,
-    help: &'a str,
-) -> Arg<'a>
-    ensures rule { rule_of result ≡ option name.now parser.entry default.now }
+}
+
+/// An option with a value.
+fn option<'a>(alloc: Global, name: &'a str, value: Value<'a>, help: &'a str) -> Arg<'a>
+    ensures rule { rule_of result ≡ option name.now value.entry.parser value.entry.default.now }
     ensures local { result.global ≡ false }
 {
     named(alloc, name, help)
-        .value_parser(parser)
-        .default_value(default)
+        .value_parser(value.parser)
+        .default_value(value.default)
 }
 
 /// An option without a value.
@@ -146,20 +147,20 @@ fn number<'a>(alloc: Global, name: &'a str, unit: &'a str, help: &'a str) -> Arg
         .value_name(unit)
 }
 
-/// A limit of this name, with its ceiling, what stands for it where it is not given, and the words
-/// of its help.
+/// A limit of this name, with its ceiling and what stands for it where it is not given, and the
+/// words of its help.
 fn limit<'a>(
     alloc: Global,
     name: &'a str,
-    ceiling: u64,
-    default: &'a str,
+    value: (u64, &'a str),
     words: (&'a str, &'a str),
 ) -> Arg<'a>
-    ensures rule { rule_of result ≡ limit name.now ceiling default.now }
+    ensures rule { rule_of result ≡ limit name.now value.entry.0 value.entry.1.now }
     ensures local { result.global ≡ false }
 {
+    let (ceiling, default) = value;
     let parser = ValueParser::unsigned(0, ceiling);
-    option(alloc, name, parser, default, words.1).value_name(words.0)
+    option(alloc, name, Value { parser, default }, words.1).value_name(words.0)
 }
 
 /// The command with the limits that it keeps to.
@@ -171,24 +172,21 @@ fn with_limits<'a>(alloc: Global, command: Command<'a>) -> Result<Command<'a>, A
     let metadata = limit(
         alloc,
         "limit-metadata",
-        Limits::METADATA_CEILING,
-        "67108864",
+        (Limits::METADATA_CEILING, "67108864"),
         METADATA_HELP,
     );
     let some = command.arg(metadata)?;
     let body = limit(
         alloc,
         "limit-body",
-        Limits::BODY_CEILING,
-        "68719476736",
+        (Limits::BODY_CEILING, "68719476736"),
         BODY_HELP,
     );
     let more = some.arg(body)?;
     let rows = limit(
         alloc,
         "limit-rows",
-        Limits::ROWS_CEILING,
-        "2147483647",
+        (Limits::ROWS_CEILING, "2147483647"),
         ROWS_HELP,
     );
     let whole = more.arg(rows)?;
@@ -266,15 +264,19 @@ fn with_options<'a>(alloc: Global, command: Command<'a>) -> Result<Command<'a>, 
     let updates = option(
         alloc,
         "updates",
-        ValueParser::from(UPDATES.as_slice()),
-        "delta",
+        Value {
+            parser: ValueParser::from(UPDATES.as_slice()),
+            default: "delta",
+        },
         "What is sent of a dictionary that grew: the new values, or all",
     );
     let align = option(
         alloc,
         "align",
-        ValueParser::from(ALIGNS.as_slice()),
-        "64",
+        Value {
+            parser: ValueParser::from(ALIGNS.as_slice()),
+            default: "64",
+        },
         "To how many bytes each buffer is padded",
     );
     command.arg(updates)?.arg(align)
@@ -312,16 +314,20 @@ fn with_delivery<'a>(alloc: Global, command: Command<'a>) -> Result<Command<'a>,
     let bytes = option(
         alloc,
         "bytes",
-        ValueParser::unsigned(0, MOST_BYTES),
-        "4611686018427387904",
+        Value {
+            parser: ValueParser::unsigned(0, MOST_BYTES),
+            default: "4611686018427387904",
+        },
         "How many bytes of each connection are delivered",
     );
     let some = command.arg(bytes)?;
     let piece = option(
         alloc,
         "piece",
-        ValueParser::unsigned(1, MOST_PIECE),
-        "65536",
+        Value {
+            parser: ValueParser::unsigned(1, MOST_PIECE),
+            default: "65536",
+        },
         "How many bytes are delivered at once",
     );
     let whole = some.arg(piece)?;
@@ -379,15 +385,7 @@ fn command<'a>(alloc: Global) -> Result<Command<'a>, AllocError>
 pub fn plan(alloc: Global, words: &[&str]) -> Result<Plan, ArgFault>
     ensures { AnswersLine (map (λ w. w.now) words.now) result }
 {
-    let matches = match command(alloc)?.try_get_matches_from(words) {
-        Ok(matches) => matches,
-        Err(error) => return Err(ArgFault::Line(error)),
-    };
-    let Some((command, given)) = matches.subcommand() else {
-        unreachable!();
-    };
-    let Some(plan) = plan_of(alloc, command, given)? else {
-        unreachable!();
-    };
-    Ok(plan)
+    let matches = command(alloc)?.try_get_matches_from(words)?;
+    let (command, given) = matches.subcommand().unwrap();
+    Ok(plan_of(alloc, command, given)?.unwrap())
 }

@@ -121,10 +121,7 @@ fn limits_of(matches: &ArgMatches<'_>) -> Limits
     let metadata = number_of(matches, "limit-metadata", 0, Limits::METADATA_CEILING);
     let body = number_of(matches, "limit-body", 0, Limits::BODY_CEILING);
     let rows = number_of(matches, "limit-rows", 0, Limits::ROWS_CEILING);
-    let Some(limits) = Limits::new(metadata, body, rows) else {
-        unreachable!();
-    };
-    limits
+    Limits::new(metadata, body, rows).unwrap()
 }
 
 /// What is sent of dictionaries, by the word for it.

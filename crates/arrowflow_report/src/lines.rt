@@ -14,20 +14,22 @@ use arrow_types::Field;
 use itoa::Buffer;
 use std::alloc::{AllocError, Global};
 
-/// Appends the line of a message, with its line feed. The message began at this place, and so many
-/// batches came before it; the reader is the one that has just read it.
-pub(crate) fn push_line(
-    text: &mut Vec<u8>,
-    reader: &StreamReader,
-    place: u64,
-    number: u64,
-    item: &Item,
-) -> Result<(), AllocError>
+/// A message that has just been read: the reader that read it, where it began, and what it is.
+#[derive(Clone, Copy)]
+pub(crate) struct Message<'a> {
+    pub(crate) reader: &'a StreamReader,
+    pub(crate) place: u64,
+    pub(crate) item: &'a Item,
+}
+
+/// Appends the line of a message before which so many batches came, with its line feed.
+pub(crate) fn push_line(text: &mut Vec<u8>, message: Message, number: u64) -> Result<(), AllocError>
     ensures { OnOk result (text.new.items ≡ text.old.items
-        ++ message_line place number reader.now.at.state (given item.now)) }
+        ++ message_line message.entry.place number message.entry.reader.now.at.state
+        (given message.entry.item.now)) }
 {
-    push_number(text, "at ", place, "")?;
-    push_message(text, reader, number, item)
+    push_number(text, "at ", message.place, "")?;
+    push_message(text, message.reader, number, message.item)
 }
 
 /// The line behind the last message of an input that ends without an end marker, at this place.

@@ -45,8 +45,5 @@ pub fn read_piece<R: Read>(input: &mut R, room: &mut [u8]) -> Result<usize, Read
 fn took(read: io::Result<usize>) -> Result<usize, ReadFailed>
     ensures { MatchResult read (λ count. result ≡ Ok count) (λ _. IsErr result) }
 {
-    match read {
-        Ok(count) => Ok(count),
-        Err(_) => Err(ReadFailed(())),
-    }
+    read.map_err(|_| ReadFailed(()))
 }

@@ -7,7 +7,6 @@ ghost use Rattle.arrowflow_report.specs.Reports.{SendsText};
 use crate::tool_fault::ToolFault;
 use arrow_csv::BatchRows;
 use arrow_sink::{Sink, send};
-use std::alloc::Global;
 
 /// How many rows are put into text at once.
 const ROWS: usize = 1_024;
@@ -25,7 +24,6 @@ pub(crate) fn send_text<S: Sink>(output: &mut S, text: &[u8]) -> Result<(), Tool
 /// Sends the records of these rows up to `end`, some of them at a time, which are made in the room
 /// of a text.
 pub(crate) fn send_rows<S: Sink>(
-    alloc: Global,
     text: &mut Vec<u8>,
     rows: &BatchRows,
     end: usize,
@@ -41,7 +39,7 @@ pub(crate) fn send_rows<S: Sink>(
     while start < end {
         let next = start + ROWS.min(end - start);
         text.clear();
-        rows.push(alloc, text, start, next)?;
+        rows.push(text, start..next)?;
         send_text(output, text)?;
         start = next;
     }

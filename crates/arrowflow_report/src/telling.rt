@@ -18,7 +18,7 @@ ghost use Rattle.arrowflow_report.specs.declared.consumer.Wants.TheVariants.{Mor
 ghost use Rattle.arrowflow_report.specs.declared.tool_fault.ToolFault.TheVariants.{Memory};
 
 use crate::consumer::{Consumer, Wants};
-use crate::lines::{end_line, push_line};
+use crate::lines::{Message, end_line, push_line};
 use crate::report::Report;
 use crate::sending::{flush, send_rows, send_text};
 use crate::tool_fault::ToolFault;
@@ -173,9 +173,14 @@ impl<'a, S: Sink> Teller<'a, S> {
         ensures same { IsTellerSame self.old self.new }
     {
         let number = self.count(item)?;
+        let message = Message {
+            reader,
+            place,
+            item,
+        };
         match self.report {
-            Report::Messages => self.tell_message(reader, place, number, item),
-            Report::Rows(choice) => self.tell_rows(choice, reader, number, item),
+            Report::Messages => self.tell_message(message, number),
+            Report::Rows(choice) => self.tell_rows(choice, message, number),
         }
     }
 
@@ -199,7 +204,7 @@ impl<'a, S: Sink> Teller<'a, S> {
             Item::Schema => self.tell_header(choice, reader),
             Item::Batch(batch) => {
                 let texts = BatchRows::of(self.alloc, self.number, batch, choice)?;
-                send_rows(self.alloc, &mut self.text, &texts, rows, &mut self.output)
+                send_rows(&mut self.text, &texts, rows, &mut self.output)
             }
             Item::Dictionary(_) | Item::End => Ok(()),
         }
@@ -224,48 +229,41 @@ impl<'a, S: Sink> Teller<'a, S> {
         }
     }
 
-    /// Tells the line of a message.
-    fn tell_message(
-        &mut self,
-        reader: &StreamReader,
-        place: u64,
-        number: u64,
-        item: &Item,
-    ) -> Result<(), ToolFault>
+    /// Tells the line of a message before which so many batches came.
+    fn tell_message(&mut self, message: Message, number: u64) -> Result<(), ToolFault>
         requires { S.failed self.old.output < 2 ^ 64 - 1 }
-        ensures sent { SendsSome (IsLine reader.now.at.state.schema place number (given item.now))
-            (S.contents self.old.output) (S.failed self.old.output) result
+        ensures sent { SendsSome (IsLine message.entry.reader.now.at.state.schema
+            message.entry.place number (given message.entry.item.now)) (S.contents self.old.output) (S.failed self.old.output) result
             (S.contents self.new.output) (S.failed self.new.output) }
         ensures same { IsTellerSame self.old self.new }
         ensures counts { AreCountsSame self.old self.new }
     {
         self.text.clear();
-        push_line(&mut self.text, reader, place, number, item)?;
+        push_line(&mut self.text, message, number)?;
         send_text(&mut self.output, &self.text)
     }
 
-    /// Tells what a message adds to the text of the rows.
+    /// Tells what a message before which so many batches came adds to the text of the rows.
     fn tell_rows(
         &mut self,
         choice: Option<&[&str]>,
-        reader: &StreamReader,
+        message: Message,
         number: u64,
-        item: &Item,
     ) -> Result<(), ToolFault>
         requires { S.failed self.old.output < 2 ^ 64 - 1 }
         ensures sent { SendsText (S.contents self.old.output) (S.failed self.old.output)
-            (text_in (chosen_schema (choice_by choice.entry) reader.now.at.state.schema) number
-            (chosen_given (choice_by choice.entry) (given item.now))) result
+            (text_in (chosen_schema (choice_by choice.entry) message.entry.reader.now.at.state.schema)
+            number (chosen_given (choice_by choice.entry) (given message.entry.item.now))) result
             (S.contents self.new.output) (S.failed self.new.output) }
         ensures same { IsTellerSame self.old self.new }
         ensures counts { AreCountsSame self.old self.new }
     {
-        match item {
-            Item::Schema => self.tell_header(choice, reader),
+        match message.item {
+            Item::Schema => self.tell_header(choice, message.reader),
             Item::Batch(batch) => {
                 let texts = BatchRows::of(self.alloc, number, batch, choice)?;
                 let end = batch.rows();
-                send_rows(self.alloc, &mut self.text, &texts, end, &mut self.output)
+                send_rows(&mut self.text, &texts, end, &mut self.output)
             }
             Item::Dictionary(_) | Item::End => Ok(()),
         }

@@ -92,15 +92,9 @@ fn send_on(
     let mut parts = Vec::new(alloc);
     let mut refused = Vec::new(alloc);
     parts.push(part_from(alloc, bytes_of(&writer), 0)?)?;
-    write_all(
-        alloc,
-        &mut writer,
-        &mut parts,
-        &mut refused,
-        &connection.batches,
-    )?;
+    write_all(&mut writer, &mut parts, &mut refused, &connection.batches)?;
     if connection.finish {
-        finish(alloc, &mut writer, &mut parts, &mut refused)?;
+        finish(&mut writer, &mut parts, &mut refused)?;
     }
     sent_of(alloc, &writer, parts, refused)
 }
@@ -108,7 +102,6 @@ fn send_on(
 /// Writes all batches, and keeps the parts of those that are admitted and the refusals of the
 /// others.
 fn write_all(
-    alloc: Global,
     writer: &mut StreamWriter<Kept>,
     parts: &mut Vec<Vec<u8>>,
     refused: &mut Vec<Refusal>,
@@ -121,28 +114,28 @@ fn write_all(
     ensures same { OnOk result (IsOver (shown_kept writer.old) (shown_kept writer.new)) }
 {
     for (number, batch) in batches.iter().enumerate() {
-        write_one(alloc, writer, parts, refused, number, batch)?;
+        write_one(writer, parts, refused, (number, batch))?;
     }
     Ok(())
 }
 
-/// Writes one batch, and keeps its part or its refusal.
+/// Writes one batch, which stands behind its number, and keeps its part or its refusal.
 fn write_one(
-    alloc: Global,
     writer: &mut StreamWriter<Kept>,
     parts: &mut Vec<Vec<u8>>,
     refused: &mut Vec<Refusal>,
-    number: usize,
-    batch: &Batch,
+    numbered: (usize, &Batch),
 ) -> Result<(), AllocError>
     requires { (shown_kept writer.old).failures ≡ 0 }
-    ensures { OnOk result (Tries (shown_kept writer.old) batch.now number (items_of parts.old.items)
-        refused.old.items (shown_kept writer.new) (items_of parts.new.items) refused.new.items) }
+    ensures { OnOk result (Tries (shown_kept writer.old) numbered.entry.1.now numbered.entry.0
+        (items_of parts.old.items) refused.old.items (shown_kept writer.new)
+        (items_of parts.new.items) refused.new.items) }
 {
+    let (number, batch) = numbered;
     let before = bytes_of(writer).len();
     match writer.write(batch) {
         Ok(()) => {
-            let part = part_from(alloc, bytes_of(writer), before)?;
+            let part = part_from(*parts.allocator(), bytes_of(writer), before)?;
             Ok(parts.push(part)?)
         }
         Err(
@@ -160,7 +153,6 @@ fn write_one(
 
 /// Writes the end marker, and keeps it as a part, or its refusal.
 fn finish(
-    alloc: Global,
     writer: &mut StreamWriter<Kept>,
     parts: &mut Vec<Vec<u8>>,
     refused: &mut Vec<Refusal>,
@@ -172,7 +164,7 @@ fn finish(
     let before = bytes_of(writer).len();
     match writer.finish() {
         Ok(()) => {
-            let part = part_from(alloc, bytes_of(writer), before)?;
+            let part = part_from(*parts.allocator(), bytes_of(writer), before)?;
             Ok(parts.push(part)?)
         }
         Err(kind @ WriteFault::TooLarge) => {

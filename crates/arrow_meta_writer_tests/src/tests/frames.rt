@@ -36,7 +36,7 @@ fn framed(rt: &(impl Abort + AllocGlobal), metadata: &[u8], body: &[u8], align: 
     assert!(rt; align >= 1 && align <= 64 && message.body_len == body.len() as u64);
     assert!(rt; encoded_size(&message).is_some());
     let mut out = vec![in rt.alloc(); 1].expect(rt, MEMORY);
-    put_frame(&mut out, rt.alloc(), align, &message, body).expect(rt, MEMORY);
+    put_frame(&mut out, align, &message, body).expect(rt, MEMORY);
     out
 }
 

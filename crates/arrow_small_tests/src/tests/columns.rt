@@ -67,5 +67,5 @@ pub(super) fn records_of(
     let len = array.len();
     let columns = vec![in rt.alloc(); array].expect(rt, MEMORY);
     let batch = Batch::new(schema, columns, len).expect(rt, "one column as asked");
-    rows(rt.alloc(), 7, &batch, 0, batch.rows()).expect(rt, MEMORY)
+    rows(rt.alloc(), 7, &batch, 0..batch.rows()).expect(rt, MEMORY)
 }

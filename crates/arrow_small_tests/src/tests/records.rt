@@ -52,11 +52,11 @@ fn are_rows(
     want: &str,
 ) {
     assert!(rt; start <= end && end <= batch.rows());
-    let found = rows(rt.alloc(), 7, batch, start, end).expect(rt, MEMORY);
+    let found = rows(rt.alloc(), 7, batch, start..end).expect(rt, MEMORY);
     are_records(rt, &found, want);
     let mut out = Vec::from_slice(rt.alloc(), b"batch,\"\n").expect(rt, MEMORY);
     let mut rows = BatchRows::new(rt.alloc(), 7, batch).expect(rt, MEMORY);
-    let pushed = rows.push(rt.alloc(), &mut out, start, end);
+    let pushed = rows.push(&mut out, start..end);
     pushed.expect(rt, MEMORY);
     let behind = out.strip_prefix(b"batch,\"\n");
     are_records(rt, behind.expect(rt, "what stood before"), want);
@@ -104,7 +104,7 @@ fn are_chosen(
     are_records(rt, &header, names);
     let mut out = Vec::new(rt.alloc());
     let rows = BatchRows::of(rt.alloc(), 7, batch, choice).expect(rt, MEMORY);
-    let pushed = rows.push(rt.alloc(), &mut out, 0, batch.rows());
+    let pushed = rows.push(&mut out, 0..batch.rows());
     pushed.expect(rt, MEMORY);
     are_records(rt, &out, want);
 }

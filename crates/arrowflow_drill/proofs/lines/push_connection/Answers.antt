@@ -6,6 +6,6 @@ use Rattle.arrowflow_drill.proofs.lines.push_connection.Goals as goal
 
 pub returns : goal.returns
 returns c =
-    let told = told_by c.args.report.now in
+    let told = told_by c.args.outcome.report.now in
     let counted = ap (λ batches. string_bytes c.push_refusals.new.text ++ handed_line c.args.number told.handed (length batches)) c.deref.ensures.value in
     five_behind _ _ _ _ _ _ _ _ _ _ _ _ c.in_ok-push_written.ensures c.in_ok-push_refusals.ensures (c.in_ok-push_handed.ensures ∙ counted) c.in_ok-push_dictionaries.ensures c.push_ending.ensures

@@ -2,6 +2,7 @@ use Rattle.std.proofs.Common.{◌≡◌, ◌<◌, length, arith}
 use Rattle.std.proofs.lemmas.Result.{err_from_is_err_and}
 use Rattle.arrowflow_drill.specs.Terms.{asks_of}
 use Rattle.arrowflow_drill.proofs.Inputs.{read_next, rest_same, stopped_here}
+use Rattle.arrowflow_drill.proofs.Told.{ended_well}
 use Rattle.arrowflow_drill.proofs.reading.read_all.Goals as goal
 
 pub loop-number-preserved : goal.loop-number-preserved
@@ -10,8 +11,10 @@ loop-number-preserved g c =
     let low : l.number < length l.inputs = omega arith in
     let long : length l.inputs ≡ length c.args.inputs.now = omega arith in
     let rem = g.R.Read.remaining in
-    let asks = asks_of c.args.terms.now in (
-      read_next rem asks l.number c.args.inputs.now l.inputs c.index-inputs-number.result c.read_one.new.input low long l.invariant.1 l.connections.items c.push.new.self.items c.in_ok-connection.connection c.in-Ok.ensures.items l.invariant.0 c.in_ok-connection.ensures,
+    let asks = asks_of c.args.terms.now in
+    let well = ended_well c.push.result c.map_err.result c.map_err.ensures.variant c.in_ok-map_err.was in
+    let pushed = rw well at c.push.ensures.items in (
+      read_next rem asks l.number c.args.inputs.now l.inputs c.index-inputs-number.result c.read_one.new.input low long l.invariant.1 l.connections.items c.push.new.self.items c.in_ok-connection.connection pushed l.invariant.0 c.in_ok-connection.ensures,
       rest_same rem asks l.number c.args.inputs.now l.inputs c.index-inputs-number.result c.read_one.new.input low long l.invariant.1,
     )
 

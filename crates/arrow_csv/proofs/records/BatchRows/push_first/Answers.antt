@@ -7,7 +7,7 @@ use Rattle.arrow_csv.proofs.records.BatchRows.push_first.Goals as goal
 -- each of the columns has a slot for each row
 pub push_records-requires-clause-inside : goal.push_records-requires-clause-inside
 push_records-requires-clause-inside c =
-    let rows = c.self.inside in
-    let choice = choice_by rows.choice in
-    let within = subst (λ (r : NumberedBatch). c.args.end ≤ r.batch.rows) (sym c.self.view_is) c.requires.inside in
-    subst (HaveSlots c.args.end) (sym (c.deref.ensures.value ∙ c.self.invariant)) (chosen_slots c.args.end choice rows.batch.now within c.schema.ensures.known.long)
+    let own = c.self.inside in
+    let choice = choice_by own.choice in
+    let within = subst (λ (r : NumberedBatch). c.args.rows.end ≤ r.batch.rows) (sym c.self.view_is) c.requires.inside in
+    subst (HaveSlots c.args.rows.end) (sym (c.deref.ensures.value ∙ c.self.invariant)) (chosen_slots c.args.rows.end choice own.batch.now within c.schema.ensures.known.long)

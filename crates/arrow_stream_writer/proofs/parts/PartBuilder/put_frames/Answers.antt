@@ -24,7 +24,7 @@ returns-in_err-put_record-clause-built c =
     let x = c.in_ok-put_updates.ensures in
     let failed = err_from_is_err_and c.from_residual-in_err-put_record.result c.from_residual-in_err-put_record.ensures.1 in
     rw (failed.1, failed.2) (
-      record_refused terms c.args.place t sent c.in_err-put_record.field-0.0 c.put_updates.new.bytes.items c.put_record.new.out.items same equal x.one c.in_err-put_record.ensures,
+      record_refused terms c.args.place t sent c.in_err-put_record.field-0.0 c.put_updates.new.part.bytes.items c.put_record.new.part.bytes.items same equal x.one c.in_err-put_record.ensures,
       x.is_work.sent,
     )
 
@@ -38,11 +38,11 @@ returns-then-len-place-clause-built c =
     sym c.schema.ensures.same ∙ (is_equal_decides schema_code c.schema.result.now c.deref.result.now).0 (sym c.if-not-same.ensures.gives) ∙ c.deref.ensures in
     let equal = (is_equal_decides schema_code t.schema terms.shape).1 same in
     let x = c.in_ok-put_updates.ensures in
-    let bytes = c.put_record.new.out.items in
+    let bytes = c.put_record.new.part.bytes.items in
     let long = c.len.ensures in
     let past = c.if-len-place.true in
     let over : 2 ^ 62 < c.args.place + length bytes = omega arith in (
-      place_refused terms c.args.place t sent same (work_of c.put_updates.new.bytes.items c.put_updates.new.tracker) bytes x.is_work c.in_ok-put_record.ensures equal x.one over,
+      place_refused terms c.args.place t sent same (work_of c.put_updates.new.part.bytes.items c.put_updates.new.tracker) bytes x.is_work c.in_ok-put_record.ensures equal x.one over,
       x.is_work.sent,
     )
 
@@ -56,9 +56,9 @@ returns-clause-built c =
     sym c.schema.ensures.same ∙ (is_equal_decides schema_code c.schema.result.now c.deref.result.now).0 (sym c.if-not-same.ensures.gives) ∙ c.deref.ensures in
     let equal = (is_equal_decides schema_code t.schema terms.shape).1 same in
     let x = c.in_ok-put_updates.ensures in
-    let bytes = c.put_record.new.out.items in
+    let bytes = c.put_record.new.part.bytes.items in
     let long = c.len.ensures in
     let inside = c.if-len-place.false in
     let place_near = c.requires.near in
     let near : c.args.place + length bytes ≤ 2 ^ 62 = omega arith in
-    part_of terms c.args.place t sent same (work_of c.put_updates.new.bytes.items c.put_updates.new.tracker) bytes x.is_work c.in_ok-put_record.ensures equal x.one x.known near
+    part_of terms c.args.place t sent same (work_of c.put_updates.new.part.bytes.items c.put_updates.new.tracker) bytes x.is_work c.in_ok-put_record.ensures equal x.one x.known near

@@ -42,6 +42,6 @@ pub returns : goal.returns
 returns c =
     let sized = rw c.in_ok-size.ensures.ok_part at c.body_size.ensures.size in
     let raws = rw c.in_ok-size.ensures.ok_part at c.body_size.ensures.raws in
-    let stored = stored_of (alignment_of c.args.self.now.align) c.args.batch.now c.columns-columns.result.now (body_view c.in_ok-room.field-0) c.schema.ensures.known c.columns-columns.ensures.same
-    raws sized.0.told.small c.in_ok-room.ensures.same in
+    let stored = stored_of (alignment_of c.args.self.now.align) c.args.batch.now c.columns-columns.result.now (body_view c.in_ok-part.field-0) c.schema.ensures.known c.columns-columns.ensures.same
+    raws sized.0.told.small c.in_ok-part.ensures.same in
     c.put_stored.ensures (record_load c.args.batch.now) refl (sym c.rows-2.ensures) stored

@@ -33,10 +33,10 @@ returns c named =
     let d = update.dictionary.now in
     let sized = rw c.in_ok-size.ensures.ok_part at c.rest_size.ensures.size in
     let raws = rw c.in_ok-size.ensures.ok_part at c.rest_size.ensures.raws in
-    let stored = stored_rest terms update.id update.is_delta update.from d named (body_view c.in_ok-room.field-0) raws sized.0.told.small c.in_ok-room.ensures.same in
+    let stored = stored_rest terms update.id update.is_delta update.from d named (body_view c.in_ok-part.field-0) raws sized.0.told.small c.in_ok-part.ensures.same in
     let rows = length-drop update.from d.values ∙ ap (λ n. n - update.from) (sym c.len-len.ensures) in
     let row_limit = c.max_rows-max_rows.ensures.value in
     let long = c.len-len.ensures in
     let few_rows = c.if-len-max_rows.false in
-    puts_update terms update.id update.is_delta update.from d named c.put_stored.result c.args.out.now.items c.put_stored.new.out.items (omega arith)
+    puts_update terms update.id update.is_delta update.from d named c.put_stored.result c.args.part.now.bytes.items c.put_stored.new.part.bytes.items (omega arith)
     (c.put_stored.ensures (update_load terms.shape.fields (sending_of update)) (search rules) rows stored)

@@ -21,11 +21,11 @@ returns-in_err-add_one c t same lists =
     let h : c.loop-k.k < length ids = search rules in
     let passed : to_z w64 (of_z w64 id) ≡ id = search rules in
     let are : ids ≡ dictionary_ids terms.shape.fields = c.dictionary_ids-ids.ensures ∙ ap (λ (shape : SchemaShape). dictionary_ids shape.fields) c.deref.ensures in
-    let old = work_of c.loop-k.bytes.items c.loop-k.tracker in
-    let new = work_of c.add_one.new.bytes.items c.add_one.new.tracker in
+    let old = work_of c.loop-k.part.bytes.items c.loop-k.tracker in
+    let new = work_of c.add_one.new.part.bytes.items c.add_one.new.tracker in
     let so_far = c.loop-k.invariant t same lists in
     let one = adds_list terms find t ids c.loop-k.k id (to_z w64 (of_z w64 id)) (Err c.in_err-add_one.field-0.0) old new same lists are h refl passed c.in_err-add_one.ensures in
-    let start = work_of c.args.bytes.now.items c.args.tracker.now in
+    let start = work_of c.args.part.now.bytes.items c.args.tracker.now in
     let failed = err_from_is_err_and c.from_residual.result c.from_residual.ensures.1 in
     rw (failed.1, failed.2) (subst (λ xs. AddsAll terms (sendings settings.updates c.args.tracker.now.sent (list_of t) xs) start (Err c.in_err-add_one.field-0.0) new) are
     (refused_at terms c.args.tracker.now.sent (list_of t) ids c.loop-k.k id c.in_err-add_one.field-0.0 start old new h refl refl so_far.sent one))
@@ -41,8 +41,8 @@ loop-k-preserved c t same lists =
     let h : c.loop-k.k < length ids = search rules in
     let passed : to_z w64 (of_z w64 id) ≡ id = search rules in
     let are : ids ≡ dictionary_ids terms.shape.fields = c.dictionary_ids-ids.ensures ∙ ap (λ (shape : SchemaShape). dictionary_ids shape.fields) c.deref.ensures in
-    let old = work_of c.loop-k.bytes.items c.loop-k.tracker in
-    let new = work_of c.add_one.new.bytes.items c.add_one.new.tracker in
+    let old = work_of c.loop-k.part.bytes.items c.loop-k.tracker in
+    let new = work_of c.add_one.new.part.bytes.items c.add_one.new.tracker in
     let sent = c.args.tracker.now.sent in
     let so_far = subst (λ xs. IsWorkOf terms sent (sendings settings.updates sent (list_of t) (take c.loop-k.k xs)) old) (sym are) (c.loop-k.invariant t same lists) in
     let one = adds_list terms find t ids c.loop-k.k id (to_z w64 (of_z w64 id)) (Ok tt) old new same lists are h refl passed c.in_ok-add_one.ensures in

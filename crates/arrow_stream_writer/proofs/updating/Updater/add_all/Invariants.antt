@@ -13,4 +13,4 @@ abbrev pub invariant-loop-k : goal.invariant-loop-k
 invariant-loop-k l =
     (t : Table) → t.schema ≡ l.self.settings.now.schema.value → AreListsOf t (dictionary_in l.self.lists.now)
     → IsWorkOf (terms_of l.self.settings.now) l.initial.tracker.sent
-    (sendings l.self.settings.now.updates l.initial.tracker.sent (list_of t) (take l.k (dictionary_ids l.self.settings.now.schema.value.fields))) (work_of l.bytes.items l.tracker)
+    (sendings l.self.settings.now.updates l.initial.tracker.sent (list_of t) (take l.k (dictionary_ids l.self.settings.now.schema.value.fields))) (work_of l.part.bytes.items l.tracker)

@@ -16,4 +16,4 @@ returns c named =
     let passed : to_z w64 (of_z w64 update.id) ≡ update.id = search rules in
     let next : c.stage.new.self.next ≡ with_list terms.shape.fields (sending_of update) old.next =
     c.in_ok-stage.ensures.ok ∙ ap (λ i. placed i d old.next) passed ∙ ap (λ t. placed update.id (record { data_type = t; values = d.values }) old.next) (sym (type_is terms.shape.fields update.id d.data_type named)) in
-    adds_frame terms (sending_of update) (work_of c.args.bytes.now.items old) (work_of c.put_update.new.out.items c.stage.new.self) (c.in_ok-put_update.ensures named) c.in_ok-stage.ensures.sent next
+    adds_frame terms (sending_of update) (work_of c.args.part.now.bytes.items old) (work_of c.put_update.new.part.bytes.items c.stage.new.self) (c.in_ok-put_update.ensures named) c.in_ok-stage.ensures.sent next

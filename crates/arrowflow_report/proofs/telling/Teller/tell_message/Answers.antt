@@ -8,7 +8,7 @@ use Rattle.arrowflow_report.proofs.telling.Teller.tell_message.Goals as goal
 -- no line was made, so none was sent
 pub returns-in_err-push_line-clause-sent : goal.returns-in_err-push_line-clause-sent
 returns-in_err-push_line-clause-sent g c =
-    let state = c.args.reader.now.at.state in
-    let line = message_line c.args.place c.args.number state (given c.args.item.now) in
+    let state = c.args.message.reader.now.at.state in
+    let line = message_line c.args.message.place c.args.number state (given c.args.message.item.now) in
     let failed = err_from_is_err_and c.from_residual.result c.from_residual.ensures.1 in
     rw (failed.1, failed.2) (line, (state, refl, refl), (begun_nothing (g.S.Sink.contents c.args.self.now.output) line, refl))
