@@ -12,7 +12,7 @@ ghost use Rattle.arrow_body_reader.specs.Place.{children_at, column_at, columns_
 use crate::listed::Listed;
 use crate::look::Node;
 use crate::place::{Laid, Place};
-use arrow_data::form::{Form, form_of};
+use arrow_data::form::form_of;
 use arrow_data::{Array, ChildData, Dictionary, NodeBuffers};
 use arrow_types::{Encoding, Field};
 use bytes::Bytes;
@@ -107,16 +107,7 @@ fn is_leaf(field: &Field) -> bool
     ensures { IsTrue result → IsLeafNode (field_view field.now).head
         (field_view field.now).children }
 {
-    field.dictionary.is_none()
-        && match form_of(&field.data_type) {
-            Form::Lists(_) | Form::Structs => false,
-            Form::Nulls
-            | Form::Bits
-            | Form::Numbers { .. }
-            | Form::Bytes(_)
-            | Form::Texts(_)
-            | Form::FixedBytes(_) => true,
-        }
+    field.dictionary.is_none() && form_of(&field.data_type).is_leaf()
 }
 
 // The array of a node whose texts are as they should be, and which has neither children nor a

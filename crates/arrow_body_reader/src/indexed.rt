@@ -12,6 +12,7 @@ ghost use Rattle.arrow_body_reader.specs.Place.{buffers_in};
 use crate::held::Ranges;
 use crate::listed::Listed;
 use arrow_data::NumberBuffers;
+use arrow_data::form::number_width;
 use arrow_data::layout::are_indices;
 use arrow_types::Encoding;
 
@@ -39,7 +40,7 @@ pub(crate) fn have_values(
     are_indices(
         len,
         NumberBuffers {
-            width: (encoding.index.bits.bits() / 8) as usize,
+            width: number_width(encoding.index.bits),
             signed: encoding.index.signed,
             validity: held.bytes(0),
             values: held.bytes(1),

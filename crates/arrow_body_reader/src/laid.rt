@@ -18,7 +18,7 @@ ghost use Rattle.arrow_body_reader.specs.Taken.{AreThere, own_buffers};
 use crate::held::{Ranges, own_ranges};
 use crate::place::{Laid, Place};
 use arrow_bits::Bits;
-use arrow_data::form::Form;
+use arrow_data::form::{Form, number_width};
 use arrow_data::layout::{has_bits, has_bools, has_fixed, has_lists, has_strings};
 use arrow_data::{OffsetBuffer, StringBuffers};
 use arrow_types::FieldNode;
@@ -100,7 +100,7 @@ impl Place<'_> {
             Form::Bits => has_bools(len, held.bytes(0), held.bytes(1)),
             Form::Numbers { bits, .. } => has_fixed(
                 len,
-                (bits.bits() / 8) as usize,
+                number_width(bits),
                 held.bytes(0),
                 held.bytes(1),
             ),

@@ -6,7 +6,7 @@ ghost use Rattle.arrow_types.specs.View.{field_view};
 ghost use Rattle.arrow_body_reader.specs.Taken.{own_buffers};
 
 use crate::source::Source;
-use crate::taken::{Left, own_buffers};
+use crate::taken::Left;
 use arrow_data::ByteRange;
 use arrow_data::form::{Form, node_form};
 use arrow_types::Field;
@@ -46,7 +46,7 @@ impl<'a> Place<'a> {
         Place {
             field,
             form,
-            own: own_buffers(form),
+            own: form.buffers(),
             left,
             source,
         }

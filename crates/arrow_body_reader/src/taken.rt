@@ -2,11 +2,9 @@
 
 ghost use Rattle.std.specs.Prelude.{◌≡◌, ◌≤◌, length, drop};
 ghost use Rattle.arrow_types.specs.View.{field_view, fields_view};
-ghost use Rattle.arrow_data.specs.Form.{buffers_of};
 ghost use Rattle.arrow_body_reader.specs.Taken.{below};
 
 use arrow_data::SharedType;
-use arrow_data::form::Form;
 use arrow_types::{Buffer, Field, FieldNode};
 
 // Nodes and buffers that are left to be taken, and the types of these nodes where arrays are made.
@@ -27,19 +25,6 @@ pub(crate) fn below(field: &Field) -> &[Field]
         &[]
     } else {
         field.data_type.children()
-    }
-}
-
-// How many buffers a node of the form has of its own.
-#[inline(always)]
-pub(crate) fn own_buffers(form: Form) -> usize
-    ensures { result ≡ buffers_of form }
-{
-    match form {
-        Form::Nulls => 0,
-        Form::Structs => 1,
-        Form::Bits | Form::Numbers { .. } | Form::FixedBytes(_) | Form::Lists(_) => 2,
-        Form::Bytes(_) | Form::Texts(_) => 3,
     }
 }
 

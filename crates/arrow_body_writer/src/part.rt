@@ -1,8 +1,6 @@
 //! The buffers of a node, and how wide what they hold is.
 
 ghost use Rattle.std.specs.Prelude.{◌≡◌, None, MatchOption};
-ghost use Rattle.arrow_bits.specs.Numbers.{IsWidth};
-ghost use Rattle.arrow_data.specs.Form.{number_width};
 ghost use Rattle.arrow_body_writer.specs.Part.{part_of};
 
 use arrow_data::form::{Form, OffsetWidth};
@@ -51,12 +49,4 @@ pub(crate) fn part_of(form: Form, k: usize) -> Option<Part>
             _,
         ) => None,
     }
-}
-
-// How many bytes a number of this width takes.
-pub(crate) fn number_width(bits: BitWidth) -> usize
-    ensures same { result ≡ number_width bits }
-    ensures whole { IsWidth result }
-{
-    (bits.bits() / 8) as usize
 }

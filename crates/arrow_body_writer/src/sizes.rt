@@ -10,9 +10,8 @@ ghost use Rattle.arrow_body_writer.specs.Align.{alignment_of};
 ghost use Rattle.arrow_body_writer.specs.Tally.{IsTally, sizes_told};
 
 use crate::align::Align;
-use crate::part::number_width;
 use crate::tally::Tally;
-use arrow_data::form::Form;
+use arrow_data::form::{Form, number_width};
 
 // The greatest that the offsets of a node of the form can tell.
 fn offset_limit(form: Form) -> u64

@@ -16,14 +16,14 @@ ghost use Rattle.arrow_body_writer.specs.Spans.{AreSpans, AreThere};
 use crate::bitmap::bitmap;
 use crate::masked::numbers_of;
 use crate::packing::{BitRange, Pending};
-use crate::part::{Part, number_width};
+use crate::part::Part;
 use crate::pieces::{Piece, pieces, spanned};
 use crate::slice::Slice;
 use crate::slots::{put_number, put_string, span, string, truth};
 use crate::spans::Spans;
 use arrow_bits::put_int;
 use arrow_data::Array;
-use arrow_data::form::OffsetWidth;
+use arrow_data::form::{OffsetWidth, number_width};
 use std::alloc::AllocError;
 
 // The bytes so far; of a buffer of bits those of its last byte, of a buffer of offsets the last.

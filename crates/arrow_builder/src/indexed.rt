@@ -7,8 +7,8 @@ ghost use Rattle.arrow_builder.specs.Built.{HaveSlots, cut_to};
 ghost use Rattle.arrow_builder.specs.Finished.{AreIndexed, IsIndexed};
 
 use crate::dictionaries::find;
-use crate::leaf::number_width;
 use crate::node::Node;
+use arrow_data::form::number_width;
 use arrow_data::layout::are_indices;
 use arrow_data::{Dictionary, NumberBuffers};
 use arrow_types::Encoding;

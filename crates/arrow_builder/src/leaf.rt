@@ -9,13 +9,10 @@ ghost use Rattle.arrow_builder.specs.Buffers.{IsLeaf, buffers_in};
 ghost use Rattle.arrow_builder.specs.Kept.{Keeps};
 ghost use Rattle.arrow_builder.specs.Puts.{PutsSlot, StaySlots};
 ghost use Rattle.arrow_types.specs.Field.{none};
-ghost use Rattle.arrow_data.specs.Form.{number_width};
-ghost use Rattle.arrow_bits.specs.Numbers.{IsWidth};
 
 use crate::slots::{put_bool, put_bytes, put_fixed, put_number};
 use arrow_data::Value;
-use arrow_data::form::Form;
-use arrow_types::BitWidth;
+use arrow_data::form::{Form, number_width};
 use std::alloc::AllocError;
 
 /// The buffers of a node, in the order of the format (Columnar Format, "Buffer Listing for Each
@@ -86,14 +83,6 @@ fn text_in(value: &Value) -> Option<&[u8]>
         | Value::List(_)
         | Value::Struct(_) => None,
     }
-}
-
-// How many bytes a number of this width takes.
-pub(crate) fn number_width(bits: BitWidth) -> usize
-    ensures same { result ≡ number_width bits }
-    ensures whole { IsWidth result }
-{
-    (bits.bits() / 8) as usize
 }
 
 /// Puts a value that fits into slot `at`.

@@ -1,11 +1,11 @@
 //! The layouts of nodes, and which of them each type has: the one table that buffers, their tests
 //! and slots go by.
 
-ghost use Rattle.std.specs.Prelude.{◌≡◌, true};
+ghost use Rattle.std.specs.Prelude.{◌≡◌, ◌↔◌, IsTrue, true};
 ghost use Rattle.arrow_bits.specs.Numbers.{IsWidth};
 ghost use Rattle.arrow_types.specs.View.{type_view};
-ghost use Rattle.arrow_data.specs.Form.{form_of, greatest_offset, node_form, number_width};
-ghost use Rattle.arrow_data.specs.Form.{HasFieldsOf, offset_bytes};
+ghost use Rattle.arrow_data.specs.Form.{buffers_of, form_of, greatest_offset, node_form};
+ghost use Rattle.arrow_data.specs.Form.{HasFieldsOf, IsLeaf, number_width, offset_bytes};
 ghost use Rattle.arrow_data.specs.declared.form.Form.TheVariants as forms;
 
 use arrow_types::{BitWidth, DataType, Encoding};
@@ -66,6 +66,37 @@ pub enum Form {
     Structs,
 }
 
+impl Form {
+    /// How many buffers a node of the form has (Columnar Format, "Buffer Listing for Each Layout").
+    #[inline(always)]
+    pub fn buffers(self) -> usize
+        ensures { result ≡ buffers_of self }
+    {
+        match self {
+            Form::Nulls => 0,
+            Form::Structs => 1,
+            Form::Bits | Form::Numbers { .. } | Form::FixedBytes(_) | Form::Lists(_) => 2,
+            Form::Bytes(_) | Form::Texts(_) => 3,
+        }
+    }
+
+    /// Whether a node of the form has no child.
+    #[inline(always)]
+    pub fn is_leaf(self) -> bool
+        ensures { IsTrue result ↔ IsLeaf self }
+    {
+        match self {
+            Form::Lists(_) | Form::Structs => false,
+            Form::Nulls
+            | Form::Bits
+            | Form::Numbers { .. }
+            | Form::Bytes(_)
+            | Form::Texts(_)
+            | Form::FixedBytes(_) => true,
+        }
+    }
+}
+
 /// The form of the values of a type.
 #[inline(always)]
 pub fn form_of(data_type: &DataType) -> Form
@@ -115,9 +146,9 @@ pub fn node_form(data_type: &DataType, encoding: Option<Encoding>) -> Form
     }
 }
 
-// How many bytes a number of this width takes.
+/// How many bytes a number of this width takes.
 #[inline(always)]
-pub(crate) fn number_width(bits: BitWidth) -> usize
+pub fn number_width(bits: BitWidth) -> usize
     ensures same { result ≡ number_width bits }
     ensures whole { IsWidth result }
 {

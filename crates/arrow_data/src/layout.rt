@@ -173,20 +173,6 @@ fn last_index(width: usize, signed: bool, count: usize) -> u64
     (count as u64 - 1).min(top)
 }
 
-/// How many buffers a node of this type and encoding has: a dictionary-encoded one has those of its
-/// indices.
-#[inline(always)]
-pub fn buffer_count(data_type: &DataType, encoding: Option<Encoding>) -> usize
-    ensures { result ≡ buffer_count (type_view data_type.now).tag encoding }
-{
-    match node_form(data_type, encoding) {
-        Form::Nulls => 0,
-        Form::Structs => 1,
-        Form::Bits | Form::Numbers { .. } | Form::FixedBytes(_) | Form::Lists(_) => 2,
-        Form::Bytes(_) | Form::Texts(_) => 3,
-    }
-}
-
 /// Whether the buffers of a node of this type and encoding, and children of so many slots, hold its
 /// slots.
 #[inline(always)]
