@@ -41,16 +41,6 @@ impl<'a> Builder<'a> {
             Err(_) => None,
         }
     }
-
-    // It with one more array, None where the growth is refused.
-    #[inline(always)]
-    fn with(mut self, array: Array) -> Option<Builder<'a>>
-        ensures { IfSome result (λ new. (new.body.now ≡ self.entry.body.now)
-            × (new.arrays.items ≡ self.entry.arrays.items ++ array ∷ [])) }
-    {
-        self.arrays.push(array).ok()?;
-        Some(self)
-    }
 }
 
 // One for the fields below one, where a builder is left.
@@ -82,8 +72,7 @@ pub(crate) fn with_node<'a>(
     requires building { IfSome builder (λ b. (b.body.now ≡ place.source.body.now)
         × (slice_get place.left.types.now 0 ≡ Some (node_type (head_at place) (children_at place)))
         × IsNodeFit place.source.dictionaries.entries.now (head_at place) (children_at place)) }
-    requires children { IfSome inner (λ b. (b.body.now ≡ place.source.body.now)
-        × (b.arrays.items ≡ columns_below place)) }
+    requires children { IfSome inner (λ b. b.arrays.items ≡ columns_below place) }
     ensures { MatchOption result ⊤ (λ new. MatchOption builder.entry ⊥
         (λ b. (new.body.now ≡ b.body.now)
         × (new.arrays.items ≡ b.arrays.items ++ column_at place.entry ∷ []))) }
@@ -93,12 +82,11 @@ pub(crate) fn with_node<'a>(
     if !node.seen.texts || !node.seen.indices {
         return None;
     }
-    let array = if is_leaf(place.field) {
-        leaf_of(builder.alloc, builder.body, place, node.laid)?
+    if is_leaf(place.field) {
+        with_leaf(builder, place, &node.laid)
     } else {
-        array_of(inner, place, node.laid)?
-    };
-    builder.with(array)
+        with_array(builder, inner, place, &node.laid)
+    }
 }
 
 // Whether the field's node has neither children nor a dictionary.
@@ -110,59 +98,83 @@ fn is_leaf(field: &Field) -> bool
     field.dictionary.is_none() && form_of(&field.data_type).is_leaf()
 }
 
-// The array of a node whose texts are as they should be, and which has neither children nor a
-// dictionary; None where a growth is refused.
+// The same of a node whose texts are as they should be, and which has neither children nor a
+// dictionary.
 #[inline(always)]
-fn leaf_of(alloc: Global, body: &Bytes, place: Place<'_>, laid: Laid) -> Option<Array>
+fn with_leaf<'a>(builder: Builder<'a>, place: Place<'_>, laid: &Laid) -> Option<Builder<'a>>
     requires leaf { IsLeafNode (head_at place) (children_at place) }
     requires laid { IsLaidAt place }
     requires text { IsTextAt place }
-    requires len { laid.len ≡ len_at place }
-    requires lies { AreRangesAt place laid.ranges }
-    requires same { body.now ≡ place.source.body.now }
+    requires len { laid.now.len ≡ len_at place }
+    requires lies { AreRangesAt place laid.now.ranges }
+    requires same { builder.body.now ≡ place.source.body.now }
     requires typed { slice_get place.left.types.now 0
         ≡ Some (node_type (head_at place) (children_at place)) }
-    ensures { IfSome result (λ array. array ≡ column_at place.entry) }
+    ensures { IfSome result (λ new. (new.body.now ≡ builder.entry.body.now)
+        × (new.arrays.items ≡ builder.entry.arrays.items ++ column_at place.entry ∷ [])) }
 {
     let shared = place.left.types.first()?;
     let buffers = NodeBuffers {
         len: laid.len,
-        body,
+        body: builder.body,
         ranges: &laid.ranges[..place.own],
     };
-    Array::from_leaf_parts(alloc, shared, buffers).ok()
+    let Ok(array) = Array::from_leaf_parts(builder.alloc, shared, buffers) else {
+        return None;
+    };
+    let mut arrays = builder.arrays;
+    if arrays.push(array).is_err() {
+        return None;
+    }
+    Some(Builder {
+        alloc: builder.alloc,
+        body: builder.body,
+        arrays,
+    })
 }
 
-// The array of a node whose texts and indices are as they should be, with those below it; None where
-// a growth is refused.
+// The same of a node whose texts and indices are as they should be.
 #[inline(always)]
-fn array_of(inner: Builder<'_>, place: Place<'_>, laid: Laid) -> Option<Array>
+fn with_array<'a>(
+    builder: Builder<'a>,
+    inner: Builder<'a>,
+    place: Place<'_>,
+    laid: &Laid,
+) -> Option<Builder<'a>>
     requires laid { IsLaidAt place }
     requires text { IsTextAt place }
     requires indexed { IsIndexedAt place }
-    requires len { laid.len ≡ len_at place }
-    requires lies { AreRangesAt place laid.ranges }
-    requires same { inner.body.now ≡ place.source.body.now }
+    requires len { laid.now.len ≡ len_at place }
+    requires lies { AreRangesAt place laid.now.ranges }
+    requires same { builder.body.now ≡ place.source.body.now }
     requires typed { slice_get place.left.types.now 0
         ≡ Some (node_type (head_at place) (children_at place)) }
     requires fit { IsNodeFit place.source.dictionaries.entries.now
         (head_at place) (children_at place) }
     requires children { inner.arrays.items ≡ columns_below place }
-    ensures { IfSome result (λ array. array ≡ column_at place.entry) }
+    ensures { IfSome result (λ new. (new.body.now ≡ builder.entry.body.now)
+        × (new.arrays.items ≡ builder.entry.arrays.items ++ column_at place.entry ∷ [])) }
 {
     let shared = place.left.types.first()?;
     let encoding = place.field.dictionary;
-    let dictionary = dictionary_of(inner.alloc, encoding, place.source.dictionaries).ok()?;
+    let dictionary = dictionary_of(builder.alloc, encoding, place.source.dictionaries).ok()?;
     let buffers = NodeBuffers {
         len: laid.len,
-        body: inner.body,
+        body: builder.body,
         ranges: &laid.ranges[..place.own],
     };
     let below = ChildData {
         children: inner.arrays,
         dictionary,
     };
-    Array::from_shared_parts(inner.alloc, shared, buffers, below).ok()
+    let array = Array::from_shared_parts(builder.alloc, shared, buffers, below).ok()?;
+    let mut arrays = builder.arrays;
+    arrays.push(array).ok()?;
+    Some(Builder {
+        alloc: builder.alloc,
+        body: builder.body,
+        arrays,
+    })
 }
 
 // The dictionary that is listed for a field with this encoding, shared.

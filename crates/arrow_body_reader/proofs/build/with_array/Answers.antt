@@ -4,7 +4,7 @@ use Rattle.arrow_data.specs.Column.{counts_of}
 use Rattle.arrow_data.specs.Shared.{node_type}
 use Rattle.arrow_body_reader.specs.Taken.{below, own_buffers}
 use Rattle.arrow_body_reader.proofs.Columns.{are_children, columns_long, columns_typed}
-use Rattle.arrow_body_reader.proofs.build.array_of.Goals as goal
+use Rattle.arrow_body_reader.proofs.build.with_array.Goals as goal
 
 pub from_shared_parts-requires-clause-children : goal.from_shared_parts-requires-clause-children
 from_shared_parts-requires-clause-children c =

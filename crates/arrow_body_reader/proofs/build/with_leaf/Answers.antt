@@ -6,7 +6,7 @@ use Rattle.arrow_data.specs.Shared.{NodeType, node_type}
 use Rattle.arrow_data.proofs.NodeParts.{leaf_laid}
 use Rattle.arrow_body_reader.specs.Sound.{lengths_of, own_bytes, slots_at}
 use Rattle.arrow_body_reader.specs.Taken.{below}
-use Rattle.arrow_body_reader.proofs.build.leaf_of.Goals as goal
+use Rattle.arrow_body_reader.proofs.build.with_leaf.Goals as goal
 
 pub from_leaf_parts-requires-clause-own : goal.from_leaf_parts-requires-clause-own
 from_leaf_parts-requires-clause-own c =
