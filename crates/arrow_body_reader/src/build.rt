@@ -113,7 +113,7 @@ fn with_leaf<'a>(builder: Builder<'a>, place: Place<'_>, laid: &Laid) -> Option<
     ensures { IfSome result (λ new. (new.body.now ≡ builder.entry.body.now)
         × (new.arrays.items ≡ builder.entry.arrays.items ++ column_at place.entry ∷ [])) }
 {
-    let shared = place.left.types.first()?;
+    let shared = place.left.types.first().unwrap();
     let buffers = NodeBuffers {
         len: laid.len,
         body: builder.body,
@@ -155,7 +155,7 @@ fn with_array<'a>(
     ensures { IfSome result (λ new. (new.body.now ≡ builder.entry.body.now)
         × (new.arrays.items ≡ builder.entry.arrays.items ++ column_at place.entry ∷ [])) }
 {
-    let shared = place.left.types.first()?;
+    let shared = place.left.types.first().unwrap();
     let encoding = place.field.dictionary;
     let dictionary = dictionary_of(builder.alloc, encoding, place.source.dictionaries).ok()?;
     let buffers = NodeBuffers {

@@ -13,7 +13,7 @@ from_shared_parts-requires-clause-children c =
     let ns = c.args.place.left.nodes.now in
     let bs = c.args.place.left.buffers.now in
     let typed = columns_typed c.args.place.source.body.now c.args.place.source.dictionaries.entries.now (below h.encoding ch) (drop 1 ns) (drop (own_buffers h) bs) in
-    let shared : c.in_ok-shared.shared.now ≡ node_type h ch = search rules in
+    let shared : c.unwrap-shared.result.now ≡ node_type h ch = search rules in
     rw (shared, c.requires.children) (are_children (record { tag = h.tag; children = ch }) h.encoding _ typed c.requires.fit.flat)
 
 pub from_shared_parts-requires-clause-layout : goal.from_shared_parts-requires-clause-layout
@@ -23,5 +23,5 @@ from_shared_parts-requires-clause-layout c =
     let ns = c.args.place.left.nodes.now in
     let bs = c.args.place.left.buffers.now in
     let long = columns_long c.args.place.source.body.now c.args.place.source.dictionaries.entries.now (below h.encoding ch) (drop 1 ns) (drop (own_buffers h) bs) in
-    let shared : c.in_ok-shared.shared.now ≡ node_type h ch = search rules in
+    let shared : c.unwrap-shared.result.now ≡ node_type h ch = search rules in
     rw (shared, c.requires.len, c.requires.same, c.args.place.counted, c.requires.lies.same, ap counts_of c.requires.children ∙ long) c.requires.laid.laid

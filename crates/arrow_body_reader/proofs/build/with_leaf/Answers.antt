@@ -12,14 +12,14 @@ pub from_leaf_parts-requires-clause-own : goal.from_leaf_parts-requires-clause-o
 from_leaf_parts-requires-clause-own c =
     let h = (field_view c.args.place.field.now).head in
     let ch = (field_view c.args.place.field.now).children in
-    let shared : c.in_ok-shared.shared.now ≡ node_type h ch = search rules in
+    let shared : c.unwrap-shared.result.now ≡ node_type h ch = search rules in
     ap (λ (t : NodeType). t.encoding) shared ∙ c.requires.leaf.own
 
 pub from_leaf_parts-requires-clause-leaf : goal.from_leaf_parts-requires-clause-leaf
 from_leaf_parts-requires-clause-leaf c =
     let h = (field_view c.args.place.field.now).head in
     let ch = (field_view c.args.place.field.now).children in
-    let shared : c.in_ok-shared.shared.now ≡ node_type h ch = search rules in
+    let shared : c.unwrap-shared.result.now ≡ node_type h ch = search rules in
     rw shared c.requires.leaf.leaf
 
 pub from_leaf_parts-requires-clause-layout : goal.from_leaf_parts-requires-clause-layout
@@ -29,7 +29,7 @@ from_leaf_parts-requires-clause-layout c =
     let ns = c.args.place.left.nodes.now in
     let b = own_bytes c.args.place.source.body.now h c.args.place.left.buffers.now in
     let counts = lengths_of (below h.encoding ch) (drop 1 ns) in
-    let shared : c.in_ok-shared.shared.now ≡ node_type h ch = search rules in
+    let shared : c.unwrap-shared.result.now ≡ node_type h ch = search rules in
     let laid = leaf_laid (form_of h.tag) (slots_at ns) b counts [] c.requires.leaf.leaf (subst (λ e. IsLaid h.tag e (slots_at ns) b counts) c.requires.leaf.own c.requires.laid.laid) in
     rw (shared, c.requires.len, c.requires.same, c.args.place.counted, c.requires.lies.same) laid
 
@@ -39,6 +39,6 @@ from_leaf_parts-requires-clause-text c =
     let ch = (field_view c.args.place.field.now).children in
     let ns = c.args.place.left.nodes.now in
     let b = own_bytes c.args.place.source.body.now h c.args.place.left.buffers.now in
-    let shared : c.in_ok-shared.shared.now ≡ node_type h ch = search rules in
+    let shared : c.unwrap-shared.result.now ≡ node_type h ch = search rules in
     let texts = subst (λ e. IsText h.tag e (slots_at ns) b) c.requires.leaf.own c.requires.text in
     rw (shared, c.requires.len, c.requires.same, c.args.place.counted, c.requires.lies.same) texts
