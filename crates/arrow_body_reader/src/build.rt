@@ -77,8 +77,12 @@ pub(crate) fn with_node<'a>(
         (λ b. (new.body.now ≡ b.body.now)
         × (new.arrays.items ≡ b.arrays.items ++ column_at place.entry ∷ []))) }
 {
-    let builder = builder?;
-    let inner = inner?;
+    let Some(builder) = builder else {
+        return None;
+    };
+    let Some(inner) = inner else {
+        return None;
+    };
     if !node.seen.texts || !node.seen.indices {
         return None;
     }

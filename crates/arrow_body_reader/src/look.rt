@@ -181,7 +181,7 @@ pub(crate) fn look<'a>(
     let mut making = builder;
     for field in fields {
         let place = Place::new(field, rest, source);
-        if !place.is_there() {
+        if rest.nodes.is_empty() || rest.buffers.len() < place.own {
             return None;
         }
         let under = below(field);

@@ -1,6 +1,6 @@
 //! A field's own node where it stands in a batch.
 
-ghost use Rattle.std.specs.Prelude.{◌≡◌, ◌≤◌, ◌↔◌, IsTrue, length, take};
+ghost use Rattle.std.specs.Prelude.{◌≡◌};
 ghost use Rattle.arrow_data.specs.Form.{node_form};
 ghost use Rattle.arrow_types.specs.View.{field_view};
 ghost use Rattle.arrow_body_reader.specs.Taken.{own_buffers};
@@ -50,15 +50,5 @@ impl<'a> Place<'a> {
             left,
             source,
         }
-    }
-
-    // Whether its node and its own buffers are there.
-    #[inline(always)]
-    pub(crate) fn is_there(self) -> bool
-        ensures { IsTrue result ↔ (1 ≤ length self.entry.left.nodes.now)
-            × (own_buffers (field_view self.entry.field.now).head
-            ≤ length self.entry.left.buffers.now) }
-    {
-        !self.left.nodes.is_empty() && self.own <= self.left.buffers.len()
     }
 }

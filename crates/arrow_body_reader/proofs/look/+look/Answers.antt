@@ -53,10 +53,10 @@ look-node-requires-clause-there t c =
     let place = c.new-place.result in
     let own : place.own ≡ own_buffers h = rw c.new-place.ensures.field at place.counted in
     let found = rw (c.below-under.ensures, c.inside.ensures.nodes, c.inside.ensures.buffers, own) at c.in_ok-inner.ensures.seen in
-    let holds : IsTrue c.is_there.result = search rules in
-    let there : (1 ≤ length ns) × (own_buffers h ≤ length bs) = rw (c.new-place.ensures.field, c.new-place.ensures.left) at (c.is_there.ensures.0 holds) in
+    let one : 1 ≤ length ns = search rules in
+    let room : own_buffers h ≤ length bs = omega (arith, own, c.if-rest-place.false) in
     rw (c.new-place.ensures.field, c.new-place.ensures.left)
-    ((there_after h (field_view f).children none ns c.in_ok-inner.inner.rest.nodes.now bs c.in_ok-inner.inner.rest.buffers.now there.0 there.1 found.0 found.4 found.5).0.0 (omega arith, omega arith))
+    ((there_after h (field_view f).children none ns c.in_ok-inner.inner.rest.nodes.now bs c.in_ok-inner.inner.rest.buffers.now one room found.0 found.4 found.5).0.0 (omega arith, omega arith))
 
 pub look-loop-field-preserved : goal.look-loop-field-preserved
 look-loop-field-preserved t c =
@@ -87,9 +87,9 @@ look-loop-field-preserved t c =
     × (IsTrue c.in_ok-node.node.seen.indices ↔ IsNodeIndexed body ds (field_view x).head (field_view x).children ns bs))
     c.new-place.ensures.field (simp (c.new-place.ensures.left, c.new-place.ensures.source) at c.in_ok-node.ensures.seen) in
     let here_len = simp c.new-place.ensures.left at c.in_ok-node.ensures.len in
-    let holds : IsTrue c.is_there.result = search rules in
-    let there : (1 ≤ length ns) × (own_buffers h ≤ length bs) = rw (c.new-place.ensures.field, c.new-place.ensures.left) at (c.is_there.ensures.0 holds) in
-    let after = there_after h ch rest ns ns' bs bs' there.0 there.1 found.0 found.4 found.5 in
+    let one : 1 ≤ length ns = search rules in
+    let room : own_buffers h ≤ length bs = omega (arith, own, c.if-rest-place.false) in
+    let after = there_after h ch rest ns ns' bs bs' one room found.0 found.4 found.5 in
     let laid = all_after (IsNodeLaid body) h ch rest ns ns' bs bs' here_seen.0 found.1 found.4 found.5 in
     let texts = all_told (IsNodeText body) (IsTrue c.in_ok-node.node.seen.texts) (IsTrue c.in_ok-inner.inner.seen.texts) h ch rest ns ns' bs bs' here_seen.1 found.2 found.4 found.5 in
     let indices = all_told (IsNodeIndexed body ds) (IsTrue c.in_ok-node.node.seen.indices) (IsTrue c.in_ok-inner.inner.seen.indices) h ch rest ns ns' bs bs' here_seen.2 found.3 found.4 found.5 in
