@@ -64,17 +64,7 @@ impl<S: Sink> Consumer for Copier<S> {
         _place: u64,
         item: Item,
     ) -> (Self, Result<Wants, ToolFault>) {
-        let Copier {
-            terms,
-            target,
-            mut number,
-        } = self;
-        let (target, answer) = take(&terms, reader, &item, target, &mut number);
-        let copier = Copier {
-            terms,
-            target,
-            number,
-        };
+        let (copier, answer) = self.take(reader, &item);
         match answer {
             Ok(()) => (copier, Ok(Wants::More)),
             Err(fault) => (copier, Err(fault)),
@@ -148,28 +138,44 @@ fn take_one<S: Sink>(
     }
 }
 
-/// What is made of a message that the reader has just read: the first one, the schema, starts the
-/// writer.
-pub(crate) fn take<S: Sink>(
-    terms: &Terms,
-    reader: &StreamReader,
-    item: &Item,
-    target: Target<S>,
-    number: &mut usize,
-) -> (Target<S>, Result<(), ToolFault>)
-    requires { failures_at (at_of S.contents S.failed target) < 2 ^ 64 - 1 }
-    ensures { TakesItem terms.now.limits (options_view terms.now.options) reader.now.at.state.schema
-        (given item.now) (at_of S.contents S.failed target) number.old result.1
-        (at_of S.contents S.failed result.0) number.new }
-{
-    match target {
-        Target::Waiting(sink) => match reader.schema() {
-            Some(schema) => begin(terms, sink, schema),
-            None => (Target::Waiting(sink), Ok(())),
-        },
-        Target::Writing(mut writer) => {
-            let answer = take_one(&mut writer, number, item);
-            (Target::Writing(writer), answer)
+impl<S: Sink> Copier<S> {
+    /// What is made of a message that the reader has just read: the first one, the schema, starts
+    /// the writer.
+    fn take(self, reader: &StreamReader, item: &Item) -> (Self, Result<(), ToolFault>)
+        requires { failures_at (at_of S.contents S.failed self.target) < 2 ^ 64 - 1 }
+        ensures takes { TakesItem self.terms.limits (options_view self.terms.options)
+            reader.now.at.state.schema (given item.now)
+            (at_of S.contents S.failed self.target) self.number result.1
+            (at_of S.contents S.failed result.0.target) result.0.number }
+        ensures terms { result.0.terms ≡ self.terms }
+    {
+        let Copier {
+            terms,
+            target,
+            mut number,
+        } = self;
+        match target {
+            Target::Waiting(sink) => {
+                let (target, answer) = match reader.schema() {
+                    Some(schema) => begin(&terms, sink, schema),
+                    None => (Target::Waiting(sink), Ok(())),
+                };
+                let copier = Copier {
+                    terms,
+                    target,
+                    number,
+                };
+                (copier, answer)
+            }
+            Target::Writing(mut writer) => {
+                let answer = take_one(&mut writer, &mut number, item);
+                let copier = Copier {
+                    terms,
+                    target: Target::Writing(writer),
+                    number,
+                };
+                (copier, answer)
+            }
         }
     }
 }

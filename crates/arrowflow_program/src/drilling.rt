@@ -3,44 +3,52 @@
 use crate::ends::{Source, open};
 use crate::{print_text, tell};
 use arrowflow::{Limits, Options, ToolFault, drill};
-use std::alloc::Global;
 use std::io::Input;
 use std::rt::Files;
 
-/// Rehearses a connection for each stream in the files of these names, of which so many bytes are
-/// delivered in pieces of a length, and prints what came of them.
-pub(crate) fn drill_files<R: Files + Input + Print + Eprint>(
+/// How streams are rehearsed: how they are written again, how many bytes of each connection are
+/// delivered, and in pieces of which length.
+#[derive(Clone, Copy)]
+pub(crate) struct Rehearsal {
+    pub(crate) options: Options,
+    pub(crate) bytes: u64,
+    pub(crate) piece: u64,
+}
+
+/// Rehearses a connection for each stream in the files of these names, and prints what came of them.
+pub(crate) fn drill_files<R: AllocGlobal + Files + Input + Print + Eprint>(
     rt: &R,
-    alloc: Global,
     names: &[String],
-    options: Options,
-    delivery: (u64, u64),
+    rehearsal: Rehearsal,
     limits: &Limits,
 ) -> u8
 where
     R::File: Drop,
 {
-    let mut inputs = match open_all(rt, alloc, names) {
+    let mut inputs = match open_all(rt, names) {
         Ok(inputs) => inputs,
-        Err(fault) => return tell_of(rt, alloc, &fault, names),
+        Err(fault) => return tell_of(rt, &fault, names),
     };
-    let (bytes, piece) = delivery;
-    match drill(alloc, &mut inputs, options, bytes, piece, limits) {
-        Ok(text) => print_text(rt, alloc, &text),
-        Err(fault) => tell_of(rt, alloc, &fault, names),
+    let Rehearsal {
+        options,
+        bytes,
+        piece,
+    } = rehearsal;
+    match drill(rt.alloc(), &mut inputs, options, bytes, piece, limits) {
+        Ok(text) => print_text(rt, &text),
+        Err(fault) => tell_of(rt, &fault, names),
     }
 }
 
 /// Opens the inputs of these names, in their order. The first that cannot be opened ends it.
-fn open_all<R: Files + Input>(
+fn open_all<R: AllocGlobal + Files + Input>(
     rt: &R,
-    alloc: Global,
     names: &[String],
 ) -> Result<Vec<Source<R::File, R::Reader>>, ToolFault>
 where
     R::File: Drop,
 {
-    let mut inputs = Vec::new(alloc);
+    let mut inputs = Vec::new(rt.alloc());
     for (number, name) in names.iter().enumerate() {
         let input = open(rt, number as u64, name)?;
         if inputs.push(input).is_err() {
@@ -51,8 +59,8 @@ where
 }
 
 /// Tells a fault of a call that read the inputs of these names, and gives its status.
-fn tell_of<R: Eprint>(rt: &R, alloc: Global, fault: &ToolFault, names: &[String]) -> u8 {
-    tell(rt, alloc, fault, failed_name(fault, names), "-")
+fn tell_of<R: AllocGlobal + Eprint>(rt: &R, fault: &ToolFault, names: &[String]) -> u8 {
+    tell(rt, fault, failed_name(fault, names), "-")
 }
 
 /// The name of the input that failed. Where another fault came, its line names none.

@@ -61,10 +61,8 @@ where
     if is_standard(name) {
         return Ok(Source::Standard(rt.reader()));
     }
-    match File::open(rt, name) {
-        Ok(file) => Ok(Source::File(file)),
-        Err(_) => Err(ToolFault::Input(number)),
-    }
+    let file = File::open(rt, name).map_err(|_| ToolFault::Input(number))?;
+    Ok(Source::File(file))
 }
 
 /// A file, or standard output.
@@ -101,10 +99,8 @@ where
     if is_standard(name) {
         return Ok(Destination::Standard(io::writer(rt)));
     }
-    match File::create(rt, name) {
-        Ok(file) => Ok(Destination::File(file)),
-        Err(_) => Err(ToolFault::Output),
-    }
+    let file = File::create(rt, name).map_err(|_| ToolFault::Output)?;
+    Ok(Destination::File(file))
 }
 
 /// How many bytes the file of this name has; `None` where the name stands for standard input, or what

@@ -10,7 +10,7 @@ mod ends;
 mod pipe;
 mod watched;
 
-use crate::drilling::drill_files;
+use crate::drilling::{Rehearsal, drill_files};
 use crate::ends::{create, input_name, is_same_file, is_standard, open, output_name, size_of};
 use crate::pipe::Pipe;
 use crate::watched::{Onlooker, Progress, Watched};
@@ -18,7 +18,6 @@ use arrowflow::{
     ArgFault, ColumnsFault, Counted, Limits, Options, Plan, Selection, Task, ToolFault, check,
     check_quietly, copy, plan, schema_text, show, show_columns, show_first,
 };
-use std::alloc::Global;
 use std::io::{ErrorKind, Input, Write};
 use std::process::ExitCode;
 use std::rt::{Env, Files};
@@ -60,32 +59,35 @@ where
         return out_of_memory(rt);
     };
     match plan(alloc, &words) {
-        Ok(plan) => carry_out(rt, alloc, &plan),
+        Ok(plan) => carry_out(rt, &plan),
         Err(ArgFault::Line(error)) => print_help(rt, &error),
         Err(ArgFault::Memory) => out_of_memory(rt),
     }
 }
 
 /// Makes the call that a plan asks for, and gives the exit status.
-fn carry_out<R>(rt: &R, alloc: Global, plan: &Plan) -> u8
+fn carry_out<R>(rt: &R, plan: &Plan) -> u8
 where
-    R: Files + Input + Print + Eprint + Clock + Onlooker,
+    R: AllocGlobal + Files + Input + Print + Eprint + Clock + Onlooker,
     R::File: Drop,
 {
     let limits = &plan.limits;
     match &plan.task {
-        Task::Schema(name) => print_schema(rt, alloc, name, limits),
-        Task::Check(name, false) => print_messages(rt, alloc, name, limits),
-        Task::Check(name, true) => check_file(rt, alloc, name, limits),
-        Task::Show(name, None, rows) => print_rows(rt, alloc, name, *rows, limits),
+        Task::Schema(name) => print_schema(rt, name, limits),
+        Task::Check(name, false) => print_messages(rt, name, limits),
+        Task::Check(name, true) => check_file(rt, name, limits),
+        Task::Show(name, None, rows) => print_rows(rt, name, *rows, limits),
         Task::Show(name, Some(columns), rows) => {
-            print_columns(rt, alloc, name, columns, *rows, limits)
+            print_columns(rt, name, (columns, *rows), limits)
         }
-        Task::Copy(input, output, options) => {
-            copy_file(rt, alloc, (input, output), *options, limits)
-        }
+        Task::Copy(input, output, options) => copy_file(rt, (input, output), *options, limits),
         Task::Drill(names, options, bytes, piece) => {
-            drill_files(rt, alloc, names, *options, (*bytes, *piece), limits)
+            let rehearsal = Rehearsal {
+                options: *options,
+                bytes: *bytes,
+                piece: *piece,
+            };
+            drill_files(rt, names, rehearsal, limits)
         }
     }
 }
@@ -101,112 +103,97 @@ fn print_help<R: Print + Eprint>(rt: &R, error: &clap::Error) -> u8 {
 }
 
 /// Prints the schema of the stream in the file of this name.
-fn print_schema<R: Files + Input + Print + Eprint>(
-    rt: &R,
-    alloc: Global,
-    name: &str,
-    limits: &Limits,
-) -> u8
+fn print_schema<R>(rt: &R, name: &str, limits: &Limits) -> u8
 where
+    R: AllocGlobal + Files + Input + Print + Eprint,
     R::File: Drop,
 {
     let mut file = match open(rt, 0, name) {
         Ok(file) => file,
-        Err(fault) => return tell(rt, alloc, &fault, name, "-"),
+        Err(fault) => return tell(rt, &fault, name, "-"),
     };
-    match schema_text(alloc, &mut file, limits) {
-        Ok(text) => print_text(rt, alloc, &text),
-        Err(fault) => tell(rt, alloc, &fault, name, "-"),
+    match schema_text(rt.alloc(), &mut file, limits) {
+        Ok(text) => print_text(rt, &text),
+        Err(fault) => tell(rt, &fault, name, "-"),
     }
 }
 
 /// Prints a text to standard output, and gives the exit status.
-pub(crate) fn print_text<R: Print + Eprint>(rt: &R, alloc: Global, text: &str) -> u8 {
+pub(crate) fn print_text<R: AllocGlobal + Print + Eprint>(rt: &R, text: &str) -> u8 {
     let mut output = Pipe::new(io::writer(rt));
-    let answer = match output.write_all(text.as_bytes()) {
-        Ok(()) => Ok(()),
-        Err(_) => Err(ToolFault::Output),
-    };
-    status_of(rt, alloc, answer, ("-", "-"), &output)
+    let written = output.write_all(text.as_bytes());
+    let answer = written.map_err(|_| ToolFault::Output);
+    status_of(rt, answer, ("-", "-"), &output)
 }
 
 /// Prints a line for each message of the stream in the file of this name.
-fn print_messages<R: Files + Input + Print + Eprint>(
-    rt: &R,
-    alloc: Global,
-    name: &str,
-    limits: &Limits,
-) -> u8
+fn print_messages<R>(rt: &R, name: &str, limits: &Limits) -> u8
 where
+    R: AllocGlobal + Files + Input + Print + Eprint,
     R::File: Drop,
 {
     let mut file = match open(rt, 0, name) {
         Ok(file) => file,
-        Err(fault) => return tell(rt, alloc, &fault, name, "-"),
+        Err(fault) => return tell(rt, &fault, name, "-"),
     };
     let output = Counted::new(Pipe::new(io::writer(rt)));
-    let (output, answer) = check(alloc, &mut file, output, limits);
-    status_of(rt, alloc, answer, (name, "-"), &output.into_inner())
+    let (output, answer) = check(rt.alloc(), &mut file, output, limits);
+    status_of(rt, answer, (name, "-"), &output.into_inner())
 }
 
 /// Reads the stream in the file of this name, and prints the line of its fault alone.
-fn check_file<R>(rt: &R, alloc: Global, name: &str, limits: &Limits) -> u8
+fn check_file<R>(rt: &R, name: &str, limits: &Limits) -> u8
 where
-    R: Files + Input + Eprint + Clock + Onlooker,
+    R: AllocGlobal + Files + Input + Eprint + Clock + Onlooker,
     R::File: Drop,
 {
     let file = match open(rt, 0, name) {
         Ok(file) => file,
-        Err(fault) => return tell(rt, alloc, &fault, name, "-"),
+        Err(fault) => return tell(rt, &fault, name, "-"),
     };
     let mut input = Watched::new(file, progress_of(rt, "check", name, None));
-    let answer = check_quietly(alloc, &mut input, limits);
+    let answer = check_quietly(rt.alloc(), &mut input, limits);
     input.clear();
     match answer {
         Ok(()) => FINE,
-        Err(fault) => tell(rt, alloc, &fault, name, "-"),
+        Err(fault) => tell(rt, &fault, name, "-"),
     }
 }
 
 /// Prints the rows of the stream in the file of this name: the first so many, or all.
-fn print_rows<R: Files + Input + Print + Eprint>(
-    rt: &R,
-    alloc: Global,
-    name: &str,
-    rows: Option<u64>,
-    limits: &Limits,
-) -> u8
+fn print_rows<R>(rt: &R, name: &str, rows: Option<u64>, limits: &Limits) -> u8
 where
+    R: AllocGlobal + Files + Input + Print + Eprint,
     R::File: Drop,
 {
     let mut file = match open(rt, 0, name) {
         Ok(file) => file,
-        Err(fault) => return tell(rt, alloc, &fault, name, "-"),
+        Err(fault) => return tell(rt, &fault, name, "-"),
     };
     let output = Counted::new(Pipe::new(io::writer(rt)));
     let (output, answer) = match rows {
-        Some(rows) => show_first(alloc, &mut file, output, rows, limits),
-        None => show(alloc, &mut file, output, limits),
+        Some(rows) => show_first(rt.alloc(), &mut file, output, rows, limits),
+        None => show(rt.alloc(), &mut file, output, limits),
     };
-    status_of(rt, alloc, answer, (name, "-"), &output.into_inner())
+    status_of(rt, answer, (name, "-"), &output.into_inner())
 }
 
-/// Prints the columns of these names alone, of the rows of the stream in the file of this name.
-fn print_columns<R: Files + Input + Print + Eprint>(
+/// Prints the columns of these names alone, of the first so many rows, or of all, of the stream in
+/// the file of this name.
+fn print_columns<R>(
     rt: &R,
-    alloc: Global,
     name: &str,
-    columns: &[String],
-    rows: Option<u64>,
+    (columns, rows): (&[String], Option<u64>),
     limits: &Limits,
 ) -> u8
 where
+    R: AllocGlobal + Files + Input + Print + Eprint,
     R::File: Drop,
 {
     let Ok(columns) = columns
         .iter()
         .map(|column| column.as_str())
-        .collect::<Vec<&str>>(alloc)
+        .collect::<Vec<&str>>(rt.alloc())
     else {
         return out_of_memory(rt);
     };
@@ -216,16 +203,16 @@ where
     };
     let mut file = match open(rt, 0, name) {
         Ok(file) => file,
-        Err(fault) => return tell(rt, alloc, &fault, name, "-"),
+        Err(fault) => return tell(rt, &fault, name, "-"),
     };
     let output = Counted::new(Pipe::new(io::writer(rt)));
-    let (output, answer) = show_columns(alloc, &mut file, output, &selection, limits);
+    let (output, answer) = show_columns(rt.alloc(), &mut file, output, &selection, limits);
     let answer = match answer {
         Ok(()) => Ok(()),
         Err(ColumnsFault::Tool(fault)) => Err(fault),
         Err(ColumnsFault::Lacks(place)) => return no_column(rt, columns.get(place)),
     };
-    status_of(rt, alloc, answer, (name, "-"), &output.into_inner())
+    status_of(rt, answer, (name, "-"), &output.into_inner())
 }
 
 /// Tells of a column that the schema lacks.
@@ -238,20 +225,15 @@ fn no_column<R: Eprint>(rt: &R, name: Option<&&str>) -> u8
 }
 
 /// Writes the stream in the file of the first name again, into that of the second.
-fn copy_file<R: Files + Input + Print + Eprint + Clock + Onlooker>(
-    rt: &R,
-    alloc: Global,
-    names: (&str, &str),
-    options: Options,
-    limits: &Limits,
-) -> u8
+fn copy_file<R>(rt: &R, names: (&str, &str), options: Options, limits: &Limits) -> u8
 where
+    R: AllocGlobal + Files + Input + Print + Eprint + Clock + Onlooker,
     R::File: Drop,
 {
     let (from, to) = names;
     let input = match open(rt, 0, from) {
         Ok(input) => input,
-        Err(fault) => return tell(rt, alloc, &fault, from, to),
+        Err(fault) => return tell(rt, &fault, from, to),
     };
     if is_same_file(rt, from, to) {
         let _ = eprintln!(rt; "{from} and {to} are the same file");
@@ -259,12 +241,12 @@ where
     }
     let output = match create(rt, to) {
         Ok(output) => Counted::new(Pipe::new(output)),
-        Err(fault) => return tell(rt, alloc, &fault, from, to),
+        Err(fault) => return tell(rt, &fault, from, to),
     };
     let mut input = Watched::new(input, progress_of(rt, "copy", from, Some(to)));
-    let (output, answer) = copy(alloc, &mut input, output, options, limits);
+    let (output, answer) = copy(rt.alloc(), &mut input, output, options, limits);
     input.clear();
-    status_of(rt, alloc, answer, (from, to), &output.into_inner())
+    status_of(rt, answer, (from, to), &output.into_inner())
 }
 
 /// How far a command has come that reads the file of the first name, and writes that of the second
@@ -288,9 +270,8 @@ fn progress_of<'a, R: Files + Eprint + Clock + Onlooker>(
 
 /// Tells how a call ended that read the input of the first name and wrote the output of the second,
 /// and gives its status; that of want of memory where the line cannot be made.
-fn status_of<R: Eprint, W: Write>(
+fn status_of<R: AllocGlobal + Eprint, W: Write>(
     rt: &R,
-    alloc: Global,
     answer: Result<(), ToolFault>,
     names: (&str, &str),
     output: &Pipe<W>,
@@ -302,22 +283,21 @@ fn status_of<R: Eprint, W: Write>(
         Ok(()) => FINE,
         // whoever closes a pipe knows that, and wants to hear nothing of it
         Err(fault) if output.is_closed() => fault.status(),
-        Err(fault) => tell(rt, alloc, &fault, names.0, names.1),
+        Err(fault) => tell(rt, &fault, names.0, names.1),
     }
 }
 
 /// Tells a fault of a call that read the input of the first name and wrote the output of the
 /// second, and gives its status; that of want of memory where the line cannot be made.
-pub(crate) fn tell<R: Eprint>(
+pub(crate) fn tell<R: AllocGlobal + Eprint>(
     rt: &R,
-    alloc: Global,
     fault: &ToolFault,
     read: &str,
     written: &str,
 ) -> u8
     ensures { (result ≡ status_by fault.now) ⊎ (result ≡ FAILED) }
 {
-    let Ok(line) = fault.line(alloc, input_name(read), output_name(written)) else {
+    let Ok(line) = fault.line(rt.alloc(), input_name(read), output_name(written)) else {
         return out_of_memory(rt);
     };
     let _ = eprintln!(rt; "{line}");

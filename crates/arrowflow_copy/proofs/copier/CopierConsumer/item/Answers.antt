@@ -12,10 +12,10 @@ returns-in-Ok-clause-takes g c began old t es piece n comes x =
     let own = copier.terms.limits in
     let o = options_view copier.terms.options in
     let at = at_of g.S.Sink.contents g.S.Sink.failed copier.target in
-    let at' = at_of g.S.Sink.contents g.S.Sink.failed c.take-target.result.0 in
-    let number' = c.take-target.new.number in
+    let at' = at_of g.S.Sink.contents g.S.Sink.failed c.take-copier.result.0.target in
+    let number' = c.take-copier.result.0.number in
     let new = c.args.reader.now in
-    message_copied began own o at copier.number c.args._place c.args.item old new t es piece n comes x at' number' (subst (λ a. TakesItem own o new.at.state.schema (given c.args.item) at copier.number a at' number') c.in-Ok.is c.take-target.ensures)
+    rw c.take-copier.ensures.terms (message_copied began own o at copier.number c.args._place c.args.item old new t es piece n comes x at' number' (subst (λ a. TakesItem own o new.at.state.schema (given c.args.item) at copier.number a at' number') c.in-Ok.is c.take-copier.ensures.takes))
 
 pub returns-in-Ok-clause-ready : goal.returns-in-Ok-clause-ready
 returns-in-Ok-clause-ready g c more =
@@ -23,10 +23,10 @@ returns-in-Ok-clause-ready g c more =
     let own = copier.terms.limits in
     let o = options_view copier.terms.options in
     let at = at_of g.S.Sink.contents g.S.Sink.failed copier.target in
-    let at' = at_of g.S.Sink.contents g.S.Sink.failed c.take-target.result.0 in
-    let number' = c.take-target.new.number in
+    let at' = at_of g.S.Sink.contents g.S.Sink.failed c.take-copier.result.0.target in
+    let number' = c.take-copier.result.0.number in
     let schema = c.args.reader.now.at.state.schema in
-    let takes = subst (λ a. TakesItem own o schema (given c.args.item) at copier.number a at' number') c.in-Ok.is c.take-target.ensures in
+    let takes = subst (λ a. TakesItem own o schema (given c.args.item) at copier.number a at' number') c.in-Ok.is c.take-copier.ensures.takes in
     subst (λ k. k < 18446744073709551615) (sym (takes_failures own o schema (given c.args.item) at at' copier.number number' takes)) c.requires.ready
 
 pub returns-clause-takes : goal.returns-clause-takes
@@ -35,9 +35,9 @@ returns-clause-takes g c began old t es piece n comes x left =
     let own = copier.terms.limits in
     let o = options_view copier.terms.options in
     let at = at_of g.S.Sink.contents g.S.Sink.failed copier.target in
-    let at' = at_of g.S.Sink.contents g.S.Sink.failed c.take-target.result.0 in
-    let number' = c.take-target.new.number in
+    let at' = at_of g.S.Sink.contents g.S.Sink.failed c.take-copier.result.0.target in
+    let number' = c.take-copier.result.0.number in
     let new = c.args.reader.now in
     let fault = c.in-Err.fault in
-    let takes = subst (λ a. TakesItem own o new.at.state.schema (given c.args.item) at copier.number a at' number') c.in-Err.is c.take-target.ensures in
+    let takes = subst (λ a. TakesItem own o new.at.state.schema (given c.args.item) at copier.number a at' number') c.in-Err.is c.take-copier.ensures.takes in
     (message_stopped began own o at copier.number c.args._place c.args.item old new t es piece n comes x at' number' fault takes left, tt)
