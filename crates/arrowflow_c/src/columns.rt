@@ -2,12 +2,10 @@
 
 ghost use Rattle.std.specs.Prelude.{◌≡◌, ◌≤◌, MatchOption, length};
 ghost use Rattle.arrow_data.specs.Column.{HasValue};
-ghost use Rattle.arrow_data.specs.Form.{offset_bytes};
 ghost use Rattle.arrowflow_c.specs.Columns.{ColumnAt, HasNothing, IsBelow, IsColumnOf, ShowsBelow};
 ghost use Rattle.arrowflow_c.specs.Columns.{bare_column, no_column, plain_of, told_of};
 ghost use Rattle.arrowflow_c.specs.Columns.{with_numbers, with_strings};
 
-use arrow_data::form::OffsetWidth;
 use arrow_data::{Array, Batch, Buffers, Dictionary, NumberBuffers, StringBuffers};
 
 /// A column as its buffers.
@@ -81,7 +79,7 @@ impl<'a> ColumnC<'a> {
         ensures { plain_of result ≡ with_strings (plain_of self.entry) of.entry }
     {
         ColumnC {
-            width: bytes_of(of.width),
+            width: of.width.bytes() as u64,
             validity: of.validity,
             offsets: of.offsets,
             values: of.bytes,
@@ -119,7 +117,7 @@ impl<'a> ColumnC<'a> {
                 offsets,
                 child: _,
             } => ColumnC {
-                width: bytes_of(width),
+                width: width.bytes() as u64,
                 children: 1,
                 validity,
                 offsets,
@@ -142,16 +140,6 @@ impl<'a> ColumnC<'a> {
         ensures { IsColumnOf column.now place result }
     {
         ColumnC::told(column.len(), place, column.buffers())
-    }
-}
-
-/// How many bytes an offset takes.
-fn bytes_of(width: OffsetWidth) -> u64
-    ensures { result ≡ offset_bytes width }
-{
-    match width {
-        OffsetWidth::Small => 4,
-        OffsetWidth::Large => 8,
     }
 }
 
