@@ -14,8 +14,8 @@ ghost use Rattle.arrow_builder.specs.Kept.{Keeps};
 ghost use Rattle.arrow_types.specs.View.{type_view};
 
 use crate::dictionaries::dictionary_for;
-use crate::leaf::Buffers;
 use crate::node::Node;
+use crate::slots::Buffers;
 use arrow_data::{Array, ByteRange, ChildData, Dictionary, NodeBuffers};
 use arrow_types::Field;
 use bytes::Bytes;
