@@ -36,6 +36,14 @@ pub(crate) struct Tally {
     below: Vec<Tally>,
 }
 
+// A value in a column of the form, and null, which stands for the parts that it does not have.
+#[derive(Clone, Copy)]
+struct Given<'a> {
+    form: Form,
+    value: &'a Value,
+    null: &'a Value,
+}
+
 // The most bytes of data of a column, where its offsets set no lower limit.
 const MOST_BYTES: u64 = 1_099_511_627_776;
 
@@ -100,17 +108,23 @@ pub(crate) fn add(tally: &mut Tally, value: &Value) -> bool
     };
     tally.next = total;
     let null = null();
-    add_below(&mut tally.below, tally.form, value, &null)
+    let given = Given {
+        form: tally.form,
+        value,
+        null: &null,
+    };
+    add_below(&mut tally.below, given)
 }
 
-// Counts what the value gives to each child of a column of the form.
+// Counts what the value gives to each child of its column.
 #[cycle(add)]
-fn add_below(tallies: &mut [Tally], form: Form, value: &Value, null: &Value) -> bool
-    requires { value_view null.now ≡ null_value }
-    ensures { AddsBelow form (value_view value.now) tallies.old tallies.new result }
+fn add_below(tallies: &mut [Tally], given: Given<'_>) -> bool
+    requires { value_view given.null.now ≡ null_value }
+    ensures { AddsBelow given.entry.form (value_view given.entry.value.now)
+        tallies.old tallies.new result }
 {
     for k in 0..tallies.len() {
-        if !add_child(&mut tallies[k], form, k, value, null) {
+        if !add_child(&mut tallies[k], k, given) {
             return false;
         }
     }
@@ -119,13 +133,14 @@ fn add_below(tallies: &mut [Tally], form: Form, value: &Value, null: &Value) -> 
 
 // Counts what the value gives to child `k`: a list its items, a struct its part.
 #[cycle(add)]
-fn add_child(tally: &mut Tally, form: Form, k: usize, value: &Value, null: &Value) -> bool
-    requires { value_view null.now ≡ null_value }
-    ensures { Adds (child_column form k (value_view value.now ∷ [])) tally.old tally.new result }
+fn add_child(tally: &mut Tally, k: usize, given: Given<'_>) -> bool
+    requires { value_view given.null.now ≡ null_value }
+    ensures { Adds (child_column given.entry.form k (value_view given.entry.value.now ∷ []))
+        tally.old tally.new result }
 {
-    match form {
-        Form::Lists(_) => add_all(tally, items_in(value)),
-        Form::Structs => add(tally, part_of(value, null, k)),
+    match given.form {
+        Form::Lists(_) => add_all(tally, items_in(given.value)),
+        Form::Structs => add(tally, part_of(given.value, given.null, k)),
         Form::Nulls
         | Form::Bits
         | Form::Numbers { .. }
