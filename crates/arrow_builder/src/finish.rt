@@ -1,6 +1,6 @@
 //! Arrays out of the buffers of nodes.
 
-ghost use Rattle.std.specs.Prelude.{◌≡◌, ◌≤◌, ◌++◌, IfOk, map, length};
+ghost use Rattle.std.specs.Prelude.{◌≡◌, ◌≤◌, IfOk, map, length};
 ghost use Rattle.std.specs.List.{AllByRecursion};
 ghost use Rattle.arrow_data.specs.Column.{counts_of};
 ghost use Rattle.arrow_data.specs.Form.{node_form};

@@ -96,7 +96,7 @@ pub(crate) fn put_leaf(
         (value_slot form (buffers_in buffers.new) children)) }
 {
     match form {
-        // The slots of a form with children are put with those of its children.
+        // Nulls have no buffers, and lists and structs are no leaves.
         Form::Nulls | Form::Lists(_) | Form::Structs => Ok(()),
         Form::Bits => put_bool(buffers, at, truth_in(value)),
         Form::Numbers { bits, .. } => {
