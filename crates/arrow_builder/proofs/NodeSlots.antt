@@ -14,7 +14,7 @@ use Rattle.arrow_builder.specs.Fields.{FitsField, field_form}
 use Rattle.arrow_builder.specs.Kept.{CountsItems, Keeps}
 use Rattle.arrow_builder.specs.Nodes.{IsNode, built_of, slot_in}
 use Rattle.arrow_builder.specs.Puts.{PutsSlot, StaySlots}
-use Rattle.arrow_builder.specs.declared.leaf.Buffers.{Buffers}
+use Rattle.arrow_builder.specs.declared.slots.Buffers.{Buffers}
 use Rattle.arrow_builder.specs.declared.node.Node.TheInside.{Inside}
 use Rattle.arrow_builder.proofs.Growing.{all_push, all_take, keeps_fewer, slots_put, slots_stay, take_slots}
 use Rattle.arrow_builder.proofs.Held.{counted_leaf, counted_take, held_leaf, held_take}

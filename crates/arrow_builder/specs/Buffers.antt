@@ -2,7 +2,7 @@
 use Rattle.std.specs.Prelude.{ℕ, List, [], ◌∷◌, ⊤}
 use Rattle.arrow_data.specs.declared.form.Form.{Form}
 use Rattle.arrow_data.specs.declared.form.Form.TheVariants as forms
-use Rattle.arrow_builder.specs.declared.leaf.Buffers.{Buffers}
+use Rattle.arrow_builder.specs.declared.slots.Buffers.{Buffers}
 
 -- the bytes of each buffer, in the order of the format; behind them those that the form does not have, which are empty
 abbrev pub buffers_in : Buffers → List (List ℕ)

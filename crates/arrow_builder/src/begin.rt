@@ -7,8 +7,8 @@ ghost use Rattle.arrow_builder.specs.Kept.{Keeps, KeepsRanges};
 ghost use Rattle.arrow_types.specs.Schema.{field_is_nested, is_nested};
 ghost use Rattle.arrow_types.specs.View.{field_view, fields_view};
 
-use crate::leaf::Buffers;
 use crate::node::Node;
+use crate::slots::Buffers;
 use arrow_data::form::{Form, OffsetWidth, form_of, node_form};
 use arrow_types::Field;
 use std::alloc::{AllocError, Global};

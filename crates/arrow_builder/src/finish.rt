@@ -1,6 +1,6 @@
 //! Arrays out of the buffers of nodes.
 
-ghost use Rattle.std.specs.Prelude.{◌≡◌, ◌≤◌, ◌++◌, IfOk, map, length};
+ghost use Rattle.std.specs.Prelude.{◌≡◌, ◌≤◌, IfOk, map, length};
 ghost use Rattle.std.specs.List.{AllByRecursion};
 ghost use Rattle.arrow_data.specs.Column.{counts_of};
 ghost use Rattle.arrow_data.specs.Form.{node_form};
@@ -14,8 +14,8 @@ ghost use Rattle.arrow_builder.specs.Kept.{Keeps};
 ghost use Rattle.arrow_types.specs.View.{type_view};
 
 use crate::dictionaries::dictionary_for;
-use crate::leaf::Buffers;
 use crate::node::Node;
+use crate::slots::Buffers;
 use arrow_data::{Array, ByteRange, ChildData, Dictionary, NodeBuffers};
 use arrow_types::Field;
 use bytes::Bytes;
@@ -37,7 +37,15 @@ pub(crate) fn finish(
 {
     let children = finish_all(alloc, &node.children, node.shown(len), dictionaries)?;
     let dictionary = dictionary_for(alloc, node.field.dictionary, dictionaries)?;
-    array_of(alloc, &node.field, len, &node.buffers, children, dictionary)
+    let slots = FirstSlots {
+        len,
+        buffers: &node.buffers,
+    };
+    let below = ChildData {
+        children,
+        dictionary,
+    };
+    array_of(alloc, &node.field, slots, below)
 }
 
 // The arrays of the first `len` slots of the columns.
@@ -61,38 +69,40 @@ fn finish_all(
     Ok(arrays)
 }
 
-/// The array of the first `len` slots of a node, out of copies of its buffers, the arrays of its
-/// children and, where it is dictionary-encoded, the dictionary.
-pub(crate) fn array_of(
+// The first slots of a node, of which its buffers may hold more.
+#[derive(Clone, Copy)]
+struct FirstSlots<'a> {
+    len: usize,
+    buffers: &'a Buffers,
+}
+
+// The array of the first slots of a node, out of copies of its buffers, the arrays of its children
+// and, where it is dictionary-encoded, the dictionary.
+fn array_of(
     alloc: Global,
     field: &Field,
-    len: usize,
-    buffers: &Buffers,
-    children: Vec<Array>,
-    dictionary: Option<Dictionary>,
+    slots: FirstSlots<'_>,
+    below: ChildData,
 ) -> Result<Array, AllocError>
-    requires few { len ≤ 2147483647 }
+    requires few { slots.len ≤ 2147483647 }
     requires children { AreChildren (type_view field.now.data_type) field.now.dictionary
-        children.items }
-    requires dictionary { IsOfType (type_view field.now.data_type) dictionary }
+        below.children.items }
+    requires dictionary { IsOfType (type_view field.now.data_type) below.dictionary }
     requires kept { Keeps (node_form (type_view field.now.data_type).tag field.now.dictionary)
-        len (buffers_in buffers.now) (counts_of children.items) }
+        slots.len (buffers_in slots.buffers.now) (counts_of below.children.items) }
     requires text { IsText (type_view field.now.data_type).tag field.now.dictionary
-        len (buffers_in buffers.now) }
+        slots.len (buffers_in slots.buffers.now) }
     requires index { IsIndexed field.now.dictionary
-        len (buffers_in buffers.now) (values_in dictionary) }
+        slots.len (buffers_in slots.buffers.now) (values_in below.dictionary) }
     ensures { IfOk result (λ a. a ≡ node_column (type_view field.now.data_type)
-        field.now.dictionary len (buffers_in buffers.now) children.items (values_in dictionary)) }
+        field.now.dictionary slots.entry.len (buffers_in slots.entry.buffers.now)
+        below.children.items (values_in below.dictionary)) }
 {
-    let (body, ranges) = body_of(alloc, buffers)?;
+    let (body, ranges) = body_of(alloc, slots.buffers)?;
     let buffers = NodeBuffers {
-        len,
+        len: slots.len,
         body: &body,
         ranges: &ranges,
-    };
-    let below = ChildData {
-        children,
-        dictionary,
     };
     Array::from_parts(alloc, field, buffers, below)
 }
@@ -123,8 +133,5 @@ fn range(start: usize, end: usize) -> ByteRange
 fn shared(body: Vec<u8>) -> Result<Bytes, AllocError>
     ensures { IfOk result (λ b. b ≡ body.items) }
 {
-    match Bytes::from_vec(body) {
-        Ok(body) => Ok(body),
-        Err(_) => Err(AllocError),
-    }
+    Bytes::from_vec(body).map_err(|_| AllocError)
 }

@@ -1,11 +1,10 @@
 //! Whether a value fits a column.
 
-ghost use Rattle.std.specs.Prelude.{◌≡◌, ◌↔◌, IsTrue};
+ghost use Rattle.std.specs.Prelude.{◌↔◌, IsTrue};
 ghost use Rattle.arrow_data.specs.Fits.{HoldsBinary, HoldsInt, HoldsUtf8, ItemsFit, PartsFit};
-ghost use Rattle.arrow_data.specs.Form.{IsLists, number_width};
+ghost use Rattle.arrow_data.specs.Form.{number_width};
 ghost use Rattle.arrow_data.specs.PlainValue.{values_of};
 ghost use Rattle.arrow_data.specs.Value.{value_view, values_view};
-ghost use Rattle.arrow_data.specs.declared.form.Form.TheVariants as forms;
 ghost use Rattle.arrow_bits.specs.Numbers.{FitsInt};
 ghost use Rattle.arrow_builder.specs.Fields.{FitsField};
 ghost use Rattle.arrow_types.specs.View.{field_view, fields_view};
@@ -25,12 +24,16 @@ pub(crate) fn fits(value: &Value, field: &Field) -> bool
     let form = node_form(&field.data_type, field.dictionary);
     match value {
         Value::Null => true,
-        Value::Bool(_) => is_bits(form),
+        Value::Bool(_) => matches!(form, Form::Bits),
         Value::Int(number) => holds_int(form, *number),
         Value::Bytes(bytes) => holds_binary(form, bytes),
         Value::Text(text) => holds_text(form, text),
-        Value::List(items) => is_lists(form) && items_fit(items, field.children()),
-        Value::Struct(parts) => is_structs(form) && parts_fit(parts, field.children()),
+        Value::List(items) => {
+            matches!(form, Form::Lists(_)) && items_fit(items, field.children())
+        }
+        Value::Struct(parts) => {
+            matches!(form, Form::Structs) && parts_fit(parts, field.children())
+        }
     }
 }
 
@@ -65,68 +68,14 @@ fn parts_fit(parts: &[Value], fields: &[Field]) -> bool
     true
 }
 
-// Whether slots are truth values.
-fn is_bits(form: Form) -> bool
-    ensures { IsTrue result ↔ (form ≡ forms.Bits) }
-{
-    match form {
-        Form::Bits => true,
-        Form::Nulls
-        | Form::Numbers { .. }
-        | Form::Bytes(_)
-        | Form::Texts(_)
-        | Form::FixedBytes(_)
-        | Form::Lists(_)
-        | Form::Structs => false,
-    }
-}
-
-// Whether slots are lists.
-fn is_lists(form: Form) -> bool
-    ensures { IsTrue result ↔ IsLists form }
-{
-    match form {
-        Form::Lists(_) => true,
-        Form::Nulls
-        | Form::Bits
-        | Form::Numbers { .. }
-        | Form::Bytes(_)
-        | Form::Texts(_)
-        | Form::FixedBytes(_)
-        | Form::Structs => false,
-    }
-}
-
-// Whether slots are structs.
-fn is_structs(form: Form) -> bool
-    ensures { IsTrue result ↔ (form ≡ forms.Structs) }
-{
-    match form {
-        Form::Structs => true,
-        Form::Nulls
-        | Form::Bits
-        | Form::Numbers { .. }
-        | Form::Bytes(_)
-        | Form::Texts(_)
-        | Form::FixedBytes(_)
-        | Form::Lists(_) => false,
-    }
-}
-
 // Whether slots of the form hold the number.
 fn holds_int(form: Form, number: i128) -> bool
     ensures { IsTrue result ↔ HoldsInt form number }
 {
-    match form {
-        Form::Numbers { bits, signed } => is_in_range(bits, signed, number),
-        Form::Nulls
-        | Form::Bits
-        | Form::Bytes(_)
-        | Form::Texts(_)
-        | Form::FixedBytes(_)
-        | Form::Lists(_)
-        | Form::Structs => false,
-    }
+    let Form::Numbers { bits, signed } = form else {
+        return false;
+    };
+    is_in_range(bits, signed, number)
 }
 
 // Whether the number lies in the range of the width and the sign.
@@ -166,14 +115,5 @@ fn holds_text(form: Form, text: &String) -> bool
     ensures { IsTrue result ↔ HoldsUtf8 form (string_bytes text.now) }
 {
     text.as_str();
-    match form {
-        Form::Texts(_) => true,
-        Form::Nulls
-        | Form::Bits
-        | Form::Numbers { .. }
-        | Form::Bytes(_)
-        | Form::FixedBytes(_)
-        | Form::Lists(_)
-        | Form::Structs => false,
-    }
+    matches!(form, Form::Texts(_))
 }

@@ -10,20 +10,10 @@ ghost use Rattle.arrow_builder.specs.Kept.{Keeps};
 ghost use Rattle.arrow_builder.specs.Puts.{PutsSlot, StaySlots};
 ghost use Rattle.arrow_types.specs.Field.{none};
 
-use crate::slots::{put_bool, put_bytes, put_fixed, put_number};
+use crate::slots::{Buffers, put_bool, put_bytes, put_fixed, put_number};
 use arrow_data::Value;
 use arrow_data::form::{Form, number_width};
 use std::alloc::AllocError;
-
-/// The buffers of a node, in the order of the format (Columnar Format, "Buffer Listing for Each
-/// Layout"): the validity bitmap; the numbers, the truth values, the byte strings of a fixed width,
-/// or the offsets; and what offsets of byte strings lead into.
-#[derive(Drop)]
-pub(crate) struct Buffers {
-    pub(crate) validity: Vec<u8>,
-    pub(crate) values: Vec<u8>,
-    pub(crate) bytes: Vec<u8>,
-}
 
 // The truth value, if it is one.
 fn truth_in(value: &Value) -> Option<bool>
@@ -105,20 +95,15 @@ pub(crate) fn put_leaf(
         (value_slot form (buffers_in buffers.old) children)
         (value_slot form (buffers_in buffers.new) children)) }
 {
-    let validity = &mut buffers.validity;
-    let values = &mut buffers.values;
-    let bytes = &mut buffers.bytes;
     match form {
-        Form::Nulls => Ok(()),
-        Form::Bits => put_bool(validity, values, at, truth_in(value)),
+        // Nulls have no buffers, and lists and structs are no leaves.
+        Form::Nulls | Form::Lists(_) | Form::Structs => Ok(()),
+        Form::Bits => put_bool(buffers, at, truth_in(value)),
         Form::Numbers { bits, .. } => {
-            put_number(validity, values, number_width(bits), at, number_in(value))
+            put_number(buffers, number_width(bits), at, number_in(value))
         }
-        Form::FixedBytes(width) => {
-            put_fixed(validity, values, width as usize, at, binary_in(value))
-        }
-        Form::Bytes(width) => put_bytes(validity, values, bytes, width, at, binary_in(value)),
-        Form::Texts(width) => put_bytes(validity, values, bytes, width, at, text_in(value)),
-        Form::Lists(_) | Form::Structs => unreachable!(),
+        Form::FixedBytes(width) => put_fixed(buffers, width as usize, at, binary_in(value)),
+        Form::Bytes(width) => put_bytes(buffers, width, at, binary_in(value)),
+        Form::Texts(width) => put_bytes(buffers, width, at, text_in(value)),
     }
 }

@@ -13,8 +13,8 @@ ghost use Rattle.arrow_builder.specs.Columns.{child_column};
 ghost use Rattle.arrow_builder.specs.Fields.{FitsField, field_form};
 
 use crate::bits::put_bit;
-use crate::leaf::{Buffers, put_leaf};
-use crate::slots::{place_at, put_range};
+use crate::leaf::put_leaf;
+use crate::slots::{Buffers, SlotEnd, place_at, put_range};
 use arrow_data::Value;
 use arrow_data::form::{Form, OffsetWidth, node_form};
 use arrow_types::Field;
@@ -150,16 +150,11 @@ fn push_list(node: &mut Node, width: OffsetWidth, value: &Value) -> Result<(), A
     let start = place_at(width, &node.buffers.values, len);
     push_items(&mut node.children[0], start, items_in(value))?;
     let end = node.children[0].len();
-    let buffers = &mut node.buffers;
-    let offsets = &mut buffers.values;
-    put_range(
-        &mut buffers.validity,
-        offsets,
-        width,
-        len,
+    let slot = SlotEnd {
         end,
-        !is_null(value),
-    )?;
+        valid: !is_null(value),
+    };
+    put_range(&mut node.buffers, width, len, slot)?;
     node.len = len + 1;
     Ok(())
 }

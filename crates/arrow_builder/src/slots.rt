@@ -21,51 +21,63 @@ use arrow_bits::{int_at, put_int};
 use arrow_data::form::OffsetWidth;
 use std::alloc::AllocError;
 
+/// The buffers of a node, in the order of the format (Columnar Format, "Buffer Listing for Each
+/// Layout"): the validity bitmap; the numbers, the truth values, the byte strings of a fixed width,
+/// or the offsets; and what offsets of byte strings lead into.
+#[derive(Drop)]
+pub(crate) struct Buffers {
+    pub(crate) validity: Vec<u8>,
+    pub(crate) values: Vec<u8>,
+    pub(crate) bytes: Vec<u8>,
+}
+
 /// Puts a truth value, or null, into slot `at`.
 pub(crate) fn put_bool(
-    validity: &mut Vec<u8>,
-    values: &mut Vec<u8>,
+    buffers: &mut Buffers,
     at: usize,
     truth: Option<bool>,
 ) -> Result<(), AllocError>
-    requires { KeepsBools at validity.old.items values.old.items }
-    ensures kept { OnOk result (KeepsBools (at + 1) validity.new.items values.new.items) }
+    requires { KeepsBools at buffers.old.validity.items buffers.old.values.items }
+    ensures kept { OnOk result
+        (KeepsBools (at + 1) buffers.new.validity.items buffers.new.values.items) }
     ensures put { OnOk result (PutsSlot at (value_or_null bool_value truth)
-        (bool_slot validity.old.items values.old.items)
-        (bool_slot validity.new.items values.new.items)) }
-    ensures held { OnErr result (KeepsBools at validity.new.items values.new.items) }
+        (bool_slot buffers.old.validity.items buffers.old.values.items)
+        (bool_slot buffers.new.validity.items buffers.new.values.items)) }
+    ensures held { OnErr result
+        (KeepsBools at buffers.new.validity.items buffers.new.values.items) }
     ensures stay { OnErr result (StaySlots at
-        (bool_slot validity.old.items values.old.items)
-        (bool_slot validity.new.items values.new.items)) }
+        (bool_slot buffers.old.validity.items buffers.old.values.items)
+        (bool_slot buffers.new.validity.items buffers.new.values.items)) }
 {
-    put_bit(values, at, truth.unwrap_or(false))?;
-    put_bit(validity, at, truth.is_some())
+    put_bit(&mut buffers.values, at, truth.unwrap_or(false))?;
+    put_bit(&mut buffers.validity, at, truth.is_some())
 }
 
 /// Puts a number of this width, or null, into slot `at`.
 pub(crate) fn put_number(
-    validity: &mut Vec<u8>,
-    values: &mut Vec<u8>,
+    buffers: &mut Buffers,
     width: usize,
     at: usize,
     number: Option<i128>,
 ) -> Result<(), AllocError>
     requires width { IsWidth width }
     requires fits { IfSome number (FitsWidth width) }
-    requires kept { KeepsFixed at width validity.old.items values.old.items }
-    ensures kept { OnOk result (KeepsFixed (at + 1) width validity.new.items values.new.items) }
+    requires kept { KeepsFixed at width buffers.old.validity.items buffers.old.values.items }
+    ensures kept { OnOk result
+        (KeepsFixed (at + 1) width buffers.new.validity.items buffers.new.values.items) }
     ensures put { OnOk result ((signed : Bool) → IfSome number (FitsInt width signed)
         → PutsSlot at (value_or_null int_value number)
-        (int_slot width signed validity.old.items values.old.items)
-        (int_slot width signed validity.new.items values.new.items)) }
-    ensures held { OnErr result (KeepsFixed at width validity.new.items values.new.items) }
+        (int_slot width signed buffers.old.validity.items buffers.old.values.items)
+        (int_slot width signed buffers.new.validity.items buffers.new.values.items)) }
+    ensures held { OnErr result
+        (KeepsFixed at width buffers.new.validity.items buffers.new.values.items) }
     ensures stay { OnErr result ((signed : Bool) → StaySlots at
-        (int_slot width signed validity.old.items values.old.items)
-        (int_slot width signed validity.new.items values.new.items)) }
+        (int_slot width signed buffers.old.validity.items buffers.old.values.items)
+        (int_slot width signed buffers.new.validity.items buffers.new.values.items)) }
 {
-    values.truncate(width * at);
-    put_int(values, width, stored_number(width, number))?;
-    put_bit(validity, at, number.is_some())
+    buffers.values.truncate(width * at);
+    put_int(&mut buffers.values, width, stored_number(width, number))?;
+    put_bit(&mut buffers.validity, at, number.is_some())
 }
 
 // The number that is stored in the slot of a number or of null.
@@ -83,26 +95,27 @@ fn stored_number(width: usize, number: Option<i128>) -> i128
 
 /// Puts a byte string of this width, or null, into slot `at`.
 pub(crate) fn put_fixed(
-    validity: &mut Vec<u8>,
-    values: &mut Vec<u8>,
+    buffers: &mut Buffers,
     width: usize,
     at: usize,
     bytes: Option<&[u8]>,
 ) -> Result<(), AllocError>
     requires fits { IfSome bytes (λ b. length b.now ≡ width) }
-    requires kept { KeepsFixed at width validity.old.items values.old.items }
-    ensures kept { OnOk result (KeepsFixed (at + 1) width validity.new.items values.new.items) }
+    requires kept { KeepsFixed at width buffers.old.validity.items buffers.old.values.items }
+    ensures kept { OnOk result
+        (KeepsFixed (at + 1) width buffers.new.validity.items buffers.new.values.items) }
     ensures put { OnOk result (PutsSlot at (value_or_null (λ b. binary_value b.now) bytes.entry)
-        (fixed_slot width validity.old.items values.old.items)
-        (fixed_slot width validity.new.items values.new.items)) }
-    ensures held { OnErr result (KeepsFixed at width validity.new.items values.new.items) }
+        (fixed_slot width buffers.old.validity.items buffers.old.values.items)
+        (fixed_slot width buffers.new.validity.items buffers.new.values.items)) }
+    ensures held { OnErr result
+        (KeepsFixed at width buffers.new.validity.items buffers.new.values.items) }
     ensures stay { OnErr result (StaySlots at
-        (fixed_slot width validity.old.items values.old.items)
-        (fixed_slot width validity.new.items values.new.items)) }
+        (fixed_slot width buffers.old.validity.items buffers.old.values.items)
+        (fixed_slot width buffers.new.validity.items buffers.new.values.items)) }
 {
-    values.truncate(width * at);
-    append_fixed(values, width, bytes)?;
-    put_bit(validity, at, bytes.is_some())
+    buffers.values.truncate(width * at);
+    append_fixed(&mut buffers.values, width, bytes)?;
+    put_bit(&mut buffers.validity, at, bytes.is_some())
 }
 
 // Appends the bytes of a slot, zeros for null.
@@ -147,58 +160,76 @@ fn is_offset(width: OffsetWidth, place: usize) -> bool
     }
 }
 
-/// Puts a range, which ends at this offset, into slot `at`, as valid or as null.
+/// Where the range of a slot ends, and whether the slot is valid. The range begins where that of the
+/// slot before ends.
+#[derive(Clone, Copy)]
+pub(crate) struct SlotEnd {
+    pub(crate) end: usize,
+    pub(crate) valid: bool,
+}
+
+/// Puts a range into slot `at`. The bytes that ranges lead into stay.
 pub(crate) fn put_range(
-    validity: &mut Vec<u8>,
-    offsets: &mut Vec<u8>,
+    buffers: &mut Buffers,
     width: OffsetWidth,
     at: usize,
-    end: usize,
-    valid: bool,
+    slot: SlotEnd,
 ) -> Result<(), AllocError>
-    requires kept { KeepsRanges width at validity.old.items offsets.old.items }
-    requires order { place_of width offsets.old.items at ≤ end }
-    ensures kept { OnOk result (KeepsRanges width (at + 1) validity.new.items offsets.new.items) }
-    ensures end { OnOk result (place_of width offsets.new.items (at + 1) ≡ end) }
-    ensures places { StayPlaces width at offsets.old.items offsets.new.items }
-    ensures valid { OnOk result (PutsValid at valid validity.old.items validity.new.items) }
-    ensures held { OnErr result (KeepsRanges width at validity.new.items offsets.new.items) }
-    ensures same { OnErr result (validity.new.items ≡ validity.old.items) }
+    requires kept { KeepsRanges width at buffers.old.validity.items buffers.old.values.items }
+    requires order { place_of width buffers.old.values.items at ≤ slot.end }
+    ensures kept { OnOk result
+        (KeepsRanges width (at + 1) buffers.new.validity.items buffers.new.values.items) }
+    ensures end { OnOk result (place_of width buffers.new.values.items (at + 1) ≡ slot.end) }
+    ensures places { StayPlaces width at buffers.old.values.items buffers.new.values.items }
+    ensures valid { OnOk result
+        (PutsValid at slot.valid buffers.old.validity.items buffers.new.validity.items) }
+    ensures held { OnErr result
+        (KeepsRanges width at buffers.new.validity.items buffers.new.values.items) }
+    ensures same { OnErr result (buffers.new.validity.items ≡ buffers.old.validity.items) }
+    ensures bytes { buffers.new.bytes.items ≡ buffers.old.bytes.items }
 {
-    if !is_offset(width, end) {
+    if !is_offset(width, slot.end) {
         return Err(AllocError);
     }
-    offsets.truncate(width.bytes() * (at + 1));
-    put_int(offsets, width.bytes(), end as i128)?;
-    put_bit(validity, at, valid)
+    let bytes = width.bytes();
+    buffers.values.truncate(bytes * (at + 1));
+    put_int(&mut buffers.values, bytes, slot.end as i128)?;
+    put_bit(&mut buffers.validity, at, slot.valid)
 }
 
 /// Puts a byte string, or null, into slot `at`.
 pub(crate) fn put_bytes(
-    validity: &mut Vec<u8>,
-    offsets: &mut Vec<u8>,
-    bytes: &mut Vec<u8>,
+    buffers: &mut Buffers,
     width: OffsetWidth,
     at: usize,
     part: Option<&[u8]>,
 ) -> Result<(), AllocError>
-    requires kept { KeepsParts width at (length bytes.old.items)
-        validity.old.items offsets.old.items }
-    ensures kept { OnOk result (KeepsParts width (at + 1) (length bytes.new.items)
-        validity.new.items offsets.new.items) }
+    requires kept { KeepsParts width at (length buffers.old.bytes.items)
+        buffers.old.validity.items buffers.old.values.items }
+    ensures kept { OnOk result (KeepsParts width (at + 1) (length buffers.new.bytes.items)
+        buffers.new.validity.items buffers.new.values.items) }
     ensures put { OnOk result ((value : List ℕ → PlainValue)
         → PutsSlot at (value_or_null (λ b. value b.now) part.entry)
-        (part_slot value width validity.old.items offsets.old.items bytes.old.items)
-        (part_slot value width validity.new.items offsets.new.items bytes.new.items)) }
-    ensures held { OnErr result (KeepsParts width at (length bytes.new.items)
-        validity.new.items offsets.new.items) }
+        (part_slot value width buffers.old.validity.items buffers.old.values.items
+        buffers.old.bytes.items)
+        (part_slot value width buffers.new.validity.items buffers.new.values.items
+        buffers.new.bytes.items)) }
+    ensures held { OnErr result (KeepsParts width at (length buffers.new.bytes.items)
+        buffers.new.validity.items buffers.new.values.items) }
     ensures stay { OnErr result ((value : List ℕ → PlainValue) → StaySlots at
-        (part_slot value width validity.old.items offsets.old.items bytes.old.items)
-        (part_slot value width validity.new.items offsets.new.items bytes.new.items)) }
+        (part_slot value width buffers.old.validity.items buffers.old.values.items
+        buffers.old.bytes.items)
+        (part_slot value width buffers.new.validity.items buffers.new.values.items
+        buffers.new.bytes.items)) }
 {
-    bytes.truncate(place_at(width, offsets, at));
-    append_part(bytes, part)?;
-    put_range(validity, offsets, width, at, bytes.len(), part.is_some())
+    let start = place_at(width, &buffers.values, at);
+    buffers.bytes.truncate(start);
+    append_part(&mut buffers.bytes, part)?;
+    let slot = SlotEnd {
+        end: buffers.bytes.len(),
+        valid: part.is_some(),
+    };
+    put_range(buffers, width, at, slot)
 }
 
 // Appends the bytes, nothing for null.

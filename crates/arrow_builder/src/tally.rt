@@ -36,6 +36,14 @@ pub(crate) struct Tally {
     below: Vec<Tally>,
 }
 
+// A value in a column of the form, and null, which stands for the parts that it does not have.
+#[derive(Clone, Copy)]
+struct Given<'a> {
+    form: Form,
+    value: &'a Value,
+    null: &'a Value,
+}
+
 // The most bytes of data of a column, where its offsets set no lower limit.
 const MOST_BYTES: u64 = 1_099_511_627_776;
 
@@ -100,17 +108,23 @@ pub(crate) fn add(tally: &mut Tally, value: &Value) -> bool
     };
     tally.next = total;
     let null = null();
-    add_below(&mut tally.below, tally.form, value, &null)
+    let given = Given {
+        form: tally.form,
+        value,
+        null: &null,
+    };
+    add_below(&mut tally.below, given)
 }
 
-// Counts what the value gives to each child of a column of the form.
+// Counts what the value gives to each child of its column.
 #[cycle(add)]
-fn add_below(tallies: &mut [Tally], form: Form, value: &Value, null: &Value) -> bool
-    requires { value_view null.now ≡ null_value }
-    ensures { AddsBelow form (value_view value.now) tallies.old tallies.new result }
+fn add_below(tallies: &mut [Tally], given: Given<'_>) -> bool
+    requires { value_view given.null.now ≡ null_value }
+    ensures { AddsBelow given.entry.form (value_view given.entry.value.now)
+        tallies.old tallies.new result }
 {
     for k in 0..tallies.len() {
-        if !add_child(&mut tallies[k], form, k, value, null) {
+        if !add_child(&mut tallies[k], k, given) {
             return false;
         }
     }
@@ -119,13 +133,14 @@ fn add_below(tallies: &mut [Tally], form: Form, value: &Value, null: &Value) -> 
 
 // Counts what the value gives to child `k`: a list its items, a struct its part.
 #[cycle(add)]
-fn add_child(tally: &mut Tally, form: Form, k: usize, value: &Value, null: &Value) -> bool
-    requires { value_view null.now ≡ null_value }
-    ensures { Adds (child_column form k (value_view value.now ∷ [])) tally.old tally.new result }
+fn add_child(tally: &mut Tally, k: usize, given: Given<'_>) -> bool
+    requires { value_view given.null.now ≡ null_value }
+    ensures { Adds (child_column given.entry.form k (value_view given.entry.value.now ∷ []))
+        tally.old tally.new result }
 {
-    match form {
-        Form::Lists(_) => add_all(tally, items_in(value)),
-        Form::Structs => add(tally, part_of(value, null, k)),
+    match given.form {
+        Form::Lists(_) => add_all(tally, items_in(given.value)),
+        Form::Structs => add(tally, part_of(given.value, given.null, k)),
         Form::Nulls
         | Form::Bits
         | Form::Numbers { .. }
@@ -153,28 +168,30 @@ fn grown(total: Total, form: Form, value: &Value) -> Option<Total>
     ensures { Grows form (value_view value.now) total result }
 {
     let slots = total.slots.checked_add(1)?;
-    let bytes = total.bytes.checked_add(slot_bytes(form, value))?;
-    if !is_short(form, slots, bytes) {
+    let (more, most) = bytes_and_most(form, value);
+    let bytes = total.bytes.checked_add(more)?;
+    if !is_short(slots, bytes, most) {
         return None;
     }
     Some(Total { slots, bytes })
 }
 
-// Whether a column of the form may have so many slots and bytes of data.
-fn is_short(form: Form, slots: usize, bytes: u64) -> bool
-    ensures { IsTrue result ↔ (slots ≤ 2147483647) × (bytes ≤ most_bytes form) }
+// Whether a column may have so many slots, and so many bytes of data where it has at most `most`.
+fn is_short(slots: usize, bytes: u64, most: u64) -> bool
+    ensures { IsTrue result ↔ (slots ≤ 2147483647) × (bytes ≤ most) }
 {
-    slots <= MOST_SLOTS && bytes <= most_bytes(form)
+    slots <= MOST_SLOTS && bytes <= most
 }
 
-// How many bytes of data the value takes in a column of the form.
-fn slot_bytes(form: Form, value: &Value) -> u64
-    ensures { result ≡ slot_bytes form (value_view value.now) }
+// How many bytes of data the value takes in a column of the form, and the most of the column.
+fn bytes_and_most(form: Form, value: &Value) -> (u64, u64)
+    ensures slot { result.0 ≡ slot_bytes form (value_view value.now) }
+    ensures most { result.1 ≡ most_bytes form }
 {
     match form {
-        Form::Bytes(_) | Form::Texts(_) => value_bytes(value),
-        Form::FixedBytes(width) => u64::from(width),
-        Form::Nulls | Form::Bits | Form::Numbers { .. } | Form::Lists(_) | Form::Structs => 0,
+        Form::Bytes(width) | Form::Texts(width) => (value_bytes(value), most_behind(width)),
+        Form::FixedBytes(width) => (u64::from(width), MOST_BYTES),
+        Form::Nulls | Form::Bits | Form::Numbers { .. } | Form::Lists(_) | Form::Structs => (0, 0),
     }
 }
 
@@ -186,17 +203,6 @@ fn value_bytes(value: &Value) -> u64
         Value::Bytes(bytes) => bytes.len() as u64,
         Value::Text(text) => text.len() as u64,
         Value::Null | Value::Bool(_) | Value::Int(_) | Value::List(_) | Value::Struct(_) => 0,
-    }
-}
-
-// The most bytes of data of a column of the form.
-fn most_bytes(form: Form) -> u64
-    ensures { result ≡ most_bytes form }
-{
-    match form {
-        Form::Bytes(width) | Form::Texts(width) => most_behind(width),
-        Form::FixedBytes(_) => MOST_BYTES,
-        Form::Nulls | Form::Bits | Form::Numbers { .. } | Form::Lists(_) | Form::Structs => 0,
     }
 }
 

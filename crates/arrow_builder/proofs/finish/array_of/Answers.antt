@@ -11,5 +11,5 @@ pub from_parts-requires-clause-layout : goal.from_parts-requires-clause-layout
 from_parts-requires-clause-layout c =
     let t = type_view c.args.field.now.data_type in
     let e = c.args.field.now.dictionary in
-    let counts = counts_of c.args.children.items in
-    subst (λ b. IsLaid t.tag e c.args.len b counts) (sym c.in_ok-body.ensures.same) (keeps_holds (node_form t.tag e) c.args.len (buffers_in c.args.buffers.now) counts c.requires.kept)
+    let counts = counts_of c.args.below.children.items in
+    subst (λ b. IsLaid t.tag e c.args.slots.len b counts) (sym c.in_ok-body.ensures.same) (keeps_holds (node_form t.tag e) c.args.slots.len (buffers_in c.args.slots.buffers.now) counts c.requires.kept)

@@ -1,4 +1,3 @@
-use Rattle.std.proofs.Common.{[], ◌∷◌}
 use Rattle.arrow_data.specs.Value.{value_view}
 use Rattle.arrow_builder.specs.Buffers.{buffers_in}
 use Rattle.arrow_builder.proofs.Putting.{err_gives, ok_gives}
@@ -7,7 +6,7 @@ use Rattle.arrow_builder.proofs.leaf.put_leaf.Goals as goal
 
 pub returns-in-Numbers-clause-put : goal.returns-in-Numbers-clause-put
 returns-in-Numbers-clause-put c =
-    let b' = c.put_number.new.validity.items ∷ c.put_number.new.values.items ∷ c.args.buffers.now.bytes.items ∷ [] in
+    let b' = buffers_in c.put_number.new.buffers in
     ok_gives c.put_number.result
     (number_leaf c.args.form c.in-Numbers.bits c.in-Numbers.signed c.number_width.result (value_view c.args.value.now) c.number_in.result c.args.at (buffers_in c.args.buffers.now) b'
     c.in-Numbers.is c.number_width.ensures.same c.requires.fits c.number_in.ensures)
@@ -15,7 +14,7 @@ returns-in-Numbers-clause-put c =
 
 pub returns-in-Bytes-clause-put : goal.returns-in-Bytes-clause-put
 returns-in-Bytes-clause-put c =
-    let b' = c.put_bytes.new.validity.items ∷ c.put_bytes.new.offsets.items ∷ c.put_bytes.new.bytes.items ∷ [] in
+    let b' = buffers_in c.put_bytes.new.buffers in
     ok_gives c.put_bytes.result
     (binary_leaf (λ p. p.now) c.args.form c.in-Bytes.width (value_view c.args.value.now) c.binary_in-in-Bytes.result c.args.at (buffers_in c.args.buffers.now) b'
     c.in-Bytes.is c.requires.fits c.binary_in-in-Bytes.ensures)
@@ -23,12 +22,12 @@ returns-in-Bytes-clause-put c =
 
 pub returns-in-Bytes-clause-stay : goal.returns-in-Bytes-clause-stay
 returns-in-Bytes-clause-stay c =
-    let b' = c.put_bytes.new.validity.items ∷ c.put_bytes.new.offsets.items ∷ c.put_bytes.new.bytes.items ∷ [] in
+    let b' = buffers_in c.put_bytes.new.buffers in
     err_gives c.put_bytes.result (binary_stays c.args.form c.in-Bytes.width c.args.at (buffers_in c.args.buffers.now) b' c.in-Bytes.is) c.put_bytes.ensures.stay
 
 pub returns-in-Texts-clause-put : goal.returns-in-Texts-clause-put
 returns-in-Texts-clause-put c =
-    let b' = c.put_bytes-in-Texts.new.validity.items ∷ c.put_bytes-in-Texts.new.offsets.items ∷ c.put_bytes-in-Texts.new.bytes.items ∷ [] in
+    let b' = buffers_in c.put_bytes-in-Texts.new.buffers in
     ok_gives c.put_bytes-in-Texts.result
     (text_leaf (λ p. p.now) c.args.form c.in-Texts.width (value_view c.args.value.now) c.text_in.result c.args.at (buffers_in c.args.buffers.now) b'
     c.in-Texts.is c.requires.fits c.text_in.ensures)
@@ -36,5 +35,5 @@ returns-in-Texts-clause-put c =
 
 pub returns-in-Texts-clause-stay : goal.returns-in-Texts-clause-stay
 returns-in-Texts-clause-stay c =
-    let b' = c.put_bytes-in-Texts.new.validity.items ∷ c.put_bytes-in-Texts.new.offsets.items ∷ c.put_bytes-in-Texts.new.bytes.items ∷ [] in
+    let b' = buffers_in c.put_bytes-in-Texts.new.buffers in
     err_gives c.put_bytes-in-Texts.result (text_stays c.args.form c.in-Texts.width c.args.at (buffers_in c.args.buffers.now) b' c.in-Texts.is) c.put_bytes-in-Texts.ensures.stay

@@ -253,7 +253,7 @@ push_list-invariant_of-node-in_err-put_range t c =
     let start : c.place_at-start.result ≡ place_of c.args.width a.buffers.values.items a.len = grind (arith, common_steps) in
     let v = value_view c.args.value.now in
     let vs = values_view c.items_in.result.now in
-    let b = record a { buffers = record a.buffers { validity = c.put_range.new.validity; values = c.put_range.new.offsets }; children = with_item a.children 0 c.push_items.new.node } in
+    let b = record a { buffers = c.put_range.new.buffers; children = with_item a.children 0 c.push_items.new.node } in
     let only' : (with_item a.children 0 c.push_items.new.node).items ≡ c.push_items.new.node ∷ [] = ap (λ bs. set bs 0 c.push_items.new.node) o.only in
     let grown : c.push_items.new.node ≡ with_values (cut_to (place_of c.args.width a.buffers.values.items a.len) o.child) vs = c.in_ok-push_items.ensures.ok ∙ (λ i. with_values (cut_to (start i) (child i)) vs) in
     let cut = ap (cut_to (place_of c.args.width a.buffers.values.items a.len)) grown ∙ cut_more (place_of c.args.width a.buffers.values.items a.len) o.child vs kept.inside in
@@ -272,7 +272,7 @@ push_list-returns-in_err-put_range-clause-err t c =
     let start : c.place_at-start.result ≡ place_of c.args.width a.buffers.values.items a.len = grind (arith, common_steps) in
     let v = value_view c.args.value.now in
     let vs = values_view c.items_in.result.now in
-    let b = record a { buffers = record a.buffers { validity = c.put_range.new.validity; values = c.put_range.new.offsets }; children = with_item a.children 0 c.push_items.new.node } in
+    let b = record a { buffers = c.put_range.new.buffers; children = with_item a.children 0 c.push_items.new.node } in
     let only' : (with_item a.children 0 c.push_items.new.node).items ≡ c.push_items.new.node ∷ [] = ap (λ bs. set bs 0 c.push_items.new.node) o.only in
     let grown : c.push_items.new.node ≡ with_values (cut_to (place_of c.args.width a.buffers.values.items a.len) o.child) vs = c.in_ok-push_items.ensures.ok ∙ (λ i. with_values (cut_to (start i) (child i)) vs) in
     let cut = ap (cut_to (place_of c.args.width a.buffers.values.items a.len)) grown ∙ cut_more (place_of c.args.width a.buffers.values.items a.len) o.child vs kept.inside in
@@ -291,13 +291,13 @@ push_list-invariant_of-node-2 t c =
     let start : c.place_at-start.result ≡ place_of c.args.width a.buffers.values.items a.len = grind (arith, common_steps) in
     let v = value_view c.args.value.now in
     let vs = values_view c.items_in.result.now in
-    let b = record a { buffers = record a.buffers { validity = c.put_range.new.validity; values = c.put_range.new.offsets }; children = with_item a.children 0 c.push_items.new.node } in
+    let b = record a { buffers = c.put_range.new.buffers; children = with_item a.children 0 c.push_items.new.node } in
     let only' : (with_item a.children 0 c.push_items.new.node).items ≡ c.push_items.new.node ∷ [] = ap (λ bs. set bs 0 c.push_items.new.node) o.only in
     let grown : c.push_items.new.node ≡ with_values (cut_to (place_of c.args.width a.buffers.values.items a.len) o.child) vs = c.in_ok-push_items.ensures.ok ∙ (λ i. with_values (cut_to (start i) (child i)) vs) in
     let fit = subst (λ (b : Built). FitsField b.field v) (sym c.node.view_is) c.requires.fits in
     let few : a.len < 2147483647 = omega (arith, c.requires.few, node_len a c.args.node.now c.node.view_is) in
     let end : c.len-end.result ≡ length c.push_items.new.node.raw = grind (arith, common_steps) in
-    let valid = subst (λ x. PutsValid a.len (not x) a.buffers.validity.items c.put_range.new.validity.items) c.is_null.ensures c.in_ok-put_range.ensures.valid in
+    let valid = subst (λ x. PutsValid a.len (not x) a.buffers.validity.items c.put_range.new.buffers.validity.items) c.is_null.ensures c.in_ok-put_range.ensures.valid in
     let both = list_grows a b c.args.width o.child c.push_items.new.node v vs form o.only only' few c.node.invariant fit grown c.items_in.ensures c.in_ok-put_range.ensures.kept (c.in_ok-put_range.ensures.end ∙ end) valid c.in_ok-put_range.ensures.places in
     both.0
 
@@ -311,12 +311,12 @@ push_list-returns-clause-ok t c =
     let start : c.place_at-start.result ≡ place_of c.args.width a.buffers.values.items a.len = grind (arith, common_steps) in
     let v = value_view c.args.value.now in
     let vs = values_view c.items_in.result.now in
-    let b = record a { buffers = record a.buffers { validity = c.put_range.new.validity; values = c.put_range.new.offsets }; children = with_item a.children 0 c.push_items.new.node } in
+    let b = record a { buffers = c.put_range.new.buffers; children = with_item a.children 0 c.push_items.new.node } in
     let only' : (with_item a.children 0 c.push_items.new.node).items ≡ c.push_items.new.node ∷ [] = ap (λ bs. set bs 0 c.push_items.new.node) o.only in
     let grown : c.push_items.new.node ≡ with_values (cut_to (place_of c.args.width a.buffers.values.items a.len) o.child) vs = c.in_ok-push_items.ensures.ok ∙ (λ i. with_values (cut_to (start i) (child i)) vs) in
     let fit = subst (λ (b : Built). FitsField b.field v) (sym c.node.view_is) c.requires.fits in
     let few : a.len < 2147483647 = omega (arith, c.requires.few, node_len a c.args.node.now c.node.view_is) in
     let end : c.len-end.result ≡ length c.push_items.new.node.raw = grind (arith, common_steps) in
-    let valid = subst (λ x. PutsValid a.len (not x) a.buffers.validity.items c.put_range.new.validity.items) c.is_null.ensures c.in_ok-put_range.ensures.valid in
+    let valid = subst (λ x. PutsValid a.len (not x) a.buffers.validity.items c.put_range.new.buffers.validity.items) c.is_null.ensures c.in_ok-put_range.ensures.valid in
     let both = list_grows a b c.args.width o.child c.push_items.new.node v vs form o.only only' few c.node.invariant fit grown c.items_in.ensures c.in_ok-put_range.ensures.kept (c.in_ok-put_range.ensures.end ∙ end) valid c.in_ok-put_range.ensures.places in
     both.1 ∙ ap (λ (b : Built). with_value b v) c.node.view_is

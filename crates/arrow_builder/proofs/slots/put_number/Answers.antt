@@ -13,16 +13,16 @@ use Rattle.arrow_builder.proofs.slots.put_number.Goals as goal
 
 pub returns-in_err-put_int-clause-stay : goal.returns-in_err-put_int-clause-stay
 returns-in_err-put_int-clause-stay c =
-    let old = c.args.values.now.items in
+    let old = c.args.buffers.now.values.items in
     let n = c.args.width * c.args.at in
     let items : c.put_int.new.out.items ≡ take n old = grind (arith, common_steps) in
     let start : take n c.put_int.new.out.items ≡ take n old = ap (take n) items ∙ take-take n n old (omega arith) in
     after_err c.from_residual.result
-    (λ signed. numbers_stay c.args.at c.args.width signed c.args.validity.now.items c.args.validity.now.items old c.put_int.new.out.items (λ j h. refl) start)
+    (λ signed. numbers_stay c.args.at c.args.width signed c.args.buffers.now.validity.items c.args.buffers.now.validity.items old c.put_int.new.out.items (λ j h. refl) start)
 
 pub returns-clause-put : goal.returns-clause-put
 returns-clause-put c =
-    let old = c.args.values.now.items in
+    let old = c.args.buffers.now.values.items in
     let n = c.args.width * c.args.at in
     let cut : c.truncate.new.self.items ≡ take n old = grind (arith, common_steps) in
     let long : length (take n old) ≡ n = grind (arith, length-take, c.requires.kept.long) in
@@ -38,15 +38,15 @@ returns-clause-put c =
     place c.in_ok-put_int.ensures.reads) in
     let bit : c.is_some.result ≡ is_some c.args.number = grind (arith, common_steps) in
     ok_gives c.put_bit.result
-    (λ (puts : PutsBit c.args.at c.is_some.result c.args.validity.now.items c.put_bit.new.bytes.items). λ signed fits.
-    numbers_put c.args.at c.args.width signed c.args.number c.stored_number.result c.args.validity.now.items c.put_bit.new.bytes.items old
-    c.put_int.new.out.items c.requires.kept (subst (λ b. PutsBit c.args.at b c.args.validity.now.items c.put_bit.new.bytes.items) bit puts)
+    (λ (puts : PutsBit c.args.at c.is_some.result c.args.buffers.now.validity.items c.put_bit.new.bytes.items). λ signed fits.
+    numbers_put c.args.at c.args.width signed c.args.number c.stored_number.result c.args.buffers.now.validity.items c.put_bit.new.bytes.items old
+    c.put_int.new.out.items c.requires.kept (subst (λ b. PutsBit c.args.at b c.args.buffers.now.validity.items c.put_bit.new.bytes.items) bit puts)
     start reads c.stored_number.ensures.same fits)
     c.put_bit.ensures.ok
 
 pub returns-clause-stay : goal.returns-clause-stay
 returns-clause-stay c =
-    let old = c.args.values.now.items in
+    let old = c.args.buffers.now.values.items in
     let n = c.args.width * c.args.at in
     let cut : c.truncate.new.self.items ≡ take n old = grind (arith, common_steps) in
     let more = int_bytes c.args.width c.stored_number.result in
@@ -55,7 +55,7 @@ returns-clause-stay c =
     c.in_ok-put_int.ensures.bytes ∙ ap (λ xs. xs ++ int_bytes c.args.width (to_z w128 (of_z w128 c.stored_number.result))) cut ∙ ap (λ z. take n old ++ int_bytes c.args.width z) whole in
     let start : take n c.put_int.new.out.items ≡ take n old = ap (take n) items ∙ start_stays old more n c.requires.kept.long in
     err_gives c.put_bit.result
-    (λ (same : c.put_bit.new.bytes.items ≡ c.args.validity.now.items). λ signed.
-    numbers_stay c.args.at c.args.width signed c.args.validity.now.items c.put_bit.new.bytes.items old c.put_int.new.out.items
+    (λ (same : c.put_bit.new.bytes.items ≡ c.args.buffers.now.validity.items). λ signed.
+    numbers_stay c.args.at c.args.width signed c.args.buffers.now.validity.items c.put_bit.new.bytes.items old c.put_int.new.out.items
     (λ j h. ap (λ v. is_valid_at v j) same) start)
     c.put_bit.ensures.err

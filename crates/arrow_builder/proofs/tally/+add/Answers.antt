@@ -23,7 +23,7 @@ pub add_below-add_child-requires : goal.add_below-add_child-requires
 add_below-add_child-requires t c =
     let d = c.index-tallies-k.result in
     let k = c.loop-k.k in
-    let here = up_to_next (Gives c.args.form (value_view c.args.value.now) true) k 0 c.args.tallies.now c.loop-k.tallies d c.loop-k.invariant in
+    let here = up_to_next (Gives c.args.given.form (value_view c.args.given.value.now) true) k 0 c.args.tallies.now c.loop-k.tallies d c.loop-k.invariant in
     let inside : k < length c.args.tallies.now = omega (arith, c.loop-k-test.true) in
     (omega (arith, c.decreases, ap size-Tally here, at_most size-Tally c.args.tallies.now k d inside), c.requires)
 
@@ -31,32 +31,32 @@ pub add_below-loop-k-preserved : goal.add_below-loop-k-preserved
 add_below-loop-k-preserved t c =
     let d = c.index-tallies-k.result in
     let k = c.loop-k.k in
-    let v = value_view c.args.value.now in
+    let v = value_view c.args.given.value.now in
     let new = c.add_child.new.tally in
-    let here = up_to_next (Gives c.args.form v true) k 0 c.args.tallies.now c.loop-k.tallies d c.loop-k.invariant in
+    let here = up_to_next (Gives c.args.given.form v true) k 0 c.args.tallies.now c.loop-k.tallies d c.loop-k.invariant in
     let place : k ≡ 0 + k = omega arith in
     let more : suc k ≡ k + 1 = omega arith in
-    let given = subst (λ within. Gives c.args.form v within k (get_or c.loop-k.tallies k d) new) c.if-not-add_child.false c.add_child.ensures in
-    subst (λ n. UpTo (Gives c.args.form v true) n 0 c.args.tallies.now (set c.loop-k.tallies k new)) more
-    (up_to_more (Gives c.args.form v true) k 0 c.args.tallies.now c.loop-k.tallies d new c.loop-k.invariant (omega (arith, c.loop-k-test.true))
-    (subst (λ j. Gives c.args.form v true j (get_or c.args.tallies.now k d) new) place (subst (λ x. Gives c.args.form v true k x new) here given)))
+    let given = subst (λ within. Gives c.args.given.form v within k (get_or c.loop-k.tallies k d) new) c.if-not-add_child.false c.add_child.ensures in
+    subst (λ n. UpTo (Gives c.args.given.form v true) n 0 c.args.tallies.now (set c.loop-k.tallies k new)) more
+    (up_to_more (Gives c.args.given.form v true) k 0 c.args.tallies.now c.loop-k.tallies d new c.loop-k.invariant (omega (arith, c.loop-k-test.true))
+    (subst (λ j. Gives c.args.given.form v true j (get_or c.args.tallies.now k d) new) place (subst (λ x. Gives c.args.given.form v true k x new) here given)))
 
 pub add_below-returns-then-not-add_child : goal.add_below-returns-then-not-add_child
 add_below-returns-then-not-add_child t c =
     let d = c.index-tallies-k.result in
     let k = c.loop-k.k in
-    let v = value_view c.args.value.now in
+    let v = value_view c.args.given.value.now in
     let new = c.add_child.new.tally in
-    let here = up_to_next (Gives c.args.form v true) k 0 c.args.tallies.now c.loop-k.tallies d c.loop-k.invariant in
-    let given = subst (λ within. Gives c.args.form v within k (get_or c.loop-k.tallies k d) new) c.if-not-add_child.true c.add_child.ensures in
-    one_past c.args.form v k c.args.tallies.now c.loop-k.tallies d new c.loop-k.invariant (omega (arith, c.loop-k-test.true)) (subst (λ x. Gives c.args.form v false k x new) here given)
+    let here = up_to_next (Gives c.args.given.form v true) k 0 c.args.tallies.now c.loop-k.tallies d c.loop-k.invariant in
+    let given = subst (λ within. Gives c.args.given.form v within k (get_or c.loop-k.tallies k d) new) c.if-not-add_child.true c.add_child.ensures in
+    one_past c.args.given.form v k c.args.tallies.now c.loop-k.tallies d new c.loop-k.invariant (omega (arith, c.loop-k-test.true)) (subst (λ x. Gives c.args.given.form v false k x new) here given)
 
 pub add_below-returns : goal.add_below-returns
-add_below-returns t c = all_given c.args.form (value_view c.args.value.now) c.loop-k.k c.args.tallies.now c.loop-k.tallies c.loop-k.invariant c.loop-k-test.false
+add_below-returns t c = all_given c.args.given.form (value_view c.args.given.value.now) c.loop-k.k c.args.tallies.now c.loop-k.tallies c.loop-k.invariant c.loop-k-test.false
 
 pub add_child-returns-in-Lists : goal.add_child-returns-in-Lists
 add_child-returns-in-Lists t c =
-    let v = value_view c.args.value.now in
+    let v = value_view c.args.given.value.now in
     let items = values_view c.items_in.result.now in
     let old = c.args.tally.now in
     let new = c.add_all.new.tally in

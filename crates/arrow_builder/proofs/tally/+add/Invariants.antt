@@ -8,7 +8,7 @@ use Rattle.arrow_builder.proofs.tally.+add.Given as goal
 
 -- what the first children are given was counted
 abbrev pub invariant-add_below-loop-k : goal.invariant-add_below-loop-k
-invariant-add_below-loop-k l = UpTo (Gives l.form (value_view l.value) true) l.k 0 l.initial.tallies l.tallies
+invariant-add_below-loop-k l = UpTo (Gives l.given.form (value_view l.given.value.now) true) l.k 0 l.initial.tallies l.tallies
 
 -- the values so far were counted
 abbrev pub invariant-add_all-loop-value : goal.invariant-add_all-loop-value
