@@ -4,5 +4,4 @@ pub mod Columns
 pub mod Building
 pub mod Least
 pub mod Readings
-pub mod Ids
 pub mod Inside

@@ -4,6 +4,5 @@ pub mod Least
 pub mod Held
 pub mod Leaf
 pub mod Sound
-pub mod Rising
 pub mod Inside
 pub mod Place

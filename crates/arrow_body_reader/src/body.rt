@@ -8,11 +8,10 @@ ghost use Rattle.arrow_body_reader.specs.Types.{HaveTypes};
 ghost use Rattle.arrow_data.specs.Shared.{node_types};
 
 use crate::build::Builder;
-use crate::listed::Listed;
 use crate::look::look;
 use crate::source::Source;
 use crate::taken::Left;
-use arrow_data::{Array, Dictionary, SharedType, shared_types};
+use arrow_data::{Array, Dictionary, Listed, SharedType, shared_types};
 use arrow_types::{Buffer, Field, FieldNode};
 use bytes::Bytes;
 use std::alloc::Global;

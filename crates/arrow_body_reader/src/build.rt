@@ -2,21 +2,20 @@
 
 ghost use Rattle.std.specs.Prelude.{◌≡◌, ◌++◌, IfOk, IfSome, IsTrue, MatchOption, Some, ⊤};
 ghost use Rattle.std.specs.Prelude.{slice_get, [], ◌∷◌};
-ghost use Rattle.arrow_data.specs.Listed.{IsNodeFit, dictionary_for};
+ghost use Rattle.arrow_data.specs.Listed.{IsNodeFit};
 ghost use Rattle.arrow_data.specs.Shared.{node_type};
 ghost use Rattle.arrow_types.specs.View.{field_view};
 ghost use Rattle.arrow_body_reader.specs.Leaf.{IsLeafNode};
 ghost use Rattle.arrow_body_reader.specs.Place.{AreRangesAt, IsIndexedAt, IsLaidAt, IsTextAt};
 ghost use Rattle.arrow_body_reader.specs.Place.{children_at, column_at, columns_below, head_at, len_at};
 
-use crate::listed::Listed;
 use crate::look::Node;
 use crate::place::{Laid, Place};
 use arrow_data::form::form_of;
-use arrow_data::{Array, ChildData, Dictionary, NodeBuffers};
-use arrow_types::{Encoding, Field};
+use arrow_data::{Array, ChildData, NodeBuffers};
+use arrow_types::Field;
 use bytes::Bytes;
-use std::alloc::{AllocError, Global};
+use std::alloc::Global;
 
 // Makes the arrays of fields out of ranges of a body, which they share.
 #[derive(Drop)]
@@ -161,7 +160,7 @@ fn with_array<'a>(
 {
     let shared = place.left.types.first().unwrap();
     let encoding = place.field.dictionary;
-    let dictionary = dictionary_of(builder.alloc, encoding, place.source.dictionaries).ok()?;
+    let dictionary = place.source.dictionaries.copy_for(builder.alloc, encoding).ok()?;
     let buffers = NodeBuffers {
         len: laid.len,
         body: builder.body,
@@ -179,21 +178,4 @@ fn with_array<'a>(
         body: builder.body,
         arrays,
     })
-}
-
-// The dictionary that is listed for a field with this encoding, shared.
-fn dictionary_of(
-    alloc: Global,
-    encoding: Option<Encoding>,
-    dictionaries: Listed<'_>,
-) -> Result<Option<Dictionary>, AllocError>
-    ensures { IfOk result (λ d. d ≡ dictionary_for dictionaries.entry.entries.now encoding) }
-{
-    let Some(encoding) = encoding else {
-        return Ok(None);
-    };
-    match dictionaries.find(encoding.id) {
-        Some(dictionary) => Ok(Some(dictionary.copy(alloc)?)),
-        None => Ok(None),
-    }
 }

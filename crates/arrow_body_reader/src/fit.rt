@@ -5,9 +5,8 @@ ghost use Rattle.arrow_types.specs.View.{field_view, fields_view};
 ghost use Rattle.arrow_data.specs.Listed.{IsNodeFit};
 ghost use Rattle.arrow_body_reader.specs.Sound.{AreFit};
 
-use crate::listed::Listed;
 use crate::taken::below;
-use arrow_data::Dictionary;
+use arrow_data::{Dictionary, Listed};
 use arrow_types::Field;
 
 /// Whether the dictionary that is listed first for the id of a field has the type of its values,

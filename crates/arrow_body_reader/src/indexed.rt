@@ -10,8 +10,7 @@ ghost use Rattle.arrow_data.specs.Listed.{dictionary_for};
 ghost use Rattle.arrow_body_reader.specs.Place.{buffers_in};
 
 use crate::held::Ranges;
-use crate::listed::Listed;
-use arrow_data::NumberBuffers;
+use arrow_data::{Listed, NumberBuffers};
 use arrow_data::form::number_width;
 use arrow_data::layout::are_indices;
 use arrow_types::Encoding;

@@ -26,7 +26,6 @@
 //! | a body that is sound, its columns | `specs/Sound.antt`: `IsSound`, `columns_of` |
 //! | its one reading | `specs/Inside.antt`: `IsReading` |
 //! | the first fault | `specs/Sound.antt`: `IsExplained` |
-//! | dictionaries by rising ids | `specs/Rising.antt`: `Rises` |
 #![tactic(auto)]
 
 mod body;
@@ -37,7 +36,6 @@ mod held;
 mod indexed;
 mod laid;
 pub mod laws;
-mod listed;
 mod look;
 mod place;
 mod source;

@@ -1,6 +1,6 @@
 //! What the nodes of a batch refer to.
 
-use crate::listed::Listed;
+use arrow_data::Listed;
 
 // The bytes in which buffers lie, and the dictionaries that indices refer to.
 #[derive(Clone, Copy)]

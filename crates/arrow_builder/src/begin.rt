@@ -68,8 +68,7 @@ fn no_slots(alloc: Global, form: Form) -> Result<Buffers, AllocError>
             Form::Bytes(width) | Form::Texts(width) | Form::Lists(width) => {
                 first_offset(alloc, width)?
             }
-            Form::Nulls | Form::Bits | Form::Numbers { .. } | Form::FixedBytes(_) | Form::Structs =>
-                Vec::new(alloc),
+            _ => Vec::new(alloc),
         },
         bytes: Vec::new(alloc),
     })

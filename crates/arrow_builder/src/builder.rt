@@ -17,7 +17,7 @@ use crate::indexed::are_indexed;
 use crate::node::{Node, push_value};
 use crate::tally::{Tally, add, nothing, settle};
 use crate::typed::are_typed;
-use arrow_data::{Array, Dictionary, Value};
+use arrow_data::{Array, Dictionary, Listed, Value};
 use arrow_types::Field;
 use std::alloc::{AllocError, Global};
 use std::marker::Model;
@@ -110,13 +110,14 @@ impl ArrayBuilder {
             (λ fault. ExplainsArray fault dictionaries.now self.now) }
     {
         let len = self.node.len();
-        if !are_typed(&self.node.field, dictionaries) {
+        let listed = Listed::new(dictionaries);
+        if !are_typed(&self.node.field, listed) {
             return Err(ArrayFault::DictionaryType);
         }
-        if !are_indexed(&self.node, len, dictionaries) {
+        if !are_indexed(&self.node, len, listed) {
             return Err(ArrayFault::IndexRange);
         }
-        let Ok(array) = finish(alloc, &self.node, len, dictionaries) else {
+        let Ok(array) = finish(alloc, &self.node, len, listed) else {
             return Err(ArrayFault::Memory);
         };
         // Called for what it says of every array.

@@ -13,10 +13,9 @@ ghost use Rattle.arrow_builder.specs.Finished.{AreArraysOf, AreIndexed, AreTyped
 ghost use Rattle.arrow_builder.specs.Kept.{Keeps};
 ghost use Rattle.arrow_types.specs.View.{type_view};
 
-use crate::dictionaries::dictionary_for;
 use crate::node::Node;
 use crate::slots::Buffers;
-use arrow_data::{Array, ByteRange, ChildData, Dictionary, NodeBuffers};
+use arrow_data::{Array, ByteRange, ChildData, Listed, NodeBuffers};
 use arrow_types::Field;
 use bytes::Bytes;
 use std::alloc::{AllocError, Global};
@@ -28,15 +27,15 @@ pub(crate) fn finish(
     alloc: Global,
     node: &Node,
     len: usize,
-    dictionaries: &[(i64, Dictionary)],
+    dictionaries: Listed<'_>,
 ) -> Result<Array, AllocError>
     requires inside { len ≤ length node.now.raw }
-    requires typed { AreTyped dictionaries.now node.now.field }
-    requires indexed { AreIndexed dictionaries.now (cut_to len node.now) }
-    ensures { IfOk result (λ a. IsArrayOf dictionaries.now (cut_to len node.now) a) }
+    requires typed { AreTyped dictionaries.entries.now node.now.field }
+    requires indexed { AreIndexed dictionaries.entries.now (cut_to len node.now) }
+    ensures { IfOk result (λ a. IsArrayOf dictionaries.entry.entries.now (cut_to len node.now) a) }
 {
     let children = finish_all(alloc, &node.children, node.shown(len), dictionaries)?;
-    let dictionary = dictionary_for(alloc, node.field.dictionary, dictionaries)?;
+    let dictionary = dictionaries.copy_for(alloc, node.field.dictionary)?;
     let slots = FirstSlots {
         len,
         buffers: &node.buffers,
@@ -54,13 +53,13 @@ fn finish_all(
     alloc: Global,
     nodes: &[Node],
     len: usize,
-    dictionaries: &[(i64, Dictionary)],
+    dictionaries: Listed<'_>,
 ) -> Result<Vec<Array>, AllocError>
     requires inside { HaveSlots len nodes.now }
-    requires typed { AllByRecursion (λ b. AreTyped dictionaries.now b.field) nodes.now }
-    requires indexed { AllByRecursion (λ b. AreIndexed dictionaries.now (cut_to len b)) nodes.now }
+    requires typed { AllByRecursion (λ b. AreTyped dictionaries.entries.now b.field) nodes.now }
+    requires indexed { AllByRecursion (λ b. AreIndexed dictionaries.entries.now (cut_to len b)) nodes.now }
     ensures { IfOk result
-        (λ v. AreArraysOf dictionaries.now (map (cut_to len) nodes.now) v.items) }
+        (λ v. AreArraysOf dictionaries.entry.entries.now (map (cut_to len) nodes.now) v.items) }
 {
     let mut arrays = Vec::with_capacity(alloc, nodes.len())?;
     for node in nodes {

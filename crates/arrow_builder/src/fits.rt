@@ -101,12 +101,7 @@ fn holds_binary(form: Form, bytes: &[u8]) -> bool
     match form {
         Form::Bytes(_) => true,
         Form::FixedBytes(width) => bytes.len() == width as usize,
-        Form::Nulls
-        | Form::Bits
-        | Form::Numbers { .. }
-        | Form::Texts(_)
-        | Form::Lists(_)
-        | Form::Structs => false,
+        _ => false,
     }
 }
 

@@ -6,19 +6,18 @@ ghost use Rattle.arrow_data.specs.Listed.{values_by};
 ghost use Rattle.arrow_builder.specs.Built.{HaveSlots, cut_to};
 ghost use Rattle.arrow_builder.specs.Finished.{AreIndexed, IsIndexed};
 
-use crate::dictionaries::find;
 use crate::node::Node;
 use arrow_data::form::number_width;
 use arrow_data::layout::are_indices;
-use arrow_data::{Dictionary, NumberBuffers};
+use arrow_data::{Listed, NumberBuffers};
 use arrow_types::Encoding;
 
 /// Whether each index in the first `len` slots, and in what these show of the columns below, has
 /// its value in the dictionary that is listed for its id. Takes no memory.
 #[cycle(indexed)]
-pub(crate) fn are_indexed(node: &Node, len: usize, dictionaries: &[(i64, Dictionary)]) -> bool
+pub(crate) fn are_indexed(node: &Node, len: usize, dictionaries: Listed<'_>) -> bool
     requires { len ≤ length node.now.raw }
-    ensures { IsTrue result ↔ AreIndexed dictionaries.now (cut_to len node.now) }
+    ensures { IsTrue result ↔ AreIndexed dictionaries.entry.entries.now (cut_to len node.now) }
 {
     is_indexed(node, len, dictionaries)
         && all_indexed(&node.children, node.shown(len), dictionaries)
@@ -26,10 +25,10 @@ pub(crate) fn are_indexed(node: &Node, len: usize, dictionaries: &[(i64, Diction
 
 // The same of some columns.
 #[cycle(indexed)]
-fn all_indexed(nodes: &[Node], len: usize, dictionaries: &[(i64, Dictionary)]) -> bool
+fn all_indexed(nodes: &[Node], len: usize, dictionaries: Listed<'_>) -> bool
     requires { HaveSlots len nodes.now }
     ensures { IsTrue result
-        ↔ AllByRecursion (λ b. AreIndexed dictionaries.now (cut_to len b)) nodes.now }
+        ↔ AllByRecursion (λ b. AreIndexed dictionaries.entry.entries.now (cut_to len b)) nodes.now }
 {
     for node in nodes {
         if !are_indexed(node, len, dictionaries) {
@@ -40,10 +39,10 @@ fn all_indexed(nodes: &[Node], len: usize, dictionaries: &[(i64, Dictionary)]) -
 }
 
 // The same of the column alone.
-fn is_indexed(node: &Node, len: usize, dictionaries: &[(i64, Dictionary)]) -> bool
+fn is_indexed(node: &Node, len: usize, dictionaries: Listed<'_>) -> bool
     requires { len ≤ length node.now.raw }
     ensures { IsTrue result
-        ↔ IsIndexed dictionaries.now node.now.field.head (take len node.now.raw) }
+        ↔ IsIndexed dictionaries.entry.entries.now node.now.field.head (take len node.now.raw) }
 {
     let Some(encoding) = node.field.dictionary else {
         return true;
@@ -61,10 +60,10 @@ fn is_indexed(node: &Node, len: usize, dictionaries: &[(i64, Dictionary)]) -> bo
 }
 
 // How many values are listed for a field with this encoding.
-fn count_for(encoding: Encoding, dictionaries: &[(i64, Dictionary)]) -> usize
-    ensures { result ≡ length (values_by dictionaries.now encoding.id) }
+fn count_for(encoding: Encoding, dictionaries: Listed<'_>) -> usize
+    ensures { result ≡ length (values_by dictionaries.entry.entries.now encoding.id) }
 {
-    match find(dictionaries, encoding.id) {
+    match dictionaries.find(encoding.id) {
         Some(dictionary) => dictionary.len(),
         None => 0,
     }

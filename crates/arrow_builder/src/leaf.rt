@@ -21,12 +21,7 @@ fn truth_in(value: &Value) -> Option<bool>
 {
     match value {
         Value::Bool(truth) => Some(*truth),
-        Value::Null
-        | Value::Int(_)
-        | Value::Bytes(_)
-        | Value::Text(_)
-        | Value::List(_)
-        | Value::Struct(_) => None,
+        _ => None,
     }
 }
 
@@ -36,12 +31,7 @@ fn number_in(value: &Value) -> Option<i128>
 {
     match value {
         Value::Int(number) => Some(*number),
-        Value::Null
-        | Value::Bool(_)
-        | Value::Bytes(_)
-        | Value::Text(_)
-        | Value::List(_)
-        | Value::Struct(_) => None,
+        _ => None,
     }
 }
 
@@ -51,12 +41,7 @@ fn binary_in(value: &Value) -> Option<&[u8]>
 {
     match value {
         Value::Bytes(bytes) => Some(bytes.as_slice()),
-        Value::Null
-        | Value::Bool(_)
-        | Value::Int(_)
-        | Value::Text(_)
-        | Value::List(_)
-        | Value::Struct(_) => None,
+        _ => None,
     }
 }
 
@@ -66,12 +51,7 @@ fn text_in(value: &Value) -> Option<&[u8]>
 {
     match value {
         Value::Text(text) => Some(text.as_bytes()),
-        Value::Null
-        | Value::Bool(_)
-        | Value::Int(_)
-        | Value::Bytes(_)
-        | Value::List(_)
-        | Value::Struct(_) => None,
+        _ => None,
     }
 }
 
@@ -97,7 +77,7 @@ pub(crate) fn put_leaf(
 {
     match form {
         // Nulls have no buffers, and lists and structs are no leaves.
-        Form::Nulls | Form::Lists(_) | Form::Structs => Ok(()),
+        _ => Ok(()),
         Form::Bits => put_bool(buffers, at, truth_in(value)),
         Form::Numbers { bits, .. } => {
             put_number(buffers, number_width(bits), at, number_in(value))

@@ -42,7 +42,6 @@
 pub(crate) mod begin;
 pub(crate) mod bits;
 mod builder;
-pub(crate) mod dictionaries;
 mod faults;
 pub(crate) mod finish;
 pub(crate) mod fits;

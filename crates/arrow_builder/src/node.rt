@@ -92,12 +92,7 @@ impl Node {
         match self.form() {
             Form::Lists(width) => place_at(width, &self.buffers.values, len),
             Form::Structs => len,
-            Form::Nulls
-            | Form::Bits
-            | Form::Numbers { .. }
-            | Form::Bytes(_)
-            | Form::Texts(_)
-            | Form::FixedBytes(_) => 0,
+            _ => 0,
         }
     }
 
@@ -247,12 +242,7 @@ fn is_null(value: &Value) -> bool
 {
     match value {
         Value::Null => true,
-        Value::Bool(_)
-        | Value::Int(_)
-        | Value::Bytes(_)
-        | Value::Text(_)
-        | Value::List(_)
-        | Value::Struct(_) => false,
+        _ => false,
     }
 }
 
@@ -262,12 +252,7 @@ pub(crate) fn items_in(value: &Value) -> &[Value]
 {
     match value {
         Value::List(items) => items.as_slice(),
-        Value::Null
-        | Value::Bool(_)
-        | Value::Int(_)
-        | Value::Bytes(_)
-        | Value::Text(_)
-        | Value::Struct(_) => &[],
+        _ => &[],
     }
 }
 
@@ -278,12 +263,7 @@ pub(crate) fn part_of<'a>(value: &'a Value, null: &'a Value, k: usize) -> &'a Va
 {
     match value {
         Value::Struct(parts) => part_or(parts, null, k),
-        Value::Null
-        | Value::Bool(_)
-        | Value::Int(_)
-        | Value::Bytes(_)
-        | Value::Text(_)
-        | Value::List(_) => null,
+        _ => null,
     }
 }
 

@@ -141,12 +141,7 @@ fn add_child(tally: &mut Tally, k: usize, given: Given<'_>) -> bool
     match given.form {
         Form::Lists(_) => add_all(tally, items_in(given.value)),
         Form::Structs => add(tally, part_of(given.value, given.null, k)),
-        Form::Nulls
-        | Form::Bits
-        | Form::Numbers { .. }
-        | Form::Bytes(_)
-        | Form::Texts(_)
-        | Form::FixedBytes(_) => true,
+        _ => true,
     }
 }
 
@@ -191,7 +186,7 @@ fn bytes_and_most(form: Form, value: &Value) -> (u64, u64)
     match form {
         Form::Bytes(width) | Form::Texts(width) => (value_bytes(value), most_behind(width)),
         Form::FixedBytes(width) => (u64::from(width), MOST_BYTES),
-        Form::Nulls | Form::Bits | Form::Numbers { .. } | Form::Lists(_) | Form::Structs => (0, 0),
+        _ => (0, 0),
     }
 }
 
@@ -202,7 +197,7 @@ fn value_bytes(value: &Value) -> u64
     match value {
         Value::Bytes(bytes) => bytes.len() as u64,
         Value::Text(text) => text.len() as u64,
-        Value::Null | Value::Bool(_) | Value::Int(_) | Value::List(_) | Value::Struct(_) => 0,
+        _ => 0,
     }
 }
 

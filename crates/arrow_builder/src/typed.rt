@@ -6,23 +6,22 @@ ghost use Rattle.arrow_builder.specs.Finished.{AreTyped, IsTyped};
 ghost use Rattle.arrow_types.specs.Schema.{dictionary_fields, dictionary_of};
 ghost use Rattle.arrow_types.specs.View.{field_view, fields_view};
 
-use crate::dictionaries::find;
-use arrow_data::Dictionary;
+use arrow_data::Listed;
 use arrow_types::Field;
 
 /// Whether the dictionary that is listed for the id of the field, and of each field below it, has
 /// the type of that field's values. Takes no memory.
 #[cycle(typed)]
-pub(crate) fn are_typed(field: &Field, dictionaries: &[(i64, Dictionary)]) -> bool
-    ensures { IsTrue result ↔ AreTyped dictionaries.now (field_view field.now) }
+pub(crate) fn are_typed(field: &Field, dictionaries: Listed<'_>) -> bool
+    ensures { IsTrue result ↔ AreTyped dictionaries.entry.entries.now (field_view field.now) }
 {
     is_typed(field, dictionaries) && all_typed(field.children(), dictionaries)
 }
 
 // The same of some fields.
 #[cycle(typed)]
-fn all_typed(fields: &[Field], dictionaries: &[(i64, Dictionary)]) -> bool
-    ensures { IsTrue result ↔ AllByRecursion (IsTyped dictionaries.now)
+fn all_typed(fields: &[Field], dictionaries: Listed<'_>) -> bool
+    ensures { IsTrue result ↔ AllByRecursion (IsTyped dictionaries.entry.entries.now)
         (dictionary_fields (fields_view fields.now)) }
 {
     for field in fields {
@@ -34,14 +33,14 @@ fn all_typed(fields: &[Field], dictionaries: &[(i64, Dictionary)]) -> bool
 }
 
 // The same of the field alone.
-fn is_typed(field: &Field, dictionaries: &[(i64, Dictionary)]) -> bool
-    ensures { IsTrue result ↔ AllByRecursion (IsTyped dictionaries.now)
+fn is_typed(field: &Field, dictionaries: Listed<'_>) -> bool
+    ensures { IsTrue result ↔ AllByRecursion (IsTyped dictionaries.entry.entries.now)
         (dictionary_of (field_view field.now).head (field_view field.now).children) }
 {
     let Some(encoding) = field.dictionary else {
         return true;
     };
-    match find(dictionaries, encoding.id) {
+    match dictionaries.find(encoding.id) {
         Some(dictionary) => dictionary.data_type().same(&field.data_type),
         None => true,
     }

@@ -18,6 +18,7 @@ pub mod Values
 pub mod Cuts
 pub mod Indices
 pub mod Listing
+pub mod Ids
 pub mod Lists
 mod Blocks
 mod OnlyChild

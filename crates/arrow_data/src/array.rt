@@ -288,12 +288,7 @@ impl Array {
     {
         match self.seen(i) {
             Seen::Truth(truth) => Some(truth),
-            Seen::Nothing
-            | Seen::Number(_)
-            | Seen::Binary(_)
-            | Seen::Text(_)
-            | Seen::Items(..)
-            | Seen::Parts(_) => None,
+            _ => None,
         }
     }
 
@@ -307,12 +302,7 @@ impl Array {
     {
         match self.seen(i) {
             Seen::Number(number) => Some(number),
-            Seen::Nothing
-            | Seen::Truth(_)
-            | Seen::Binary(_)
-            | Seen::Text(_)
-            | Seen::Items(..)
-            | Seen::Parts(_) => None,
+            _ => None,
         }
     }
 
@@ -324,12 +314,7 @@ impl Array {
     {
         match self.seen(i) {
             Seen::Binary(bytes) => Some(bytes),
-            Seen::Nothing
-            | Seen::Truth(_)
-            | Seen::Number(_)
-            | Seen::Text(_)
-            | Seen::Items(..)
-            | Seen::Parts(_) => None,
+            _ => None,
         }
     }
 
@@ -341,12 +326,7 @@ impl Array {
     {
         match self.seen(i) {
             Seen::Text(text) => Some(text),
-            Seen::Nothing
-            | Seen::Truth(_)
-            | Seen::Number(_)
-            | Seen::Binary(_)
-            | Seen::Items(..)
-            | Seen::Parts(_) => None,
+            _ => None,
         }
     }
 
@@ -360,12 +340,7 @@ impl Array {
     {
         match self.seen(i) {
             Seen::Items(start, end, child) => Some((start, end, child)),
-            Seen::Nothing
-            | Seen::Truth(_)
-            | Seen::Number(_)
-            | Seen::Binary(_)
-            | Seen::Text(_)
-            | Seen::Parts(_) => None,
+            _ => None,
         }
     }
 
@@ -375,14 +350,7 @@ impl Array {
     {
         match &self.ranges {
             Ranges::Lists { child, .. } => Some(child),
-            Ranges::Nulls
-            | Ranges::Bools(_)
-            | Ranges::Ints(_)
-            | Ranges::Binaries(_)
-            | Ranges::Texts(_)
-            | Ranges::FixedBytes(_)
-            | Ranges::Structs { .. }
-            | Ranges::Indices(..) => None,
+            _ => None,
         }
     }
 
@@ -394,14 +362,7 @@ impl Array {
     {
         match &self.ranges {
             Ranges::Structs { children, .. } => children.get(k),
-            Ranges::Nulls
-            | Ranges::Bools(_)
-            | Ranges::Ints(_)
-            | Ranges::Binaries(_)
-            | Ranges::Texts(_)
-            | Ranges::FixedBytes(_)
-            | Ranges::Lists { .. }
-            | Ranges::Indices(..) => None,
+            _ => None,
         }
     }
 
@@ -412,14 +373,7 @@ impl Array {
     {
         match &self.ranges {
             Ranges::Structs { children, .. } => Some(children),
-            Ranges::Nulls
-            | Ranges::Bools(_)
-            | Ranges::Ints(_)
-            | Ranges::Binaries(_)
-            | Ranges::Texts(_)
-            | Ranges::FixedBytes(_)
-            | Ranges::Lists { .. }
-            | Ranges::Indices(..) => None,
+            _ => None,
         }
     }
 
@@ -431,14 +385,7 @@ impl Array {
     {
         match &self.ranges {
             Ranges::Indices(_, dictionary) => Some(dictionary),
-            Ranges::Nulls
-            | Ranges::Bools(_)
-            | Ranges::Ints(_)
-            | Ranges::Binaries(_)
-            | Ranges::Texts(_)
-            | Ranges::FixedBytes(_)
-            | Ranges::Lists { .. }
-            | Ranges::Structs { .. } => None,
+            _ => None,
         }
     }
 
@@ -455,14 +402,7 @@ impl Array {
                 let index = ints.at(self.body.as_slice(), self.len, i)?;
                 Some(dictionary.value(index as usize))
             }
-            Ranges::Nulls
-            | Ranges::Bools(_)
-            | Ranges::Ints(_)
-            | Ranges::Binaries(_)
-            | Ranges::Texts(_)
-            | Ranges::FixedBytes(_)
-            | Ranges::Lists { .. }
-            | Ranges::Structs { .. } => None,
+            _ => None,
         }
     }
 

@@ -85,15 +85,7 @@ impl Form {
     pub fn is_leaf(self) -> bool
         ensures { IsTrue result ↔ IsLeaf self }
     {
-        match self {
-            Form::Lists(_) | Form::Structs => false,
-            Form::Nulls
-            | Form::Bits
-            | Form::Numbers { .. }
-            | Form::Bytes(_)
-            | Form::Texts(_)
-            | Form::FixedBytes(_) => true,
-        }
+        !matches!(self, Form::Lists(_) | Form::Structs)
     }
 }
 

@@ -22,7 +22,7 @@
 //! | when buffers hold a node's slots | `specs/Layout.antt`: `IsLaid`, `IsText`, `IsIndexed` |
 //! | the column of a node | `specs/Parts.antt`: `node_column` |
 //! | the type that columns share | `specs/Shared.antt`: `NodeType`, `node_types` |
-//! | what an index stands for | `specs/Resolve.antt`: `resolve`; `specs/Listed.antt`: `listed` |
+//! | what an index stands for, dictionaries by ids | `specs/Resolve.antt`: `resolve`; `specs/Listed.antt`: `listed`; `specs/Rising.antt` |
 //! | the first null, slots without nulls | `specs/FullSlots.antt`: `IsFirstNull`, `AreFull` |
 //! | what a slot shows | `specs/Shown.antt`: `Shows`, `HoldsValue` |
 //! | the buffers of a column, handed out | `specs/View.antt`: `AreBuffersOf`; `RefersTo` |
@@ -45,6 +45,7 @@ mod dictionary;
 pub mod form;
 pub mod laws;
 pub mod layout;
+mod listed;
 mod offsets;
 mod parts;
 mod same;
@@ -59,6 +60,7 @@ pub use array::{Array, SlotValue};
 pub use batch::{Batch, BatchFault};
 pub use byte_range::ByteRange;
 pub use dictionary::Dictionary;
+pub use listed::Listed;
 pub use offsets::OffsetBuffer;
 pub use parts::{ChildData, NodeBuffers};
 pub use shared_type::{SharedType, shared_types};

@@ -89,9 +89,7 @@ impl<'a> Slots<'a> {
                     None => SlotValue::Null,
                 }
             }
-            Buffers::Indices(..) | Buffers::Lists { .. } | Buffers::Structs { .. } => {
-                self.array.slot(i)
-            }
+            _ => { self.array.slot(i) }
         }
     }
 
@@ -107,14 +105,7 @@ impl<'a> Slots<'a> {
                 let index = of.number_at(i)?;
                 Some(index as usize)
             }
-            Buffers::Nulls
-            | Buffers::Bools { .. }
-            | Buffers::Numbers(_)
-            | Buffers::Binaries(_)
-            | Buffers::Texts(_)
-            | Buffers::FixedBytes { .. }
-            | Buffers::Lists { .. }
-            | Buffers::Structs { .. } => None,
+            _ => None,
         }
     }
 }

@@ -138,18 +138,7 @@ impl DataType {
             DataType::List(item) => std::slice::from_ref(item),
             DataType::LargeList(item) => std::slice::from_ref(item),
             DataType::Struct(fields) => fields,
-            DataType::Null
-            | DataType::Bool
-            | DataType::Int { .. }
-            | DataType::Binary
-            | DataType::LargeBinary
-            | DataType::FixedSizeBinary(_)
-            | DataType::Utf8
-            | DataType::LargeUtf8
-            | DataType::Date(_)
-            | DataType::Time(_)
-            | DataType::Timestamp(..)
-            | DataType::Duration(_) => &[],
+            _ => &[],
         }
     }
 

@@ -27,18 +27,7 @@ fn add_children(pending: &mut Vec<Field>, field: Field)
         DataType::List(item) => add_field(pending, Box::into_inner(item)),
         DataType::LargeList(item) => add_field(pending, Box::into_inner(item)),
         DataType::Struct(fields) => add_fields(pending, fields),
-        DataType::Null
-        | DataType::Bool
-        | DataType::Int { .. }
-        | DataType::Binary
-        | DataType::LargeBinary
-        | DataType::FixedSizeBinary(_)
-        | DataType::Utf8
-        | DataType::LargeUtf8
-        | DataType::Date(_)
-        | DataType::Time(_)
-        | DataType::Timestamp(..)
-        | DataType::Duration(_) => {}
+        _ => {}
     }
 }
 

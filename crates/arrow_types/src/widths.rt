@@ -35,19 +35,6 @@ fn is_wide(data_type: &DataType) -> bool
 {
     match data_type {
         DataType::FixedSizeBinary(width) => *width > Schema::MAX_WIDTH,
-        DataType::Null
-        | DataType::Bool
-        | DataType::Int { .. }
-        | DataType::Binary
-        | DataType::LargeBinary
-        | DataType::Utf8
-        | DataType::LargeUtf8
-        | DataType::Date(_)
-        | DataType::Time(_)
-        | DataType::Timestamp(..)
-        | DataType::Duration(_)
-        | DataType::List(_)
-        | DataType::LargeList(_)
-        | DataType::Struct(_) => false,
+        _ => false,
     }
 }

@@ -217,10 +217,6 @@ fn fault_of(what: What, kind: WriteFault) -> ToolFault
     match kind {
         WriteFault::Sink => ToolFault::Output,
         WriteFault::Memory => ToolFault::Memory,
-        WriteFault::SchemaDiffers
-        | WriteFault::TooLarge
-        | WriteFault::DictionariesDiffer
-        | WriteFault::Broken
-        | WriteFault::Finished => ToolFault::Refused(what, kind),
+        _ => ToolFault::Refused(what, kind),
     }
 }

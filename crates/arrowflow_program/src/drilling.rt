@@ -67,7 +67,6 @@ fn tell_of<R: AllocGlobal + Eprint>(rt: &R, fault: &ToolFault, names: &[String])
 fn failed_name<'a>(fault: &ToolFault, names: &'a [String]) -> &'a str {
     match fault {
         ToolFault::Input(number) => names.get(*number as usize).map_or("", |name| name.as_str()),
-        ToolFault::Output | ToolFault::Stream(_) | ToolFault::Refused(_, _) | ToolFault::Memory =>
-            "",
+        _ => "",
     }
 }

@@ -134,8 +134,5 @@ pub(crate) fn take_piece<C: Consumer>(
 fn is_end(item: &Item) -> bool
     ensures { MatchBool result (item.now ≡ End) (item.now ≡ End → ⊥) }
 {
-    match item {
-        Item::End => true,
-        Item::Schema | Item::Dictionary(_) | Item::Batch(_) => false,
-    }
+    matches!(item, Item::End)
 }

@@ -114,27 +114,7 @@ impl ToolFault {
 pub(crate) fn is_memory(kind: Kind) -> bool
     ensures { result ≡ is_memory kind }
 {
-    match kind {
-        Kind::Continuation
-        | Kind::MetadataSize
-        | Kind::Metadata
-        | Kind::Version
-        | Kind::Header
-        | Kind::BodyLength
-        | Kind::Order
-        | Kind::Unsupported
-        | Kind::Schema
-        | Kind::Compressed
-        | Kind::UnknownId
-        | Kind::NoBase
-        | Kind::Rows
-        | Kind::Layout
-        | Kind::Text
-        | Kind::Index
-        | Kind::NoSchema
-        | Kind::Truncated => false,
-        Kind::Memory => true,
-    }
+    matches!(kind, Kind::Memory)
 }
 
 /// Appends what was refused.

@@ -19,7 +19,7 @@ use Rattle.arrow_builder.proofs.finish.+finish.Goals as goal
 pub finish-finish_all-requires : goal.finish-finish_all-requires
 finish-finish_all-requires t c =
     let a = c.node.inside in
-    let ds = c.args.dictionaries.now in
+    let ds = c.args.dictionaries.entries.now in
     let n = c.shown.result in
     let kids : c.deref.result.now ≡ a.children.items = grind (arith, common_steps) in
     let long = subst (λ (b : Built). (k : ℕ) → n ≡ length (child_column (field_form b.field) k (take c.args.len b.raw))) (sym c.node.view_is) c.shown.ensures in
@@ -44,8 +44,8 @@ pub finish-array_of-requires-clause-children : goal.finish-array_of-requires-cla
 finish-array_of-requires-clause-children t c =
     let a = c.node.inside in
     let kids : c.deref.result.now ≡ a.children.items = grind (arith, common_steps) in
-    let are = subst (λ bs. AreArraysOf c.args.dictionaries.now (map (cut_to c.shown.result) bs) c.in_ok-children.children.items) kids c.in_ok-children.ensures in
-    node_children c.args.dictionaries.now a c.shown.result c.in_ok-children.children.items c.node.invariant are
+    let are = subst (λ bs. AreArraysOf c.args.dictionaries.entries.now (map (cut_to c.shown.result) bs) c.in_ok-children.children.items) kids c.in_ok-children.ensures in
+    node_children c.args.dictionaries.entries.now a c.shown.result c.in_ok-children.children.items c.node.invariant are
 
 pub finish-array_of-requires-clause-kept : goal.finish-array_of-requires-clause-kept
 finish-array_of-requires-clause-kept t c =
@@ -54,8 +54,8 @@ finish-array_of-requires-clause-kept t c =
     let kids : c.deref.result.now ≡ a.children.items = grind (arith, common_steps) in
     let le : c.args.len ≤ a.len = omega (arith, c.requires.inside, node_len a c.args.node.now c.node.view_is) in
     let long = subst (λ (b : Built). (k : ℕ) → n ≡ length (child_column (field_form b.field) k (take c.args.len b.raw))) (sym c.node.view_is) c.shown.ensures in
-    let are = subst (λ bs. AreArraysOf c.args.dictionaries.now (map (cut_to n) bs) c.in_ok-children.children.items) kids c.in_ok-children.ensures in
-    node_keeps c.args.dictionaries.now a c.args.len n c.in_ok-children.children.items le c.node.invariant long (node_long a c.args.len n c.node.invariant long) are
+    let are = subst (λ bs. AreArraysOf c.args.dictionaries.entries.now (map (cut_to n) bs) c.in_ok-children.children.items) kids c.in_ok-children.ensures in
+    node_keeps c.args.dictionaries.entries.now a c.args.len n c.in_ok-children.children.items le c.node.invariant long (node_long a c.args.len n c.node.invariant long) are
 
 pub finish-array_of-requires-clause-text : goal.finish-array_of-requires-clause-text
 finish-array_of-requires-clause-text t c =
@@ -65,14 +65,14 @@ finish-array_of-requires-clause-text t c =
 pub finish-array_of-requires-clause-index : goal.finish-array_of-requires-clause-index
 finish-array_of-requires-clause-index t c =
     let le : c.args.len ≤ c.node.inside.len = omega (arith, c.requires.inside, node_len c.node.inside c.args.node.now c.node.view_is) in
-    let indexed = subst (λ (b : Built). IsIndexed c.args.dictionaries.now b.field.head (take c.args.len b.raw)) (sym c.node.view_is) c.requires.indexed.0 in
-    node_indices c.args.dictionaries.now c.node.inside c.args.len c.in_ok-dictionary.dictionary le indexed c.in_ok-dictionary.ensures
+    let indexed = subst (λ (b : Built). IsIndexed c.args.dictionaries.entries.now b.field.head (take c.args.len b.raw)) (sym c.node.view_is) c.requires.indexed.0 in
+    node_indices c.args.dictionaries.entries.now c.node.inside c.args.len c.in_ok-dictionary.dictionary le indexed c.in_ok-dictionary.ensures
 
 pub finish-returns : goal.finish-returns
 finish-returns t c =
     let a = c.node.inside in
     let n = c.shown.result in
-    let ds = c.args.dictionaries.now in
+    let ds = c.args.dictionaries.entries.now in
     let cs = c.in_ok-children.children.items in
     let kids : c.deref.result.now ≡ a.children.items = grind (arith, common_steps) in
     let le : c.args.len ≤ a.len = omega (arith, c.requires.inside, node_len a c.args.node.now c.node.view_is) in
@@ -87,7 +87,7 @@ pub finish_all-finish-requires : goal.finish_all-finish-requires
 finish_all-finish-requires t c =
     let d = c.node-item.result in
     let i = c.loop-node.node-index in
-    let ds = c.args.dictionaries.now in
+    let ds = c.args.dictionaries.entries.now in
     let nodes = c.args.nodes.now in
     let inside : i < length nodes = grind (arith, common_steps) in (
       omega (arith, c.decreases, size_below nodes i d inside, ap (λ (b : Built). built_size b) c.node-item.is),
@@ -104,7 +104,7 @@ pub finish_all-loop-node-preserved : goal.finish_all-loop-node-preserved
 finish_all-loop-node-preserved t c =
     let d = c.node-item.result in
     let i = c.loop-node.node-index in
-    let ds = c.args.dictionaries.now in
+    let ds = c.args.dictionaries.entries.now in
     let nodes = c.args.nodes.now in
     let inside : i < length nodes = grind (arith, common_steps) in
     let next = cut_next c.args.len nodes i d inside ∙ ap (λ (b : Built). map (cut_to c.args.len) (take i nodes) ++ cut_to c.args.len b ∷ []) (sym c.node-item.is) in

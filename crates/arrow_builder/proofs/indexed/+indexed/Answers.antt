@@ -32,7 +32,7 @@ are_indexed-all_indexed-requires t c =
 pub are_indexed-returns-then-is_indexed : goal.are_indexed-returns-then-is_indexed
 are_indexed-returns-then-is_indexed t c =
     let a = c.node.inside in
-    let ds = c.args.dictionaries.now in
+    let ds = c.args.dictionaries.entries.now in
     let n = c.shown.result in
     let kids : c.deref.result.now ≡ a.children.items = grind (arith, common_steps) in
     let long = subst (λ (b : Built). (k : ℕ) → n ≡ length (child_column (field_form b.field) k (take c.args.len b.raw))) (sym c.node.view_is) c.shown.ensures in

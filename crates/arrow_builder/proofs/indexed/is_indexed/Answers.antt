@@ -25,7 +25,7 @@ pub returns : goal.returns
 returns c =
     let a = c.node.inside in
     let e = c.in-Some.encoding in
-    let ds = c.args.dictionaries.now in
+    let ds = c.args.dictionaries.entries.now in
     let is : (field_view a.field).head.encoding ≡ Some e = sym (field_encoding a.field) ∙ c.in-Some.is in
     let le : c.args.len ≤ a.len = omega (arith, c.requires, node_len a c.args.node.now c.node.view_is) in
     let validity : c.deref.result.now ≡ a.buffers.validity.items = grind (arith, common_steps) in

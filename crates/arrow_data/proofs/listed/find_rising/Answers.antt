@@ -6,8 +6,8 @@ use Rattle.std.proofs.lemmas.Int.{ints}
 use Rattle.std.specs.Int.RustNames.{FitsSigned}
 use mir.Syntax.{w64}
 use mir.Val.{of_z}
-use Rattle.arrow_body_reader.proofs.Ids.{parted, met, missed}
-use Rattle.arrow_body_reader.proofs.listed.find_rising.Goals as goal
+use Rattle.arrow_data.proofs.Ids.{parted, met, missed}
+use Rattle.arrow_data.proofs.listed.find_rising.Goals as goal
 
 pub returns-then-entry-id : goal.returns-then-entry-id
 returns-then-entry-id c =

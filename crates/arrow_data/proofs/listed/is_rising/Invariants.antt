@@ -1,5 +1,5 @@
-use Rattle.arrow_body_reader.proofs.Ids.{RisesTo}
-use Rattle.arrow_body_reader.proofs.listed.is_rising.Given as goal
+use Rattle.arrow_data.proofs.Ids.{RisesTo}
+use Rattle.arrow_data.proofs.listed.is_rising.Given as goal
 
 -- the ids that were looked at rise
 abbrev pub invariant-loop-k : goal.invariant-loop-k

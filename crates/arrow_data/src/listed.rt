@@ -1,23 +1,26 @@
-//! Dictionaries by their ids.
+//! Dictionaries by their ids (Columnar Format, "Dictionary Messages").
 
-ghost use Rattle.std.specs.Prelude.{◌≡◌, ◌↔◌, IsTrue, int_lt, option_map};
-ghost use Rattle.arrow_data.specs.Listed.{listed};
-ghost use Rattle.arrow_body_reader.specs.Rising.{Rises};
+ghost use Rattle.std.specs.Prelude.{◌≡◌, ◌↔◌, IfOk, IsTrue, int_lt, option_map};
+ghost use Rattle.arrow_data.specs.Listed.{dictionary_for, listed};
+ghost use Rattle.arrow_data.specs.Rising.{Rises};
 
-use arrow_data::Dictionary;
+use crate::dictionary::Dictionary;
+use arrow_types::Encoding;
+use std::alloc::{AllocError, Global};
 
-// Dictionaries with their ids, of which the first that is listed for an id counts.
+/// Dictionaries with their ids, of which the first that is listed for an id counts.
 #[derive(Clone, Copy)]
-pub(crate) struct Listed<'a> {
-    pub(crate) entries: &'a [(i64, Dictionary)],
+pub struct Listed<'a> {
+    /// They, in any order.
+    pub entries: &'a [(i64, Dictionary)],
     // Whether no id is below one that stands before it.
     rising: bool,
     ghost order: { IsTrue rising → Rises entries.now },
 }
 
 impl<'a> Listed<'a> {
-    // Looks at each id once.
-    pub(crate) fn new(entries: &'a [(i64, Dictionary)]) -> Listed<'a>
+    /// Looks at each id once.
+    pub fn new(entries: &'a [(i64, Dictionary)]) -> Listed<'a>
         ensures { result.entries.now ≡ entries.now }
     {
         Listed {
@@ -26,15 +29,34 @@ impl<'a> Listed<'a> {
         }
     }
 
-    // The dictionary that is listed first for the id: by halves where the ids rise, one after the
-    // other where they don't.
-    pub(crate) fn find(self, id: i64) -> Option<&'a Dictionary>
+    /// The dictionary that is listed first for the id: by halves where the ids rise, one after the
+    /// other where they don't.
+    pub fn find(self, id: i64) -> Option<&'a Dictionary>
         ensures { option_map (λ d. d.now) result ≡ listed self.entry.entries.now id }
     {
         if self.rising {
             find_rising(self.entries, id)
         } else {
             find_any(self.entries, id)
+        }
+    }
+
+    /// A copy, which shares the values, of the dictionary that is listed for a field with this
+    /// encoding. None where the field has no encoding, or none is listed. `AllocError` where a
+    /// growth was refused.
+    pub fn copy_for(
+        self,
+        alloc: Global,
+        encoding: Option<Encoding>,
+    ) -> Result<Option<Dictionary>, AllocError>
+        ensures { IfOk result (λ d. d ≡ dictionary_for self.entry.entries.now encoding) }
+    {
+        let Some(encoding) = encoding else {
+            return Ok(None);
+        };
+        match self.find(encoding.id) {
+            Some(dictionary) => Ok(Some(dictionary.copy(alloc)?)),
+            None => Ok(None),
         }
     }
 }

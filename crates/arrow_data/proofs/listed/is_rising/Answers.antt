@@ -4,8 +4,8 @@ use Rattle.std.proofs.lemmas.Bool.{false≢true}
 use Rattle.std.proofs.lemmas.Int.{ints}
 use Rattle.std.specs.Int.RustNames.{FitsSigned}
 use mir.Syntax.{w64}
-use Rattle.arrow_body_reader.proofs.Ids.{rises_more, never_rises}
-use Rattle.arrow_body_reader.proofs.listed.is_rising.Goals as goal
+use Rattle.arrow_data.proofs.Ids.{rises_more, never_rises}
+use Rattle.arrow_data.proofs.listed.is_rising.Goals as goal
 
 pub returns-then-entries-k : goal.returns-then-entries-k
 returns-then-entries-k c =
