@@ -77,7 +77,7 @@ pub(crate) fn put_leaf(
 {
     match form {
         // Nulls have no buffers, and lists and structs are no leaves.
-        _ => Ok(()),
+        Form::Nulls | Form::Lists(_) | Form::Structs => Ok(()),
         Form::Bits => put_bool(buffers, at, truth_in(value)),
         Form::Numbers { bits, .. } => {
             put_number(buffers, number_width(bits), at, number_in(value))

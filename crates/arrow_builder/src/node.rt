@@ -240,10 +240,7 @@ pub(crate) fn null() -> Value
 fn is_null(value: &Value) -> bool
     ensures { result ≡ is_null_value (value_view value.now) }
 {
-    match value {
-        Value::Null => true,
-        _ => false,
-    }
+    matches!(value, Value::Null)
 }
 
 /// The items of a list, none where it is null.

@@ -5,7 +5,6 @@ pub mod Resolve
 pub mod Fits
 pub mod Column
 pub mod Listed
-pub mod Rising
 pub mod Slots
 pub mod Cuts
 pub mod Layout

@@ -1,5 +1,5 @@
 -- Dictionaries by their ids (Columnar Format, "Dictionary Messages"), and the values that they give to columns and fields.
-use Rattle.std.specs.Prelude.{◌≡◌, ℤ, List, [], ◌∷◌, map, Option, None, Some, if◌then◌else◌, IsTrue, is_some, false}
+use Rattle.std.specs.Prelude.{◌≡◌, ◌≤◌, ◌<◌, ℕ, ℤ, ◌≤ℤ◌, List, [], ◌∷◌, length, map, slice_index_or, Option, None, Some, if◌then◌else◌, IsTrue, is_some, false}
 use Rattle.std.specs.Ordering.{int_eq}
 use Rattle.arrow_types.specs.Field.{Fields, Head}
 use Rattle.arrow_types.specs.Schema.{has_encoding}
@@ -31,3 +31,7 @@ pub record IsNodeFit (ds : List (ℤ × ValueList)) (head : Head) (children : Fi
 -- every raw value of the column stands for something by the listed dictionaries, and these are the resolved values
 abbrev pub ResolvesBy : List (ℤ × ValueList) → Column → Type 0
 ResolvesBy ds c = map (resolve c.encoding c.data_type.children (values_by ds)) c.raw ≡ map Some c.resolved
+
+-- no id is below one that stands before it
+abbrev pub Rises : List (ℤ × ValueList) → Type 0
+Rises ds = (i j : ℕ) (d : ℤ × ValueList) → i ≤ j → j < length ds → (slice_index_or ds i d).0 ≤ℤ (slice_index_or ds j d).0

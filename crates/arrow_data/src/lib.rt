@@ -22,7 +22,7 @@
 //! | when buffers hold a node's slots | `specs/Layout.antt`: `IsLaid`, `IsText`, `IsIndexed` |
 //! | the column of a node | `specs/Parts.antt`: `node_column` |
 //! | the type that columns share | `specs/Shared.antt`: `NodeType`, `node_types` |
-//! | what an index stands for, dictionaries by ids | `specs/Resolve.antt`: `resolve`; `specs/Listed.antt`: `listed`; `specs/Rising.antt` |
+//! | what an index stands for | `specs/Resolve.antt`: `resolve`; `specs/Listed.antt`: `listed` |
 //! | the first null, slots without nulls | `specs/FullSlots.antt`: `IsFirstNull`, `AreFull` |
 //! | what a slot shows | `specs/Shown.antt`: `Shows`, `HoldsValue` |
 //! | the buffers of a column, handed out | `specs/View.antt`: `AreBuffersOf`; `RefersTo` |

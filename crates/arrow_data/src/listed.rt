@@ -1,8 +1,7 @@
 //! Dictionaries by their ids (Columnar Format, "Dictionary Messages").
 
 ghost use Rattle.std.specs.Prelude.{◌≡◌, ◌↔◌, IfOk, IsTrue, int_lt, option_map};
-ghost use Rattle.arrow_data.specs.Listed.{dictionary_for, listed};
-ghost use Rattle.arrow_data.specs.Rising.{Rises};
+ghost use Rattle.arrow_data.specs.Listed.{Rises, dictionary_for, listed};
 
 use crate::dictionary::Dictionary;
 use arrow_types::Encoding;

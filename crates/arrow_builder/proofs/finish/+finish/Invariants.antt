@@ -6,7 +6,7 @@ use Rattle.arrow_builder.proofs.finish.+finish.Given as goal
 
 -- the arrays of the columns so far
 abbrev pub invariant-finish_all-loop-node : goal.invariant-finish_all-loop-node
-invariant-finish_all-loop-node l = AreArraysOf l.dictionaries.entries (map (cut_to l.len) (take l.node-index l.nodes)) l.arrays.items
+invariant-finish_all-loop-node l = AreArraysOf l.dictionaries.entries.now (map (cut_to l.len) (take l.node-index l.nodes)) l.arrays.items
 
 abbrev pub decreases-finish : goal.decreases-finish
 decreases-finish l = 2 * built_size l.node.now + 1

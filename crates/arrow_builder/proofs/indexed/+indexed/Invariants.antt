@@ -8,7 +8,7 @@ use Rattle.arrow_builder.proofs.indexed.+indexed.Given as goal
 -- all are exactly where those to come are
 abbrev pub invariant-all_indexed-loop-node : goal.invariant-all_indexed-loop-node
 invariant-all_indexed-loop-node l =
-    AllByRecursion (λ (b : Built). AreIndexed l.dictionaries.entries (cut_to l.len b)) (drop l.node-index l.nodes) ↔ AllByRecursion (λ (b : Built). AreIndexed l.dictionaries.entries (cut_to l.len b)) l.nodes
+    AllByRecursion (λ (b : Built). AreIndexed l.dictionaries.entries.now (cut_to l.len b)) (drop l.node-index l.nodes) ↔ AllByRecursion (λ (b : Built). AreIndexed l.dictionaries.entries.now (cut_to l.len b)) l.nodes
 
 abbrev pub decreases-are_indexed : goal.decreases-are_indexed
 decreases-are_indexed l = 2 * built_size l.node.now + 1

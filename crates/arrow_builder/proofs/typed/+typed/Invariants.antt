@@ -9,8 +9,8 @@ use Rattle.arrow_builder.proofs.typed.+typed.Given as goal
 -- all are typed exactly where those to come are
 abbrev pub invariant-all_typed-loop-field : goal.invariant-all_typed-loop-field
 invariant-all_typed-loop-field l =
-    AllByRecursion (IsTyped l.dictionaries.entries) (dictionary_fields (fields_view (drop l.field-index l.fields)))
-    ↔ AllByRecursion (IsTyped l.dictionaries.entries) (dictionary_fields (fields_view l.fields))
+    AllByRecursion (IsTyped l.dictionaries.entries.now) (dictionary_fields (fields_view (drop l.field-index l.fields)))
+    ↔ AllByRecursion (IsTyped l.dictionaries.entries.now) (dictionary_fields (fields_view l.fields))
 
 abbrev pub decreases-are_typed : goal.decreases-are_typed
 decreases-are_typed l = 2 * levels (field_view l.field.now).children + 1
