@@ -1,11 +1,11 @@
 //! Arrays out of the parts of a node: its buffers in a body, its children, its dictionary.
 
-ghost use Rattle.std.specs.Prelude.{◌≡◌, ◌≤◌, IfOk, None, Some, length, map, false, [], ◌∷◌};
+ghost use Rattle.std.specs.Prelude.{◌≡◌, ◌≤◌, IfOk, List, None, Some, length, map, false, [], ◌∷◌};
 ghost use Rattle.std.specs.Prelude.{slice_index_or};
 ghost use Rattle.std.specs.List.{AllByRecursion};
 ghost use Rattle.arrow_types.specs.Schema.{has_encoding};
 ghost use Rattle.arrow_types.specs.View.{type_view};
-ghost use Rattle.arrow_data.specs.Column.{AreOf, IsColumn, IsValueList, counts_of};
+ghost use Rattle.arrow_data.specs.Column.{AreOf, Column, IsColumn, IsValueList, counts_of};
 ghost use Rattle.arrow_data.specs.Form.{IsLeaf, form_of};
 ghost use Rattle.arrow_data.specs.Layout.{buffer_count, IsLaid, IsText, IsIndexed};
 ghost use Rattle.arrow_data.specs.Node.{bytes_of, column_by, AreRanges, IsFormat};
@@ -129,7 +129,6 @@ impl Array {
     /// values themselves: it has no children and no dictionary.
     #[inline(always)]
     pub fn from_leaf_parts(
-        alloc: Global,
         shared: &SharedType,
         node: NodeBuffers<'_>,
     ) -> Result<Array, AllocError>
@@ -149,7 +148,7 @@ impl Array {
         let data_type: &DataType = shared;
         // Called for what it says of every type.
         form_of(data_type);
-        let ranges = value_ranges(alloc, data_type, node, Vec::new(alloc))?;
+        let ranges = leaf_ranges(data_type, node);
         of_ranges(shared, None, node, ranges)
     }
 }
@@ -305,12 +304,41 @@ fn value_ranges(
             validity: node.ranges[0],
             children,
         }),
-        Form::Nulls => Ok(Ranges::Nulls),
-        Form::Bits => Ok(Ranges::Bools(bools(node.ranges))),
-        Form::Numbers { bits, signed } => Ok(Ranges::Ints(numbers(bits, signed, node.ranges))),
-        Form::Bytes(width) => Ok(Ranges::Binaries(strings(width, node.ranges))),
-        Form::Texts(width) => Ok(Ranges::Texts(strings(width, node.ranges))),
-        Form::FixedBytes(width) => Ok(Ranges::FixedBytes(fixed(width, node.ranges))),
+        Form::Nulls
+        | Form::Bits
+        | Form::Numbers { .. }
+        | Form::Bytes(_)
+        | Form::Texts(_)
+        | Form::FixedBytes(_) => Ok(leaf_ranges(data_type, node)),
+    }
+}
+
+// The ranges of a node of values that has no children. Nothing grows, and no list or struct is
+// made, so that where it is inlined the array is written where it stays.
+#[inline(always)]
+fn leaf_ranges(data_type: &DataType, node: NodeBuffers<'_>) -> Ranges
+    requires leaf { IsLeaf (form_of (type_view data_type.now).tag) }
+    requires count { buffer_count (type_view data_type.now).tag None ≤ length node.ranges.now }
+    requires inside { AllByRecursion (IsInside node.body.now) node.ranges.now }
+    requires layout { IsLaid (type_view data_type.now).tag None
+        node.len (map (bytes_of node.body.now) node.ranges.now) [] }
+    requires text { IsText (type_view data_type.now).tag None
+        node.len (map (bytes_of node.body.now) node.ranges.now) }
+    ensures lies { AreRanges node.entry.len (type_view data_type.now) None node.entry.body.now
+        result }
+    ensures same { (children : List Column) → AreOf (type_view data_type.now).children children
+        → column_by (type_view data_type.now) None node.entry.len node.entry.body.now result
+        ≡ node_column (type_view data_type.now) None
+        node.entry.len (map (bytes_of node.entry.body.now) node.entry.ranges.now) children [] }
+{
+    match form_of(data_type) {
+        Form::Nulls => Ranges::Nulls,
+        Form::Bits => Ranges::Bools(bools(node.ranges)),
+        Form::Numbers { bits, signed } => Ranges::Ints(numbers(bits, signed, node.ranges)),
+        Form::Bytes(width) => Ranges::Binaries(strings(width, node.ranges)),
+        Form::Texts(width) => Ranges::Texts(strings(width, node.ranges)),
+        Form::FixedBytes(width) => Ranges::FixedBytes(fixed(width, node.ranges)),
+        Form::Lists(_) | Form::Structs => unreachable!(),
     }
 }
 

@@ -9,17 +9,7 @@ use Rattle.arrow_data.specs.Parts.{node_column}
 use Rattle.arrow_data.proofs.NodeParts.{leaf_bare}
 use Rattle.arrow_data.proofs.array.Array.from_leaf_parts.Goals as goal
 
--- no fields stand below the type
-pub value_ranges-requires-clause-children : goal.value_ranges-requires-clause-children
-value_ranges-requires-clause-children c =
-    let t = c.args.shared.now.data_type in
-    let u = type_view c.deref-data_type.result.now in
-    let shape : u ≡ t = ap type_view c.deref-data_type.ensures ∙ c.data_type-shared.ensures in
-    let leaf : IsLeaf c.form_of.result = subst IsLeaf (ap (λ (x : TypeShape). form_of x.tag) (sym shape) ∙ sym c.form_of.ensures.same) c.requires.leaf in
-    let bare : u.children ≡ none = leaf_bare c.form_of.result u.children leaf c.form_of.ensures.below in
-    subst (AreOf u.children) (sym c.new.ensures.items) (subst (λ f. AreOf f []) (sym bare) tt)
-
--- the array has the type that is shared
+-- the array has the type that is shared, below which no fields stand
 pub returns : goal.returns
 returns c =
     let t = c.args.shared.now.data_type in
@@ -27,7 +17,9 @@ returns c =
     let u = type_view c.deref-data_type.result.now in
     let shape : u ≡ t = ap type_view c.deref-data_type.ensures ∙ c.data_type-shared.ensures in
     let b = map (bytes_of c.args.node.body.now) c.args.node.ranges.now in
-    let r = c.in_ok-ranges.ranges in
-    let same = ap (λ x. column_by x None c.args.node.len c.args.node.body.now r) (c.data_type-shared.ensures ∙ sym shape) ∙ c.in_ok-ranges.ensures.same ∙ ap (λ cs. node_column u None c.args.node.len b cs []) c.new.ensures.items
+    let r = c.leaf_ranges-ranges.result in
+    let leaf : IsLeaf c.form_of.result = subst IsLeaf (ap (λ (x : TypeShape). form_of x.tag) (sym shape) ∙ sym c.form_of.ensures.same) c.requires.leaf in
+    let bare : u.children ≡ none = leaf_bare c.form_of.result u.children leaf c.form_of.ensures.below in
+    let same = ap (λ x. column_by x None c.args.node.len c.args.node.body.now r) (c.data_type-shared.ensures ∙ sym shape) ∙ c.leaf_ranges-ranges.ensures.same [] (subst (λ f. AreOf f []) (sym bare) tt)
     ∙ ap (λ x. node_column x None c.args.node.len b [] []) shape ∙ ap (λ e. node_column t e c.args.node.len b [] []) (sym c.requires.own) in
     IfOk-weaker c.of_ranges.result (λ a. a ≡ column_by own None c.args.node.len c.args.node.body.now r) (λ a. a ≡ node_column t c.args.shared.now.encoding c.args.node.len b [] []) (λ a e. e ∙ same) c.of_ranges.ensures
