@@ -9,7 +9,7 @@
 pub mod laws;
 
 pub use arrow_meta_reader::{
-    BatchKind, Header, Message, MessageTree, MetaFault, RecordBatch, Work, decode, decode_counted,
-    judge, tree, tree_counted,
+    BatchKind, Header, Message, MessageTree, MetaFault, MetadataVersion, RecordBatch, Work, decode,
+    decode_counted, judge, tree, tree_counted,
 };
 pub use arrow_meta_writer::{encode, encoded_size};

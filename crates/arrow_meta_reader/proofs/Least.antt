@@ -1,6 +1,7 @@
 -- From the tests before a message is built, and from its building, to the least fault.
-use Rattle.std.proofs.Common.{◌≡◌, ℕ, ◌≤◌, Bool, true, false, ◌||◌, not, if◌then◌else◌, nat_lt, List, [], ◌∷◌, Option, Some, None, is_some, option_map, Result, Ok, Err, ◌⊎◌, inl, inr, refl, sym, ap, ◌∙◌, subst, true≢false, arith}
+use Rattle.std.proofs.Common.{◌≡◌, ℕ, ◌≤◌, Bool, true, false, ◌||◌, not, if◌then◌else◌, nat_lt, List, [], ◌∷◌, Option, Some, None, is_some, Result, Ok, Err, ◌⊎◌, inl, inr, refl, sym, ap, ◌∙◌, subst, true≢false, arith}
 use Rattle.std.proofs.lemmas.Bool.{le-ltb, ltb-false}
+use Rattle.arrow_flatbuf.specs.Place.{◌>>=◌}
 use Rattle.arrow_types.specs.Field.{levels, count}
 use Rattle.arrow_types.specs.Notes.{pair_count}
 use Rattle.arrow_types.specs.Schema.{fault_of as schema_fault_of, is_nested, is_too_wide, types_differ, dictionary_fields}
@@ -13,9 +14,10 @@ use Rattle.arrow_meta_reader.specs.declared.fault.BatchKind.TheVariants as batch
 use Rattle.arrow_meta_reader.specs.declared.fault.MetaFault.{MetaFault}
 use Rattle.arrow_meta_reader.specs.declared.fault.MetaFault.TheVariants.{Metadata, Version, Header, BodyLength, Unsupported, Schema, Compressed, Memory}
 use Rattle.arrow_meta_reader.specs.declared.message.Message.{Message}
+use Rattle.arrow_meta_reader.specs.declared.message.MetadataVersion.{MetadataVersion}
 use Rattle.arrow_meta_reader.specs.Builds.{BuildsMessage, FailsToBuild, Late}
 use Rattle.arrow_meta_reader.specs.Conditions.{any, any_in, is_misfit, is_unsupported, lacks_table}
-use Rattle.arrow_meta_reader.specs.Faults.{least, header_conditions, fault_of, is_read_version, version_of, header_in, header_of, data_of, body_of, is_bad_length, is_compressed, is_unsupported_schema, shares_an_id}
+use Rattle.arrow_meta_reader.specs.Faults.{least, header_conditions, fault_of, version_in, header_in, header_of, data_of, body_of, is_bad_length, is_compressed, is_unsupported_schema, shares_an_id}
 use Rattle.arrow_meta_reader.specs.Judges.{AsksMemory, Judges, LengthFits}
 use Rattle.arrow_meta_reader.specs.Means.{PlainMessage, Means, message_by, message_view}
 use Rattle.arrow_meta_reader.specs.Parts.{nth, parts}
@@ -37,7 +39,7 @@ first_of None other = other
 
 -- the faults that are told before those of the header of a message with these fields
 abbrev early_of : ℕ → Trees → Option MetaFault
-early_of max xs = early (any_in lacks_table xs) (not (is_read_version (version_of xs))) (not (is_some (header_in xs))) (is_bad_length max (body_of xs))
+early_of max xs = early (any_in lacks_table xs) (not (is_some (version_in xs))) (not (is_some (header_in xs))) (is_bad_length max (body_of xs))
 
 -- the faults of the header of a message with these fields
 abbrev own_of : Trees → Option MetaFault
@@ -53,7 +55,7 @@ split false false false false own = refl
 -- the least fault comes before those of the header, or is one of them
 parted : (max : ℕ) (xs : Trees) → fault_of max xs ≡ first_of (early_of max xs) (own_of xs)
 parted max xs =
-    split (any_in lacks_table xs) (not (is_read_version (version_of xs))) (not (is_some (header_in xs))) (is_bad_length max (body_of xs))
+    split (any_in lacks_table xs) (not (is_some (version_in xs))) (not (is_some (header_in xs))) (is_bad_length max (body_of xs))
     (header_conditions (header_in xs) (body_of xs) (header_of xs))
 
 first_some : (r own : Option MetaFault) (f : MetaFault) → first_of r own ≡ Some f → (r ≡ Some f) ⊎ ((r ≡ None) × (own ≡ Some f))
@@ -100,7 +102,7 @@ early_never false false false false h = cc
 -- no condition is want of memory
 never : (max : ℕ) (xs : Trees) → fault_of max xs ≡ Some Memory → ⊥
 never max xs h = elim (first_some (early_of max xs) (own_of xs) Memory (sym (parted max xs) ∙ h)) [
-  | inl before ↦ early_never (any_in lacks_table xs) (not (is_read_version (version_of xs))) (not (is_some (header_in xs))) (is_bad_length max (body_of xs)) before
+  | inl before ↦ early_never (any_in lacks_table xs) (not (is_some (version_in xs))) (not (is_some (header_in xs))) (is_bad_length max (body_of xs)) before
   | inr own ↦ own_never (header_in xs) (body_of xs) (header_of xs) own.1
 ]
 
@@ -182,11 +184,10 @@ failed headers.RecordBatch e max x none_found is shallow h =
     subst (λ f. Judges (Err f) max x) (sym h.0) (none_found, subst (λ kind. AsksMemory kind (parts (header_of (parts x)))) (sym is) h.1)
 
 -- the message that was built, or the fault that came while it was
-pub built : (r : Result Message MetaFault) (kind : HeaderKind) (max : ℕ) (x : Tree) → IsShallow x → header_in (parts x) ≡ Some kind
-    → fault_of max (parts x) ≡ None → BuildsMessage r kind (parts x) → Judges r max x
-built (Ok m) kind max x shallow is none_found h =
-    record { sound = none_found; same = ap (option_map (message_by (parts x))) is ∙ ap Some (sym h) }
-built (Err e) kind max x shallow is none_found h = failed kind e max x none_found is shallow h
+pub built : (r : Result Message MetaFault) (version : MetadataVersion) (kind : HeaderKind) (max : ℕ) (x : Tree) → IsShallow x → version_in (parts x) ≡ Some version
+    → header_in (parts x) ≡ Some kind → fault_of max (parts x) ≡ None → BuildsMessage r version kind (parts x) → Judges r max x
+built (Ok m) version kind max x shallow read is none_found h = record { sound = none_found; same = rw (read, is) (ap Some (sym h)) }
+built (Err e) version kind max x shallow read is none_found h = failed kind e max x none_found is shallow h
 
 -- the body's length that a fault gives
 abbrev tells : MetaFault → ℕ → Type 0
@@ -237,11 +238,11 @@ good_length max n h = ltb-false max n ((or_parts (nat_lt 9223372036854775807 n) 
 clear_length : (max : ℕ) (xs : Trees) → early_of max xs ≡ None → body_of xs ≤ max
 clear_length max xs h =
     good_length max (body_of xs)
-    (early_length (any_in lacks_table xs) (not (is_read_version (version_of xs))) (not (is_some (header_in xs))) (is_bad_length max (body_of xs)) h)
+    (early_length (any_in lacks_table xs) (not (is_some (version_in xs))) (not (is_some (header_in xs))) (is_bad_length max (body_of xs)) h)
 
 given_length : (max : ℕ) (xs : Trees) (f : MetaFault) (given : ℕ) → fault_of max xs ≡ Some f → tells f given → given ≤ max
 given_length max xs f given h t = elim (first_some (early_of max xs) (own_of xs) f (sym (parted max xs) ∙ h)) [
-  | inl before ↦ absurd (early_tells (any_in lacks_table xs) (not (is_read_version (version_of xs))) (not (is_some (header_in xs))) (is_bad_length max (body_of xs)) f given before t)
+  | inl before ↦ absurd (early_tells (any_in lacks_table xs) (not (is_some (version_in xs))) (not (is_some (header_in xs))) (is_bad_length max (body_of xs)) f given before t)
   | inr own ↦ omega (arith, own_tells (header_in xs) (body_of xs) (header_of xs) f given own.1 t, clear_length max xs own.0)
 ]
 
@@ -249,13 +250,15 @@ given_length max xs f given h t = elim (first_some (early_of max xs) (own_of xs)
 pub sound_length : (max : ℕ) (xs : Trees) → fault_of max xs ≡ None → body_of xs ≤ max
 sound_length max xs h = clear_length max xs ((first_none (early_of max xs) (own_of xs) (sym (parted max xs) ∙ h)).0)
 
-said_length : (xs : Trees) (kind : Option HeaderKind) (m : PlainMessage) → option_map (message_by xs) kind ≡ Some m → m.body_len ≡ body_of xs
-said_length xs None m h = absurd (cc)
-said_length xs (Some kind) m h = let same : message_by xs kind ≡ m = cc in ap (λ (m : PlainMessage). m.body_len) (sym same)
+said_length : (xs : Trees) (version : Option MetadataVersion) (kind : Option HeaderKind) (m : PlainMessage)
+    → version >>= (λ v. kind >>= (λ k. Some (message_by xs v k))) ≡ Some m → m.body_len ≡ body_of xs
+said_length xs None kind m h = absurd (cc)
+said_length xs (Some version) None m h = absurd (cc)
+said_length xs (Some version) (Some kind) m h = let same : message_by xs version kind ≡ m = cc in ap (λ (m : PlainMessage). m.body_len) (sym same)
 
 -- The body of a message that a tree means is within the limit.
 pub meaning_length : (max : ℕ) (x : Tree) (m : PlainMessage) → Means max x m → m.body_len ≤ max
-meaning_length max x m h = omega (arith, said_length (parts x) (header_in (parts x)) m h.same, sound_length max (parts x) h.sound)
+meaning_length max x m h = omega (arith, said_length (parts x) (version_in (parts x)) (header_in (parts x)) m h.same, sound_length max (parts x) h.sound)
 
 -- a body's length that is answered is at most the limit
 pub length_fits : (r : Result Message MetaFault) (max : ℕ) (x : Tree) → Judges r max x → LengthFits r max

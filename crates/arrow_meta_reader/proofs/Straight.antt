@@ -15,8 +15,9 @@ use Rattle.arrow_meta_reader.specs.declared.kinds.FieldForm.TheVariants as forms
 use Rattle.arrow_meta_reader.specs.declared.kinds.TableKind.{TableKind}
 use Rattle.arrow_meta_reader.specs.declared.kinds.TableKind.TheVariants as kinds
 use Rattle.arrow_meta_reader.specs.Conditions.{any, any_in, lacks_table}
-use Rattle.arrow_meta_reader.specs.Codes.{header_kind}
-use Rattle.arrow_meta_reader.specs.Faults.{body_of, fault_of, header_conditions, header_in, header_of, is_bad_length, is_compressed, is_read_version, least, version_of}
+use Rattle.arrow_meta_reader.specs.Codes.{header_kind, metadata_version}
+use Rattle.arrow_meta_reader.specs.declared.message.MetadataVersion.{MetadataVersion}
+use Rattle.arrow_meta_reader.specs.Faults.{body_of, fault_of, header_conditions, header_in, header_of, is_bad_length, is_compressed, least, version_in}
 use Rattle.arrow_meta_reader.specs.Grows.{root}
 use Rattle.arrow_meta_reader.specs.Kinds.{Spot, code_at, header_table, opened, spots_of, standing, table_of_header}
 use Rattle.arrow_meta_reader.specs.Lies.{AllStand, Stands, layer, layer_at, leaf_layer, number_layer, pairs_from, table_layer}
@@ -125,13 +126,13 @@ good_length : (most n : ℕ) → n ≤ 9223372036854775807 → n ≤ most → is
 good_length most n h k = rw (le-ltb 9223372036854775807 n h, le-ltb most n k) refl
 
 -- the message of a header's table, and of the numbers beside it
-pub message_there : (limits : LimitNumbers) (bytes : List ℕ) (t inner : TableAt) (p version_number code body_len : ℕ) (z : ℤ) (kind : HeaderKind) (h : PlainHeader)
-    → behind table_at bytes 0 ≡ Some t → t.bytes ≡ bytes → HasNumber 2 t 0 version_number → is_read_version version_number ≡ true → z ≡ cast_signed w16 version_number → HasNumber 1 t 1 code → HasNumber 8 t 3 body_len
+pub message_there : (limits : LimitNumbers) (bytes : List ℕ) (t inner : TableAt) (p told code body_len : ℕ) (version : MetadataVersion) (kind : HeaderKind) (h : PlainHeader)
+    → behind table_at bytes 0 ≡ Some t → t.bytes ≡ bytes → HasNumber 2 t 0 told → metadata_version told ≡ Some version → HasNumber 1 t 1 code → HasNumber 8 t 3 body_len
     → field_place t 2 ≡ Some p → behind table_at t.bytes p ≡ Some inner → inner.bytes ≡ t.bytes → header_kind code ≡ Some kind → IsHeader kind inner h
     → body_len ≤ 9223372036854775807 → body_len ≤ limits.max_body
-    → MeansBare limits bytes (record { version = z; header = h; body_len = body_len })
-message_there limits bytes t inner p version_number code body_len z kind h there same version read signed coded length at inside same_bytes named of low high =
-    let a = number_there t forms.Short 2 0 version_number (λ q. refl) version in
+    → MeansBare limits bytes (record { version = version; header = h; body_len = body_len })
+message_there limits bytes t inner p told code body_len version kind h there same numbered read coded length at inside same_bytes named of low high =
+    let a = number_there t forms.Short 2 0 told (λ q. refl) numbered in
     let b = number_there t forms.Byte 1 1 code (λ q. refl) coded in
     let d = number_there t forms.Long 8 3 body_len (λ q. refl) length in
     let xs = more (leaf a.0) (more (leaf b.0) (more (table of.opened of.fields) (more (leaf d.0) none))) in
@@ -140,11 +141,12 @@ message_there limits bytes t inner p version_number code body_len z kind h there
     rw opens (table_there t.bytes of.opened (field_place t 2) p inner of.fields at inside same_bytes of.stand) in
     let stand : AllStand t.bytes (spots_of kinds.Message t) xs = (a.1, (b.1, (header_stands, (d.1, tt)))) in
     let root_stands : Stands bytes root (table kinds.Message xs) = (spots_of kinds.Message t, element_layer bytes kinds.Message 0 t there, subst (λ bs. AllStand bs (spots_of kinds.Message t) xs) same stand) in
+    let in_version : version_in xs ≡ Some version = rw a.2 read in
     let in_header : header_in xs ≡ Some kind = rw b.2 named in
     let own : least (header_conditions (header_in xs) (body_of xs) (header_of xs)) ≡ None = rw in_header (of.sound (body_of xs)) in
     let sound : fault_of limits.max_body xs ≡ None =
-    passed (any_in lacks_table xs) (not (is_read_version (version_of xs))) (not (is_some (header_in xs))) (is_bad_length limits.max_body (body_of xs)) (header_conditions (header_in xs) (body_of xs) (header_of xs))
-    (rw of.whole refl) (rw (a.2, read) refl) (rw in_header refl) (rw d.2 (good_length limits.max_body body_len low high)) own in (
+    passed (any_in lacks_table xs) (not (is_some (version_in xs))) (not (is_some (header_in xs))) (is_bad_length limits.max_body (body_of xs)) (header_conditions (header_in xs) (body_of xs) (header_of xs))
+    (rw of.whole refl) (rw in_version refl) (rw in_header refl) (rw d.2 (good_length limits.max_body body_len low high)) own in (
       table kinds.Message xs,
       record {
         lies = root_lies bytes (table kinds.Message xs) root_stands;
@@ -153,7 +155,7 @@ message_there limits bytes t inner p version_number code body_len z kind h there
           text_within = rw (a.3, b.3, of.bare.text_none, d.3) (omega arith);
         };
       },
-      record { sound = sound; same = rw in_header (rw (a.2, d.2, of.says, signed) refl) },
+      record { sound = sound; same = rw (in_version, in_header) (rw (d.2, of.says) refl) },
       record {
         levels_none = rw of.bare.levels_none refl;
         visits_none = rw of.bare.visits_none refl;

@@ -21,6 +21,7 @@ use Rattle.arrow_meta_reader.specs.declared.fields.FieldFault.{FieldFault}
 use Rattle.arrow_meta_reader.specs.declared.fields.FieldFault.TheVariants.{Misfit, Memory}
 use Rattle.arrow_meta_reader.specs.declared.message.Header.{Header}
 use Rattle.arrow_meta_reader.specs.declared.message.Message.{Message}
+use Rattle.arrow_meta_reader.specs.declared.message.MetadataVersion.{MetadataVersion}
 use Rattle.arrow_meta_reader.specs.Conditions.{any, any_in, is_misfit, children_fit}
 use Rattle.arrow_meta_reader.specs.Faults.{header_of, body_of, data_of, HasFieldOrPair, HasNodeOrBuffer}
 use Rattle.arrow_meta_reader.specs.Means.{header_view, header_by, message_view, message_by}
@@ -86,10 +87,10 @@ abbrev pub BuildsHeader : Result Header MetaFault → HeaderKind → ℕ → Tre
 BuildsHeader (Ok h) kind body_len xs = header_view h ≡ header_by kind xs
 BuildsHeader (Err e) kind body_len xs = FailsToBuild kind e body_len xs
 
--- The message was built that a Message table with these fields says, by what its header is.
-abbrev pub BuildsMessage : Result Message MetaFault → HeaderKind → Trees → Type 0
-BuildsMessage (Ok m) kind xs = message_view m ≡ message_by xs kind
-BuildsMessage (Err e) kind xs = FailsToBuild kind e (body_of xs) (parts (header_of xs))
+-- The message was built that a Message table with these fields says, by its version and by what its header is.
+abbrev pub BuildsMessage : Result Message MetaFault → MetadataVersion → HeaderKind → Trees → Type 0
+BuildsMessage (Ok m) version kind xs = message_view m ≡ message_by xs version kind
+BuildsMessage (Err e) version kind xs = FailsToBuild kind e (body_of xs) (parts (header_of xs))
 
 -- What building goes through.
 abbrev mutual

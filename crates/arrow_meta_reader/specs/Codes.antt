@@ -8,16 +8,22 @@ use Rattle.arrow_types.specs.declared.data_type.TimeUnit.{TimeUnit}
 use Rattle.arrow_types.specs.declared.data_type.TimeUnit.TheVariants as times
 use Rattle.arrow_meta_reader.specs.declared.codes.HeaderKind.{HeaderKind}
 use Rattle.arrow_meta_reader.specs.declared.codes.HeaderKind.TheVariants as headers
+use Rattle.arrow_meta_reader.specs.declared.message.MetadataVersion.{MetadataVersion}
+use Rattle.arrow_meta_reader.specs.declared.message.MetadataVersion.TheVariants as versions
 use Rattle.arrow_meta_reader.specs.declared.codes.TypeCode.{TypeCode}
 use Rattle.arrow_meta_reader.specs.declared.codes.TypeCode.TheVariants as codes
 
--- the number of V4 (Schema.fbs, enum "MetadataVersion")
-abbrev pub v4 : ℕ
-v4 = 3
+-- the number of a version (Schema.fbs, enum "MetadataVersion")
+abbrev pub number_of_version : MetadataVersion → ℕ
+number_of_version versions.V4 = 3
+number_of_version versions.V5 = 4
 
--- the number of V5 (Schema.fbs, enum "MetadataVersion")
-abbrev pub v5 : ℕ
-v5 = 4
+-- The version that a number stands for (Schema.fbs, enum "MetadataVersion"). There is none for V1 (0), V2 (1) and V3 (2),
+-- which this project leaves out, and for a number that is no version's.
+abbrev pub metadata_version : ℕ → Option MetadataVersion
+metadata_version n =
+    if n == number_of_version versions.V4 then Some versions.V4 else
+    (if n == number_of_version versions.V5 then Some versions.V5 else None)
 
 -- the header's code of a schema (Message.fbs, union "MessageHeader")
 abbrev pub schema_code : ℕ

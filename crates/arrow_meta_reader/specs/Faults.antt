@@ -7,20 +7,17 @@ use Rattle.arrow_meta_reader.specs.declared.codes.HeaderKind.TheVariants as head
 use Rattle.arrow_meta_reader.specs.declared.fault.BatchKind.TheVariants as batches
 use Rattle.arrow_meta_reader.specs.declared.fault.MetaFault.{MetaFault}
 use Rattle.arrow_meta_reader.specs.declared.fault.MetaFault.TheVariants.{Metadata, Version, Header, BodyLength, Unsupported, Schema, Compressed, Memory}
-use Rattle.arrow_meta_reader.specs.Codes.{header_kind, v4, v5}
+use Rattle.arrow_meta_reader.specs.declared.message.MetadataVersion.{MetadataVersion}
+use Rattle.arrow_meta_reader.specs.Codes.{metadata_version, header_kind}
 use Rattle.arrow_meta_reader.specs.Conditions.{any, any_in, lacks_table, is_unsupported, is_misfit}
 use Rattle.arrow_meta_reader.specs.Parts.{nth, parts, number_at, pairs_in, is_table, is_there}
 use Rattle.arrow_meta_reader.specs.SchemaMeaning.{schema_fields, schema_pairs}
 use Rattle.arrow_meta_reader.specs.Slots as slots
 use Rattle.arrow_meta_reader.specs.Trees.{Tree, Trees}
 
--- the version of a Message table (Message.fbs, table "Message"; so the next three)
-abbrev pub version_of : Trees → ℕ
-version_of xs = number_at slots.message_version 0 xs
-
--- whether a version is one that is read: V4 or V5 (Schema.fbs, enum "MetadataVersion")
-abbrev pub is_read_version : ℕ → Bool
-is_read_version n = n == v4 || n == v5
+-- which version a Message table has, of those that are read (Message.fbs, table "Message"; so the next three)
+abbrev pub version_in : Trees → Option MetadataVersion
+version_in xs = metadata_version (number_at slots.message_version 0 xs)
 
 -- the header's table
 abbrev pub header_of : Trees → Tree
@@ -75,7 +72,7 @@ header_conditions (Some headers.RecordBatch) body_len x = (is_compressed (parts 
 abbrev pub conditions : ℕ → Trees → List (Bool × MetaFault)
 conditions max_body xs =
     (any_in lacks_table xs, Metadata) ∷
-    (not (is_read_version (version_of xs)), Version) ∷
+    (not (is_some (version_in xs)), Version) ∷
     (not (is_some (header_in xs)), Header) ∷
     (is_bad_length max_body (body_of xs), BodyLength) ∷
     header_conditions (header_in xs) (body_of xs) (header_of xs)

@@ -6,7 +6,8 @@ use Rattle.arrow_meta_reader.specs.declared.codes.HeaderKind.TheVariants as head
 use Rattle.arrow_meta_reader.specs.declared.fault.MetaFault.{MetaFault}
 use Rattle.arrow_meta_reader.specs.declared.fault.MetaFault.TheVariants.{Metadata, Version, Header, BodyLength, Unsupported, Schema, Compressed, Memory}
 use Rattle.arrow_meta_reader.specs.declared.message.Message.{Message}
-use Rattle.arrow_meta_reader.specs.Faults.{fault_of, header_in, header_of, data_of, HasFieldOrPair, HasNodeOrBuffer}
+use Rattle.arrow_meta_reader.specs.declared.message.MetadataVersion.{MetadataVersion}
+use Rattle.arrow_meta_reader.specs.Faults.{fault_of, version_in, header_in, header_of, data_of, HasFieldOrPair, HasNodeOrBuffer}
 use Rattle.arrow_meta_reader.specs.Grows.{GrowsAtRoot}
 use Rattle.arrow_meta_reader.specs.Lies.{LiesAtRoot}
 use Rattle.arrow_meta_reader.specs.Means.{PlainMessage, Means, message_view}
@@ -23,10 +24,11 @@ AsksMemory (Some headers.Schema) xs = HasFieldOrPair xs
 AsksMemory (Some headers.DictionaryBatch) xs = HasNodeOrBuffer (data_of xs)
 AsksMemory (Some headers.RecordBatch) xs = HasNodeOrBuffer xs
 
--- What the tests answer that come before a message is built: which header there is, where no fault holds, else the least
--- fault.
-abbrev pub Clears : Result HeaderKind MetaFault → ℕ → Trees → Type 0
-Clears (Ok kind) max_body xs = (header_in xs ≡ Some kind) × (fault_of max_body xs ≡ None)
+-- What the tests answer that come before a message is built: which version and which header there are, where no fault
+-- holds, else the least fault.
+abbrev pub Clears : Result (MetadataVersion × HeaderKind) MetaFault → ℕ → Trees → Type 0
+Clears (Ok found) max_body xs =
+    (version_in xs ≡ Some found.0) × (header_in xs ≡ Some found.1) × (fault_of max_body xs ≡ None)
 Clears (Err fault) max_body xs = fault_of max_body xs ≡ Some fault
 
 -- An answer to a tree: the message that it means, else its least fault. Want of memory is told only of a tree of

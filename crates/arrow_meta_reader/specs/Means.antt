@@ -1,6 +1,7 @@
 -- What a message is, without where it lies in memory, and which message a tree means.
-use Rattle.std.specs.Prelude.{◌≡◌, ℕ, ℤ, Bool, List, map, Option, None, Some, option_map}
-use Rattle.std.specs.Int.{cast_signed, w16, w64}
+use Rattle.std.specs.Prelude.{◌≡◌, ℕ, ℤ, Bool, List, map, Option, Some, None}
+use Rattle.std.specs.Int.{cast_signed, w64}
+use Rattle.arrow_flatbuf.specs.Place.{◌>>=◌}
 use Rattle.arrow_types.specs.Notes.{SchemaShape}
 use Rattle.arrow_types.specs.declared.node.FieldNode.{FieldNode}
 use Rattle.arrow_types.specs.declared.node.Buffer.{Buffer}
@@ -10,7 +11,8 @@ use Rattle.arrow_meta_reader.specs.declared.codes.HeaderKind.TheVariants as head
 use Rattle.arrow_meta_reader.specs.declared.message.Header.{Header}
 use Rattle.arrow_meta_reader.specs.declared.message.Header.TheVariants as built
 use Rattle.arrow_meta_reader.specs.declared.message.Message.{Message}
-use Rattle.arrow_meta_reader.specs.Faults.{fault_of, version_of, header_in, header_of, body_of, data_of}
+use Rattle.arrow_meta_reader.specs.declared.message.MetadataVersion.{MetadataVersion}
+use Rattle.arrow_meta_reader.specs.Faults.{fault_of, version_in, header_in, header_of, body_of, data_of}
 use Rattle.arrow_meta_reader.specs.Parts.{nth, parts, number_at, flag_at, pairs_in}
 use Rattle.arrow_meta_reader.specs.SchemaMeaning.{schema_in}
 use Rattle.arrow_meta_reader.specs.Trees.{Tree, Trees}
@@ -30,7 +32,7 @@ pub data PlainHeader : Type 0 where
 
 -- a message (Message.fbs, table "Message"); the body's length is in bytes
 pub record PlainMessage : Type 0 where
-  pub version : ℤ
+  pub version : MetadataVersion
   pub header : PlainHeader
   pub body_len : ℕ
 
@@ -57,17 +59,21 @@ header_by headers.DictionaryBatch xs =
     dictionary (cast_signed w64 (number_at slots.dictionary_batch_id 0 xs)) (flag_at slots.dictionary_batch_is_delta xs) (batch_of (data_of xs))
 header_by headers.RecordBatch xs = batch (batch_of xs)
 
--- what a Message table with these fields says, by what its header is
-abbrev pub message_by : Trees → HeaderKind → PlainMessage
-message_by xs kind = record {
-  version = cast_signed w16 (version_of xs);
+-- what a Message table with these fields says, by its version and by what its header is
+abbrev pub message_by : Trees → MetadataVersion → HeaderKind → PlainMessage
+message_by xs version kind = record {
+  version = version;
   header = header_by kind (parts (header_of xs));
   body_len = body_of xs;
 }
 
--- What a Message table with these fields says, none without a header. Where a fault holds of them it is no message.
+-- What a Message table with these fields says, none without a version that is read or without a header. Where a fault
+-- holds of them it is no message.
 abbrev pub meaning_of : Trees → Option PlainMessage
-meaning_of xs = option_map (message_by xs) (header_in xs)
+meaning_of xs = do
+  version ← version_in xs
+  kind ← header_in xs
+  Some (message_by xs version kind)
 
 -- A message's tree means this message: no fault holds of it, and this is what it says.
 pub record Means (max_body : ℕ) (x : Tree) (m : PlainMessage) : Type 0 where

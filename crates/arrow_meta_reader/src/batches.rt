@@ -13,8 +13,7 @@ ghost use Rattle.arrow_meta_reader.specs.Straight.{HasNumber, HasPairs, IsHeader
 ghost use Rattle.arrow_meta_reader.specs.declared.codes.HeaderKind.{HeaderKind as Kind};
 ghost use Rattle.arrow_meta_reader.specs.declared.codes.HeaderKind.TheVariants as headers;
 
-use crate::build::{is_read_version, version_of};
-use crate::codes::{HeaderKind, header_kind};
+use crate::codes::{HeaderKind, header_kind, metadata_version};
 use crate::kinds::PAIR;
 use crate::message::{Header, Message, RecordBatch};
 use crate::slots;
@@ -29,17 +28,18 @@ pub(crate) fn batch_message(alloc: Global, bytes: &[u8], limits: &Limits) -> Opt
     ensures length { IfSome result (λ m. m.body_len ≤ limits.now.max_body) }
 {
     let table = Root::open(bytes)?;
-    let version = number_in(&table, slots::message::VERSION, 2)?;
+    let number = number_in(&table, slots::message::VERSION, 2)?;
+    let version = metadata_version(number)?;
     let code = number_in(&table, slots::message::HEADER_TYPE, 1)?;
     let body_len = number_in(&table, slots::message::BODY_LENGTH, 8)?;
-    if !is_read_version(version) || body_len > limits.max_body() {
+    if body_len > limits.max_body() {
         return None;
     }
     let Ok(Some(inner)) = table.table(slots::message::HEADER) else {
         return None;
     };
     Some(Message {
-        version: version_of(version),
+        version,
         header: batch_header(alloc, code, &inner)?,
         body_len,
     })

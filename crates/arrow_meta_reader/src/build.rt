@@ -1,8 +1,8 @@
 //! Messages, built of the fields of their tables.
-ghost use Rattle.std.specs.Prelude.{◌≡◌, ◌<◌, IfOk, IfErr, length, map, true};
-ghost use Rattle.std.specs.Int.{cast_signed, w16, w64};
+ghost use Rattle.std.specs.Prelude.{◌≡◌, ◌<◌, IfOk, IfErr, length, map};
+ghost use Rattle.std.specs.Int.{cast_signed, w64};
 ghost use Rattle.arrow_meta_reader.specs.Builds.{BuildsSchema, BuildsHeader, BuildsMessage, meta_fault};
-ghost use Rattle.arrow_meta_reader.specs.Faults.{HasNodeOrBuffer, data_of, is_read_version, version_of};
+ghost use Rattle.arrow_meta_reader.specs.Faults.{HasNodeOrBuffer, data_of};
 ghost use Rattle.arrow_meta_reader.specs.Means.{batch_of, batch_view, dictionary, header_view, node_of};
 ghost use Rattle.arrow_meta_reader.specs.Means.{buffer_of};
 ghost use Rattle.arrow_meta_reader.specs.Parts.{nth, number_at, flag_at};
@@ -12,7 +12,7 @@ ghost use Rattle.arrow_meta_reader.specs.Views.{plain_all};
 use crate::codes::HeaderKind;
 use crate::fault::MetaFault;
 use crate::fields::{FieldFault, fields};
-use crate::message::{Header, Message, RecordBatch};
+use crate::message::{Header, Message, MetadataVersion, RecordBatch};
 use crate::message_tree::Tree;
 use crate::metadata::metadata;
 use crate::parts::{flag_at, into_pairs, into_parts, number_at, take};
@@ -20,35 +20,16 @@ use crate::slots;
 use arrow_types::{Buffer, FieldNode, Schema, SchemaFault};
 use std::alloc::{AllocError, Global};
 
-/// Whether the number of a version is that of V4 or V5.
-pub(crate) fn is_read_version(number: u64) -> bool
-    ensures { result ≡ is_read_version number }
-{
-    number == Message::V4 as u64 || number == Message::V5 as u64
-}
-
-/// The version of such a number.
-pub(crate) fn version_of(number: u64) -> i16
-    requires { is_read_version number ≡ true }
-    ensures { result ≡ cast_signed w16 number }
-{
-    if number == Message::V4 as u64 {
-        Message::V4
-    } else {
-        Message::V5
-    }
-}
-
-/// The message that a Message table with these fields says, by what its header is.
+/// The message that a Message table with these fields says, by its version and by what its header
+/// is.
 pub(crate) fn message(
     alloc: Global,
+    version: MetadataVersion,
     kind: HeaderKind,
     mut parts: Vec<Tree>,
 ) -> Result<Message, MetaFault>
-    requires read { is_read_version (version_of (plain_all parts.items)) ≡ true }
-    ensures built { BuildsMessage result kind (plain_all parts.items) }
+    ensures built { BuildsMessage result version kind (plain_all parts.items) }
 {
-    let version = version_of(number_at(&parts, slots::message::VERSION, 0));
     let body_len = number_at(&parts, slots::message::BODY_LENGTH, 0);
     let table = into_parts(alloc, take(&mut parts, slots::message::HEADER));
     let header = header(alloc, kind, table, body_len)?;

@@ -1,9 +1,22 @@
-//! The numbers that stand for headers, types, widths and units (`Message.fbs`, `Schema.fbs`).
+//! The numbers that stand for versions, headers, types, widths and units (`Message.fbs`, `Schema.fbs`).
 ghost use Rattle.std.specs.Prelude.{◌≡◌};
-ghost use Rattle.arrow_meta_reader.specs.Codes.{header_kind, type_code, bit_width, byte_width};
-ghost use Rattle.arrow_meta_reader.specs.Codes.{date_unit, time_unit};
+ghost use Rattle.arrow_meta_reader.specs.Codes.{metadata_version, header_kind, type_code};
+ghost use Rattle.arrow_meta_reader.specs.Codes.{bit_width, byte_width, date_unit, time_unit};
 
+use crate::message::MetadataVersion;
 use arrow_types::{BitWidth, DateUnit, Schema, TimeUnit};
+
+/// The version of this number, None outside the profile: 0 is V1, 1 is V2 and 2 is V3.
+pub(crate) fn metadata_version(number: u64) -> Option<MetadataVersion>
+    ensures version { result ≡ metadata_version number }
+{
+    match number {
+        3 => Some(MetadataVersion::V4),
+        4 => Some(MetadataVersion::V5),
+        // a number that is no version's of the profile
+        _ => None,
+    }
+}
 
 /// A header of this project's profile (`Message.fbs`, union `MessageHeader`).
 #[derive(Clone, Copy)]

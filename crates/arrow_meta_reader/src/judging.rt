@@ -3,7 +3,7 @@ ghost use Rattle.std.specs.Prelude.{◌≡◌, ◌∷◌, [], Some, IfOk};
 ghost use Rattle.arrow_meta_reader.specs.declared.codes.HeaderKind.TheVariants as headers;
 ghost use Rattle.arrow_meta_reader.specs.declared.fault.MetaFault.TheVariants.{Compressed};
 ghost use Rattle.arrow_meta_reader.specs.Conditions.{any, is_misfit};
-ghost use Rattle.arrow_meta_reader.specs.Faults.{data_of, header_in, header_of, is_bad_length};
+ghost use Rattle.arrow_meta_reader.specs.Faults.{data_of, header_in, header_of, is_bad_length, version_in};
 ghost use Rattle.arrow_meta_reader.specs.Faults.{header_conditions, is_compressed};
 ghost use Rattle.arrow_meta_reader.specs.Faults.{is_unsupported_schema, least, shares_an_id};
 ghost use Rattle.arrow_meta_reader.specs.Judges.{Clears, CountsTree, Decodes, IsWorkWithin, Judges};
@@ -14,11 +14,11 @@ ghost use Rattle.arrow_meta_reader.specs.Views.{plain, plain_all};
 ghost use Rattle.arrow_types.specs.Schema.{dictionary_fields, is_nested, types_differ};
 
 use crate::batches::batch_message;
-use crate::build::{is_read_version, message};
-use crate::codes::{HeaderKind, header_kind};
+use crate::build::message;
+use crate::codes::{HeaderKind, header_kind, metadata_version};
 use crate::conditions::{Test, any, any_in};
 use crate::fault::{BatchKind, MetaFault};
-use crate::message::Message;
+use crate::message::{Message, MetadataVersion};
 use crate::message_tree::{MessageTree, Tree};
 use crate::nesting::is_nested;
 use crate::parts::{has_table, into_parts, is_there_at, number_at, part};
@@ -86,22 +86,26 @@ pub fn judge(alloc: Global, tree: MessageTree, limits: &Limits) -> Result<Messag
     ensures length { LengthFits result limits.now.max_body }
 {
     let parts = into_parts(alloc, tree.root);
-    let kind = cleared(alloc, &parts, limits.max_body())?;
-    message(alloc, kind, parts)
+    let (version, kind) = cleared(alloc, &parts, limits.max_body())?;
+    message(alloc, version, kind, parts)
 }
 
-/// Which header a message with these fields has, where it has no fault, or its least fault. All
-/// faults are told before the memory of a message is taken.
-fn cleared(alloc: Global, parts: &[Tree], max_body: u64) -> Result<HeaderKind, MetaFault>
+/// Which version and which header a message with these fields has, where it has no fault, or its
+/// least fault. All faults are told before the memory of a message is taken.
+fn cleared(
+    alloc: Global,
+    parts: &[Tree],
+    max_body: u64,
+) -> Result<(MetadataVersion, HeaderKind), MetaFault>
     ensures least { Clears result max_body (plain_all parts.now) }
 {
     let body_len = number_at(parts, slots::message::BODY_LENGTH, 0);
     if any_in(Test::LacksTable, parts) {
         return Err(MetaFault::Metadata);
     }
-    if !is_read_version(number_at(parts, slots::message::VERSION, 0)) {
+    let Some(version) = version_in(parts) else {
         return Err(MetaFault::Version);
-    }
+    };
     let Some(kind) = header_in(parts) else {
         return Err(MetaFault::Header);
     };
@@ -110,8 +114,15 @@ fn cleared(alloc: Global, parts: &[Tree], max_body: u64) -> Result<HeaderKind, M
     }
     match header_fault(alloc, kind, parts, body_len) {
         Some(fault) => Err(fault),
-        None => Ok(kind),
+        None => Ok((version, kind)),
     }
+}
+
+/// Which version there is, of those that are read.
+fn version_in(parts: &[Tree]) -> Option<MetadataVersion>
+    ensures version { result ≡ version_in (plain_all parts.now) }
+{
+    metadata_version(number_at(parts, slots::message::VERSION, 0))
 }
 
 /// Which header there is: the one that the code names, where a table stands for it.

@@ -63,7 +63,7 @@ mod work;
 
 pub use fault::{BatchKind, MetaFault};
 pub use judging::{decode, decode_counted, judge};
-pub use message::{Header, Message, RecordBatch};
+pub use message::{Header, Message, MetadataVersion, RecordBatch};
 pub use message_tree::MessageTree;
 pub use reader::{tree, tree_counted};
 pub use work::Work;

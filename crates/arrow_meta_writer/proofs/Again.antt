@@ -1,7 +1,7 @@
 -- What a message is written as means the message again.
 use Rattle.std.proofs.Common.{◌≡◌, ℕ, ℤ, pos, negsuc, Bool, true, false, not, ◌||◌, ◌==◌, if◌then◌else◌, List, [], ◌∷◌}
 use Rattle.std.proofs.Common.{Option, Some, None, map, refl, ap}
-use Rattle.std.specs.Int.{cast_signed, cast_unsigned, w16, w64}
+use Rattle.std.specs.Int.{cast_signed, cast_unsigned, w64}
 use Rattle.std.specs.Option.{unwrap_or}
 use Rattle.std.proofs.lemmas.Bool.{or_parts}
 use Rattle.std.proofs.lemmas.Int.{to_z-of_z}
@@ -18,7 +18,9 @@ use Rattle.arrow_types.specs.declared.data_type.TimeUnit.TheVariants as times
 use Rattle.arrow_types.specs.declared.field.Encoding.{Encoding}
 use Rattle.arrow_types.specs.declared.node.FieldNode.{FieldNode}
 use Rattle.arrow_types.specs.declared.node.Buffer.{Buffer}
-use Rattle.arrow_meta_reader.specs.Codes.{type_code, bit_width}
+use Rattle.arrow_meta_reader.specs.Codes.{number_of_version, metadata_version, type_code, bit_width}
+use Rattle.arrow_meta_reader.specs.declared.message.MetadataVersion.{MetadataVersion}
+use Rattle.arrow_meta_reader.specs.declared.message.MetadataVersion.TheVariants as versions
 use Rattle.arrow_meta_writer.specs.Layouts.{flag, tag_code, node_pair, buffer_pair, first_pairs, first_below, first_rest}
 use Rattle.arrow_meta_reader.specs.Means.{PlainBatch, PlainHeader, schema, dictionary, batch, node_of}
 use Rattle.arrow_meta_reader.specs.Means.{buffer_of, batch_of, meaning_of}
@@ -149,17 +151,21 @@ batch_again b h = λ i. record {
   buffers = buffers_again b.buffers h.buffers i;
 }
 
--- a message of this header, whose version keeps its sign in 16 bits
-pub message_again : (x : PlainHeader) (version : ℤ) (body_len : ℕ) → IsHeader x → cast_signed w16 (cast_unsigned w16 version) ≡ version
+-- a version
+version_again : (version : MetadataVersion) → metadata_version (number_of_version version) ≡ Some version
+version_again versions.V4 = refl
+version_again versions.V5 = refl
+
+-- a message of this header
+pub message_again : (x : PlainHeader) (version : MetadataVersion) (body_len : ℕ) → IsHeader x
     → meaning_of (message_parts (record { version = version; header = x; body_len = body_len })) ≡ Some (record { version = version; header = x; body_len = body_len })
-message_again (schema s) version body_len h signed = λ i. Some (record {
-  version = signed i;
-  header = schema (schema_again s h i);
-  body_len = body_len;
-})
-message_again (dictionary id delta b) version body_len h signed = λ i. Some (record {
-  version = signed i;
-  header = dictionary (long_again id h.0 i) (flag_again delta i) (batch_again b h.1 i);
-  body_len = body_len;
-})
-message_again (batch b) version body_len h signed = λ i. Some (record { version = signed i; header = batch (batch_again b h i); body_len = body_len })
+message_again (schema s) version body_len h =
+    rw (version_again version) (λ i. Some (record { version = version; header = schema (schema_again s h i); body_len = body_len }))
+message_again (dictionary id delta b) version body_len h =
+    rw (version_again version) (λ i. Some (record {
+      version = version;
+      header = dictionary (long_again id h.0 i) (flag_again delta i) (batch_again b h.1 i);
+      body_len = body_len;
+    }))
+message_again (batch b) version body_len h =
+    rw (version_again version) (λ i. Some (record { version = version; header = batch (batch_again b h i); body_len = body_len }))

@@ -1,6 +1,6 @@
 -- No fault holds of the tree that a message is written as.
-use Rattle.std.proofs.Common.{◌≡◌, ℕ, ◌^◌, ◌<◌, ◌≤◌, ℤ, pos, Bool, true, false, ◌||◌, ◌&&◌, not, nat_lt}
-use Rattle.std.proofs.Common.{List, [], ◌∷◌, Option, Some, None, is_some, refl, sym, ap, subst, ◌∙◌, arith}
+use Rattle.std.proofs.Common.{◌≡◌, ℕ, ◌^◌, ◌<◌, ◌≤◌, Bool, true, false, ◌||◌, ◌&&◌, not, nat_lt}
+use Rattle.std.proofs.Common.{List, [], ◌∷◌, Option, Some, None, is_some, refl, sym, ap, ◌∙◌, arith}
 use Rattle.std.specs.Option.{is_none}
 use Rattle.std.proofs.lemmas.Bool.{le-ltb, or_parts}
 use Rattle.arrow_types.specs.DataType as tags
@@ -16,7 +16,9 @@ use Rattle.arrow_types.specs.declared.data_type.TimeUnit.TheVariants as times
 use Rattle.arrow_types.specs.declared.field.Encoding.{Encoding}
 use Rattle.arrow_meta_reader.specs.declared.kinds.TableKind.{TableKind}
 use Rattle.arrow_meta_reader.specs.declared.kinds.TableKind.TheVariants as kinds
-use Rattle.arrow_meta_reader.specs.Codes.{type_code, bit_width}
+use Rattle.arrow_meta_reader.specs.Codes.{number_of_version, metadata_version, type_code, bit_width}
+use Rattle.arrow_meta_reader.specs.declared.message.MetadataVersion.{MetadataVersion}
+use Rattle.arrow_meta_reader.specs.declared.message.MetadataVersion.TheVariants as versions
 use Rattle.arrow_meta_reader.specs.Conditions.{any, any_in, lacks_table, is_unsupported, is_misfit}
 use Rattle.arrow_meta_reader.specs.Conditions.{children_fit}
 use Rattle.arrow_meta_reader.specs.Faults.{fault_of, is_bad_length}
@@ -218,12 +220,14 @@ good_length max n h k =
     let within : nat_lt max n ≡ false = le-ltb max n h in
     rw (positive, within) refl
 
--- a message of V5 with this header
-abbrev message_of : PlainHeader → ℕ → PlainMessage
-message_of x n = record { version = pos 4; header = x; body_len = n }
+version_read : (version : MetadataVersion) → is_some (metadata_version (number_of_version version)) ≡ true
+version_read versions.V4 = refl
+version_read versions.V5 = refl
 
-sound_header : (max n : ℕ) (x : PlainHeader) → IsHeader x → n ≤ max → n < 2 ^ 63 → fault_of max (message_parts (message_of x n)) ≡ None
-sound_header max n (schema s) h low small =
+sound_header : (max n : ℕ) (version : MetadataVersion) (x : PlainHeader) → IsHeader x → n ≤ max → n < 2 ^ 63
+    → fault_of max (message_parts (record { version = version; header = x; body_len = n })) ≡ None
+sound_header max n version (schema s) h low small =
+    let read = version_read version in
     let fields = s.fields in
     let is = h.0.schema in
     let length = good_length max n low small in
@@ -236,12 +240,16 @@ sound_header max n (schema s) h low small =
     let lacks_noted = metadata_pass lacks_table (λ xs. refl) s.pairs in
     let supported_noted = metadata_pass is_unsupported (λ xs. refl) s.pairs in
     let fitting_noted = metadata_pass is_misfit (λ xs. refl) s.pairs in
-    rw (length, lacks, supported, fitting, flat, shared, lacks_noted, supported_noted, fitting_noted) refl
-sound_header max n (dictionary id delta b) h low small = let length = good_length max n low small in rw length refl
-sound_header max n (batch b) h low small = let length = good_length max n low small in rw length refl
+    rw (read, length, lacks, supported, fitting, flat, shared, lacks_noted, supported_noted, fitting_noted) refl
+sound_header max n version (dictionary id delta b) h low small =
+    let read = version_read version in
+    let length = good_length max n low small in
+    rw (read, length) refl
+sound_header max n version (batch b) h low small =
+    let read = version_read version in
+    let length = good_length max n low small in
+    rw (read, length) refl
 
--- No fault holds of a message of V5 whose body keeps to the limit.
-pub sound : (max : ℕ) (m : PlainMessage) → IsHeader m.header → m.version ≡ pos 4 → m.body_len ≤ max → m.body_len < 2 ^ 63 → fault_of max (message_parts m) ≡ None
-sound max m h v low small =
-    let P : ℤ → Type 0 = λ z. fault_of max (message_parts (record { version = z; header = m.header; body_len = m.body_len })) ≡ None in
-    subst P (sym v) (sound_header max m.body_len m.header h low small)
+-- No fault holds of a message whose body keeps to the limit.
+pub sound : (max : ℕ) (m : PlainMessage) → IsHeader m.header → m.body_len ≤ max → m.body_len < 2 ^ 63 → fault_of max (message_parts m) ≡ None
+sound max m h low small = sound_header max m.body_len m.version m.header h low small

@@ -1,7 +1,7 @@
 -- What a message is laid out as can be written.
 use Rattle.std.proofs.Common.{◌≡◌, ◌+◌, ◌^◌, ◌<◌, ◌≤◌, ℤ, pos, negsuc, Bool, true, false, ◌||◌, List, [], ◌∷◌}
 use Rattle.std.proofs.Common.{map, Option, Some, None, ap, arith}
-use Rattle.std.specs.Int.{cast_signed, cast_unsigned, w16, w64}
+use Rattle.std.specs.Int.{cast_signed, cast_unsigned, w64}
 use Rattle.std.proofs.lemmas.Bool.{or_parts, ltb-false}
 use Rattle.std.proofs.lemmas.Int.{to_z-of_z}
 use mir.Val.{SFits}
@@ -21,6 +21,9 @@ use Rattle.arrow_types.specs.declared.data_type.TimeUnit.{TimeUnit}
 use Rattle.arrow_types.specs.declared.field.Encoding.{Encoding}
 use Rattle.arrow_types.specs.declared.node.FieldNode.{FieldNode}
 use Rattle.arrow_types.specs.declared.node.Buffer.{Buffer}
+use Rattle.arrow_meta_reader.specs.Codes.{number_of_version}
+use Rattle.arrow_meta_reader.specs.declared.message.MetadataVersion.{MetadataVersion}
+use Rattle.arrow_meta_reader.specs.declared.message.MetadataVersion.TheVariants as versions
 use Rattle.arrow_meta_writer.specs.Layouts.{flag, tag_code, time_number, int_cells, type_cells}
 use Rattle.arrow_meta_writer.specs.Layouts.{with_encoding, field_nodes, node_pair, buffer_pair}
 use Rattle.arrow_meta_writer.specs.Layouts.{pair_nodes, metadata_cells, first_pairs, first_below}
@@ -42,13 +45,6 @@ long_from (negsuc n) h = h.sfits
 -- what the bits of a number say, in bits again
 pub bits_again : (z : ℤ) → SFits w64 z → cast_unsigned w64 (cast_signed w64 (cast_unsigned w64 z)) ≡ cast_unsigned w64 z
 bits_again z h = ap (cast_unsigned w64) (to_z-of_z w64 z h)
-
-pub short_bits_again : (z : ℤ) → SFits w16 z → cast_unsigned w16 (cast_signed w16 (cast_unsigned w16 z)) ≡ cast_unsigned w16 z
-short_bits_again z h = ap (cast_unsigned w16) (to_z-of_z w16 z h)
-
-pub short_fits : (z : ℤ) → SFits w16 z → cast_unsigned w16 z < 65536
-short_fits (pos n) h = omega (arith, h.sfits)
-short_fits (negsuc n) h = omega (arith, h.sfits)
 
 pub flag_fits : (b : Bool) → flag b < 256
 flag_fits true = omega arith
@@ -177,8 +173,11 @@ header_code_fits (schema s) = omega arith
 header_code_fits (dictionary id delta b) = omega arith
 header_code_fits (batch b) = omega arith
 
--- A message of V5 can be written, where its body's length is one of 64 bits.
-pub message_fits : (m : PlainMessage) → IsHeader m.header → m.version ≡ pos 4 → m.body_len < 2 ^ 64 → NodeFits (message_node m)
-message_fits m h v small =
-    let version : cast_unsigned w16 m.version ≡ 4 = ap (cast_unsigned w16) v in
-    (omega arith, (omega (arith, version), (header_code_fits m.header, (header_fits m.header h, (small, tt)))))
+pub version_fits : (version : MetadataVersion) → number_of_version version < 65536
+version_fits versions.V4 = omega arith
+version_fits versions.V5 = omega arith
+
+-- A message can be written, where its body's length is one of 64 bits.
+pub message_fits : (m : PlainMessage) → IsHeader m.header → m.body_len < 2 ^ 64 → NodeFits (message_node m)
+message_fits m h small =
+    (omega arith, (version_fits m.version, (header_code_fits m.header, (header_fits m.header h, (small, tt)))))

@@ -1,11 +1,8 @@
 -- The bytes that a message is written as mean it, for just those readers whose limits it keeps to.
-use Rattle.std.proofs.Common.{◌≡◌, ℕ, ◌^◌, ◌≤◌, ◌↔◌, pos, Bool, true, false, ◌&&◌, nat_le}
+use Rattle.std.proofs.Common.{◌≡◌, ℕ, ◌^◌, ◌≤◌, ◌↔◌, Bool, true, false, ◌&&◌, nat_le}
 use Rattle.std.proofs.Common.{if◌then◌else◌, List, ◌++◌, length, Result, Ok, Err, Some, None, refl}
 use Rattle.std.proofs.Common.{sym, ap, subst, ◌∙◌, arith}
-use Rattle.std.specs.Int.{cast_signed, cast_unsigned, w16}
-use Rattle.std.specs.Ordering.{int_eq}
 use Rattle.std.proofs.lemmas.Bool.{and_parts, leb-true}
-use Rattle.std.proofs.lemmas.Bool.Decides.{Decides-int_eq}
 use Rattle.arrow_flatbuf.specs.Nodes.{start, NodeStands}
 use Rattle.arrow_flatbuf.proofs.Buffers.{length_buffer, root_there, root_stands}
 use Rattle.arrow_types.specs.Limits.{LimitNumbers}
@@ -18,11 +15,12 @@ use Rattle.arrow_meta_reader.specs.declared.fault.MetaFault.TheVariants.{Metadat
 use Rattle.arrow_meta_reader.specs.declared.fault.MetaFault.TheVariants.{BodyLength, Unsupported, Schema}
 use Rattle.arrow_meta_reader.specs.declared.fault.MetaFault.TheVariants.{Compressed, Memory}
 use Rattle.arrow_meta_reader.specs.declared.message.Message.{Message}
+use Rattle.arrow_meta_reader.specs.declared.message.MetadataVersion.TheVariants as versions
 use Rattle.arrow_meta_writer.specs.Again.{IsAgain}
 use Rattle.arrow_meta_writer.specs.Layouts.{message_node}
 use Rattle.arrow_meta_reader.specs.Lies.{LiesAtRoot}
 use Rattle.arrow_meta_reader.specs.Means.{PlainMessage, meaning_of, message_view}
-use Rattle.arrow_meta_writer.specs.Metadata.{metadata, metadata_size, is_sendable, size_of}
+use Rattle.arrow_meta_writer.specs.Metadata.{metadata, metadata_size, is_sendable, is_written, size_of}
 use Rattle.arrow_meta_reader.specs.Within.{IsWithin}
 use Rattle.arrow_meta_writer.specs.Writable.{IsHeader, Allows}
 use Rattle.arrow_meta_writer.specs.Written.{message_parts, message_tree}
@@ -30,6 +28,7 @@ use Rattle.arrow_meta_writer.proofs.Again.{message_again}
 use Rattle.arrow_meta_writer.proofs.Bounds.{shallow}
 use Rattle.arrow_meta_writer.proofs.Faultless.{sound}
 use Rattle.arrow_meta_writer.proofs.Fitting.{message_fits}
+use Rattle.arrow_meta_writer.proofs.Sizing.{written_version}
 use Rattle.arrow_meta_reader.proofs.Least.{meaning_length}
 use Rattle.arrow_meta_reader.proofs.OneAnswer.{one_root, one_message, never_both}
 use Rattle.arrow_meta_reader.proofs.Roots.{root_lies}
@@ -38,7 +37,7 @@ use Rattle.arrow_meta_writer.proofs.StandingMessages.{message_stands}
 
 -- what is known of a message whose metadata has n bytes
 pub record IsSized (m : PlainMessage) (n : ℕ) : Type 0 where
-  pub version : m.version ≡ pos 4
+  pub version : m.version ≡ versions.V5
   pub body : m.body_len ≤ 2 ^ 40
   pub small : metadata_size m ≤ 2 ^ 30
   pub size : metadata_size m ≡ n
@@ -49,14 +48,14 @@ picked false x n h = absurd (cc)
 
 pub sized : (m : PlainMessage) (n : ℕ) → size_of m ≡ Some n → IsSized m n
 sized m n h =
-    let v = int_eq m.version (pos 4) in
+    let v = is_written m.version in
     let b = nat_le m.body_len (2 ^ 40) in
     let s = nat_le (metadata_size m) (2 ^ 30) in
     let both = picked (is_sendable m && s) (metadata_size m) n h in
     let parts = and_parts (is_sendable m) s both.0 in
     let sends = and_parts v b parts.0 in
     record {
-      version = (Decides-int_eq m.version (pos 4)).0 sends.0;
+      version = written_version m.version sends.0;
       body = leb-true m.body_len (2 ^ 40) sends.1;
       small = leb-true (metadata_size m) (2 ^ 30) parts.1;
       size = both.1;
@@ -70,7 +69,7 @@ written_length m n h = length_buffer (message_node m) ∙ (sized m n h).size
 pub written_stands : (m : PlainMessage) (n : ℕ) (behind : List ℕ) → IsHeader m.header → size_of m ≡ Some n → NodeStands (metadata m ++ behind) (start 4 (message_node m)) (message_node m)
 written_stands m n behind x h =
     let is = sized m n h in
-    root_stands (message_node m) behind (message_fits m x is.version (omega (arith, is.body))) (omega (arith, is.small))
+    root_stands (message_node m) behind (message_fits m x (omega (arith, is.body))) (omega (arith, is.small))
 
 -- They lie as the message's tree, aligned.
 pub written_aligned : (m : PlainMessage) (n : ℕ) (behind : List ℕ) → IsHeader m.header → size_of m ≡ Some n → LiesAligned (message_tree m) (metadata m ++ behind)
@@ -82,10 +81,8 @@ pub written_lies : (m : PlainMessage) (n : ℕ) (behind : List ℕ) → IsHeader
 written_lies m n behind x h = root_lies (metadata m ++ behind) (message_tree m) (stands (metadata m ++ behind) root (message_tree m) (written_aligned m n behind x h))
 
 -- The tree means the message.
-means_again : (m : PlainMessage) → IsHeader m.header → m.version ≡ pos 4 → meaning_of (message_parts m) ≡ Some m
-means_again m x v =
-    let version : cast_signed w16 (cast_unsigned w16 m.version) ≡ m.version = ap (λ z. cast_signed w16 (cast_unsigned w16 z)) v ∙ sym v in
-    message_again m.header m.version m.body_len x version
+means_again : (m : PlainMessage) → IsHeader m.header → meaning_of (message_parts m) ≡ Some m
+means_again m x = message_again m.header m.version m.body_len x
 
 pub written_means : (m : PlainMessage) (n : ℕ) (behind : List ℕ) → IsHeader m.header → size_of m ≡ Some n → (limits : LimitNumbers) → MetadataMeans limits (metadata m ++ behind) m ↔ Allows limits m
 written_means m n behind x h limits =
@@ -98,7 +95,7 @@ written_means m n behind x h limits =
       λ allows. (
         message_tree m,
         record { lies = lies; within = record { shallow = shallow m x; text_within = allows.text } },
-        record { sound = sound limits.max_body m x is.version allows.body (omega (arith, is.body)); same = means_again m x is.version },
+        record { sound = sound limits.max_body m x allows.body (omega (arith, is.body)); same = means_again m x },
       ),
     )
 
@@ -120,5 +117,5 @@ read_alone m n behind x h limits k means =
     let lies = written_lies m n behind x h in
     let is = sized m n h in
     let same : means.0 ≡ message_tree m = one_root (metadata m ++ behind) means.0 (message_tree m) means.1.lies lies in
-    let both : Some k ≡ Some m = sym means.2.same ∙ ap (λ t. meaning_of (parts t)) same ∙ means_again m x is.version in
+    let both : Some k ≡ Some m = sym means.2.same ∙ ap (λ t. meaning_of (parts t)) same ∙ means_again m x in
     cc

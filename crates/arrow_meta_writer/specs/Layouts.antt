@@ -1,6 +1,6 @@
 -- How a message is laid out: its tables, with the fields that are written in each of them (Message.fbs, Schema.fbs).
 use Rattle.std.specs.Prelude.{ℕ, ℤ, Bool, true, false, List, [], ◌∷◌, map, Option, Some, None}
-use Rattle.std.specs.Int.{cast_unsigned, w16, w64}
+use Rattle.std.specs.Int.{cast_unsigned, w64}
 use Rattle.arrow_flatbuf.specs.declared.layout.Width.TheVariants.{One, Two, Four, Eight}
 use Rattle.arrow_flatbuf.specs.Nodes.{Node, text, byte_string, pairs, tables, table, Nodes, Cells, last, absent}
 use Rattle.arrow_flatbuf.specs.Nodes.{scalar, offset}
@@ -18,7 +18,7 @@ use Rattle.arrow_types.specs.declared.data_type.TimeUnit.TheVariants as times
 use Rattle.arrow_types.specs.declared.field.Encoding.{Encoding}
 use Rattle.arrow_types.specs.declared.node.FieldNode.{FieldNode}
 use Rattle.arrow_types.specs.declared.node.Buffer.{Buffer}
-use Rattle.arrow_meta_reader.specs.Codes.{schema_code, dictionary_code, batch_code}
+use Rattle.arrow_meta_reader.specs.Codes.{number_of_version, schema_code, dictionary_code, batch_code}
 use Rattle.arrow_meta_reader.specs.Means.{PlainBatch, PlainHeader, schema, dictionary, batch, PlainMessage}
 
 -- a truth value as a byte
@@ -170,7 +170,7 @@ header_cells (batch b) = batch_cells b
 -- a Message table: version, header's code, header, bodyLength
 abbrev pub message_cells : PlainMessage → Cells
 message_cells m =
-    scalar Two (cast_unsigned w16 m.version) (scalar One (header_code m.header) (offset (table (header_cells m.header))
+    scalar Two (number_of_version m.version) (scalar One (header_code m.header) (offset (table (header_cells m.header))
     (scalar Eight m.body_len last)))
 
 -- a message

@@ -1,6 +1,6 @@
 -- The tree that a message is written as: what a reader is to find.
 use Rattle.std.specs.Prelude.{ℕ, ℤ, Bool, List, [], ◌∷◌, map, Option, Some, None}
-use Rattle.std.specs.Int.{cast_unsigned, w16, w64}
+use Rattle.std.specs.Int.{cast_unsigned, w64}
 use Rattle.arrow_types.specs.DataType as tags
 use Rattle.arrow_types.specs.DataType.{Tag, bits_of, time_width_of}
 use Rattle.arrow_types.specs.Field as columns
@@ -8,6 +8,7 @@ use Rattle.arrow_types.specs.Field.{Head, Fields}
 use Rattle.arrow_types.specs.Notes.{KeyValue, Notes, SchemaShape}
 use Rattle.arrow_types.specs.declared.data_type.BitWidth.{BitWidth}
 use Rattle.arrow_types.specs.declared.field.Encoding.{Encoding}
+use Rattle.arrow_meta_reader.specs.Codes.{number_of_version}
 use Rattle.arrow_meta_reader.specs.declared.kinds.TableKind.TheVariants as kinds
 use Rattle.arrow_meta_writer.specs.Layouts.{flag, tag_code, date_number, time_number, node_pair}
 use Rattle.arrow_meta_writer.specs.Layouts.{buffer_pair, header_code, first_pairs, first_below, first_rest}
@@ -104,7 +105,7 @@ header_tree (batch b) = table kinds.RecordBatch (batch_parts b)
 -- the fields of a Message table
 abbrev pub message_parts : PlainMessage → Trees
 message_parts m =
-    more (of_number (cast_unsigned w16 m.version)) (more (of_number (header_code m.header)) (more (header_tree m.header)
+    more (of_number (number_of_version m.version)) (more (of_number (header_code m.header)) (more (header_tree m.header)
     (more (of_number m.body_len) none)))
 
 -- a message

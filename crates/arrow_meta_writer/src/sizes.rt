@@ -22,7 +22,7 @@ use crate::tables::{
 };
 use crate::type_sizes::{int_end, type_end};
 use arrow_flatbuf::{Width, aligned};
-use arrow_meta_reader::{Header, Message, RecordBatch};
+use arrow_meta_reader::{Header, Message, MetadataVersion, RecordBatch};
 use arrow_types::{Encoding, Field, Limits, Schema};
 
 /// The number of bytes that [`crate::encode`] answers for a message: a multiple of 8. Takes no
@@ -33,7 +33,7 @@ use arrow_types::{Encoding, Field, Limits, Schema};
 pub fn encoded_size(message: &Message) -> Option<u64>
     ensures size { result ≡ size_of (message_view message.now) }
 {
-    if message.version != Message::V5 {
+    if message.version != MetadataVersion::V5 {
         return None;
     }
     if message.body_len > Limits::BODY_CEILING {

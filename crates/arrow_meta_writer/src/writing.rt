@@ -6,8 +6,8 @@
 //! Each call appends a part from the first free place on, with all that belongs to it. The only
 //! error is `AllocError`, a growth that was refused.
 ghost use Rattle.std.specs.Prelude.{◌≡◌, ◌≤◌, ◌<◌, ◌↔◌, length, Some, IsSome, OnOk, IfOk};
-ghost use Rattle.std.specs.Int.{cast_unsigned, w16};
 ghost use Rattle.arrow_flatbuf.specs.Nodes.{after, cells_place, slots, count, table as table_node};
+ghost use Rattle.arrow_meta_reader.specs.Codes.{number_of_version};
 ghost use Rattle.arrow_meta_reader.specs.Judges.{MetadataMeans};
 ghost use Rattle.arrow_meta_reader.specs.Means.{header_view, message_view};
 ghost use Rattle.arrow_meta_writer.specs.Aligned.{LiesAligned};
@@ -28,7 +28,7 @@ use crate::tables::{
     message_table_end,
 };
 use arrow_flatbuf::{Slot, TableWriter, table_place};
-use arrow_meta_reader::{Header, Message};
+use arrow_meta_reader::{Header, Message, MetadataVersion};
 use std::alloc::{AllocError, Global};
 
 /// The bytes of a message's metadata (Columnar Format, "Encapsulated message format"), padded with
@@ -78,15 +78,24 @@ fn message_slots(place: usize, message: &Message) -> [Slot; MESSAGE_FIELDS]
     requires room { after place (message_node (message_view message.now)) ≤ 1073741824 }
     ensures slots { let cells = message_cells (message_view message.now)
         in result ≡ slots (cells_place place cells) cells }
-    ensures short { cast_unsigned w16 message.now.version < 65536 }
 {
     let end = message_table_end(place);
     message_table(
-        u64::from(message.version.cast_unsigned()),
+        version_number(message.version),
         header_code(&message.header),
         table_place(end, header_fields(&message.header)),
         message.body_len,
     )
+}
+
+/// The number of a version (`Schema.fbs`, enum `MetadataVersion`).
+fn version_number(version: MetadataVersion) -> u64
+    ensures number { result ≡ number_of_version version }
+{
+    match version {
+        MetadataVersion::V4 => 3,
+        MetadataVersion::V5 => 4,
+    }
 }
 
 /// The code of a header (`Message.fbs`, union `MessageHeader`).

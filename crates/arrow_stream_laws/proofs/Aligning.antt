@@ -17,6 +17,7 @@ use Rattle.arrow_body_laws.specs.Stored.{rounded}
 use Rattle.arrow_meta_reader.specs.Means.{PlainHeader, schema, dictionary, batch}
 use Rattle.arrow_meta_writer.specs.Metadata.{metadata_size}
 use Rattle.arrow_stream_laws.proofs.Parts.{frame_length}
+use Rattle.arrow_meta_reader.specs.declared.message.MetadataVersion.TheVariants as versions
 use Rattle.arrow_stream_laws.specs.Admission.{fields_for}
 use Rattle.arrow_stream_laws.specs.Frames.{Frame, IsFrameOf}
 use Rattle.arrow_stream_laws.specs.Laws.{AreAligned}
@@ -36,7 +37,7 @@ size_multiple align fields raws = sum_multiple align (sizes_of fields raws)
 -- a frame of metadata of that size, and of a body that is a multiple
 frame_aligned : {l : LimitNumbers} {content : PlainHeader} {body b : List ℕ} (align : ℕ) (header : PlainHeader) → 0 < align → IsFrameOf l (header_size align header) content body b → length body % align ≡ 0 → length b % align ≡ 0
 frame_aligned {body = body} {b = b} align header some f multiple =
-    let m = 8 + metadata_size (record { version = pos 4; header = header; body_len = 0 }) in
+    let m = 8 + metadata_size (record { version = versions.V5; header = header; body_len = 0 }) in
     let high : m ≤ rounded align m = rounded-le align m some in
     let long : length b ≡ rounded align m + length body = frame_length f ∙ omega (arith, high) in
     ap (λ n. n % align) long ∙ mul-add-mod_self_right (div_ceil m align) align (length body) ∙ multiple

@@ -1,9 +1,10 @@
 -- Frames one after another, with what each gives and leaves (Columnar Format, "Encapsulated message format", "IPC Streaming
 -- Format").
-use Rattle.std.specs.Prelude.{◌≡◌, ℕ, ℤ, ◌-◌, ◌<◌, ◌⊎◌, nat_lt, true, if◌then◌else◌, List, [], ◌∷◌, ◌++◌, length, map, pos, Some}
+use Rattle.std.specs.Prelude.{◌≡◌, ℕ, ℤ, ◌-◌, ◌<◌, ◌⊎◌, nat_lt, true, if◌then◌else◌, List, [], ◌∷◌, ◌++◌, length, map, Some}
 use Rattle.arrow_types.specs.Limits.{LimitNumbers}
 use Rattle.arrow_types.specs.Notes.{SchemaShape}
 use Rattle.arrow_data.specs.Column.{ValueList}
+use Rattle.arrow_meta_reader.specs.declared.message.MetadataVersion.TheVariants as versions
 use Rattle.arrow_meta_reader.specs.Judges.{MetadataMeans}
 use Rattle.arrow_meta_reader.specs.Means.{PlainHeader}
 use Rattle.arrow_stream_reader.specs.declared.reader.Verdict.TheVariants.{Open, Done}
@@ -45,8 +46,8 @@ last_end p [] = p
 last_end p (e ∷ es) = last_end e.end es
 
 -- b is a frame of this content and this body: the continuation and the size of the metadata, which is not 0, in eight bytes; the
--- metadata, which mean a message of version V5, whose number is 4, with the content and the length of the body; the body (Columnar
--- Format, "Encapsulated message format"; Schema.fbs, enum "MetadataVersion").
+-- metadata, which mean a message of version V5 with the content and the length of the body; the body (Columnar Format,
+-- "Encapsulated message format"; Schema.fbs, enum "MetadataVersion").
 pub record IsFrameOf (limits : LimitNumbers) (size : ℕ) (content : PlainHeader) (body b : List ℕ) : Type 0 where
   pub prefix : List ℕ
   pub metadata : List ℕ
@@ -55,7 +56,7 @@ pub record IsFrameOf (limits : LimitNumbers) (size : ℕ) (content : PlainHeader
   pub number : number_at prefix 4 ≡ size
   pub sized : length metadata ≡ size
   pub some : 0 < size
-  pub means : MetadataMeans limits metadata (record { version = pos 4; header = content; body_len = length body })
+  pub means : MetadataMeans limits metadata (record { version = versions.V5; header = content; body_len = length body })
   pub bytes : b ≡ prefix ++ metadata ++ body
 
 -- b is the end marker: the continuation and the size 0 (Columnar Format, "IPC Streaming Format")

@@ -8,6 +8,7 @@ use Rattle.arrow_body_reader.specs.Taken.{taken_nodes, taken_buffers}
 use Rattle.arrow_body_laws.specs.Raws.{last_offset, offset_limit, raws_below}
 use Rattle.arrow_body_laws.specs.Stored.{rounded}
 use Rattle.arrow_dict.specs.declared.update.Updates.{Updates}
+use Rattle.arrow_meta_reader.specs.declared.message.MetadataVersion.TheVariants as versions
 use Rattle.arrow_meta_reader.specs.Means.{PlainBatch, PlainHeader, schema, dictionary, batch}
 use Rattle.arrow_meta_writer.specs.Metadata.{metadata_size}
 
@@ -18,7 +19,7 @@ pub record Options : Type 0 where
 
 -- the bytes of the metadata of a message with this header: with the eight bytes before them they end at a multiple of the alignment
 abbrev pub header_size : ℕ → PlainHeader → ℕ
-header_size align header = rounded align (8 + metadata_size (record { version = pos 4; header = header; body_len = 0 })) - 8
+header_size align header = rounded align (8 + metadata_size (record { version = versions.V5; header = header; body_len = 0 })) - 8
 
 -- a record batch with all that the fields take: every number has its eight bytes, whatever it is
 abbrev pub blank_batch : Fields → PlainBatch

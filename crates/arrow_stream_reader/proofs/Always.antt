@@ -1,14 +1,14 @@
 -- No bytes are without a front. No definition decides whether a tree lies in bytes, or whether a body is laid out as its fields
 -- ask; but to refute that something is missing, both cases may be looked at (`apart`).
 use Rattle.std.proofs.Common.{◌≡◌, ℕ, ℤ, ◌+◌, ◌<◌, Bool, true, false, List, [], ◌∷◌, length, take, drop, Option, Some, None, Result, Ok, Err, refl, ap, arith, inl, inr, is_some, length-drop, zero, suc}
-use Rattle.std.specs.Prelude.{not, option_map}
+use Rattle.std.specs.Prelude.{not}
 use Rattle.std.proofs.lemmas.Bool.{cases_lt}
 use Rattle.arrow_types.specs.Limits.{LimitNumbers}
 use Rattle.arrow_types.specs.Field.{Fields}
 use Rattle.arrow_data.specs.Column.{Column, ValueList}
 use Rattle.arrow_body_reader.specs.Sound.{AreIndexed, AreText}
 use Rattle.arrow_meta_reader.specs.Conditions.{any_in, lacks_table}
-use Rattle.arrow_meta_reader.specs.Faults.{least, header_conditions, fault_of, is_read_version, version_of, header_in, header_of, body_of, is_bad_length}
+use Rattle.arrow_meta_reader.specs.Faults.{least, header_conditions, fault_of, version_in, header_in, header_of, body_of, is_bad_length}
 use Rattle.arrow_meta_reader.specs.Judges.{IsTreeOf}
 use Rattle.arrow_meta_reader.specs.Means.{PlainBatch, PlainHeader, schema, dictionary, batch, PlainMessage, meaning_of, message_by}
 use Rattle.arrow_meta_reader.specs.Parts.{parts}
@@ -37,20 +37,21 @@ apart A f g n = g (λ a. f a n) n
 
 -- METADATA
 
--- where no condition holds, there is a header
-header_there : {K : Type 0} (lacks version : Bool) (kind : Option K) (own : List (Bool × MetaFault)) →
-    least ((lacks, faults.Metadata) ∷ (version, faults.Version) ∷ (not (is_some kind), faults.Header) ∷ own) ≡ None → (k : K) × (kind ≡ Some k)
-header_there true version kind own h = absurd (cc)
-header_there false true kind own h = absurd (cc)
-header_there false false None own h = absurd (cc)
-header_there false false (Some k) own h = (k, refl)
+-- where no condition holds, there are a version and a header
+both_there : {V K : Type 0} (lacks : Bool) (version : Option V) (kind : Option K) (own : List (Bool × MetaFault)) →
+    least ((lacks, faults.Metadata) ∷ (not (is_some version), faults.Version) ∷ (not (is_some kind), faults.Header) ∷ own) ≡ None →
+    (v : V) × (k : K) × (version ≡ Some v) × (kind ≡ Some k)
+both_there true version kind own h = absurd (cc)
+both_there false None kind own h = absurd (cc)
+both_there false (Some v) None own h = absurd (cc)
+both_there false (Some v) (Some k) own h = (v, k, refl, refl)
 
 -- so a tree without a fault says a message
 message_said : (max : ℕ) (xs : Trees) → fault_of max xs ≡ None → (m : PlainMessage) × (meaning_of xs ≡ Some m)
 message_said max xs h =
-    let w = header_there (any_in lacks_table xs) (not (is_read_version (version_of xs))) (header_in xs)
+    let w = both_there (any_in lacks_table xs) (version_in xs) (header_in xs)
     ((is_bad_length max (body_of xs), faults.BodyLength) ∷ header_conditions (header_in xs) (body_of xs) (header_of xs)) h in
-    (message_by xs w.0, ap (option_map (message_by xs)) w.1)
+    (message_by xs w.0 w.1, rw (w.2, w.3) refl)
 
 -- a tree means a message, or has a least fault
 tree_means : (l : LimitNumbers) (b : List ℕ) (x : Tree) (f : Option MetaFault) → IsTreeOf b l.max_metadata x → fault_of l.max_body (parts x) ≡ f →

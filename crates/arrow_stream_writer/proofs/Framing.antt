@@ -1,6 +1,7 @@
 -- Why what is appended is a frame.
-use Rattle.std.proofs.Common.{◌≡◌, ℕ, ◌+◌, ◌-◌, ◌≤◌, ◌<◌, ◌^◌, pos, List, ◌++◌, length, replicate, Some, refl, sym, ap, ◌∙◌, subst, arith, append_assoc, length-append}
+use Rattle.std.proofs.Common.{◌≡◌, ℕ, ◌+◌, ◌-◌, ◌≤◌, ◌<◌, ◌^◌, List, ◌++◌, length, replicate, Some, refl, sym, ap, ◌∙◌, subst, arith, append_assoc, length-append}
 use Rattle.arrow_types.specs.Limits.{LimitNumbers}
+use Rattle.arrow_meta_reader.specs.declared.message.MetadataVersion.TheVariants as versions
 use Rattle.arrow_meta_reader.specs.Judges.{MetadataMeans}
 use Rattle.arrow_meta_reader.specs.Means.{PlainMessage}
 use Rattle.byteorder.specs.Endian.{little_bytes}
@@ -49,7 +50,7 @@ module _ (align : ℕ) (m : PlainMessage) (body : List ℕ) (size n : ℕ) (some
       let text : text_bytes (message_tree m) ≤ metadata_size m = text_short m in
       let allows : Allows limits m = record { text = omega (arith, text, same_size, is_size, high, metadata_fit, s.size, len); body = omega (arith, told, body_fits) } in
       let means = (written_means m n (replicate (size - length (metadata m)) 0) typed sends limits).1 allows in
-      let v5 : MetadataMeans limits (padded m size) (record { version = pos 4; header = m.header; body_len = length body }) =
+      let v5 : MetadataMeans limits (padded m size) (record { version = versions.V5; header = m.header; body_len = length body }) =
       subst (λ v. MetadataMeans limits (padded m size) (record { version = v; header = m.header; body_len = length body })) s.version
       (subst (λ k. MetadataMeans limits (padded m size) (record { version = m.version; header = m.header; body_len = k })) told means) in
       subst (λ k. IsFrameOf limits k m.header body (framed m size body)) (sym same_size) (record {

@@ -3,7 +3,7 @@
 //! What would not keep to the limits is refused before a byte of its frame is appended: the body is
 //! measured before it is stored, then its nodes are looked at, then the metadata are measured.
 
-ghost use Rattle.std.specs.Prelude.{◌≡◌, ◌≤◌, ◌<◌, ◌^◌, IsSome, MatchOption, length, pos};
+ghost use Rattle.std.specs.Prelude.{◌≡◌, ◌≤◌, ◌<◌, ◌^◌, IsSome, MatchOption, length};
 ghost use Rattle.std.specs.List.{list_any};
 ghost use Rattle.arrow_body_writer.specs.Align.{alignment_of};
 ghost use Rattle.arrow_body_writer.specs.Storing.{body_view};
@@ -19,7 +19,7 @@ use crate::frame::put_frame;
 use crate::settings::Settings;
 use arrow_body_writer::{Align, Body, body_size, rest_size, store_in, store_rest_in};
 use arrow_data::{Batch, Dictionary};
-use arrow_meta_reader::{Header, Message, RecordBatch};
+use arrow_meta_reader::{Header, Message, MetadataVersion, RecordBatch};
 use arrow_meta_writer::encoded_size;
 use arrow_sink::WriteFault;
 use arrow_types::FieldNode;
@@ -98,7 +98,7 @@ fn have_bad_length(max: u64, nodes: &[FieldNode]) -> bool
 // How many bytes the metadata of the message take in a frame, with their padding; None where they
 // are over the ceiling of all limits.
 fn metadata_len(align: Align, message: &Message) -> Option<u64>
-    requires version { message.now.version ≡ pos 4 }
+    requires version { message.now.version ≡ MetadataVersion.V5 }
     requires body { message.now.body_len ≤ 2 ^ 40 }
     ensures { MatchOption result
         (2 ^ 30 < header_size (alignment_of align) (header_view message.now.header))
@@ -118,7 +118,7 @@ impl Settings {
         body: &[u8],
         out: &mut Vec<u8>,
     ) -> Result<(), WriteFault>
-        requires version { message.now.version ≡ pos 4 }
+        requires version { message.now.version ≡ MetadataVersion.V5 }
         requires told { message.now.body_len ≡ length body.now }
         requires short { length body.now ≤ self.now.limits.max_body }
         ensures { PutsMessage (terms_of self.now) (message_view message.now).header body.now
@@ -164,7 +164,7 @@ impl Settings {
             buffers: mem::replace(&mut part.room.buffers, Vec::new(self.alloc)),
         };
         let message = Message {
-            version: Message::V5,
+            version: MetadataVersion::V5,
             header: header_of(kind, batch),
             body_len: part.room.bytes.len() as u64,
         };

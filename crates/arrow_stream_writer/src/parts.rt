@@ -17,7 +17,7 @@ use crate::updating::Updater;
 use arrow_body_writer::Body;
 use arrow_data::Batch;
 use arrow_dict::Tracker;
-use arrow_meta_reader::{Header, Message};
+use arrow_meta_reader::{Header, Message, MetadataVersion};
 use arrow_sink::WriteFault;
 use arrow_types::{Limits, Schema};
 use std::alloc::{AllocError, Global};
@@ -82,7 +82,7 @@ impl PartBuilder {
         let _ = self.settings.schema.metadata();
         self.part.bytes.clear();
         let message = Message {
-            version: Message::V5,
+            version: MetadataVersion::V5,
             header: Header::Schema(self.settings.schema.copy(self.settings.alloc)?),
             body_len: 0,
         };

@@ -23,7 +23,7 @@ fn push_batch(rt: &impl Abort, text: &mut String, batch: &RecordBatch) {
 
 // A message: its version, the length of its body, and its header.
 fn push_message(rt: &impl Abort, text: &mut String, message: &Message) {
-    write!(text, "{} {} ", message.version, message.body_len).expect(rt, MEMORY);
+    write!(text, "{:?} {} ", message.version, message.body_len).expect(rt, MEMORY);
     match &message.header {
         Header::Schema(schema) => write!(text, "{:?}", schema.fields()).expect(rt, MEMORY),
         Header::Dictionary(id, is_delta, batch) => {
@@ -49,60 +49,60 @@ fn judged(alloc: Global, bytes: &[u8], limits: &Limits) -> Result<Message, MetaF
     judge(alloc, tree(alloc, bytes, limits)?, limits)
 }
 
-const ALL_ROWS: &str = "4 24 3, 3/1, 0+1 8+12";
+const ALL_ROWS: &str = "V5 24 3, 3/1, 0+1 8+12";
 
-const ALL_WORDS: &str = "4 24 0 false 3, 3/0, 0+0 0+16 16+3";
+const ALL_WORDS: &str = "V5 24 0 false 3, 3/0, 0+0 0+16 16+3";
 
 const LEAST: Edits = "14=0 44=0 48=0 64=5 76=1 82=0 84=0 86=0";
 
-const ONE_FIELD: &str = "4 0 [Field { name: \"n\", nullable: true, data_type: \
+const ONE_FIELD: &str = "V5 0 [Field { name: \"n\", nullable: true, data_type: \
     Int { bits: ThirtyTwo, signed: true }, dictionary: None, metadata: [] }]";
 
 // Of metadata of a batch, of a dictionary and of a schema, the bytes that are changed, and what they
 // mean then.
 static OF_ROWS: [(Edits, &str); 14] = [
     ("", ALL_ROWS),
-    ("20=3", "3 24 3, 3/1, 0+1 8+12"),
-    ("14=0", "4 0 3, 3/1, 0+1 8+12"),
-    ("44=0", "4 24 0, 3/1, 0+1 8+12"),
-    ("46=0", "4 24 3,, 0+1 8+12"),
-    ("48=0", "4 24 3, 3/1,"),
-    ("14=0 44=0 46=0 48=0", "4 0 0,,"),
-    ("71=128", "4 24 -9223372036854775805, 3/1, 0+1 8+12"),
-    ("95=128", "4 24 3, -9223372036854775805/1, 0+1 8+12"),
-    ("103=128", "4 24 3, 3/-9223372036854775807, 0+1 8+12"),
-    ("119=128", "4 24 3, 3/1, -9223372036854775808+1 8+12"),
-    ("127=128", "4 24 3, 3/1, 0+-9223372036854775807 8+12"),
+    ("20=3", "V4 24 3, 3/1, 0+1 8+12"),
+    ("14=0", "V5 0 3, 3/1, 0+1 8+12"),
+    ("44=0", "V5 24 0, 3/1, 0+1 8+12"),
+    ("46=0", "V5 24 3,, 0+1 8+12"),
+    ("48=0", "V5 24 3, 3/1,"),
+    ("14=0 44=0 46=0 48=0", "V5 0 0,,"),
+    ("71=128", "V5 24 -9223372036854775805, 3/1, 0+1 8+12"),
+    ("95=128", "V5 24 3, -9223372036854775805/1, 0+1 8+12"),
+    ("103=128", "V5 24 3, 3/-9223372036854775807, 0+1 8+12"),
+    ("119=128", "V5 24 3, 3/1, -9223372036854775808+1 8+12"),
+    ("127=128", "V5 24 3, 3/1, 0+-9223372036854775807 8+12"),
     ("40=12", ALL_ROWS),
     ("40=12 50=1", "Compressed { batch: Record, body_len: 24 }"),
 ];
 
 static OF_WORDS: [(Edits, &str); 14] = [
     ("", ALL_WORDS),
-    ("20=3", "3 24 0 false 3, 3/0, 0+0 0+16 16+3"),
-    ("64=5", "4 24 5 false 3, 3/0, 0+0 0+16 16+3"),
+    ("20=3", "V4 24 0 false 3, 3/0, 0+0 0+16 16+3"),
+    ("64=5", "V5 24 5 false 3, 3/0, 0+0 0+16 16+3"),
     ("44=0 64=5", ALL_WORDS),
-    ("76=1", "4 24 0 true 3, 3/0, 0+0 0+16 16+3"),
-    ("76=128", "4 24 0 true 3, 3/0, 0+0 0+16 16+3"),
+    ("76=1", "V5 24 0 true 3, 3/0, 0+0 0+16 16+3"),
+    ("76=128", "V5 24 0 true 3, 3/0, 0+0 0+16 16+3"),
     ("77=1", ALL_WORDS),
     ("48=0 76=1", ALL_WORDS),
-    ("82=0", "4 24 0 false 0, 3/0, 0+0 0+16 16+3"),
-    ("84=0", "4 24 0 false 3,, 0+0 0+16 16+3"),
-    ("86=0", "4 24 0 false 3, 3/0,"),
-    (LEAST, "4 0 0 false 0,,"),
+    ("82=0", "V5 24 0 false 0, 3/0, 0+0 0+16 16+3"),
+    ("84=0", "V5 24 0 false 3,, 0+0 0+16 16+3"),
+    ("86=0", "V5 24 0 false 3, 3/0,"),
+    (LEAST, "V5 0 0 false 0,,"),
     (
         "76=2 71=128",
-        "4 24 -9223372036854775808 true 3, 3/0, 0+0 0+16 16+3",
+        "V5 24 -9223372036854775808 true 3, 3/0, 0+0 0+16 16+3",
     ),
     ("78=12", "Compressed { batch: Dictionary, body_len: 24 }"),
 ];
 
 static OF_SCHEMA: [(Edits, &str); 5] = [
     ("", ONE_FIELD),
-    ("46=0 20=3 32=8", "3 8 []"),
+    ("46=0 20=3 32=8", "V4 8 []"),
     ("97=3 33=1", "Unsupported { body_len: 256 }"),
     ("132=24 32=9", "Schema { body_len: 9 }"),
-    ("36=16 46=0", "4 68719476736 []"),
+    ("36=16 46=0", "V5 68719476736 []"),
 ];
 
 fn all_mean(rt: &(impl Abort + AllocGlobal), bytes: &[u8], rows: &[(Edits, &str)]) {
@@ -121,7 +121,7 @@ fn messages_are_read(rt: HostRuntime) {
     all_mean(&rt, ROWS, &OF_ROWS);
     all_mean(&rt, WORDS, &OF_WORDS);
     all_mean(&rt, PLAIN, &OF_SCHEMA);
-    all_mean(&rt, NOTHING, &[("", "4 0 0,,")]);
+    all_mean(&rt, NOTHING, &[("", "V5 0 0,,")]);
     all_mean(&rt, &[], &[("", "Metadata")]);
 }
 

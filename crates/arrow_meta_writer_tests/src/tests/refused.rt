@@ -1,12 +1,12 @@
 // Messages that have no size, beside those that have one.
 
-use arrow_meta_reader::{Header, Message, RecordBatch};
+use arrow_meta_reader::{Header, Message, MetadataVersion, RecordBatch};
 use arrow_meta_writer::encoded_size;
 use arrow_types::{BitWidth, DataType, Field, FieldNode, Schema};
 use std::alloc::Global;
 
 // The message of an empty batch.
-fn empty_batch(alloc: Global, version: i16, body_len: u64) -> Message {
+fn empty_batch(alloc: Global, version: MetadataVersion, body_len: u64) -> Message {
     let batch = RecordBatch {
         length: 0,
         nodes: Vec::new(alloc),
@@ -22,15 +22,13 @@ fn empty_batch(alloc: Global, version: i16, body_len: u64) -> Message {
 const MOST: u64 = 1 << 40;
 
 // The version, the body's length, and the size of the metadata.
-static SIZES: [(i16, u64, Option<u64>); 8] = [
-    (4, 0, Some(96)),
-    (4, MOST, Some(96)),
-    (4, MOST + 1, None),
-    (4, 1 << 63, None),
-    (4, u64::MAX, None),
-    (3, 0, None),
-    (5, 0, None),
-    (-1, 0, None),
+static SIZES: [(MetadataVersion, u64, Option<u64>); 6] = [
+    (MetadataVersion::V5, 0, Some(96)),
+    (MetadataVersion::V5, MOST, Some(96)),
+    (MetadataVersion::V5, MOST + 1, None),
+    (MetadataVersion::V5, 1 << 63, None),
+    (MetadataVersion::V5, u64::MAX, None),
+    (MetadataVersion::V4, 0, None),
 ];
 
 #[test]
@@ -53,7 +51,7 @@ fn size_of_nodes(alloc: Global, count: usize) -> Option<u64> {
         buffers: Vec::new(alloc),
     };
     encoded_size(&Message {
-        version: 4,
+        version: MetadataVersion::V5,
         header: Header::Batch(batch),
         body_len: 0,
     })
@@ -109,7 +107,7 @@ fn size_of_name(alloc: Global, count: usize) -> Option<u64> {
     );
     fields.push(column).ok()?;
     encoded_size(&Message {
-        version: 4,
+        version: MetadataVersion::V5,
         header: Header::Schema(Schema::new(alloc, fields).ok()?),
         body_len: 0,
     })

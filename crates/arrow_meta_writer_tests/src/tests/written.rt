@@ -1,7 +1,7 @@
 // Messages that no copy of a stream has: of numbers that no reader takes, and built here.
 
 use crate::vectors::EXTREMES;
-use arrow_meta_reader::{Header, Message, decode};
+use arrow_meta_reader::{Header, Message, MetadataVersion, decode};
 use arrow_meta_writer::{encode, encoded_size};
 use arrow_test_streams::parts::Source::{Bytes, Growing, OneBatch};
 use arrow_test_streams::parts::{Edit, Part, joined};
@@ -102,7 +102,7 @@ fn field(
 // The message of the schema of these columns.
 fn schema(rt: &(impl Abort + AllocGlobal), columns: Vec<Field>) -> Message {
     Message {
-        version: 4,
+        version: MetadataVersion::V5,
         header: Header::Schema(Schema::new(rt.alloc(), columns).expect(rt, "a schema")),
         body_len: 0,
     }

@@ -1,11 +1,8 @@
 use Rattle.std.proofs.Common.{◌≡◌, ◌≤◌, ℕ, true, Some, sym, rules, arith}
-use Rattle.std.proofs.lemmas.Int.{to_z-of_z}
-use mir.Val.{SFits}
-use mir.Syntax.{w16}
 use Rattle.arrow_flatbuf.specs.Place.{behind}
 use Rattle.arrow_flatbuf.specs.Table.{field_place, table_at}
 use Rattle.arrow_meta_reader.specs.Means.{header_view}
-use Rattle.arrow_meta_reader.specs.Faults.{is_read_version}
+use Rattle.arrow_meta_reader.specs.Codes.{metadata_version}
 use Rattle.arrow_meta_reader.proofs.Straight.{message_there}
 use Rattle.arrow_meta_reader.proofs.batches.batch_message.Goals as goal
 
@@ -18,12 +15,11 @@ returns c =
     let there : (p : ℕ) × (field_place t 2 ≡ Some p) × (behind table_at t.bytes p ≡ Some inner) = rw c.in-Ok-Some.field-0-is at c.in-Ok-Some.ensures.answer in
     let same : inner.bytes ≡ t.bytes = rw c.in-Ok-Some.field-0-is at c.in-Ok-Some.ensures.bytes in
     let root : behind table_at bytes 0 ≡ Some t = sym c.in_ok-table.ensures.value in
-    let read : is_read_version c.in_ok-version.version ≡ true = search rules in
+    let read : metadata_version c.in_ok-number.number ≡ Some c.in_ok-version.version = search rules in
     let high : n ≤ c.args.limits.now.max_body = search rules in
     let low : n ≤ 9223372036854775807 = omega (arith, high, c.max_body.ensures.value, c.max_body.ensures.ceiling) in
     let of = c.in_ok-batch_header.ensures in
-    let fits : SFits w16 c.version_of.result = search rules in
     record {
-      means = simp to_z-of_z (message_there c.args.limits.now bytes t inner there.0 c.in_ok-version.version c.in_ok-code.code n c.version_of.result of.0 (header_view c.in_ok-batch_header.field-0) root c.in_ok-table.ensures.bytes c.in_ok-version.ensures read c.version_of.ensures c.in_ok-code.ensures c.in_ok-body_len.ensures there.1 there.2 same of.1 of.2 low high);
+      means = message_there c.args.limits.now bytes t inner there.0 c.in_ok-number.number c.in_ok-code.code n c.in_ok-version.version of.0 (header_view c.in_ok-batch_header.field-0) root c.in_ok-table.ensures.bytes c.in_ok-number.ensures read c.in_ok-code.ensures c.in_ok-body_len.ensures there.1 there.2 same of.1 of.2 low high;
       length = high;
     }

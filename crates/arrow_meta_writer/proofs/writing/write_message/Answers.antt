@@ -5,7 +5,7 @@ use Rattle.arrow_flatbuf.proofs.Left.{begun, stepped, ended, left_ends}
 use Rattle.arrow_meta_writer.specs.Layouts.{header_cells, message_cells}
 use Rattle.arrow_meta_reader.specs.Means.{header_view, message_view}
 use Rattle.arrow_meta_writer.proofs.Exact.{slots_there, table_fits}
-use Rattle.arrow_meta_writer.proofs.Fitting.{header_code_fits}
+use Rattle.arrow_meta_writer.proofs.Fitting.{header_code_fits, version_fits}
 use Rattle.arrow_meta_writer.proofs.writing.write_message.Goals as goal
 
 pub message_slots-slots-requires : goal.message_slots-slots-requires
@@ -19,7 +19,7 @@ table-requires-clause-fits c =
     let cs = message_cells (message_view c.args.message.now) in
     let ss = c.message_slots-slots.result in
     let same = slots_there c.place.result p ss cs c.place.ensures c.message_slots-slots.ensures.slots in
-    table_fits p ss cs same (omega (arith, c.message_slots-slots.ensures.short), (omega (arith, header_code_fits (header_view c.args.message.now.header)), (omega (arith, c.requires.body), tt))) c.requires.room
+    table_fits p ss cs same (version_fits c.args.message.now.version, (omega (arith, header_code_fits (header_view c.args.message.now.header)), (omega (arith, c.requires.body), tt))) c.requires.room
 
 pub write_header-requires : goal.write_header-requires
 write_header-requires c =
