@@ -4,7 +4,7 @@ use super::building::{array, builder, dictionary, fault_of, listed, push_all, pu
 use super::told::{is_number, is_text, told};
 use super::values::value;
 use arrow_builder::{ArrayBuilder, ArrayFault, PushFault};
-use arrow_data::{Array, Dictionary};
+use arrow_data::{Array, Buffers, Dictionary};
 use std::process::Abort;
 
 const MEMORY: &str = "memory";
@@ -130,6 +130,22 @@ fn grown_after_an_array_was_made(rt: HostRuntime) {
         &told(&rt, &array(&rt, &column)),
         "[ 1 2 ], null, [ 3 ]",
     );
+}
+
+// How many bytes the offsets of texts take.
+fn offsets_of(texts: &Array) -> usize {
+    match texts.buffers() {
+        Buffers::Texts(of) => of.offsets.len(),
+        _ => 0,
+    }
+}
+
+#[test]
+fn offsets_are_one_more_than_slots(rt: HostRuntime) {
+    for (words, want) in &[("utf8", 12), ("large_utf8", 24)] {
+        let texts = array(&rt, &pushed(&rt, words, "'a' 'bc'"));
+        is_number(&rt, words, offsets_of(&texts), *want);
+    }
 }
 
 // An index, how many values there are, and the number of the fault or 0.
