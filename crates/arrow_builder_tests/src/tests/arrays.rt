@@ -132,20 +132,10 @@ fn grown_after_an_array_was_made(rt: HostRuntime) {
     );
 }
 
-// How many bytes the offsets of texts take.
-fn offsets_of(texts: &Array) -> usize {
-    match texts.buffers() {
-        Buffers::Texts(of) => of.offsets.len(),
-        _ => 0,
-    }
-}
-
 #[test]
 fn offsets_are_one_more_than_slots(rt: HostRuntime) {
-    for (words, want) in &[("utf8", 12), ("large_utf8", 24)] {
-        let texts = array(&rt, &pushed(&rt, words, "'a' 'bc'"));
-        is_number(&rt, words, offsets_of(&texts), *want);
-    }
+    let texts = array(&rt, &pushed(&rt, "utf8", "'a' 'bc'"));
+    assert!(rt; matches!(texts.buffers(), Buffers::Texts(of) if of.offsets.len() == 12));
 }
 
 // An index, how many values there are, and the number of the fault or 0.

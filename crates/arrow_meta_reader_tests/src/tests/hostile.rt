@@ -100,27 +100,9 @@ fn deep_sharing_is_refused(rt: HostRuntime) {
     is_refused(&rt, nested(&rt, 1_000, 16_700), 0);
 }
 
-// The same with one child on each level, and a pair of the lowest: its way back to a vtable behind
-// it, the vector of its pairs, the pair, in which nothing stands, and the vtable.
-fn with_a_pair(rt: &(impl Abort + AllocGlobal), depth: u32) -> Vec<u8> {
-    let mut bytes = nested(rt, depth, 1);
-    bytes.truncate(bytes.len().saturating_sub(16));
-    let place = u32::try_from(bytes.len()).expect(rt, "less than 2^32 bytes");
-    let field = [24u32.wrapping_neg(), 13, 4, 1, 4];
-    push(rt, &mut bytes, &field);
-    push(
-        rt,
-        &mut bytes,
-        &[place.wrapping_sub(48), 0xc_0012, 0, 4, 0, 8],
-    );
-    bytes
-}
-
-// Levels of fields are counted, and a pair is none.
 #[test]
-fn a_pair_on_the_lowest_level(rt: HostRuntime) {
-    is_counted(&rt, &with_a_pair(&rt, 32), 0, Some([32, 1, 0]));
+fn a_field_on_level_33_is_refused(rt: HostRuntime) {
     let limits = arrow_types::Limits::standard();
-    let told = super::reading::told(rt.alloc(), &with_a_pair(&rt, 33), &limits);
+    let told = super::reading::told(rt.alloc(), &nested(&rt, 33, 1), &limits);
     assert_eq!(rt; told, (3, [32, 0, 0]));
 }
