@@ -9,3 +9,4 @@ mod hostile;
 mod messages;
 mod reading;
 mod shared;
+mod types;

@@ -4,7 +4,7 @@ use super::building::{array, builder, dictionary, fault_of, listed, push_all, pu
 use super::told::{is_number, is_text, told};
 use super::values::value;
 use arrow_builder::{ArrayBuilder, ArrayFault, PushFault};
-use arrow_data::{Array, Dictionary};
+use arrow_data::{Array, Buffers, Dictionary};
 use std::process::Abort;
 
 const MEMORY: &str = "memory";
@@ -130,6 +130,12 @@ fn grown_after_an_array_was_made(rt: HostRuntime) {
         &told(&rt, &array(&rt, &column)),
         "[ 1 2 ], null, [ 3 ]",
     );
+}
+
+#[test]
+fn offsets_are_one_more_than_slots(rt: HostRuntime) {
+    let texts = array(&rt, &pushed(&rt, "utf8", "'a' 'bc'"));
+    assert!(rt; matches!(texts.buffers(), Buffers::Texts(of) if of.offsets.len() == 12));
 }
 
 // An index, how many values there are, and the number of the fault or 0.

@@ -99,9 +99,10 @@ fn sum_of(so_far: u32, body: &Body) -> u32 {
 
 fn sum_stored(rt: &(impl Abort + AllocGlobal), so_far: u32, align: Align, column: &Array) -> u32 {
     let columns = std::slice::from_ref(column);
-    let _ = body_size(columns, align).expect(rt, "a body");
-    let body = store(rt.alloc(), columns, align);
-    sum_of(so_far, &body.expect(rt, MEMORY))
+    let size = body_size(columns, align).expect(rt, "a body");
+    let body = store(rt.alloc(), columns, align).expect(rt, MEMORY);
+    assert_eq!(rt; size, body.bytes.len() as u64);
+    sum_of(so_far, &body)
 }
 
 // The sum over how the columns of a kind and a length are laid out.

@@ -99,3 +99,10 @@ fn nested_sharing_is_refused(rt: HostRuntime) {
 fn deep_sharing_is_refused(rt: HostRuntime) {
     is_refused(&rt, nested(&rt, 1_000, 16_700), 0);
 }
+
+#[test]
+fn a_field_on_level_33_is_refused(rt: HostRuntime) {
+    let limits = arrow_types::Limits::standard();
+    let told = super::reading::told(rt.alloc(), &nested(&rt, 33, 1), &limits);
+    assert_eq!(rt; told, (3, [32, 0, 0]));
+}

@@ -154,3 +154,15 @@ fn the_widest_schema_is_written(rt: HostRuntime) {
     }
     assert_eq!(rt; written(&rt, &schema(&rt, columns)).len(), 3_932_224);
 }
+
+// The column `n`, and a pair of the schema: another program laid it out in 200 bytes.
+#[test]
+fn a_schema_with_a_pair_is_written(rt: HostRuntime) {
+    let schema = Schema::with_metadata(rt.alloc(), deep(&rt, 1, NONE), pairs(&rt, ONE));
+    let message = Message {
+        version: 4,
+        header: Header::Schema(schema.expect(&rt, "a schema")),
+        body_len: 0,
+    };
+    assert_eq!(rt; written(&rt, &message).len(), 200);
+}

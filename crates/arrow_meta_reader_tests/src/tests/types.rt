@@ -1,0 +1,28 @@
+// The codes of types that are read (Schema.fbs, `union Type`), and which of them may have two children.
+
+use super::reading::{MEMORY, told};
+use crate::vectors::LEVELS;
+use arrow_types::Limits;
+use std::process::Abort;
+
+const READ: [u8; 15] = [1, 2, 4, 5, 6, 8, 9, 10, 12, 13, 15, 18, 19, 20, 21];
+
+// A column of two children, and of a type of this code in which all is absent.
+fn column(rt: &(impl Abort + AllocGlobal), code: u8) -> Vec<u8> {
+    let mut bytes = Vec::from_slice(rt.alloc(), LEVELS).expect(rt, MEMORY);
+    *bytes.get_mut(825).expect(rt, "the code of the column s") = code;
+    bytes
+}
+
+#[test]
+fn codes_of_types(rt: HostRuntime) {
+    for code in 0..=u8::MAX {
+        let want = match code {
+            13 => 0,
+            _ if READ.contains(&code) => 9,
+            _ => 8,
+        };
+        let (fault, _) = told(rt.alloc(), &column(&rt, code), &Limits::standard());
+        assert_eq!(rt; fault, want, "{code}");
+    }
+}
