@@ -160,7 +160,11 @@ fn with_array<'a>(
 {
     let shared = place.left.types.first().unwrap();
     let encoding = place.field.dictionary;
-    let dictionary = place.source.dictionaries.copy_for(builder.alloc, encoding).ok()?;
+    let dictionary = place
+        .source
+        .dictionaries
+        .copy_for(builder.alloc, encoding)
+        .ok()?;
     let buffers = NodeBuffers {
         len: laid.len,
         body: builder.body,

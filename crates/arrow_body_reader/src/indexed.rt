@@ -10,9 +10,9 @@ ghost use Rattle.arrow_data.specs.Listed.{dictionary_for};
 ghost use Rattle.arrow_body_reader.specs.Place.{buffers_in};
 
 use crate::held::Ranges;
-use arrow_data::{Listed, NumberBuffers};
 use arrow_data::form::number_width;
 use arrow_data::layout::are_indices;
+use arrow_data::{Listed, NumberBuffers};
 use arrow_types::Encoding;
 
 // Whether the valid slots of a node with this encoding have their values; without a dictionary
