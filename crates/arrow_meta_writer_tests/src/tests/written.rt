@@ -160,7 +160,7 @@ fn the_widest_schema_is_written(rt: HostRuntime) {
 fn a_schema_with_a_pair_is_written(rt: HostRuntime) {
     let schema = Schema::with_metadata(rt.alloc(), deep(&rt, 1, NONE), pairs(&rt, ONE));
     let message = Message {
-        version: 4,
+        version: MetadataVersion::V5,
         header: Header::Schema(schema.expect(&rt, "a schema")),
         body_len: 0,
     };
