@@ -7,3 +7,4 @@ pub mod Sound
 pub mod Rising
 pub mod Inside
 pub mod Place
+pub mod Look
