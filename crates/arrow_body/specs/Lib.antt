@@ -2,6 +2,7 @@ pub use Rattle.arrow_body_reader.specs.Taken
 pub use Rattle.arrow_body_reader.specs.Types
 pub use Rattle.arrow_body_reader.specs.Leaf
 pub use Rattle.arrow_body_reader.specs.Place
+pub use Rattle.arrow_body_reader.specs.Look
 pub use Rattle.arrow_body_reader.specs.Least
 pub use Rattle.arrow_body_reader.specs.Held
 pub use Rattle.arrow_body_reader.specs.Sound

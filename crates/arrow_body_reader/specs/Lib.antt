@@ -6,3 +6,4 @@ pub mod Leaf
 pub mod Sound
 pub mod Inside
 pub mod Place
+pub mod Look

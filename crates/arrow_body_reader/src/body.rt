@@ -1,10 +1,10 @@
 //! From nodes, buffers and a body to columns.
 
-ghost use Rattle.std.specs.Prelude.{◌≡◌, IfSome, MatchResult, []};
+ghost use Rattle.std.specs.Prelude.{◌≡◌, IfSome, MatchResult};
 ghost use Rattle.arrow_types.specs.View.{fields_view};
 ghost use Rattle.arrow_body_reader.specs.Sound.{AreFit, Explains, IsExplained, IsSound, columns_of};
 ghost use Rattle.arrow_body_reader.specs.Sound.{number_of};
-ghost use Rattle.arrow_body_reader.specs.Types.{HaveTypes};
+ghost use Rattle.arrow_body_reader.specs.Look.{IsReady};
 ghost use Rattle.arrow_data.specs.Shared.{node_types};
 
 use crate::build::Builder;
@@ -178,10 +178,7 @@ fn walk<'a>(
     source: Source<'_>,
     builder: Option<Builder<'a>>,
 ) -> Result<Option<Builder<'a>>, BodyFault>
-    requires building { IfSome builder (λ b. (b.body.now ≡ source.body.now)
-        × (b.arrays.items ≡ [])
-        × HaveTypes (fields_view fields.now) left.types.now
-        × AreFit source.dictionaries.entries.now (fields_view fields.now)) }
+    requires building { IfSome builder (IsReady (fields_view fields.now) left source) }
     ensures { MatchResult result
         (λ built. IsSound source.entry.body.now source.entry.dictionaries.entries.now
         (fields_view fields.now) left.entry.nodes.now left.entry.buffers.now

@@ -122,7 +122,7 @@ fn with_leaf<'a>(builder: Builder<'a>, place: Place<'_>, laid: &Laid) -> Option<
         body: builder.body,
         ranges: &laid.ranges[..place.own],
     };
-    let Ok(array) = Array::from_leaf_parts(builder.alloc, shared, buffers) else {
+    let Ok(array) = Array::from_leaf_parts(shared, buffers) else {
         return None;
     };
     let mut arrays = builder.arrays;

@@ -140,14 +140,5 @@ fn is_counted(form: Form, node: FieldNode, len: usize, held: Ranges<'_>) -> bool
     requires bits { HasBits len (buffer (buffers_in held) 0) }
     ensures { IsTrue result ↔ IsCountOf form node (buffer (buffers_in held.entry) 0) }
 {
-    match form {
-        Form::Nulls => true,
-        Form::Bits
-        | Form::Numbers { .. }
-        | Form::Bytes(_)
-        | Form::Texts(_)
-        | Form::FixedBytes(_)
-        | Form::Lists(_)
-        | Form::Structs => is_count(node, len, held.bytes(0)),
-    }
+    matches!(form, Form::Nulls) || is_count(node, len, held.bytes(0))
 }

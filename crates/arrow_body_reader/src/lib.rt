@@ -23,6 +23,8 @@
 //! | a node without children and dictionary | `specs/Leaf.antt`: `IsLeafNode` |
 //! | how long the shortest of some columns is | `specs/Least.antt`: `IsLeast` |
 //! | where a buffer lies | `specs/Held.antt`: `IsHeld`, `bytes_in` |
+//! | a field's own node where it stands, as one value | `specs/Place.antt`: `IsLaidAt`, `column_at` |
+//! | what a look at fields asks for and finds | `specs/Look.antt`: `IsReady`, `IsSeen`, `HasMade` |
 //! | a body that is sound, its columns | `specs/Sound.antt`: `IsSound`, `columns_of` |
 //! | its one reading | `specs/Inside.antt`: `IsReading` |
 //! | the first fault | `specs/Sound.antt`: `IsExplained` |

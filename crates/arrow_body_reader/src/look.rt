@@ -4,15 +4,13 @@ ghost use Rattle.std.specs.Prelude.{◌≡◌, ◌↔◌, IfSome, IsTrue, MatchO
 ghost use Rattle.std.specs.Prelude.{[], ◌∷◌};
 ghost use Rattle.arrow_types.specs.Field.{fields_of};
 ghost use Rattle.arrow_types.specs.View.{field_view, fields_view};
-ghost use Rattle.arrow_body_reader.specs.Sound.{AreFit, AreIndexed, AreLaid, AreText};
-ghost use Rattle.arrow_body_reader.specs.Sound.{columns_of, lengths_of};
+ghost use Rattle.arrow_body_reader.specs.Sound.{lengths_of};
 ghost use Rattle.arrow_body_reader.specs.Held.{AreRangesOf};
 ghost use Rattle.arrow_body_reader.specs.Least.{IsLeast};
+ghost use Rattle.arrow_body_reader.specs.Look.{DoLie, HasMade, IsReady, IsSeen};
 ghost use Rattle.arrow_body_reader.specs.Place.{AreRangesAt, IsIndexedAt, IsLaidAt, IsTextAt};
 ghost use Rattle.arrow_body_reader.specs.Place.{head_at, len_at, lengths_below};
-ghost use Rattle.arrow_body_reader.specs.Taken.{AreThere, own_buffers};
-ghost use Rattle.arrow_body_reader.specs.Taken.{taken_buffers, taken_nodes};
-ghost use Rattle.arrow_body_reader.specs.Types.{HaveTypes};
+ghost use Rattle.arrow_body_reader.specs.Taken.{AreThere, own_buffers, taken_nodes};
 
 use crate::build::{Builder, builder_below, with_node};
 use crate::held::Ranges;
@@ -77,16 +75,10 @@ impl Place<'_> {
         requires count { own_buffers (head_at self) ≡ length held.ranges.now }
         ensures { IsTrue result ↔ IsTextAt self.entry }
     {
-        match self.form {
-            Form::Texts(width) => are_texts_in(width, len, held),
-            Form::Nulls
-            | Form::Bits
-            | Form::Numbers { .. }
-            | Form::Bytes(_)
-            | Form::FixedBytes(_)
-            | Form::Lists(_)
-            | Form::Structs => true,
-        }
+        let Form::Texts(width) = self.form else {
+            return true;
+        };
+        are_texts_in(width, len, held)
     }
 
     // Whether the valid slots of the node, if it is dictionary-encoded, have their values.
@@ -142,35 +134,15 @@ pub(crate) fn look<'a>(
     source: Source<'_>,
     builder: Option<Builder<'a>>,
 ) -> Option<Found<'a>>
-    requires building { IfSome builder (λ b. (b.body.now ≡ source.body.now)
-        × (b.arrays.items ≡ [])
-        × HaveTypes (fields_view fields.now) left.types.now
-        × AreFit source.dictionaries.entries.now (fields_view fields.now)) }
-    ensures seen { MatchOption result
-        (AreThere (fields_view fields.now) left.entry.nodes.now left.entry.buffers.now
-        × AreLaid source.entry.body.now (fields_view fields.now)
-        left.entry.nodes.now left.entry.buffers.now
-        → ⊥)
-        (λ look. AreThere (fields_view fields.now) left.entry.nodes.now left.entry.buffers.now
-        × AreLaid source.entry.body.now (fields_view fields.now)
-        left.entry.nodes.now left.entry.buffers.now
-        × (IsTrue look.seen.texts ↔ AreText source.entry.body.now (fields_view fields.now)
-        left.entry.nodes.now left.entry.buffers.now)
-        × (IsTrue look.seen.indices
-        ↔ AreIndexed source.entry.body.now source.entry.dictionaries.entries.now
-        (fields_view fields.now) left.entry.nodes.now left.entry.buffers.now)
-        × (look.rest.nodes.now ≡ drop (taken_nodes (fields_view fields.now)) left.entry.nodes.now)
-        × (look.rest.buffers.now
-        ≡ drop (taken_buffers (fields_view fields.now)) left.entry.buffers.now)) }
+    requires building { IfSome builder (IsReady (fields_view fields.now) left source) }
+    ensures seen { MatchOption result (DoLie (fields_view fields.now) left.entry source.entry → ⊥)
+        (IsSeen (fields_view fields.now) left.entry source.entry) }
     ensures least { IfSome result
         (λ look. IsLeast look.least (lengths_of (fields_view fields.now) left.entry.nodes.now)) }
     ensures types { IfSome result (λ look. look.rest.types.now
         ≡ drop (taken_nodes (fields_view fields.now)) left.entry.types.now) }
     ensures building { IfSome result (λ look. IfSome look.builder
-        (λ b. (b.body.now ≡ source.entry.body.now)
-        × (b.arrays.items
-        ≡ columns_of source.entry.body.now source.entry.dictionaries.entries.now
-        (fields_view fields.now) left.entry.nodes.now left.entry.buffers.now))) }
+        (HasMade (fields_view fields.now) left.entry source.entry)) }
 {
     let mut seen = Seen {
         texts: true,
@@ -214,35 +186,15 @@ fn look_below<'a>(
     source: Source<'_>,
     builder: Option<Builder<'a>>,
 ) -> Option<Found<'a>>
-    requires building { IfSome builder (λ b. (b.body.now ≡ source.body.now)
-        × (b.arrays.items ≡ [])
-        × HaveTypes (fields_view fields.now) left.types.now
-        × AreFit source.dictionaries.entries.now (fields_view fields.now)) }
-    ensures seen { MatchOption result
-        (AreThere (fields_view fields.now) left.entry.nodes.now left.entry.buffers.now
-        × AreLaid source.entry.body.now (fields_view fields.now)
-        left.entry.nodes.now left.entry.buffers.now
-        → ⊥)
-        (λ look. AreThere (fields_view fields.now) left.entry.nodes.now left.entry.buffers.now
-        × AreLaid source.entry.body.now (fields_view fields.now)
-        left.entry.nodes.now left.entry.buffers.now
-        × (IsTrue look.seen.texts ↔ AreText source.entry.body.now (fields_view fields.now)
-        left.entry.nodes.now left.entry.buffers.now)
-        × (IsTrue look.seen.indices
-        ↔ AreIndexed source.entry.body.now source.entry.dictionaries.entries.now
-        (fields_view fields.now) left.entry.nodes.now left.entry.buffers.now)
-        × (look.rest.nodes.now ≡ drop (taken_nodes (fields_view fields.now)) left.entry.nodes.now)
-        × (look.rest.buffers.now
-        ≡ drop (taken_buffers (fields_view fields.now)) left.entry.buffers.now)) }
+    requires building { IfSome builder (IsReady (fields_view fields.now) left source) }
+    ensures seen { MatchOption result (DoLie (fields_view fields.now) left.entry source.entry → ⊥)
+        (IsSeen (fields_view fields.now) left.entry source.entry) }
     ensures least { IfSome result
         (λ look. IsLeast look.least (lengths_of (fields_view fields.now) left.entry.nodes.now)) }
     ensures types { IfSome result (λ look. look.rest.types.now
         ≡ drop (taken_nodes (fields_view fields.now)) left.entry.types.now) }
     ensures building { IfSome result (λ look. IfSome look.builder
-        (λ b. (b.body.now ≡ source.entry.body.now)
-        × (b.arrays.items
-        ≡ columns_of source.entry.body.now source.entry.dictionaries.entries.now
-        (fields_view fields.now) left.entry.nodes.now left.entry.buffers.now))) }
+        (HasMade (fields_view fields.now) left.entry source.entry)) }
 {
     if fields.is_empty() {
         Some(Found {
