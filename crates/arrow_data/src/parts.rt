@@ -128,10 +128,7 @@ impl Array {
     /// As `from_shared_parts`, of a type that no fields stand below, and whose slots hold the
     /// values themselves: it has no children and no dictionary.
     #[inline(always)]
-    pub fn from_leaf_parts(
-        shared: &SharedType,
-        node: NodeBuffers<'_>,
-    ) -> Result<Array, AllocError>
+    pub fn from_leaf_parts(shared: &SharedType, node: NodeBuffers<'_>) -> Result<Array, AllocError>
         requires few { node.len ≤ 2147483647 }
         requires own { shared.now.encoding ≡ None }
         requires leaf { IsLeaf (form_of shared.now.data_type.tag) }
