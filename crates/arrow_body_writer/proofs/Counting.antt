@@ -83,6 +83,9 @@ no_tally form = record { slots = refl; nulls = refl; end = of_form form }
     of_form forms.Structs = refl
 
 -- what was taken since is counted
+pub counted_all : (form : Form) (none new : Tally) (vs : List PlainValue) → none ≡ record { slots = 0; nulls = 0; end = 0 } → Counts form vs none new → IsTally form vs new
+counted_all form none new vs empty counts = counts [] (subst (IsTally form []) (sym empty) (no_tally form))
+
 pub all_counted : (form : Form) (none : Tally) (new : Pass) (vs : List PlainValue) → none ≡ record { slots = 0; nulls = 0; end = 0 } → Takes (Count form none) new vs → IsPassed [] vs new
 all_counted form none new vs empty taken = taken.added [] [] (subst (IsTally form []) (sym empty) (no_tally form))
 

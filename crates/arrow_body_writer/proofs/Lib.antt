@@ -18,6 +18,7 @@ pub mod Marking
 pub mod Bytewise
 pub mod Numbering
 pub mod Wholes
+pub mod FullNodes
 pub mod Moving
 pub mod Spanning
 pub mod Holding

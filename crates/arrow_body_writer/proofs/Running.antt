@@ -206,7 +206,7 @@ pub none_of : (c : Column) (start stop : ℕ) → stop ≤ length c.raw → AreF
 none_of c start stop inside full = all_between IsFull c.raw start stop inside full
 
 -- of such values none is null
-none_null : (vs : List PlainValue) → AllByRecursion IsFull vs → nulls_in vs ≡ 0
+pub none_null : (vs : List PlainValue) → AllByRecursion IsFull vs → nulls_in vs ≡ 0
 none_null [] all = refl
 none_null (v ∷ vs) all = omega (arith, sum_by-cons (λ x. cond (is_null_value x) 1 0) v vs, ap {B = ℕ} (λ b. cond b 1 0) all.0, none_null vs all.1)
 

@@ -7,7 +7,7 @@ use Rattle.arrow_types.specs.DataType.{Tag}
 use Rattle.arrow_types.specs.Field.{Fields, none, more, width, TypeShape}
 use Rattle.arrow_types.specs.declared.field.Encoding.{Encoding}
 use Rattle.arrow_data.specs.Column.{AreOf, Column, HasChild, HasFields, IsList, column_size, values_from}
-use Rattle.arrow_data.specs.Form.{IsLists, node_form}
+use Rattle.arrow_data.specs.Form.{HasFieldsOf, IsLeaf, IsLists, form_of, node_form}
 use Rattle.arrow_data.specs.FullSlots.{AreFull}
 use Rattle.arrow_data.specs.PlainValue.{PlainValue, field_value}
 use Rattle.arrow_data.specs.declared.form.Form.{Form}
@@ -95,6 +95,37 @@ no_vs (v ∷ vs) empty = absurd (omega (arith, empty))
 pub none_whole : (c child : Column) (slots : ℕ) → HasChild c child → flat_map items_in_value (values_from c.raw 0 slots) ≡ [] → slots ≡ length c.raw → length child.raw ≡ 0 → AreSentWhole c (child ∷ [])
 none_whole c child slots has items all empty =
     items_whole c child has.is_list has.typed (ap (λ n. flat_map items_in_value (values_from c.raw 0 n)) (sym all) ∙ items ∙ no_vs child.raw empty)
+
+-- below a leaf there is no field, and nothing is sent
+leaf_fields : (form : Form) (fields : Fields) → IsLeaf form → HasFieldsOf form fields → fields ≡ none
+leaf_fields forms.Nulls fields leaf has = has
+leaf_fields forms.Bits fields leaf has = has
+leaf_fields (forms.Numbers bits signed) fields leaf has = has
+leaf_fields (forms.Bytes w) fields leaf has = has
+leaf_fields (forms.Texts w) fields leaf has = has
+leaf_fields (forms.FixedBytes w) fields leaf has = has
+leaf_fields (forms.Lists w) fields leaf has = absurd leaf
+leaf_fields forms.Structs fields leaf has = absurd leaf
+
+leaf_raws : (form : Form) (fields : Fields) (vs : List PlainValue) → IsLeaf form → raws_below form fields vs ≡ []
+leaf_raws forms.Nulls fields vs leaf = refl
+leaf_raws forms.Bits fields vs leaf = refl
+leaf_raws (forms.Numbers bits signed) fields vs leaf = refl
+leaf_raws (forms.Bytes w) fields vs leaf = refl
+leaf_raws (forms.Texts w) fields vs leaf = refl
+leaf_raws (forms.FixedBytes w) fields vs leaf = refl
+leaf_raws (forms.Lists w) fields vs leaf = absurd leaf
+leaf_raws forms.Structs fields vs leaf = absurd leaf
+
+-- a column of a leaf's type without an encoding sends no child
+pub leaf_whole : (c : Column) (form : Form) → c.encoding ≡ None → form ≡ form_of c.data_type.tag → HasFieldsOf form c.data_type.children → IsLeaf form → AreSentWhole c []
+leaf_whole c form plain is has leaf =
+    let own : node_form c.data_type.tag c.encoding ≡ form = ap (node_form c.data_type.tag) plain ∙ sym is in
+    record {
+      plain = plain;
+      typed = subst (λ fields. AreOf fields []) (sym (leaf_fields form c.data_type.children leaf has)) tt;
+      same = ap (λ f. raws_below f c.data_type.children c.raw) own ∙ leaf_raws form c.data_type.children c.raw leaf;
+    }
 
 -- names and nullability are not looked at: what each node of columns gives is what each node of their fields gives
 level_typed : {A : Type 0} (g : Form → List PlainValue → List A) (fields : Fields) (cs : List Column) (raws : List (List PlainValue)) → AreOf fields cs → by_level g (fields_of_columns cs) raws ≡ by_level g fields raws

@@ -1,6 +1,8 @@
 //! The body of columns, written.
 
-ghost use Rattle.std.specs.Prelude.{◌≡◌, ◌<◌, ℕ, Some, [], ◌∷◌, IfOk};
+ghost use Rattle.std.specs.Prelude.{◌≡◌, ◌≤◌, ◌<◌, ℕ, Some, [], ◌∷◌, IfOk, OnOk, length, pos};
+ghost use Rattle.arrow_data.specs.Form.{node_form};
+ghost use Rattle.arrow_data.specs.FullSlots.{AreFull};
 ghost use Rattle.arrow_body_laws.specs.Laws.{IsBodyOf, raws_of};
 ghost use Rattle.arrow_body_laws.specs.Tidy.{IsTidy};
 ghost use Rattle.arrow_body_laws.specs.Raws.{AreRaws, IsSmall};
@@ -16,13 +18,15 @@ ghost use Rattle.arrow_body_writer.specs.Storable.{AreTold, CanBeStored};
 ghost use Rattle.arrow_body_writer.specs.Storing.{IsEmpty, Stores, body_view};
 
 use crate::align::Align;
-use crate::buffers::put_buffer;
+use crate::buffers::{put_buffer, put_padded};
 use crate::counts::{Counted, count_sent};
 use crate::forms::{form_of_node, nodes_in, nodes_in_all};
 use crate::measured::{body_size, rest_size};
 use crate::part::{Part, part_of};
+use crate::slots::full_form;
 use crate::source::Source;
 use crate::whole::whole_below;
+use arrow_data::form::Form;
 use arrow_data::{Array, Dictionary};
 use arrow_types::{Buffer, FieldNode};
 use std::alloc::{AllocError, Global};
@@ -97,6 +101,64 @@ fn put_node(body: Body, align: Align, source: &Source, node: usize) -> Result<Bo
     Ok(written)
 }
 
+// Appends a buffer with these bytes.
+fn put_bytes(body: &mut Body, align: Align, bytes: &[u8]) -> Result<(), AllocError>
+    ensures { OnOk result (Stores (alignment_of align) [] (bytes.now ∷ []) body.old body.new) }
+{
+    body.buffers.push(Buffer {
+        offset: body.bytes.len() as i64,
+        length: bytes.len() as i64,
+    })?;
+    put_padded(&mut body.bytes, align, bytes)
+}
+
+// A node for the slots of an array, of which none is null.
+fn full_node(array: &Array) -> FieldNode
+    requires { length array.now.raw ≤ 2147483647 }
+    ensures length { result.length ≡ pos (length array.now.raw) }
+    ensures nulls { result.null_count ≡ pos 0 }
+{
+    FieldNode {
+        length: array.len() as i64,
+        null_count: 0,
+    }
+}
+
+// Appends the array's own node, of which no slot is null, and the buffer of its validity: nothing of
+// it is sent (Columnar Format, "Validity bitmaps").
+fn put_full(body: &mut Body, align: Align, array: &Array) -> Result<(), AllocError>
+    requires full { AreFull array.now 0 (length array.now.raw) }
+    requires few { length array.now.raw ≤ 2147483647 }
+    ensures { OnOk result (Stores (alignment_of align) (own_node array.now.raw ∷ []) ([] ∷ [])
+        body.old body.new) }
+{
+    body.nodes.push(full_node(array))?;
+    put_bytes(body, align, &[])
+}
+
+// Appends the array's own node, and its buffers. Of structs and numbers of which none is null it is
+// known at once what these hold.
+fn put_own(body: Body, align: Align, array: &Array) -> Result<Body, AllocError>
+    requires small { IsSmall (node_form array.now.data_type.tag array.now.encoding) array.now.raw }
+    requires raws { AreRaws (fields_of_columns (array.now ∷ [])) (raws_of (array.now ∷ [])) }
+    ensures { IfOk result (Stores (alignment_of align) (own_node array.now.raw ∷ [])
+        (own_chunks (node_form array.now.data_type.tag array.now.encoding) array.now.raw) body) }
+{
+    let mut written = body;
+    match full_form(array) {
+        Some(Form::Structs) => {
+            put_full(&mut written, align, array)?;
+            Ok(written)
+        }
+        Some(Form::Numbers { .. }) => {
+            put_full(&mut written, align, array)?;
+            put_bytes(&mut written, align, array.value_bytes(0, array.len()))?;
+            Ok(written)
+        }
+        Some(_) | None => put_node(written, align, &Source::Slots(array), 0),
+    }
+}
+
 // Appends all nodes of the column, and their buffers, node by node.
 fn put_by_number(body: Body, align: Align, source: &Source) -> Result<Body, AllocError>
     requires { AreTold (column_in source.now ∷ []) }
@@ -122,11 +184,10 @@ fn put_column(body: Body, align: Align, array: &Array) -> Result<Body, AllocErro
         (stored_nodes (fields_of_columns (array.now ∷ [])) (raws_of (array.now ∷ [])))
         (stored_chunks (fields_of_columns (array.now ∷ [])) (raws_of (array.now ∷ []))) body) }
 {
-    let source = Source::Slots(array);
     let Some(children) = whole_below(array) else {
-        return put_by_number(body, align, &source);
+        return put_by_number(body, align, &Source::Slots(array));
     };
-    let mut written = put_node(body, align, &source, 0)?;
+    let mut written = put_own(body, align, array)?;
     for child in children {
         written = put_column(written, align, child)?;
     }

@@ -6,14 +6,35 @@ ghost use Rattle.arrow_body_laws.specs.Stored.{padded, rounded};
 ghost use Rattle.arrow_body_writer.specs.Align.{alignment_of};
 ghost use Rattle.arrow_body_writer.specs.Counts.{IsCounted, sent_at};
 ghost use Rattle.arrow_body_writer.specs.Part.{HasRoom, IsTold, chunk_of, part_bytes};
+ghost use Rattle.arrow_body_writer.specs.Slice.{IsSlice, values_in};
 
 use crate::align::Align;
 use crate::counts::Counted;
 use crate::packing::Pending;
 use crate::part::Part;
 use crate::pass::Pass;
+use crate::slice::Slice;
 use crate::writing::{Writing, put_zeros};
 use std::alloc::AllocError;
+
+// Appends what the slots are in a buffer.
+fn put_slice(out: Vec<u8>, part: Part, slice: Slice<'_>) -> Result<Vec<u8>, AllocError>
+    requires slots { IsSlice slice }
+    requires room { AllByRecursion (HasRoom part) (values_in slice) }
+    requires told { IsTold part (values_in slice) }
+    ensures { IfOk result (λ written.
+        written.items ≡ out.items ++ part_bytes part (values_in slice.entry)) }
+{
+    let mut writing = Writing {
+        out,
+        pending: Pending::new(),
+        end: 0,
+    };
+    writing.begin(part)?;
+    writing.put_slots(part, slice)?;
+    writing.finish(part)?;
+    Ok(writing.out)
+}
 
 // Appends what a buffer of the node holds of the slots that it is sent.
 fn put_part(out: Vec<u8>, part: Part, node: &Counted) -> Result<Vec<u8>, AllocError>
@@ -23,6 +44,9 @@ fn put_part(out: Vec<u8>, part: Part, node: &Counted) -> Result<Vec<u8>, AllocEr
     ensures { IfOk result (λ written.
         written.items ≡ out.items ++ part_bytes part (sent_at node.now)) }
 {
+    if let Some(slice) = node.source.own_slots(node.number) {
+        return put_slice(out, part, slice);
+    }
     let mut writing = Writing {
         out,
         pending: Pending::new(),
@@ -51,6 +75,15 @@ fn put_padding(out: &mut Vec<u8>, align: Align, len: usize) -> Result<(), AllocE
     } else {
         put_zeros(out, align.bytes() - over)
     }
+}
+
+// Appends the bytes of a buffer, padded.
+pub(crate) fn put_padded(out: &mut Vec<u8>, align: Align, bytes: &[u8]) -> Result<(), AllocError>
+    ensures { OnOk result (out.new.items
+        ≡ out.old.items ++ padded (alignment_of align) bytes.now) }
+{
+    out.extend_from_slice(bytes)?;
+    put_padding(out, align, bytes.len())
 }
 
 // Appends a buffer of the node, padded, and tells its length without the padding. No validity is

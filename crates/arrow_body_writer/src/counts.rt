@@ -7,7 +7,7 @@ ghost use Rattle.arrow_body_writer.specs.Tally.{IsTally};
 
 use crate::pass::Pass;
 use crate::source::Source;
-use crate::tally::Tally;
+use crate::tally::{Tally, counted};
 use arrow_data::form::Form;
 
 // A node of a column, and its slots, counted.
@@ -24,6 +24,9 @@ pub(crate) fn count_sent(form: Form, source: &Source, node: usize) -> Tally
     ensures { IsTally form
         (sent_to (column_in source.now) node) result }
 {
+    if let Some(slice) = source.own_slots(node) {
+        return counted(form, slice);
+    }
     let mut pass = Pass::Count(form, Tally::new());
     match source.send(&mut pass, node) {
         Ok(()) => pass.tally(),

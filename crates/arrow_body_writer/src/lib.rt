@@ -11,13 +11,12 @@
 //! validity bitmap are copied with the bytes under nulls, which are cleared in the copy (`masked`).
 //! Offsets and the bytes between them are copied where nothing lies under a null (`offsets`), and
 //! to each offset so much is added as the buffer has gone on (`spans`). Of all other slots no byte
-//! is copied that stood under a null. A node is known by its number in pre-order. One walk finds
-//! the slots that a node is sent, below lists and structs too, and either counts them or writes one
-//! of the node's buffers (`pass`); so each node is walked once to be counted and once for each
-//! buffer, and nothing is kept of the slots. Where a struct or a list is sent all slots of its
-//! children (`whole`), these are laid out as columns by themselves after its own node, level by
-//! level: so the work grows with the nodes, and not with their square. A column with nulls above
-//! others, or with slots that it does not send, is walked from its own node to each one below it.
+//! is copied that stood under a null. A node is known by its number in pre-order. An array's own
+//! node has all its slots. One walk finds those that a node below lists and structs is sent, and
+//! counts them or writes one of its buffers (`pass`); nothing is kept of them. Where a struct or a
+//! list is sent all slots of its children (`whole`), these are laid out as columns by themselves
+//! after its own node: so the work grows with the nodes, and not with their square. A column with
+//! nulls above others, or with slots that it does not send, is walked from its own node to each.
 //!
 //! | Notion | Definition |
 //! |---|---|
@@ -31,14 +30,13 @@
 //! | slots passed, and counted | `specs/Pass.antt`: `Takes`; `specs/Tally.antt`: `IsTally` |
 //! | children that are sent whole | `specs/Whole.antt`: `AreSentWhole` |
 //! | a buffer on its way | `specs/Part.antt`: `IsWritten`; `specs/Packing.antt`; `specs/Runs.antt` |
-//! | offsets as they lie | `specs/Offsets.antt`: `AreHeld`; `specs/Spans.antt`: `AreSpans` |
-//! | bitmaps and numbers as they lie | `specs/Marks.antt`: `AreMarked`, `HasNumbers` |
+//! | offsets, bitmaps as they lie | `specs/Offsets.antt`: `AreHeld`; `specs/Marks.antt`: `AreMarked` |
 //!
 //! Of the proofs, `Sending` says what nodes are sent, `Passing`, `RunPasses` and `Sources` what a
-//! pass takes of that, `Levels` goes from what is said level by level to the numbers of nodes,
-//! `Chunks` shows that a body to which all columns were added is the stored one, `Wholes` when
-//! children are sent whole, `Marking` and `Bytewise` speak of bitmaps, `Numbering` of numbers that
-//! are cleared under nulls, `Holding`, `Moving` and `Spanning` of offsets.
+//! pass takes of that, `Levels` goes from levels to the numbers of nodes, `Chunks` shows that a body
+//! to which all columns were added is the stored one, `Wholes` when children are sent whole,
+//! `FullNodes` what is sent of nodes without a null, `Marking` and `Bytewise` speak of bitmaps,
+//! `Numbering` of numbers that are cleared, `Holding`, `Moving` and `Spanning` of offsets.
 #![tactic(auto)]
 
 pub(crate) mod align;

@@ -5,6 +5,7 @@ ghost use Rattle.std.specs.List.{flat_map};
 ghost use Rattle.arrow_bits.specs.Numbers.{FitsWidth, IsWidth, int_bytes};
 ghost use Rattle.arrow_data.specs.Column.{IsColumn};
 ghost use Rattle.arrow_data.specs.Form.{node_form, number_width};
+ghost use Rattle.arrow_data.specs.FullSlots.{AreFull};
 ghost use Rattle.arrow_data.specs.PlainValue.{value_at};
 ghost use Rattle.arrow_body_laws.specs.Raws.{bytes_in_value, fixed_in, items_in_value};
 ghost use Rattle.arrow_body_laws.specs.Raws.{number_in, truth_in};
@@ -14,6 +15,7 @@ ghost use Rattle.arrow_body_writer.specs.Runs.{HasItems, are_strings};
 ghost use Rattle.arrow_body_writer.specs.Slice.{IsFull, IsSlice, values_in};
 
 use crate::slice::Slice;
+use crate::whole::is_full;
 use arrow_bits::put_int;
 use arrow_data::Array;
 use arrow_data::form::{Form, node_form};
@@ -70,6 +72,17 @@ pub(crate) fn own_form(array: &Array) -> Form
     // What is known of every array is asked for, so that the proof has it.
     let _slots = array.len();
     node_form(array.data_type(), array.encoding().copied())
+}
+
+// The form of the array's own node, where no slot is null.
+pub(crate) fn full_form(array: &Array) -> Option<Form>
+    ensures form { IfSome result (λ form.
+        form ≡ node_form array.now.data_type.tag array.now.encoding) }
+    ensures known { IfSome result (λ form. IsColumn array.now) }
+    ensures full { IfSome result (λ form. AreFull array.now 0 (length array.now.raw)) }
+{
+    let form = own_form(array);
+    if is_full(array) { Some(form) } else { None }
 }
 
 // Whether slots of the form hold byte strings or texts.

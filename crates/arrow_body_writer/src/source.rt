@@ -1,11 +1,12 @@
 //! Where the raw values of a column come from: an array, or the rest of a dictionary.
 
-ghost use Rattle.std.specs.Prelude.{◌≡◌, ◌<◌, OnErr, OnOk, None};
+ghost use Rattle.std.specs.Prelude.{◌≡◌, ◌<◌, IfSome, OnErr, OnOk, None};
 ghost use Rattle.std.specs.List.{AllByRecursion};
 ghost use Rattle.arrow_types.specs.View.{type_view};
 ghost use Rattle.arrow_data.specs.Fits.{AllFit};
 ghost use Rattle.arrow_body_writer.specs.Pass.{HasPlace, Takes, part_in};
 ghost use Rattle.arrow_body_writer.specs.Sent.{nodes_of_column, sent_to};
+ghost use Rattle.arrow_body_writer.specs.Slice.{IsSlice, values_in};
 ghost use Rattle.arrow_body_writer.specs.Source.{column_in, rest_of};
 
 use crate::pass::Pass;
@@ -47,6 +48,25 @@ impl<'a> Source<'a> {
     {
         match self {
             Source::Slots(array) => array.encoding().copied(),
+            Source::Rest(..) => None,
+        }
+    }
+
+    // All slots of the array, where the node is the array's own.
+    pub(crate) fn own_slots(&self, node: usize) -> Option<Slice<'a>>
+        ensures slots { IfSome result (λ slice. IsSlice slice) }
+        ensures sent { IfSome result (λ slice.
+            values_in slice ≡ sent_to (column_in self.now) node) }
+    {
+        if node > 0 {
+            return None;
+        }
+        match self {
+            Source::Slots(array) => Some(Slice {
+                array,
+                start: 0,
+                stop: array.len(),
+            }),
             Source::Rest(..) => None,
         }
     }

@@ -6,12 +6,12 @@ ghost use Rattle.arrow_data.specs.Column.{values_from};
 ghost use Rattle.arrow_body_laws.specs.Raws.{bytes_in_value, items_in_value, last_offset};
 ghost use Rattle.arrow_body_writer.specs.Marks.{AreMarked, IsBitRange, bits_in};
 ghost use Rattle.arrow_body_writer.specs.Slice.{IsFull, IsSlice, values_in};
-ghost use Rattle.arrow_body_writer.specs.Tally.{Counts, CountsNull, capped};
+ghost use Rattle.arrow_body_writer.specs.Tally.{Counts, CountsNull, IsTally, capped};
 
 use crate::bitmap::{bitmap, zeros};
 use crate::offsets::{lists_between, strings_between};
 use crate::packing::BitRange;
-use crate::slice::Slice;
+use crate::slice::{Slice, is_without_null};
 use crate::slots::{items, strings};
 use arrow_data::form::Form;
 
@@ -181,9 +181,22 @@ impl Tally {
         requires { IsSlice slice }
         ensures { Counts form (values_in slice.entry) self.old self.new }
     {
+        if is_without_null(slice) {
+            return self.add_full(form, slice);
+        }
         match bitmap(slice.array) {
             Some(bits) => self.add_beside(form, slice, bits),
             None => self.add_runs(form, slice),
         }
     }
+}
+
+// The slots, counted; their node has this form.
+pub(crate) fn counted(form: Form, slice: Slice<'_>) -> Tally
+    requires { IsSlice slice }
+    ensures { IsTally form (values_in slice.entry) result }
+{
+    let mut tally = Tally::new();
+    tally.add_slots(form, slice);
+    tally
 }

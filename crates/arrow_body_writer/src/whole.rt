@@ -9,9 +9,10 @@ ghost use Rattle.arrow_body_writer.specs.Whole.{AreSentWhole};
 use crate::slice::Slice;
 use crate::slots::items;
 use arrow_data::Array;
+use arrow_data::form::form_of;
 
 // Whether no slot is null.
-fn is_full(array: &Array) -> bool
+pub(crate) fn is_full(array: &Array) -> bool
     ensures { IsTrue result ↔ AreFull array.now 0 (length array.now.raw) }
 {
     array.first_null(0, array.len()) == array.len()
@@ -59,11 +60,22 @@ fn whole_fields(array: &Array) -> Option<&[Array]>
     }
 }
 
+// Whether the column has no encoding, and by its type nothing stands below it.
+fn is_leaf(array: &Array) -> bool
+    ensures { IsTrue result → AreSentWhole array.now [] }
+{
+    let form = form_of(array.data_type());
+    array.encoding().is_none() && form.is_leaf()
+}
+
 // The children of lists or structs, where each is sent just its own slots: so it can be laid out as
-// a column by itself. None of other arrays.
+// a column by itself. A column of another type has none. None also of a column with an encoding.
 pub(crate) fn whole_below(array: &Array) -> Option<&[Array]>
     ensures { IfSome result (λ children. AreSentWhole array.now children.now) }
 {
+    if is_leaf(array) {
+        return Some(&[]);
+    }
     match whole_items(array) {
         Some(child) => Some(std::slice::from_ref(child)),
         None => whole_fields(array),

@@ -11,8 +11,8 @@ use Rattle.arrow_body_writer.specs.Storing.{Stores}
 use Rattle.arrow_body_writer.proofs.body.+put.Goals as goal
 
 -- the column's own node can be told
-pub put_node-requires-clause-small : goal.put_node-requires-clause-small
-put_node-requires-clause-small t c = c.requires.told.small.0
+pub put_own-requires-clause-small : goal.put_own-requires-clause-small
+put_own-requires-clause-small t c = c.requires.told.small.0
 
 -- nothing but it was added yet
 pub loop-child-init : goal.loop-child-init
