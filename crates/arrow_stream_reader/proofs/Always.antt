@@ -46,12 +46,16 @@ both_there false None kind own h = absurd (cc)
 both_there false (Some v) None own h = absurd (cc)
 both_there false (Some v) (Some k) own h = (v, k, refl, refl)
 
+-- what follows from both
+with_both : {V K R : Type 0} {P : V → Type 0} {Q : K → Type 0} → (v : V) × (k : K) × P v × Q k → ((v : V) (k : K) → P v → Q k → R) → R
+with_both w f = f w.0 w.1 w.2 w.3
+
 -- so a tree without a fault says a message
 message_said : (max : ℕ) (xs : Trees) → fault_of max xs ≡ None → (m : PlainMessage) × (meaning_of xs ≡ Some m)
 message_said max xs h =
-    let w = both_there (any_in lacks_table xs) (version_in xs) (header_in xs)
+    let both = both_there (any_in lacks_table xs) (version_in xs) (header_in xs)
     ((is_bad_length max (body_of xs), faults.BodyLength) ∷ header_conditions (header_in xs) (body_of xs) (header_of xs)) h in
-    (message_by xs w.0 w.1, rw (w.2, w.3) refl)
+    with_both both (λ version kind read is. (message_by xs version kind, rw (read, is) refl))
 
 -- a tree means a message, or has a least fault
 tree_means : (l : LimitNumbers) (b : List ℕ) (x : Tree) (f : Option MetaFault) → IsTreeOf b l.max_metadata x → fault_of l.max_body (parts x) ≡ f →
