@@ -100,6 +100,7 @@ fn deep_sharing_is_refused(rt: HostRuntime) {
     is_refused(&rt, nested(&rt, 1_000, 16_700), 0);
 }
 
+// No field below the lowest level is counted.
 #[test]
 fn a_field_on_level_33_is_refused(rt: HostRuntime) {
     let limits = arrow_types::Limits::standard();
