@@ -46,12 +46,7 @@ pub(crate) fn count_below(data_type: &DataType) -> usize
 {
     match form_of(data_type) {
         Form::Lists(_) | Form::Structs => count_nodes(data_type.children()),
-        Form::Nulls
-        | Form::Bits
-        | Form::Numbers { .. }
-        | Form::Bytes(_)
-        | Form::Texts(_)
-        | Form::FixedBytes(_) => 0,
+        _ => 0,
     }
 }
 

@@ -35,13 +35,7 @@ fn values_of(array: &Array, width: usize) -> Option<&[u8]>
     match array.buffers() {
         Buffers::Numbers(of) => of_width(of.width, of.values, width),
         Buffers::Indices(of, _) => of_width(of.width, of.values, width),
-        Buffers::Nulls
-        | Buffers::Bools { .. }
-        | Buffers::Binaries(_)
-        | Buffers::Texts(_)
-        | Buffers::FixedBytes { .. }
-        | Buffers::Lists { .. }
-        | Buffers::Structs { .. } => None,
+        _ => None,
     }
 }
 

@@ -68,13 +68,7 @@ fn strings_of(array: &Array) -> Option<(Offsets<'_>, &[u8])>
     match array.buffers() {
         Buffers::Binaries(of) => Some((Offsets::of(of.width, of.validity, of.offsets), of.bytes)),
         Buffers::Texts(of) => Some((Offsets::of(of.width, of.validity, of.offsets), of.bytes)),
-        Buffers::Nulls
-        | Buffers::Bools { .. }
-        | Buffers::Numbers(_)
-        | Buffers::FixedBytes { .. }
-        | Buffers::Lists { .. }
-        | Buffers::Structs { .. }
-        | Buffers::Indices(..) => None,
+        _ => None,
     }
 }
 
@@ -90,14 +84,7 @@ fn lists_of(array: &Array) -> Option<Offsets<'_>>
             offsets,
             ..
         } => Some(Offsets::of(width, validity, offsets)),
-        Buffers::Nulls
-        | Buffers::Bools { .. }
-        | Buffers::Numbers(_)
-        | Buffers::Binaries(_)
-        | Buffers::Texts(_)
-        | Buffers::FixedBytes { .. }
-        | Buffers::Structs { .. }
-        | Buffers::Indices(..) => None,
+        _ => None,
     }
 }
 

@@ -38,7 +38,7 @@ pub(crate) fn spanned(part: Part, slice: Slice<'_>) -> Option<Piece<'_>>
             Some((_, bytes)) => Some(Piece::Bytes(bytes)),
             None => None,
         },
-        Part::Validity | Part::Truths | Part::Numbers(_) | Part::FixedBytes(_) => None,
+        _ => None,
     }
 }
 

@@ -19,7 +19,7 @@ fn offset_limit(form: Form) -> u64
 {
     match form {
         Form::Bytes(width) | Form::Texts(width) | Form::Lists(width) => width.greatest(),
-        Form::Nulls | Form::Bits | Form::Numbers { .. } | Form::FixedBytes(_) | Form::Structs => 0,
+        _ => 0,
     }
 }
 

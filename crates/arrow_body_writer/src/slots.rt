@@ -89,10 +89,7 @@ pub(crate) fn full_form(array: &Array) -> Option<Form>
 fn holds_strings(form: Form) -> bool
     ensures { result ≡ are_strings form }
 {
-    match form {
-        Form::Bytes(_) | Form::Texts(_) | Form::FixedBytes(_) => true,
-        Form::Nulls | Form::Bits | Form::Numbers { .. } | Form::Lists(_) | Form::Structs => false,
-    }
+    matches!(form, Form::Bytes(_) | Form::Texts(_) | Form::FixedBytes(_))
 }
 
 // Whether slots of the form hold numbers of this width.
@@ -101,13 +98,7 @@ fn holds_numbers(form: Form, bits: BitWidth) -> bool
 {
     match form {
         Form::Numbers { bits: own, .. } => own == bits,
-        Form::Nulls
-        | Form::Bits
-        | Form::Bytes(_)
-        | Form::Texts(_)
-        | Form::FixedBytes(_)
-        | Form::Lists(_)
-        | Form::Structs => false,
+        _ => false,
     }
 }
 
@@ -117,13 +108,7 @@ fn holds_fixed(form: Form, width: u32) -> bool
 {
     match form {
         Form::FixedBytes(own) => own == width,
-        Form::Nulls
-        | Form::Bits
-        | Form::Numbers { .. }
-        | Form::Bytes(_)
-        | Form::Texts(_)
-        | Form::Lists(_)
-        | Form::Structs => false,
+        _ => false,
     }
 }
 

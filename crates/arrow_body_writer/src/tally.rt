@@ -37,7 +37,7 @@ fn stretch(form: Form, slice: Slice<'_>) -> usize
             Some(items) => items.stop - items.start,
             None => 0,
         },
-        Form::Nulls | Form::Bits | Form::Numbers { .. } | Form::FixedBytes(_) | Form::Structs => 0,
+        _ => 0,
     }
 }
 
@@ -71,9 +71,7 @@ fn reach(form: Form, slice: Slice<'_>) -> Option<usize>
         Form::Bytes(_) => string_reach(slice),
         Form::Texts(_) => string_reach(slice),
         Form::Lists(_) => list_reach(slice),
-        Form::Nulls | Form::Bits | Form::Numbers { .. } | Form::FixedBytes(_) | Form::Structs => {
-            Some(0)
-        }
+        _ => { Some(0) }
     }
 }
 

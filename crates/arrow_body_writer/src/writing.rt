@@ -98,11 +98,7 @@ impl Writing {
             Part::StringOffsets(width) | Part::ListOffsets(width) => {
                 put_offset(&mut self.out, width, 0)
             }
-            Part::Validity
-            | Part::Truths
-            | Part::Numbers(_)
-            | Part::Strings
-            | Part::FixedBytes(_) => Ok(()),
+            _ => Ok(()),
         }
     }
 
@@ -152,11 +148,7 @@ impl Writing {
     {
         match part {
             Part::Validity | Part::Truths => self.pending.finish(&mut self.out),
-            Part::Numbers(_)
-            | Part::StringOffsets(_)
-            | Part::ListOffsets(_)
-            | Part::Strings
-            | Part::FixedBytes(_) => Ok(()),
+            _ => Ok(()),
         }
     }
 

@@ -69,17 +69,7 @@ fn lacks_table(kind: TableKind, parts: &[Tree]) -> bool
         TableKind::Field => type_table(number_at(parts, slots::field::TYPE_TYPE, 0)).is_some()
             && !has_table(parts, slots::field::TYPE),
         TableKind::DictionaryBatch => !has_table(parts, slots::dictionary_batch::DATA),
-        TableKind::Message
-        | TableKind::Schema
-        | TableKind::DictionaryEncoding
-        | TableKind::RecordBatch
-        | TableKind::Int
-        | TableKind::Date
-        | TableKind::Time
-        | TableKind::Timestamp
-        | TableKind::FixedSizeBinary
-        | TableKind::Duration
-        | TableKind::KeyValue => false,
+        _ => false,
     }
 }
 
@@ -95,16 +85,7 @@ fn is_unsupported(kind: TableKind, parts: &[Tree]) -> bool
             slots::dictionary_encoding::DICTIONARY_KIND,
             0,
         ) != 0,
-        TableKind::Message
-        | TableKind::RecordBatch
-        | TableKind::DictionaryBatch
-        | TableKind::Int
-        | TableKind::Date
-        | TableKind::Time
-        | TableKind::Timestamp
-        | TableKind::FixedSizeBinary
-        | TableKind::Duration
-        | TableKind::KeyValue => false,
+        _ => false,
     }
 }
 
@@ -130,12 +111,7 @@ fn is_misfit(kind: TableKind, parts: &[Tree]) -> bool
             0,
         )).is_none(),
         TableKind::Duration => time_unit(number_at(parts, slots::duration::UNIT, 1)).is_none(),
-        TableKind::Message
-        | TableKind::Schema
-        | TableKind::DictionaryEncoding
-        | TableKind::RecordBatch
-        | TableKind::DictionaryBatch
-        | TableKind::KeyValue => false,
+        _ => false,
     }
 }
 

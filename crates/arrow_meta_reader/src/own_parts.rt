@@ -88,15 +88,7 @@ fn same_part(code: TypeCode, one: &[Tree], other: &[Tree]) -> bool
                 )
         }
         TypeCode::FixedSizeBinary => fixed_size_in(one) == fixed_size_in(other),
-        TypeCode::Null
-        | TypeCode::Binary
-        | TypeCode::Utf8
-        | TypeCode::Bool
-        | TypeCode::List
-        | TypeCode::Struct
-        | TypeCode::LargeBinary
-        | TypeCode::LargeUtf8
-        | TypeCode::LargeList => true,
+        _ => true,
     }
 }
 

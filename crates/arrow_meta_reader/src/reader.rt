@@ -124,17 +124,7 @@ impl Reader {
                 self.counter.work.pairs += 1;
                 Ok(levels)
             }
-            TableKind::Message
-            | TableKind::Schema
-            | TableKind::DictionaryEncoding
-            | TableKind::RecordBatch
-            | TableKind::DictionaryBatch
-            | TableKind::Int
-            | TableKind::Date
-            | TableKind::Time
-            | TableKind::Timestamp
-            | TableKind::FixedSizeBinary
-            | TableKind::Duration => Ok(levels),
+            _ => Ok(levels),
         }
     }
 

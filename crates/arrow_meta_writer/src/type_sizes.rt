@@ -29,15 +29,7 @@ pub(crate) fn type_end(place: usize, data_type: &DataType) -> usize
         DataType::Timestamp(unit, zone) => timestamp_end(place, *unit, zone),
         DataType::FixedSizeBinary(width) => fixed_size_end(place, *width),
         DataType::Duration(unit) => duration_end(place, *unit),
-        DataType::Null
-        | DataType::Bool
-        | DataType::Binary
-        | DataType::Utf8
-        | DataType::List(_)
-        | DataType::Struct(_)
-        | DataType::LargeBinary
-        | DataType::LargeUtf8
-        | DataType::LargeList(_) => table_after(place, &[]),
+        _ => table_after(place, &[]),
     }
 }
 

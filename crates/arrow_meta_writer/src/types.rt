@@ -65,15 +65,7 @@ pub(crate) fn type_fields(data_type: &DataType) -> usize
         DataType::Timestamp(unit, zone) => timestamp_fields(*unit, zone),
         DataType::FixedSizeBinary(_) => 1,
         DataType::Duration(_) => 1,
-        DataType::Null
-        | DataType::Bool
-        | DataType::Binary
-        | DataType::Utf8
-        | DataType::List(_)
-        | DataType::Struct(_)
-        | DataType::LargeBinary
-        | DataType::LargeUtf8
-        | DataType::LargeList(_) => 0,
+        _ => 0,
     }
 }
 
@@ -103,15 +95,7 @@ pub(crate) fn write_type(writer: &mut TableWriter, data_type: &DataType) -> Resu
         DataType::Timestamp(unit, zone) => write_timestamp(writer, *unit, zone),
         DataType::FixedSizeBinary(width) => write_fixed_size(writer, *width),
         DataType::Duration(unit) => write_duration(writer, *unit),
-        DataType::Null
-        | DataType::Bool
-        | DataType::Binary
-        | DataType::Utf8
-        | DataType::List(_)
-        | DataType::Struct(_)
-        | DataType::LargeBinary
-        | DataType::LargeUtf8
-        | DataType::LargeList(_) => writer.table(&[]),
+        _ => writer.table(&[]),
     }
 }
 

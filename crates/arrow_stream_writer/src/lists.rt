@@ -135,11 +135,6 @@ fn below(column: &Array) -> Option<&[Array]>
             None => None,
         },
         Form::Structs => column.fields(),
-        Form::Nulls
-        | Form::Bits
-        | Form::Numbers { .. }
-        | Form::Bytes(_)
-        | Form::Texts(_)
-        | Form::FixedBytes(_) => None,
+        _ => None,
     }
 }
