@@ -53,7 +53,13 @@ pub(crate) fn sends_null(fields: &[Field], node: usize) -> bool
     let field = &fields[found.field];
     match node_form(&field.data_type, field.dictionary) {
         Form::Structs => sends_null(field.data_type.children(), found.node - 1),
-        _ => false,
+        Form::Nulls
+        | Form::Bits
+        | Form::Numbers { .. }
+        | Form::Bytes(_)
+        | Form::Texts(_)
+        | Form::FixedBytes(_)
+        | Form::Lists(_) => false,
     }
 }
 
