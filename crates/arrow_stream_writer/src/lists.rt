@@ -135,6 +135,11 @@ fn below(column: &Array) -> Option<&[Array]>
             None => None,
         },
         Form::Structs => column.fields(),
-        _ => None,
+        Form::Nulls
+        | Form::Bits
+        | Form::Numbers { .. }
+        | Form::Bytes(_)
+        | Form::Texts(_)
+        | Form::FixedBytes(_) => None,
     }
 }
