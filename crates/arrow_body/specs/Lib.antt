@@ -6,7 +6,6 @@ pub use Rattle.arrow_body_reader.specs.Look
 pub use Rattle.arrow_body_reader.specs.Least
 pub use Rattle.arrow_body_reader.specs.Held
 pub use Rattle.arrow_body_reader.specs.Sound
-pub use Rattle.arrow_body_reader.specs.Rising
 pub use Rattle.arrow_body_reader.specs.Inside
 pub use Rattle.arrow_body_laws.specs.Packed
 pub use Rattle.arrow_body_laws.specs.Raws
