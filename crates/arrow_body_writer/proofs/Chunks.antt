@@ -160,23 +160,15 @@ leads_more align c cs P b d some leads one = λ z others.
 pub leads_out : (align : ℕ) (P : Body → Type 0) (b : Body) → Leads align [] P b → P b
 leads_out align P b leads = leads b (stores_none align b)
 
--- what comes of a body to which these columns are added: the stored body of all
-abbrev pub LeadsTo : ℕ → List Column → List Column → Body → Type 0
-LeadsTo align rest all b = Leads align rest (λ z. body_view z ≡ stored align (fields_of_columns all) (raws_of all)) b
+-- with the columns to come all are stored
+abbrev pub StoresUpTo : ℕ → List Column → List Column → Body → Body → Type 0
+StoresUpTo align all rest old b = Leads align rest (Stores align (stored_nodes (fields_of_columns all) (raws_of all)) (stored_chunks (fields_of_columns all) (raws_of all)) old) b
 
--- at the start
-pub leads_start : (align : ℕ) (cs : List Column) (b : Body) → b.nodes.items ≡ [] → b.buffers.items ≡ [] → b.bytes.items ≡ [] → LeadsTo align cs cs b
-leads_start align cs b no_nodes no_buffers no_bytes = λ z all.
+-- what comes of an empty body to which columns were added
+pub stored_from : (align : ℕ) (cs : List Column) (b z : Body) → b.nodes.items ≡ [] → b.buffers.items ≡ [] → b.bytes.items ≡ []
+    → Stores align (stored_nodes (fields_of_columns cs) (raws_of cs)) (stored_chunks (fields_of_columns cs) (raws_of cs)) b z → body_view z ≡ stored align (fields_of_columns cs) (raws_of cs)
+stored_from align cs b z no_nodes no_buffers no_bytes all =
     let nodes = all.nodes_added ∙ ap (λ l. l ++ stored_nodes (fields_of_columns cs) (raws_of cs)) no_nodes in
     let buffers = all.buffers_added ∙ (λ i. no_buffers i ++ places_from align (length (no_bytes i)) (stored_chunks (fields_of_columns cs) (raws_of cs))) in
     let bytes = all.bytes_added ∙ ap (λ l. l ++ flat_map (padded align) (stored_chunks (fields_of_columns cs) (raws_of cs))) no_bytes in
     λ i. record { nodes = nodes i; buffers = buffers i; bytes = bytes i }
-
--- with one column more
-pub leads_next : (align : ℕ) (c : Column) (cs all : List Column) (b d : Body) → 0 < align → LeadsTo align (c ∷ cs) all b
-    → Stores align (stored_nodes (fields_of_columns (c ∷ [])) (raws_of (c ∷ []))) (stored_chunks (fields_of_columns (c ∷ [])) (raws_of (c ∷ []))) b d → LeadsTo align cs all d
-leads_next align c cs all b d some leads one = leads_more align c cs (λ z. body_view z ≡ stored align (fields_of_columns all) (raws_of all)) b d some leads one
-
--- after the last
-pub leads_end : (align : ℕ) (all : List Column) (b : Body) → LeadsTo align [] all b → body_view b ≡ stored align (fields_of_columns all) (raws_of all)
-leads_end align all b leads = leads b (stores_none align b)

@@ -13,7 +13,7 @@ use Rattle.arrow_body_writer.specs.declared.part.Part.{Part}
 use Rattle.arrow_body_writer.specs.declared.part.Part.TheVariants.{Validity, Truths, Numbers, StringOffsets, ListOffsets, Strings, FixedBytes}
 use Rattle.arrow_body_writer.specs.declared.pass.Pass.{Pass}
 use Rattle.arrow_body_writer.specs.declared.pass.Pass.TheVariants.{Count}
-use Rattle.arrow_body_writer.proofs.Steps.{sum_more}
+use Rattle.arrow_body_writer.proofs.OneMore.{sum_more}
 use Rattle.arrow_body_writer.specs.Tally.{Counts, CountsNull, IsTally, capped}
 use Rattle.arrow_body_writer.specs.declared.tally.Tally.{Tally}
 

@@ -1,7 +1,6 @@
 pub mod Packs
 pub mod Shown
-pub mod Steps
-pub mod Numbered
+pub mod OneMore
 pub mod Ranges
 pub mod Sending
 pub mod Running

@@ -1,25 +1,21 @@
 -- The sizes of the nodes of columns, added up.
-use Rattle.std.proofs.Common.{◌≡◌, ◌≤◌, ◌<◌, ℕ, suc, ◌+◌, List, [], ◌∷◌, ◌++◌, length, drop, get_or, refl, sym, ap, ◌∙◌, arith, append_assoc, append-nil, drop-cons, ◌^◌, Option, None, Some, MatchOption, IfSome}
-use Rattle.std.specs.List.{flat_map, range_with_len, sum_by}
-use Rattle.std.proofs.lemmas.Grind.{flat_map-append}
+use Rattle.std.proofs.Common.{◌≡◌, ◌≤◌, ◌<◌, ℕ, suc, ◌+◌, List, [], ◌∷◌, ◌++◌, length, drop, get_or, refl, sym, ap, ◌∙◌, subst, arith, append_assoc, append-nil, drop-cons, ◌^◌, Option, None, Some, MatchOption, IfSome}
+use Rattle.std.specs.List.{sum_by}
 use Rattle.std.proofs.lemmas.List.{at_drop_all}
 use Rattle.std.proofs.lemmas.List.Sums.{count_by-le-length, sum_by-append}
-use Rattle.arrow_types.specs.Field.{Fields}
 use Rattle.arrow_data.specs.Column.{Column}
 use Rattle.arrow_data.specs.Fits.{AllFit}
 use Rattle.arrow_data.specs.Form.{HasFieldsOf, form_of, node_form}
 use Rattle.arrow_data.specs.PlainValue.{PlainValue, is_null_value}
 use Rattle.arrow_data.specs.declared.form.Form.{Form}
 use Rattle.arrow_data.specs.declared.form.Form.TheVariants as forms
-use Rattle.arrow_body_reader.specs.Taken.{IfFlattened, taken_nodes}
+use Rattle.arrow_body_reader.specs.Taken.{IfFlattened}
 use Rattle.arrow_body_laws.proofs.Raised.{raised}
 use Rattle.arrow_body_laws.specs.Formed.{AreFormed}
 use Rattle.arrow_body_laws.specs.Laws.{raws_of}
 use Rattle.arrow_body_laws.specs.Raws.{AreRaws, IsSmall, last_offset, raws_below}
 use Rattle.arrow_body_laws.specs.Size.{own_sizes, sizes_of}
 use Rattle.arrow_body_laws.specs.Stored.{fields_of_columns, nulls_in, rounded}
-use Rattle.arrow_body_writer.proofs.Levels.{at_number, by_number, numbered, sizes_by_level, small_by_level, small_by_number, split_range}
-use Rattle.arrow_body_writer.specs.Sent.{form_by, form_in, nodes_of_type, sent_by, sent_in}
 use Rattle.arrow_body_writer.specs.Storable.{AreTold, CanBeStored, columns_size}
 use Rattle.arrow_body_writer.specs.Tally.{IsTally, capped, sizes_told}
 use Rattle.arrow_body_writer.specs.declared.tally.Tally.{Tally}
@@ -45,48 +41,6 @@ told_is form vs t is small near =
     let nulls : t.nulls ≡ nulls_in vs = omega (arith, is.nulls, small.few, nulls-le vs) in
     let end : t.end ≡ last_offset form vs = omega (arith, is.end, near) in
     (λ i. sizes_told form (slots i) (nulls i) (end i)) ∙ sym (own_told form vs)
-
--- one node more
-pub number_next : {A : Type 0} (g : Form → List PlainValue → List A) (fields : Fields) (raws : List (List PlainValue)) (n : ℕ)
-    → by_number g fields raws (n + 1) ≡ by_number g fields raws n ++ g (form_in fields n) (sent_in fields raws n)
-number_next g fields raws n =
-    let f = λ (k : ℕ). g (form_in fields k) (sent_in fields raws k) in
-    let start : 0 + n ≡ n = omega arith in
-    ap (flat_map f) (split_range 0 n 1) ∙ flat_map-append f (range_with_len 0 n) (range_with_len (0 + n) 1)
-    ∙ ap (λ b. by_number g fields raws n ++ b) (append-nil (f (0 + n)) ∙ ap f start)
-
--- the sizes of a column's nodes, rounded and added up
-abbrev pub size_so_far : ℕ → Column → ℕ → ℕ
-size_so_far align c n = sum_by (rounded align) (by_number own_sizes (fields_of_columns (c ∷ [])) (raws_of (c ∷ [])) n)
-
-pub size_next : (align : ℕ) (c : Column) (n : ℕ) → size_so_far align c (n + 1) ≡ size_so_far align c n + sum_by (rounded align) (own_sizes (form_by c.data_type c.encoding n) (sent_by c.data_type c.encoding c.raw n))
-size_next align c n =
-    ap (sum_by (rounded align)) (number_next own_sizes (fields_of_columns (c ∷ [])) (raws_of (c ∷ [])) n)
-    ∙ sum_by-append (rounded align) (by_number own_sizes (fields_of_columns (c ∷ [])) (raws_of (c ∷ [])) n) (own_sizes (form_by c.data_type c.encoding n) (sent_by c.data_type c.encoding c.raw n))
-
--- that of all of them is the column's
-pub size_whole : (align : ℕ) (c : Column) (n : ℕ) → AreRaws (fields_of_columns (c ∷ [])) (raws_of (c ∷ [])) → n ≡ nodes_of_type c.data_type c.encoding → size_so_far align c n ≡ columns_size align (c ∷ [])
-size_whole align c n are all =
-    let fields = fields_of_columns (c ∷ []) in
-    let raws = raws_of (c ∷ []) in
-    let count : n ≡ taken_nodes fields = omega (arith, all) in
-    ap (λ k. size_so_far align c k) count ∙ ap (sum_by (rounded align)) (sym (sizes_by_level fields raws ∙ numbered own_sizes fields raws are))
-
--- the nodes of a column can be told where each of them can
-pub told_by_number : (c : Column) (n : ℕ) → AreRaws (fields_of_columns (c ∷ [])) (raws_of (c ∷ [])) → n ≡ nodes_of_type c.data_type c.encoding → n < 18446744073709551615
-    → ((k : ℕ) → k < n → IsSmall (form_by c.data_type c.encoding k) (sent_by c.data_type c.encoding c.raw k)) → AreTold (c ∷ [])
-told_by_number c n are all fewer small = record {
-  counted = (omega (arith, all, fewer), tt);
-  small = small_by_number (fields_of_columns (c ∷ [])) (raws_of (c ∷ [])) are (λ k h. small k (omega (arith, all, h)));
-}
-
--- each of them can where the column's can
-pub node_told : (c : Column) (n : ℕ) → AreRaws (fields_of_columns (c ∷ [])) (raws_of (c ∷ [])) → n < nodes_of_type c.data_type c.encoding → AreTold (c ∷ [])
-    → IsSmall (form_by c.data_type c.encoding n) (sent_by c.data_type c.encoding c.raw n)
-node_told c n are here told =
-    let fields = fields_of_columns (c ∷ []) in
-    let raws = raws_of (c ∷ []) in
-    at_number IsSmall fields raws n are (small_by_level fields raws told.small) (omega (arith, here))
 
 -- values that fit a column can be stored, where below its type stand the fields that it asks for
 pub column_raws : (c : Column) → AllFit c.data_type c.encoding c.raw → IfFlattened c.encoding (HasFieldsOf (form_of c.data_type.tag) c.data_type.children × AreFormed c.data_type.children)
@@ -150,3 +104,30 @@ allowed_size align cs (Some len) size told is fits = (record { told = told; size
 pub if_allowed : (P : Type 0) (allowed : Option ℕ) → P → IfSome allowed (λ len. P)
 if_allowed P None known = tt
 if_allowed P (Some len) known = known
+
+-- The size so far and that of the columns to come are the size of all, and all can be told just where those to come can.
+pub record IsMeasured (align : ℕ) (all rest : List Column) (size : ℕ) : Type 0 where
+  pub sum : capped (size + columns_size align rest) ≡ capped (columns_size align all)
+  pub known : size ≤ 18446744073709551615
+  pub told : AreTold rest → AreTold all
+  pub untold : AreTold all → AreTold rest
+
+-- before the first
+pub measured_none : (align : ℕ) (all : List Column) → IsMeasured align all all 0
+measured_none align all = let sum : 0 + columns_size align all ≡ columns_size align all = omega arith in record { sum = ap capped sum; known = omega arith; told = λ t. t; untold = λ t. t }
+
+-- one column more
+pub measured_next : (align : ℕ) (all rest : List Column) (c : Column) (size own next : ℕ) → IsMeasured align all (c ∷ rest) size → AreTold (c ∷ []) → own ≡ capped (columns_size align (c ∷ []))
+    → next ≡ capped (size + own) → IsMeasured align all rest next
+measured_next align all rest c size own next so_far one is more = record {
+  sum = omega (arith, so_far.sum, is, more, size_first align c rest);
+  known = omega (arith, more);
+  told = λ t. so_far.told (told_both c rest one t);
+  untold = λ t. told_others c rest (so_far.untold t);
+}
+
+-- after the last
+pub measured_all : (align : ℕ) (all rest : List Column) (size : ℕ) → IsMeasured align all rest size → rest ≡ [] → AreTold all × (size ≡ capped (columns_size align all))
+measured_all align all rest size is none =
+    let nothing = ap (columns_size align) none in
+    (is.told (subst AreTold (sym none) told_none), omega (arith, is.sum, is.known, nothing))

@@ -1,27 +1,23 @@
 -- The numbers that are sent have room in the buffers of their nodes.
-use Rattle.std.proofs.Common.{◌≡◌, ◌<◌, ℕ, zero, suc, Bool, true, false, ℤ, pos, List, [], ◌∷◌, subst, arith, Option, None, Some}
+use Rattle.std.proofs.Common.{◌≡◌, ℕ, zero, suc, Bool, true, false, ℤ, pos, List, [], ◌∷◌, subst, arith, Some}
 use Rattle.std.specs.List.{AllByRecursion}
 use Rattle.std.proofs.lemmas.Int.{ints}
-use Rattle.arrow_types.specs.DataType.{Tag}
-use Rattle.arrow_types.specs.Field.{Fields, none, more}
+use Rattle.arrow_types.specs.Field.{Fields}
 use Rattle.arrow_types.specs.declared.data_type.BitWidth.{BitWidth}
 use Rattle.arrow_types.specs.declared.data_type.BitWidth.TheVariants.{Eight, Sixteen, ThirtyTwo, SixtyFour}
-use Rattle.arrow_types.specs.declared.field.Encoding.{Encoding}
 use Rattle.arrow_bits.specs.Numbers.{FitsInt, FitsWidth}
 use Rattle.arrow_data.specs.Column.{Column}
-use Rattle.arrow_data.specs.Form.{node_form, number_width}
+use Rattle.arrow_data.specs.Form.{number_width}
 use Rattle.arrow_data.specs.PlainValue.{PlainValue, null_value, bool_value, int_value, binary_value, utf8_value, list_value, struct_value}
 use Rattle.arrow_data.specs.declared.form.Form.{Form}
 use Rattle.arrow_data.specs.declared.form.Form.TheVariants as forms
-use Rattle.arrow_body_reader.specs.Taken.{IfFlattened}
 use Rattle.arrow_body_laws.proofs.Below.{all_change}
 use Rattle.arrow_body_laws.specs.Laws.{raws_of}
-use Rattle.arrow_body_laws.specs.Raws.{AreRaws, IsOwn, number_in, raws_below}
+use Rattle.arrow_body_laws.specs.Raws.{AreRaws, IsOwn, number_in}
 use Rattle.arrow_body_laws.specs.Stored.{fields_of_columns}
 use Rattle.arrow_body_writer.proofs.Chunks.{same_part}
-use Rattle.arrow_body_writer.proofs.Levels.{EachNode, at_number}
 use Rattle.arrow_body_writer.specs.Part.{HasRoom, part_of}
-use Rattle.arrow_body_writer.specs.Sent.{form_by, nodes_of_type, sent_by}
+use Rattle.arrow_body_writer.specs.Sent.{form_of_column}
 use Rattle.arrow_body_writer.specs.declared.part.Part.{Part}
 use Rattle.arrow_body_writer.specs.declared.part.Part.TheVariants.{Validity, Truths, Numbers, StringOffsets, ListOffsets, Strings, FixedBytes}
 
@@ -86,27 +82,6 @@ own_rooms (forms.Lists w) c vs own (suc (suc k)) part e = cc
 own_rooms forms.Structs c vs own zero part e = subst (λ p. AllByRecursion (HasRoom p) vs) (same_part Validity part e) (all_free (HasRoom Validity) (λ v. tt) vs)
 own_rooms forms.Structs c vs own (suc k) part e = cc
 
--- without values there is room
-none_rooms : (c : Fields) → EachNode HasRooms c []
-none_rooms none = tt
-none_rooms (more h c rest) = tt
-
-rooms_inside : (tag : Tag) (e : Option Encoding) (c : Fields) (vs : List PlainValue) → IfFlattened e (AreRaws c (raws_below (node_form tag e) c vs))
-    → (AreRaws c (raws_below (node_form tag e) c vs) → EachNode HasRooms c (raws_below (node_form tag e) c vs)) → EachNode HasRooms c (raws_below (node_form tag e) c vs)
-rooms_inside tag None c vs are each = each are
-rooms_inside tag (Some e) c vs are each = none_rooms c
-
--- so of all nodes
-all_rooms : (fields : Fields) (raws : List (List PlainValue)) → AreRaws fields raws → EachNode HasRooms fields raws
-all_rooms none raws are = tt
-all_rooms (more h c rest) [] are = tt
-all_rooms (more h c rest) (vs ∷ raws) are = (
-  own_rooms (node_form h.tag h.encoding) c vs are.0,
-  rooms_inside h.tag h.encoding c vs are.1 (λ a. all_rooms c (raws_below (node_form h.tag h.encoding) c vs) a),
-  all_rooms rest raws are.2,
-)
-
--- of a node of a column
-pub node_rooms : (c : Column) (n : ℕ) → AreRaws (fields_of_columns (c ∷ [])) (raws_of (c ∷ [])) → n < nodes_of_type c.data_type c.encoding
-    → HasRooms (form_by c.data_type c.encoding n) (sent_by c.data_type c.encoding c.raw n)
-node_rooms c n are here = at_number HasRooms (fields_of_columns (c ∷ [])) (raws_of (c ∷ [])) n are (all_rooms (fields_of_columns (c ∷ [])) (raws_of (c ∷ [])) are) (omega (arith, here))
+-- of a column's own node
+pub node_rooms : (c : Column) → AreRaws (fields_of_columns (c ∷ [])) (raws_of (c ∷ [])) → HasRooms (form_of_column c) c.raw
+node_rooms c are = own_rooms (form_of_column c) c.data_type.children c.raw are.0

@@ -1,43 +1,85 @@
--- What slots one after another of which none is null send to the nodes below them, and what a pass takes of them.
-use Rattle.std.proofs.Common.{◌≡◌, ◌≤◌, ◌<◌, ℕ, suc, ◌+◌, ◌-◌, List, [], ◌∷◌, ◌++◌, length, map, min, refl, sym, ap, ◌∙◌, subst, arith, Option, true, inl, inr}
+-- What a pass takes of slots one after another, run by run.
+use Rattle.std.proofs.Common.{◌≡◌, ◌≤◌, ◌<◌, ℕ, ◌+◌, ◌-◌, List, [], ◌∷◌, ◌++◌, length, map, min, sym, ap, ◌∙◌, subst, arith, length-append, true, inl, inr}
 use Rattle.std.specs.List.{AllByRecursion, flat_map}
 use Rattle.std.proofs.lemmas.Bool.{cases_lt}
-use Rattle.std.proofs.lemmas.List.{ext_get_or, get_or-map, length-map}
-use Rattle.arrow_types.specs.Field.{TypeShape, width}
-use Rattle.arrow_types.specs.declared.field.Encoding.{Encoding}
-use Rattle.arrow_data.specs.Column.{Column, HasField, HasFields, IsList, values_from}
-use Rattle.arrow_data.specs.Form.{node_form}
+use Rattle.std.proofs.lemmas.Grind.{flat_map-append}
+use Rattle.std.proofs.lemmas.List.{ext_get_or, get_or-map, length-map, map-append}
+use Rattle.arrow_data.specs.Column.{Column, HasField, values_from}
 use Rattle.arrow_data.specs.FullSlots.{AreFull}
-use Rattle.arrow_data.specs.PlainValue.{PlainValue, null_value, field_value, is_null_value, items_in, value_at}
+use Rattle.arrow_data.specs.PlainValue.{PlainValue, null_value, field_value, is_null_value, value_at}
 use Rattle.arrow_data.proofs.Sameness.{at_values_from, length-values_from}
-use Rattle.arrow_body_reader.specs.Taken.{flattened, taken_nodes}
-use Rattle.arrow_body_laws.specs.Raws.{items_in_value, raws_below}
-use Rattle.arrow_body_writer.proofs.Passing.{all_first, all_last, child_typed, no_list_sent, none_sent, takes_more, takes_next, takes_none}
-use Rattle.arrow_body_writer.proofs.Ranges.{from_both, null_of}
-use Rattle.arrow_body_writer.proofs.Sending.{lists_of, only_child, sent_below, sent_more, sent_part}
+use Rattle.arrow_body_laws.specs.Raws.{items_in_value}
+use Rattle.arrow_body_writer.proofs.Passing.{all_first, all_last, takes_more, takes_none}
+use Rattle.arrow_body_writer.proofs.Ranges.{from_both, from_next, none_from, null_of}
+use Rattle.arrow_body_writer.proofs.Sending.{along_more, along_none}
 use Rattle.arrow_body_writer.specs.Pass.{Takes}
-use Rattle.arrow_body_writer.specs.Runs.{HasRun}
-use Rattle.arrow_body_writer.specs.Sent.{IsNodeOf, sent_by, sent_in}
+use Rattle.arrow_body_writer.specs.Sent.{sent_along}
 use Rattle.arrow_body_writer.specs.declared.pass.Pass.{Pass}
+use Rattle.arrow_body_writer.specs.declared.steps.Steps.{Steps}
 
--- what lists send to a node below them: what their items send there
-lists_sent : (c : Column) (vs items : List PlainValue) (n : ℕ) → IsList c → flat_map items_in_value vs ≡ items → n < flattened c.encoding (taken_nodes c.data_type.children)
-    → sent_by c.data_type c.encoding vs (suc n) ≡ sent_in c.data_type.children (items ∷ []) n
-lists_sent c vs items n lists are inside =
-    let form = lists_of (node_form c.data_type.tag c.encoding) lists in
-    sent_below c.data_type c.encoding vs n inside
-    ∙ ap (λ f. sent_in c.data_type.children (raws_below f c.data_type.children vs) n) form.1
-    ∙ ap (λ all. sent_in c.data_type.children (all ∷ []) n) are
+-- what values send: that of the first ones, and then that of the others
+abbrev pub Splits : (List PlainValue → List PlainValue) → Type 0
+Splits sent = (vs ws : List PlainValue) → sent (vs ++ ws) ≡ sent vs ++ sent ws
 
-pub run_sent : (c child : Column) (start stop first last n : ℕ) → IsList c → HasRun c start stop first last child → n < flattened c.encoding (taken_nodes c.data_type.children)
-    → sent_by c.data_type c.encoding (values_from c.raw start stop) (suc n) ≡ sent_by child.data_type child.encoding (values_from child.raw first last) n
-run_sent c child start stop first last n lists run inside =
-    lists_sent c (values_from c.raw start stop) (values_from child.raw first last) n lists run.same inside ∙ only_child c.data_type.children child (values_from child.raw first last) n run.typed
+-- what the items of lists send along steps, and what a field of structs does
+abbrev pub by_items : Steps → List PlainValue → List PlainValue
+by_items steps vs = sent_along steps (flat_map items_in_value vs)
 
--- without items nothing is sent
-pub no_run_sent : (c : Column) (start stop n : ℕ) → IsList c → flat_map items_in_value (values_from c.raw start stop) ≡ [] → n < flattened c.encoding (taken_nodes c.data_type.children)
-    → sent_by c.data_type c.encoding (values_from c.raw start stop) (suc n) ≡ []
-no_run_sent c start stop n lists none inside = lists_sent c (values_from c.raw start stop) [] n lists none inside ∙ none_sent c.data_type.children n
+abbrev pub by_field : ℕ → Steps → List PlainValue → List PlainValue
+by_field k steps vs = sent_along steps (map (field_value k) vs)
+
+pub items_split : (steps : Steps) → Splits (by_items steps)
+items_split steps vs ws = ap (sent_along steps) (flat_map-append items_in_value vs ws) ∙ along_more steps (flat_map items_in_value vs) (flat_map items_in_value ws)
+
+pub field_split : (k : ℕ) (steps : Steps) → Splits (by_field k steps)
+field_split k steps vs ws = ap (sent_along steps) (map-append (field_value k) vs ws) ∙ along_more steps (map (field_value k) vs) (map (field_value k) ws)
+
+-- no values send nothing
+empty_by : (vs : List PlainValue) → vs ≡ vs ++ vs → vs ≡ []
+empty_by [] e = e
+empty_by (v ∷ vs) e = absurd (omega (arith, ap length e, length-append (v ∷ vs) (v ∷ vs)))
+
+pub nothing_sent : (sent : List PlainValue → List PlainValue) → Splits sent → sent [] ≡ []
+nothing_sent sent splits = empty_by (sent []) (splits [] [])
+
+-- of an empty range nothing is taken
+pub takes_start : (sent : List PlainValue → List PlainValue) (p : Pass) (raw : List PlainValue) (start : ℕ) → Splits sent → Takes p p (sent (values_from raw start start))
+takes_start sent p raw start splits = subst (Takes p p) (sym (ap sent (none_from raw start) ∙ nothing_sent sent splits)) (takes_none p)
+
+-- a part of a range more is taken
+pub takes_part : (sent : List PlainValue → List PlainValue) (a b d : Pass) (raw : List PlainValue) (start i end : ℕ) → Splits sent → start ≤ i → i ≤ end
+    → Takes a b (sent (values_from raw start i)) → Takes b d (sent (values_from raw i end)) → Takes a d (sent (values_from raw start end))
+takes_part sent a b d raw start i end splits low order one other =
+    subst (Takes a d) (sym (ap sent (from_both raw start i end low order) ∙ splits (values_from raw start i) (values_from raw i end)))
+    (takes_more a b d (sent (values_from raw start i)) (sent (values_from raw i end)) one other)
+
+-- one null more is taken
+pub takes_null : (sent : List PlainValue → List PlainValue) (a b d : Pass) (raw : List PlainValue) (start i : ℕ) → Splits sent → start ≤ i → i < length raw → is_null_value (value_at raw i) ≡ true
+    → Takes a b (sent (values_from raw start i)) → Takes b d (sent (null_value ∷ [])) → Takes a d (sent (values_from raw start (i + 1)))
+takes_null sent a b d raw start i splits low high null one other =
+    subst (Takes a d) (sym (ap sent (from_next raw start i low high ∙ ap (λ v. values_from raw start i ++ v ∷ []) (null_of (value_at raw i) null)) ∙ splits (values_from raw start i) (null_value ∷ [])))
+    (takes_more a b d (sent (values_from raw start i)) (sent (null_value ∷ [])) one other)
+
+-- a null in place of a list sends nothing, so the range with it is taken
+pub takes_past : (steps : Steps) (a d : Pass) (raw : List PlainValue) (start end stop next : ℕ) → start ≤ end → end ≤ stop → stop ≤ length raw → (end < stop → is_null_value (value_at raw end) ≡ true)
+    → next ≡ min (end + 1) stop → Takes a d (by_items steps (values_from raw start end)) → Takes a d (by_items steps (values_from raw start next))
+takes_past steps a d raw start end stop next low high inside null is taken = elim (cases_lt end stop) [
+  | inl l ↦ (let after : next ≡ end + 1 = omega (arith, is, l) in
+      subst (λ k. Takes a d (by_items steps (values_from raw start k))) (sym after)
+      (takes_null (by_items steps) a d d raw start end (items_split steps) low (omega (arith, l, inside)) (null l) taken (subst (Takes d d) (sym (along_none steps)) (takes_none d))))
+  | inr g ↦ (let same : next ≡ end = omega (arith, is, g, high) in subst (λ k. Takes a d (by_items steps (values_from raw start k))) (sym same) taken)
+]
+
+-- what holds of all that a range sends holds of what a part of it sends
+pub all_of_part : (P : PlainValue → Type 0) (sent : List PlainValue → List PlainValue) (raw : List PlainValue) (start i end stop : ℕ) → Splits sent → start ≤ i → i ≤ end → end ≤ stop
+    → AllByRecursion P (sent (values_from raw start stop)) → AllByRecursion P (sent (values_from raw i end))
+all_of_part P sent raw start i end stop splits low order high all =
+    let before = values_from raw start i in
+    let part = values_from raw i end in
+    let after = values_from raw end stop in
+    let split : values_from raw start stop ≡ before ++ (part ++ after) = from_both raw start i stop low (omega (arith, order, high)) ∙ ap (λ others. before ++ others) (from_both raw i end stop order high) in
+    let parts = ap sent split ∙ splits before (part ++ after) ∙ ap (λ others. sent before ++ others) (splits part after) in
+    all_first P (sent part) (sent after) (all_last P (sent before) (sent part ++ sent after) (subst (AllByRecursion P) parts all))
 
 -- the values of a field in structs of which none is null are those of its child
 pub fields_are : (c child : Column) (start stop k : ℕ) → HasField c k child → start ≤ stop → stop ≤ length c.raw → AreFull c start stop → map (field_value k) (values_from c.raw start stop) ≡ values_from child.raw start stop
@@ -51,46 +93,3 @@ fields_are c child start stop k field order inside full =
     ∙ ap (field_value k) (at_values_from c.raw start stop j few)
     ∙ (field.same (start + j) (omega (arith, few, inside)) (full (start + j) (omega arith) (omega (arith, few)))).0
     ∙ sym (at_values_from child.raw start stop j few))
-
--- what structs send to a node of a field: what the slots of its child send there
-pub parts_sent : (c child : Column) (start stop n k m : ℕ) (children : List Column) → HasFields c children → HasField c k child → n < flattened c.encoding (taken_nodes c.data_type.children)
-    → IsNodeOf c.data_type.children n k m → start ≤ stop → stop ≤ length c.raw → AreFull c start stop
-    → sent_by c.data_type c.encoding (values_from c.raw start stop) (suc n) ≡ sent_by child.data_type child.encoding (values_from child.raw start stop) m
-parts_sent c child start stop n k m children fields field there at order inside full =
-    let vs = values_from c.raw start stop in
-    let first : 0 + k ≡ k = omega arith in
-    sent_below c.data_type c.encoding vs n there
-    ∙ ap (λ f. sent_in c.data_type.children (raws_below f c.data_type.children vs) n) fields.is_struct
-    ∙ sent_part c.data_type.children 0 (λ j. map (field_value j) vs) n k m child.data_type child.encoding (width c.data_type.children) refl at (child_typed c child k children fields field)
-    ∙ ap (λ j. sent_by child.data_type child.encoding (map (field_value j) vs) m) first
-    ∙ ap (λ ws. sent_by child.data_type child.encoding ws m) (fields_are c child start stop k field order inside full)
-
--- what holds of all that a range sends holds of what a part of it sends
-pub all_of_part : (P : PlainValue → Type 0) (t : TypeShape) (e : Option Encoding) (raw : List PlainValue) (n start i end stop : ℕ) → start ≤ i → i ≤ end → end ≤ stop
-    → AllByRecursion P (sent_by t e (values_from raw start stop) n) → AllByRecursion P (sent_by t e (values_from raw i end) n)
-all_of_part P t e raw n start i end stop low order high all =
-    let before = values_from raw start i in
-    let part = values_from raw i end in
-    let after = values_from raw end stop in
-    let split : values_from raw start stop ≡ before ++ (part ++ after) = from_both raw start i stop low (omega (arith, order, high)) ∙ ap (λ others. before ++ others) (from_both raw i end stop order high) in
-    let parts = ap (λ ws. sent_by t e ws n) split ∙ sent_more t e before (part ++ after) n ∙ ap (λ others. sent_by t e before n ++ others) (sent_more t e part after n) in
-    all_first P (sent_by t e part n) (sent_by t e after n) (all_last P (sent_by t e before n) (sent_by t e part n ++ sent_by t e after n) (subst (AllByRecursion P) parts all))
-
--- a part of a range more is taken
-pub takes_part : (a b d : Pass) (t : TypeShape) (e : Option Encoding) (raw : List PlainValue) (start i end n : ℕ) → start ≤ i → i ≤ end
-    → Takes a b (sent_by t e (values_from raw start i) n) → Takes b d (sent_by t e (values_from raw i end) n) → Takes a d (sent_by t e (values_from raw start end) n)
-takes_part a b d t e raw start i end n low order one other =
-    subst (Takes a d) (sym (ap (λ ws. sent_by t e ws n) (from_both raw start i end low order) ∙ sent_more t e (values_from raw start i) (values_from raw i end) n))
-    (takes_more a b d (sent_by t e (values_from raw start i) n) (sent_by t e (values_from raw i end) n) one other)
-
--- a null in place of a list sends nothing, so the range with it is taken
-pub takes_past : (a d : Pass) (c : Column) (start end stop next n : ℕ) → IsList c → start ≤ end → end ≤ stop → stop ≤ length c.raw → (end < stop → is_null_value (value_at c.raw end) ≡ true) → next ≡ min (end + 1) stop
-    → n < flattened c.encoding (taken_nodes c.data_type.children)
-    → Takes a d (sent_by c.data_type c.encoding (values_from c.raw start end) (suc n)) → Takes a d (sent_by c.data_type c.encoding (values_from c.raw start next) (suc n))
-takes_past a d c start end stop next n lists low high inside null is there taken = elim (cases_lt end stop) [
-  | inl l ↦ (let after : next ≡ end + 1 = omega (arith, is, l) in
-      let nothing = no_list_sent c (value_at c.raw end) n lists (ap items_in (null_of (value_at c.raw end) (null l))) there in
-      subst (λ k. Takes a d (sent_by c.data_type c.encoding (values_from c.raw start k) (suc n))) (sym after)
-      (takes_next a d d c.data_type c.encoding c.raw start end (suc n) low (omega (arith, l, inside)) taken (subst (Takes d d) (sym nothing) (takes_none d))))
-  | inr g ↦ (let same : next ≡ end = omega (arith, is, g, high) in subst (λ k. Takes a d (sent_by c.data_type c.encoding (values_from c.raw start k) (suc n))) (sym same) taken)
-]

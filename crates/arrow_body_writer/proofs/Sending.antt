@@ -1,11 +1,11 @@
--- What nodes are sent of values one after another.
-use Rattle.std.proofs.Common.{◌≡◌, ◌≤◌, ◌<◌, ℕ, zero, suc, ◌+◌, ◌-◌, subst, Bool, true, false, List, [], ◌∷◌, ◌++◌, length, map, refl, sym, ap, ◌∙◌, arith, if◌then◌else◌, append-nil, Option, Some, length-append}
-use Rattle.std.specs.Prelude.{nat_lt}
-use Rattle.std.specs.List.{range_with_len}
+-- What slots send along steps, and the columns that are sent below a column's own node.
+use Rattle.std.proofs.Common.{◌≡◌, ◌<◌, ℕ, zero, suc, ◌+◌, List, [], ◌∷◌, ◌++◌, length, map, refl, sym, ap, ◌∙◌, subst, arith, Option, None, Some}
+use Rattle.std.specs.Prelude.{slice_get}
+use Rattle.std.specs.List.{flat_map, range_with_len}
 use Rattle.std.proofs.lemmas.Grind.{flat_map-append}
-use Rattle.std.proofs.lemmas.List.{map-append, length-map}
-use Rattle.std.proofs.lemmas.Bool.{lt-ltb, le-ltb}
-use Rattle.arrow_types.specs.Field.{Fields, Head, none, more, width, TypeShape}
+use Rattle.std.proofs.lemmas.List.{map-append}
+use Rattle.arrow_types.specs.DataType.{Tag}
+use Rattle.arrow_types.specs.Field.{Fields, none, more, width, TypeShape}
 use Rattle.arrow_types.specs.declared.field.Encoding.{Encoding}
 use Rattle.arrow_data.specs.Column.{AreOf, Column, IsList, IsStruct, type_of_field}
 use Rattle.arrow_data.specs.Form.{IsLists, node_form}
@@ -13,96 +13,31 @@ use Rattle.arrow_data.specs.PlainValue.{PlainValue, field_value}
 use Rattle.arrow_data.specs.declared.form.Form.{Form}
 use Rattle.arrow_data.specs.declared.form.Form.TheVariants as forms
 use Rattle.arrow_data.specs.declared.form.OffsetWidth.{OffsetWidth}
-use Rattle.arrow_body_reader.specs.Taken.{flattened, taken_nodes}
-use Rattle.arrow_body_laws.specs.Raws.{items_in_value, raws_below}
-use Rattle.arrow_body_writer.specs.Sent.{IsNodeOf, nodes_of_field, sent_by, sent_in}
+use Rattle.arrow_body_reader.specs.Taken.{IfFlattened, below}
+use Rattle.arrow_body_laws.specs.Laws.{raws_of}
+use Rattle.arrow_body_laws.specs.Raws.{AreRaws, items_in_value, raws_below}
+use Rattle.arrow_body_laws.specs.Stored.{fields_of_columns}
+use Rattle.arrow_body_writer.specs.Sent.{LeadDown, LeadFrom, column_by, columns_by, form_of_column, sent_along, sent_below}
+use Rattle.arrow_body_writer.specs.Whole.{AreSentWhole}
+use Rattle.arrow_body_writer.specs.declared.steps.Steps.{Steps, Here, Items', Field'}
 
--- the values of each column, with further ones after them
-abbrev pub joined : List (List PlainValue) → List (List PlainValue) → List (List PlainValue)
-joined [] others = []
-joined (vs ∷ raws) [] = []
-joined (vs ∷ raws) (ws ∷ others) = (vs ++ ws) ∷ joined raws others
+-- what values send, and then what others do
+pub along_more : (steps : Steps) (vs ws : List PlainValue) → sent_along steps (vs ++ ws) ≡ sent_along steps vs ++ sent_along steps ws
+along_more Here vs ws = refl
+along_more (Items' p rest) vs ws = ap (sent_along rest) (flat_map-append items_in_value vs ws) ∙ along_more rest (flat_map items_in_value vs) (flat_map items_in_value ws)
+along_more (Field' k p rest) vs ws = ap (sent_along rest) (map-append (field_value k) vs ws) ∙ along_more rest (map (field_value k) vs) (map (field_value k) ws)
 
--- of columns that are made of one list
-joined_map : (f g : ℕ → List PlainValue) (ks : List ℕ) → map (λ k. f k ++ g k) ks ≡ joined (map f ks) (map g ks)
-joined_map f g [] = refl
-joined_map f g (k ∷ ks) = ap (λ others. (f k ++ g k) ∷ others) (joined_map f g ks)
+-- no values send nothing
+pub along_none : (steps : Steps) → sent_along steps [] ≡ []
+along_none Here = refl
+along_none (Items' p rest) = along_none rest
+along_none (Field' k p rest) = along_none rest
 
-same_map : (f g : ℕ → List PlainValue) (ks : List ℕ) → ((k : ℕ) → f k ≡ g k) → map f ks ≡ map g ks
-same_map f g [] same = refl
-same_map f g (k ∷ ks) same = λ i. same k i ∷ same_map f g ks same i
-
--- what is sent below is that of the first values and that of the others
-below_joined : (form : Form) (c : Fields) (vs ws : List PlainValue) → raws_below form c (vs ++ ws) ≡ joined (raws_below form c vs) (raws_below form c ws)
-below_joined forms.Nulls c vs ws = refl
-below_joined forms.Bits c vs ws = refl
-below_joined (forms.Numbers bits signed) c vs ws = refl
-below_joined (forms.Bytes w) c vs ws = refl
-below_joined (forms.Texts w) c vs ws = refl
-below_joined (forms.FixedBytes w) c vs ws = refl
-below_joined (forms.Lists w) c vs ws = ap (λ items. items ∷ []) (flat_map-append items_in_value vs ws)
-below_joined forms.Structs c vs ws =
-    same_map (λ k. map (field_value k) (vs ++ ws)) (λ k. map (field_value k) vs ++ map (field_value k) ws) (range_with_len 0 (width c)) (λ k. map-append (field_value k) vs ws)
-    ∙ joined_map (λ k. map (field_value k) vs) (λ k. map (field_value k) ws) (range_with_len 0 (width c))
-
--- to as many columns
-below_as_many : (form : Form) (c : Fields) (vs ws : List PlainValue) → length (raws_below form c vs) ≡ length (raws_below form c ws)
-below_as_many forms.Nulls c vs ws = refl
-below_as_many forms.Bits c vs ws = refl
-below_as_many (forms.Numbers bits signed) c vs ws = refl
-below_as_many (forms.Bytes w) c vs ws = refl
-below_as_many (forms.Texts w) c vs ws = refl
-below_as_many (forms.FixedBytes w) c vs ws = refl
-below_as_many (forms.Lists w) c vs ws = refl
-below_as_many forms.Structs c vs ws =
-    length-map (range_with_len 0 (width c)) (λ k. map (field_value k) vs) ∙ sym (length-map (range_with_len 0 (width c)) (λ k. map (field_value k) ws))
-
--- of two cases each
-either : (b : Bool) (p q p' q' p'' q'' : List PlainValue) → p ≡ p' ++ p'' → q ≡ q' ++ q'' → (if b then p else q) ≡ (if b then p' else q') ++ (if b then p'' else q'')
-either true p q p' q' p'' q'' e f = e
-either false p q p' q' p'' q'' e f = f
-
--- a node is sent what it is sent of the first values, and then what it is sent of the others
-pub sent_joined : (fields : Fields) (raws others : List (List PlainValue)) (n : ℕ) → length raws ≡ length others → sent_in fields (joined raws others) n ≡ sent_in fields raws n ++ sent_in fields others n
-sent_joined none raws others n e = refl
-sent_joined (more h c rest) [] [] n e = refl
-sent_joined (more h c rest) [] (ws ∷ others) n e = absurd (omega (arith, e))
-sent_joined (more h c rest) (vs ∷ raws) [] n e = absurd (omega (arith, e))
-sent_joined (more h c rest) (vs ∷ raws) (ws ∷ others) zero e = refl
-sent_joined (more h c rest) (vs ∷ raws) (ws ∷ others) (suc n) e =
-    let form = node_form h.tag h.encoding in
-    let further = n - flattened h.encoding (taken_nodes c) in
-    either (nat_lt n (flattened h.encoding (taken_nodes c)))
-    (sent_in c (raws_below form c (vs ++ ws)) n) (sent_in rest (joined raws others) further)
-    (sent_in c (raws_below form c vs) n) (sent_in rest raws further)
-    (sent_in c (raws_below form c ws) n) (sent_in rest others further)
-    (ap (λ rs. sent_in c rs n) (below_joined form c vs ws) ∙ sent_joined c (raws_below form c vs) (raws_below form c ws) n (below_as_many form c vs ws))
-    (sent_joined rest raws others further (omega (arith, e)))
-
--- a column's node is sent what it is sent of the first values, and then what it is sent of the others
-pub sent_more : (t : TypeShape) (e : Option Encoding) (vs ws : List PlainValue) (n : ℕ) → sent_by t e (vs ++ ws) n ≡ sent_by t e vs n ++ sent_by t e ws n
-sent_more t e vs ws n = sent_joined (more (record { name = []; nullable = true; tag = t.tag; encoding = e }) t.children none) (vs ∷ []) (ws ∷ []) n refl
-
-pub empty_by : (vs : List PlainValue) → vs ≡ vs ++ vs → vs ≡ []
-empty_by [] e = refl
-empty_by (v ∷ vs) e = absurd (omega (arith, ap length e, length-append (v ∷ vs) (v ∷ vs)))
-
--- of no values nothing is sent
-pub sent_none : (t : TypeShape) (e : Option Encoding) (n : ℕ) → sent_by t e [] n ≡ []
-sent_none t e n = empty_by (sent_by t e [] n) (sent_more t e [] [] n)
-
--- the nodes below a column are those of its children
-pub sent_below : (t : TypeShape) (e : Option Encoding) (vs : List PlainValue) (n : ℕ) → n < flattened e (taken_nodes t.children) → sent_by t e vs (suc n) ≡ sent_in t.children (raws_below (node_form t.tag e) t.children vs) n
-sent_below t e vs n inside =
-    let rest = n - flattened e (taken_nodes t.children) in
-    ap (λ b. if b then sent_in t.children (raws_below (node_form t.tag e) t.children vs) n else sent_in none [] rest) (lt-ltb n (flattened e (taken_nodes t.children)) inside)
-
--- a list's only child is sent all items
-pub only_child : (fields : Fields) (child : Column) (vs : List PlainValue) (n : ℕ) → AreOf fields (child ∷ []) → sent_in fields (vs ∷ []) n ≡ sent_by child.data_type child.encoding vs n
-only_child none child vs n typed = absurd typed
-only_child (more h c none) child vs zero typed = refl
-only_child (more h c none) child vs (suc n) typed = sym (λ i. sent_by (typed.0 i) (typed.1 i) vs (suc n))
-only_child (more h c (more h' c' rest)) child vs n typed = absurd typed.2
+-- how many steps there are
+abbrev pub count_steps : Steps → ℕ
+count_steps Here = 0
+count_steps (Items' p rest) = suc (count_steps rest)
+count_steps (Field' k p rest) = suc (count_steps rest)
 
 -- a form that holds lists
 pub lists_of : (form : Form) → IsLists form → (w : OffsetWidth) × (form ≡ forms.Lists w)
@@ -115,59 +50,159 @@ lists_of (forms.FixedBytes w) h = absurd h
 lists_of (forms.Lists w) h = (w, refl)
 lists_of forms.Structs h = absurd h
 
--- what a slot of a list sends to a node below: what the items send there
-pub sent_items : (c child : Column) (v : PlainValue) (n : ℕ) → IsList c → AreOf c.data_type.children (child ∷ []) → n < flattened c.encoding (taken_nodes c.data_type.children)
-    → sent_by c.data_type c.encoding (v ∷ []) (suc n) ≡ sent_by child.data_type child.encoding (items_in_value v) n
-sent_items c child v n lists typed inside =
-    let form = lists_of (node_form c.data_type.tag c.encoding) lists in
-    sent_below c.data_type c.encoding (v ∷ []) n inside
-    ∙ ap (λ f. sent_in c.data_type.children (raws_below f c.data_type.children (v ∷ [])) n) form.1
-    ∙ ap (λ items. sent_in c.data_type.children (items ∷ []) n) (append-nil (items_in_value v))
-    ∙ only_child c.data_type.children child (items_in_value v) n typed
+-- a column of indices has no children of its own
+pub plain_struct : (tag : Tag) (e : Option Encoding) → node_form tag e ≡ forms.Structs → e ≡ None
+plain_struct tag None is = refl
+plain_struct tag (Some e) is = cc
 
--- the type of a field
-abbrev type_of : Head → Fields → TypeShape
-type_of h c = record { tag = h.tag; children = c }
+pub plain_list : (tag : Tag) (e : Option Encoding) → IsLists (node_form tag e) → e ≡ None
+plain_list tag None is = refl
+plain_list tag (Some e) is = absurd is
 
--- the type and the encoding of the first field
-pub pair_of : (t : TypeShape) (e : Option Encoding) (h : Head) (c : Fields) → ◌≡◌ {A = Option (TypeShape × Option Encoding)} (Some (type_of h c, h.encoding)) (Some (t, e)) → (type_of h c ≡ t) × (h.encoding ≡ e)
-pair_of t e h c typed =
-    let both : ◌≡◌ {A = TypeShape × Option Encoding} (type_of h c, h.encoding) (t, e) = cc in
-    (ap (λ (p : TypeShape × Option Encoding). p.0) both, ap (λ (p : TypeShape × Option Encoding). p.1) both)
+-- the first child of a list is the one of its first field
+pub first_typed : (fields : Fields) (child : Column) → AreOf fields (child ∷ []) → type_of_field fields 0 ≡ Some (child.data_type, child.encoding)
+first_typed none child typed = absurd typed
+first_typed (more h c rest) child typed = λ i. Some (sym typed.0 i, sym typed.1 i)
 
--- of values side by side each field is sent its own
-pub sent_part : (fields : Fields) (a : ℕ) (g : ℕ → List PlainValue) (n k m : ℕ) (t : TypeShape) (e : Option Encoding) (w : ℕ) → w ≡ width fields → IsNodeOf fields n k m → type_of_field fields k ≡ Some (t, e)
-    → sent_in fields (map g (range_with_len a w)) n ≡ sent_by t e (g (a + k)) m
-sent_part none a g n k m t e w wide at typed = absurd at
-sent_part (more h c rest) a g n k m t e zero wide at typed = absurd (omega (arith, wide))
-sent_part (more h c rest) a g zero zero m t e (suc w) wide at typed =
-    let place : a + 0 ≡ a = omega arith in
-    ap g (sym place) ∙ ap (sent_by t e (g (a + 0))) (sym at.0)
-sent_part (more h c rest) a g (suc n) zero m t e (suc w) wide at typed =
-    let place : a + 0 ≡ a = omega arith in
-    let same = pair_of t e h c typed in
-    let inside : n < flattened h.encoding (taken_nodes c) = omega (arith, at.1) in
-    ap (λ b. if b then sent_in c (raws_below (node_form h.tag h.encoding) c (g a)) n else sent_in rest (map g (range_with_len (a + 1) w)) (n - flattened h.encoding (taken_nodes c)))
-    (lt-ltb n (flattened h.encoding (taken_nodes c)) inside)
-    ∙ sym (sent_below (record { tag = h.tag; children = c }) h.encoding (g a) n inside)
-    ∙ (λ i. sent_by (same.0 i) (same.1 i) (g (sym place i)) (sym at.0 i))
-sent_part (more h c rest) a g zero (suc k) m t e (suc w) wide at typed = absurd (omega (arith, at.0))
-sent_part (more h c rest) a g (suc n) (suc k) m t e (suc w) wide at typed =
-    let far : flattened h.encoding (taken_nodes c) ≤ n = omega (arith, at.0) in
-    let less : suc n - nodes_of_field h c ≡ n - flattened h.encoding (taken_nodes c) = omega arith in
-    let place : a + 1 + k ≡ a + suc k = omega arith in
-    ap (λ b. if b then sent_in c (raws_below (node_form h.tag h.encoding) c (g a)) n else sent_in rest (map g (range_with_len (a + 1) w)) (n - flattened h.encoding (taken_nodes c)))
-    (le-ltb n (flattened h.encoding (taken_nodes c)) far)
-    ∙ sent_part rest (a + 1) g (n - flattened h.encoding (taken_nodes c)) k m t e w (omega (arith, wide)) (subst (λ l. IsNodeOf rest l k m) less at.1) typed
-    ∙ ap (λ i. sent_by t e (g i) m) place
+-- steps that lead down from a field lead down from its child
+pub lead_on : (field : Option (TypeShape × Option Encoding)) (t : TypeShape) (e : Option Encoding) (steps : Steps) → field ≡ Some (t, e) → LeadFrom field steps → LeadDown steps t e
+lead_on field t e steps is leads = subst (λ f. LeadFrom f steps) is leads
 
--- what a slot of a struct sends to a node of field k: what the value of field k sends there
-pub sent_field : (c : Column) (v : PlainValue) (n k m : ℕ) (t : TypeShape) (e : Option Encoding) → IsStruct c → n < flattened c.encoding (taken_nodes c.data_type.children)
-    → IsNodeOf c.data_type.children n k m → type_of_field c.data_type.children k ≡ Some (t, e)
-    → sent_by c.data_type c.encoding (v ∷ []) (suc n) ≡ sent_by t e (field_value k v ∷ []) m
-sent_field c v n k m t e structs inside at typed =
-    let first : 0 + k ≡ k = omega arith in
-    sent_below c.data_type c.encoding (v ∷ []) n inside
-    ∙ ap (λ f. sent_in c.data_type.children (raws_below f c.data_type.children (v ∷ [])) n) structs
-    ∙ sent_part c.data_type.children 0 (λ j. map (field_value j) (v ∷ [])) n k m t e (width c.data_type.children) refl at typed
-    ∙ ap (λ j. sent_by t e (field_value j v ∷ []) m) first
+-- a field that is there has a type
+pub field_there : (fields : Fields) (k : ℕ) (steps : Steps) → k < width fields → LeadDown steps (column_by (type_of_field fields k) []).data_type (column_by (type_of_field fields k) []).encoding → LeadFrom (type_of_field fields k) steps
+field_there none k steps here leads = absurd (omega (arith, here))
+field_there (more h c rest) zero steps here leads = leads
+field_there (more h c rest) (suc k) steps here leads = field_there rest k steps (omega (arith, here)) leads
+
+pub field_inside : (fields : Fields) (k : ℕ) (steps : Steps) → LeadFrom (type_of_field fields k) steps → k < width fields
+field_inside none k steps leads = absurd leads
+field_inside (more h c rest) zero steps leads = omega arith
+field_inside (more h c rest) (suc k) steps leads = omega (arith, field_inside rest k steps leads)
+
+-- the columns of fields have their types
+columns_typed : (fields : Fields) (raws : List (List PlainValue)) → length raws ≡ width fields → AreOf fields (columns_by fields raws)
+columns_typed none raws many = tt
+columns_typed (more h c rest) [] many = absurd (omega (arith, many))
+columns_typed (more h c rest) (vs ∷ raws) many = (refl, refl, columns_typed rest raws (omega (arith, many)))
+
+-- and their raw values
+columns_raws : (fields : Fields) (raws : List (List PlainValue)) → length raws ≡ width fields → raws ≡ raws_of (columns_by fields raws)
+columns_raws none [] many = refl
+columns_raws none (vs ∷ raws) many = absurd (omega (arith, many))
+columns_raws (more h c rest) [] many = absurd (omega (arith, many))
+columns_raws (more h c rest) (vs ∷ raws) many = ap (λ rs. vs ∷ rs) (columns_raws rest raws (omega (arith, many)))
+
+-- there are raw values for each field
+pub raws_many : (fields : Fields) (raws : List (List PlainValue)) → AreRaws fields raws → length raws ≡ width fields
+raws_many none [] are = refl
+raws_many none (vs ∷ raws) are = absurd are
+raws_many (more h c rest) [] are = absurd are
+raws_many (more h c rest) (vs ∷ raws) are = omega (arith, raws_many rest raws are.2)
+
+-- below a node of indices nothing is sent
+none_below : (tag : Tag) (e : Encoding) (children : Fields) (vs : List PlainValue) → raws_below (node_form tag (Some e)) children vs ≡ []
+none_below tag e children vs = refl
+
+-- so the columns that are sent below a node are its children
+pub sent_whole : (c : Column) → AreRaws (fields_of_columns (c ∷ [])) (raws_of (c ∷ [])) → AreSentWhole c (sent_below c)
+sent_whole c are = record { typed = both.0; same = both.1 }
+  where
+    of_encoding : (tag : Tag) (e : Option Encoding) (children : Fields) (vs : List PlainValue) → IfFlattened e (AreRaws children (raws_below (node_form tag e) children vs))
+        → AreOf (below e children) (columns_by (below e children) (raws_below (node_form tag e) children vs))
+        × (raws_below (node_form tag e) children vs ≡ raws_of (columns_by (below e children) (raws_below (node_form tag e) children vs)))
+    of_encoding tag None children vs are =
+        let many = raws_many children (raws_below (node_form tag None) children vs) are in
+        (columns_typed children (raws_below (node_form tag None) children vs) many, columns_raws children (raws_below (node_form tag None) children vs) many)
+    of_encoding tag (Some e) children vs are = (tt, none_below tag e children vs)
+
+    both : AreOf (below c.encoding c.data_type.children) (sent_below c) × (raws_below (form_of_column c) c.data_type.children c.raw ≡ raws_of (sent_below c))
+    both = of_encoding c.data_type.tag c.encoding c.data_type.children c.raw are.1
+
+-- the column of a field at a place
+column_at : (fields : Fields) (raws : List (List PlainValue)) (k : ℕ) (vs : List PlainValue) → k < width fields → slice_get raws k ≡ Some vs → slice_get (columns_by fields raws) k ≡ Some (column_by (type_of_field fields k) vs)
+column_at none raws k vs here is = absurd (omega (arith, here))
+column_at (more h c rest) [] k vs here is = cc
+column_at (more h c rest) (ws ∷ raws) zero vs here is =
+    let same : ws ≡ vs = cc in
+    ap (λ us. Some (column_by (type_of_field (more h c rest) 0) us)) same
+column_at (more h c rest) (ws ∷ raws) (suc k) vs here is = column_at rest raws k vs (omega (arith, here)) is
+
+-- what each of some numbers gives
+pub made_at : (g : ℕ → List PlainValue) (a w k : ℕ) → k < w → slice_get (map g (range_with_len a w)) k ≡ Some (g (a + k))
+made_at g a zero k here = absurd (omega (arith, here))
+made_at g a (suc w) zero here = let start : a ≡ a + 0 = omega arith in ap (λ n. Some (g n)) start
+made_at g a (suc w) (suc k) here = let next : a + 1 + k ≡ a + suc k = omega arith in made_at g (a + 1) w k (omega (arith, here)) ∙ ap (λ n. Some (g n)) next
+
+-- the column that lists send, and those that structs do
+pub items_sent : (c : Column) (k : ℕ) → IsList c → AreRaws (fields_of_columns (c ∷ [])) (raws_of (c ∷ [])) → k < length (sent_below c)
+    → (0 < width c.data_type.children) × (slice_get (sent_below c) k ≡ Some (column_by (type_of_field c.data_type.children 0) (flat_map items_in_value c.raw)))
+items_sent c k lists are here = of_encoding c.data_type.tag c.encoding c.data_type.children c.raw lists are.1 here
+  where
+    of_form : (form : Form) (children : Fields) (vs : List PlainValue) → IsLists form → AreRaws children (raws_below form children vs) → k < length (columns_by children (raws_below form children vs))
+        → (0 < width children) × (slice_get (columns_by children (raws_below form children vs)) k ≡ Some (column_by (type_of_field children 0) (flat_map items_in_value vs)))
+    of_form form children vs lists are here =
+        let is = lists_of form lists in
+        subst (λ f. (0 < width children) × (slice_get (columns_by children (raws_below f children vs)) k ≡ Some (column_by (type_of_field children 0) (flat_map items_in_value vs)))) (sym is.1)
+        (only children (flat_map items_in_value vs) (subst (λ f. AreRaws children (raws_below f children vs)) is.1 are) (subst (λ f. k < length (columns_by children (raws_below f children vs))) is.1 here))
+      where
+        only : (children : Fields) (items : List PlainValue) → AreRaws children (items ∷ []) → k < length (columns_by children (items ∷ []))
+            → (0 < width children) × (slice_get (columns_by children (items ∷ [])) k ≡ Some (column_by (type_of_field children 0) items))
+        only none items are here = absurd are
+        only (more h c none) items are here = let first : 0 ≡ k = omega (arith, here) in (omega arith, subst (λ n. slice_get (columns_by (more h c none) (items ∷ [])) n ≡ Some (column_by (type_of_field (more h c none) 0) items)) first refl)
+        only (more h c (more h' c' rest)) items are here = absurd are.2
+
+    of_encoding : (tag : Tag) (e : Option Encoding) (children : Fields) (vs : List PlainValue) → IsLists (node_form tag e) → IfFlattened e (AreRaws children (raws_below (node_form tag e) children vs))
+        → k < length (columns_by (below e children) (raws_below (node_form tag e) children vs))
+        → (0 < width children) × (slice_get (columns_by (below e children) (raws_below (node_form tag e) children vs)) k ≡ Some (column_by (type_of_field children 0) (flat_map items_in_value vs)))
+    of_encoding tag None children vs lists are here = of_form (node_form tag None) children vs lists are here
+    of_encoding tag (Some e) children vs lists are here = absurd lists
+
+pub field_sent : (c : Column) (k : ℕ) → IsStruct c → AreRaws (fields_of_columns (c ∷ [])) (raws_of (c ∷ [])) → k < length (sent_below c)
+    → (k < width c.data_type.children) × (slice_get (sent_below c) k ≡ Some (column_by (type_of_field c.data_type.children k) (map (field_value k) c.raw)))
+field_sent c k structs are here = of_encoding c.data_type.tag c.encoding c.data_type.children c.raw structs are.1 here
+  where
+    as_long : (children : Fields) (raws : List (List PlainValue)) → length raws ≡ width children → length (columns_by children raws) ≡ width children
+    as_long none raws many = refl
+    as_long (more h c rest) [] many = absurd (omega (arith, many))
+    as_long (more h c rest) (vs ∷ raws) many = omega (arith, as_long rest raws (omega (arith, many)))
+
+    of_encoding : (tag : Tag) (e : Option Encoding) (children : Fields) (vs : List PlainValue) → node_form tag e ≡ forms.Structs → IfFlattened e (AreRaws children (raws_below (node_form tag e) children vs))
+        → k < length (columns_by (below e children) (raws_below (node_form tag e) children vs))
+        → (k < width children) × (slice_get (columns_by (below e children) (raws_below (node_form tag e) children vs)) k ≡ Some (column_by (type_of_field children k) (map (field_value k) vs)))
+    of_encoding tag None children vs structs are here =
+        let inside : k < width children = omega (arith, here, as_long children (raws_below (node_form tag None) children vs) (raws_many children (raws_below (node_form tag None) children vs) are)) in
+        let start : 0 + k ≡ k = omega arith in
+        let raw = made_at (λ n. map (field_value n) vs) 0 (width children) k inside ∙ ap (λ n. Some (map (field_value n) vs)) start in (
+          inside,
+          column_at children (raws_below (node_form tag None) children vs) k (map (field_value k) vs) inside
+              (subst (λ f. slice_get (raws_below f children vs) k ≡ Some (map (field_value k) vs)) (sym structs) raw),
+        )
+    of_encoding tag (Some e) children vs structs are here = cc
+
+-- nothing but lists and structs sends anything
+pub sends_structs : (c : Column) (k : ℕ) → (IsList c → ⊥) → k < length (sent_below c) → IsStruct c
+sends_structs c k no_lists here = of_form (form_of_column c) (below c.encoding c.data_type.children) c.data_type.children c.raw no_lists here
+  where
+    without : (fields : Fields) → length (columns_by fields []) ≡ 0
+    without none = refl
+    without (more h c rest) = refl
+
+    of_form : (form : Form) (fields children : Fields) (vs : List PlainValue) → (IsLists form → ⊥) → k < length (columns_by fields (raws_below form children vs)) → form ≡ forms.Structs
+    of_form forms.Nulls fields children vs never here = absurd (omega (arith, here, without fields))
+    of_form forms.Bits fields children vs never here = absurd (omega (arith, here, without fields))
+    of_form (forms.Numbers bits signed) fields children vs never here = absurd (omega (arith, here, without fields))
+    of_form (forms.Bytes w) fields children vs never here = absurd (omega (arith, here, without fields))
+    of_form (forms.Texts w) fields children vs never here = absurd (omega (arith, here, without fields))
+    of_form (forms.FixedBytes w) fields children vs never here = absurd (omega (arith, here, without fields))
+    of_form (forms.Lists w) fields children vs never here = absurd (never tt)
+    of_form forms.Structs fields children vs never here = refl
+
+-- how many columns are sent
+pub sent_many : (c : Column) → AreRaws (fields_of_columns (c ∷ [])) (raws_of (c ∷ [])) → length (sent_below c) ≡ width (below c.encoding c.data_type.children)
+sent_many c are = as_many (below c.encoding c.data_type.children) (sent_below c) (sent_whole c are).typed
+  where
+    as_many : (fields : Fields) (cs : List Column) → AreOf fields cs → length cs ≡ width fields
+    as_many none [] typed = refl
+    as_many none (d ∷ cs) typed = absurd typed
+    as_many (more h c rest) [] typed = absurd typed
+    as_many (more h c rest) (d ∷ cs) typed = omega (arith, as_many rest cs typed.2)

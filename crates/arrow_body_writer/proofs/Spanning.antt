@@ -21,7 +21,7 @@ use Rattle.arrow_data.proofs.FullSlots.{joined_range, places_rise}
 use Rattle.arrow_body_laws.specs.Packed.{offsets_bytes}
 use Rattle.arrow_body_laws.specs.Raws.{bytes_in_value, items_in_value}
 use Rattle.arrow_body_writer.proofs.Ranges.{from_next, none_from}
-use Rattle.arrow_body_writer.proofs.Steps.{offsets_more, sum_more}
+use Rattle.arrow_body_writer.proofs.OneMore.{offsets_more, sum_more}
 use Rattle.arrow_body_writer.specs.Offsets.{AreBetween, AreHeld, AreSpansOf}
 use Rattle.arrow_body_writer.specs.Part.{AreOffsetsTo, IsWritten}
 use Rattle.arrow_body_writer.specs.Runs.{AreOffsetsOf, AreSpansIn, IsPiece, IsThere}

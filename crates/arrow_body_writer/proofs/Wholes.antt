@@ -1,44 +1,37 @@
 -- Children that are sent whole, and what is stored of them.
-use Rattle.std.proofs.Common.{◌≡◌, ◌<◌, ℕ, zero, suc, ◌+◌, List, [], ◌∷◌, ◌++◌, length, get_or, map, refl, sym, ap, ◌∙◌, subst, arith, append-nil, Option, None, Some}
+use Rattle.std.proofs.Common.{◌≡◌, ◌<◌, ℕ, zero, suc, ◌+◌, List, [], ◌∷◌, ◌++◌, length, map, refl, sym, ap, ◌∙◌, subst, arith, append-nil, Option, None, Some}
 use Rattle.std.specs.Prelude.{slice_get}
 use Rattle.std.specs.List.{AllByRecursion, flat_map, range_with_len, sum_by}
 use Rattle.std.proofs.lemmas.List.Sums.{sum_by-append}
 use Rattle.arrow_types.specs.DataType.{Tag}
 use Rattle.arrow_types.specs.Field.{Fields, none, more, width, TypeShape}
 use Rattle.arrow_types.specs.declared.field.Encoding.{Encoding}
-use Rattle.arrow_data.specs.Column.{AreOf, Column, HasChild, HasFields, IsList, column_size, values_from}
-use Rattle.arrow_data.specs.Form.{HasFieldsOf, IsLeaf, IsLists, form_of, node_form}
+use Rattle.arrow_data.specs.Column.{AreOf, Column, HasChild, HasFields, IsList, values_from}
+use Rattle.arrow_data.specs.Form.{HasFieldsOf, IsLeaf, form_of, node_form}
 use Rattle.arrow_data.specs.FullSlots.{AreFull}
 use Rattle.arrow_data.specs.PlainValue.{PlainValue, field_value}
+use Rattle.arrow_data.specs.Same.{parts_measure, slot_measure}
 use Rattle.arrow_data.specs.declared.form.Form.{Form}
 use Rattle.arrow_data.specs.declared.form.Form.TheVariants as forms
 use Rattle.arrow_data.proofs.Sameness.{parts_smaller}
-use Rattle.arrow_body_reader.specs.Taken.{IfFlattened, flattened, taken_nodes}
+use Rattle.arrow_body_reader.specs.Taken.{IfFlattened, below, flattened, taken_nodes}
 use Rattle.arrow_body_laws.specs.Laws.{raws_of}
 use Rattle.arrow_body_laws.specs.Raws.{AreRaws, AreSmall, IsOwn, IsSmall, items_in_value, raws_below}
 use Rattle.arrow_body_laws.specs.Size.{own_sizes}
 use Rattle.arrow_body_laws.specs.Stored.{fields_of_columns, own_chunks, own_node, rounded, stored_chunks, stored_nodes}
-use Rattle.arrow_body_writer.proofs.Chunks.{Leads, stores_more}
-use Rattle.arrow_body_writer.proofs.Levels.{by_level, chunks_by_level, nodes_by_level, sizes_by_level}
-use Rattle.arrow_body_writer.proofs.Passing.{as_many, child_below}
+use Rattle.arrow_body_writer.proofs.Chunks.{stores_more}
+use Rattle.arrow_body_writer.proofs.Levels.{by_level, chunks_by_level, nodes_by_level, none_by_level, sizes_by_level}
+use Rattle.arrow_body_writer.proofs.Passing.{as_many}
 use Rattle.arrow_body_writer.proofs.Ranges.{all_from}
 use Rattle.arrow_body_writer.proofs.RunPasses.{fields_are}
-use Rattle.arrow_body_writer.proofs.Sending.{lists_of}
+use Rattle.arrow_body_writer.proofs.Sending.{lists_of, plain_list, plain_struct}
 use Rattle.arrow_body_writer.specs.Runs.{HasRun}
 use Rattle.arrow_body_writer.specs.Sent.{nodes_of_column}
 use Rattle.arrow_body_writer.specs.Storable.{AreTold, columns_size}
 use Rattle.arrow_body_writer.specs.Storing.{Stores}
+use Rattle.arrow_body_writer.specs.Tally.{capped}
 use Rattle.arrow_body_writer.specs.Whole.{AreSentWhole}
 use Rattle.arrow_body_writer.specs.declared.body.Body.{Body}
-
--- a column of indices has no children of its own
-plain_struct : (tag : Tag) (e : Option Encoding) → node_form tag e ≡ forms.Structs → e ≡ None
-plain_struct tag None is = refl
-plain_struct tag (Some e) is = cc
-
-plain_list : (tag : Tag) (e : Option Encoding) → IsLists (node_form tag e) → e ≡ None
-plain_list tag None is = refl
-plain_list tag (Some e) is = absurd is
 
 -- the column at a place is as long as all are
 long_at : (n : ℕ) (cs : List Column) (k : ℕ) (c : Column) → AllByRecursion (λ (d : Column). length d.raw ≡ n) cs → slice_get cs k ≡ Some c → length c.raw ≡ n
@@ -57,6 +50,10 @@ raws_by_place f (c ∷ cs) a (suc w) many each =
     let others = raws_by_place f cs (a + 1) w (omega (arith, many)) (λ k d is. let next : a + 1 + k ≡ a + suc k = omega arith in ap f next ∙ each (suc k) d is) in
     λ i. first i ∷ others i
 
+-- without an encoding the children are those of all child fields
+typed_below : (c : Column) (children : List Column) → c.encoding ≡ None → AreOf c.data_type.children children → AreOf (below c.encoding c.data_type.children) children
+typed_below c children plain typed = subst (λ e. AreOf (below e c.data_type.children) children) (sym plain) typed
+
 -- structs of which none is null send their children whole where these have no more slots
 pub fields_whole : (c : Column) (children : List Column) (slots : ℕ) → HasFields c children → AreFull c 0 (length c.raw) → slots ≡ length c.raw → AllByRecursion (λ (d : Column). length d.raw ≡ slots) children → AreSentWhole c children
 fields_whole c children slots fields full all long =
@@ -66,8 +63,7 @@ fields_whole c children slots fields full all long =
     ap (λ n. map (field_value n) c.raw) place ∙ ap (map (field_value k)) (sym (all_from c.raw (length c.raw) refl))
     ∙ fields_are c d 0 (length c.raw) k (fields.each k d is) (omega arith) (omega arith) full ∙ all_from d.raw (length c.raw) own in
     record {
-      plain = plain_struct c.data_type.tag c.encoding fields.is_struct;
-      typed = fields.typed;
+      typed = typed_below c children (plain_struct c.data_type.tag c.encoding fields.is_struct) fields.typed;
       same = ap (λ f. raws_below f c.data_type.children c.raw) fields.is_struct
           ∙ raws_by_place (λ k. map (field_value k) c.raw) children 0 (width c.data_type.children) (as_many c.data_type.children children fields.typed) values;
     }
@@ -77,8 +73,7 @@ items_whole : (c child : Column) → IsList c → AreOf c.data_type.children (ch
 items_whole c child lists typed items =
     let form = lists_of (node_form c.data_type.tag c.encoding) lists in
     record {
-      plain = plain_list c.data_type.tag c.encoding lists;
-      typed = typed;
+      typed = typed_below c (child ∷ []) (plain_list c.data_type.tag c.encoding lists) typed;
       same = ap (λ f. raws_below f c.data_type.children c.raw) form.1
           ∙ ap (λ vs. vs ∷ []) (ap (flat_map items_in_value) (sym (all_from c.raw (length c.raw) refl)) ∙ items);
     }
@@ -122,10 +117,16 @@ pub leaf_whole : (c : Column) (form : Form) → c.encoding ≡ None → form ≡
 leaf_whole c form plain is has leaf =
     let own : node_form c.data_type.tag c.encoding ≡ form = ap (node_form c.data_type.tag) plain ∙ sym is in
     record {
-      plain = plain;
-      typed = subst (λ fields. AreOf fields []) (sym (leaf_fields form c.data_type.children leaf has)) tt;
+      typed = typed_below c [] plain (subst (λ fields. AreOf fields []) (sym (leaf_fields form c.data_type.children leaf has)) tt);
       same = ap (λ f. raws_below f c.data_type.children c.raw) own ∙ leaf_raws form c.data_type.children c.raw leaf;
     }
+
+-- nor does one of indices
+pub encoded_whole : (c : Column) (e : Encoding) → c.encoding ≡ Some e → AreSentWhole c []
+encoded_whole c e is = record {
+  typed = subst (λ o. AreOf (below o c.data_type.children) []) (sym is) tt;
+  same = ap (λ o. raws_below (node_form c.data_type.tag o) c.data_type.children c.raw) is;
+}
 
 -- names and nullability are not looked at: what each node of columns gives is what each node of their fields gives
 level_typed : {A : Type 0} (g : Form → List PlainValue → List A) (fields : Fields) (cs : List Column) (raws : List (List PlainValue)) → AreOf fields cs → by_level g (fields_of_columns cs) raws ≡ by_level g fields raws
@@ -136,15 +137,22 @@ level_typed g (more h c rest) (d ∷ cs) [] are = refl
 level_typed g (more h c rest) (d ∷ cs) (vs ∷ raws) are = λ i.
     g (node_form (are.0 i).tag (are.1 i)) vs ++ (by_level g (are.0 i).children (raws_below (node_form (are.0 i).tag (are.1 i)) (are.0 i).children vs) ++ level_typed g rest cs raws are.2 i)
 
+-- what the nodes below a column give: those of the children
+level_below : {A : Type 0} (g : Form → List PlainValue → List A) (tag : Tag) (e : Option Encoding) (fields : Fields) (vs : List PlainValue) (children : List Column)
+    → AreOf (below e fields) children → raws_below (node_form tag e) fields vs ≡ raws_of children
+    → by_level g fields (raws_below (node_form tag e) fields vs) ≡ by_level g (fields_of_columns children) (raws_of children)
+level_below g tag None fields vs children typed same = ap (by_level g fields) same ∙ sym (level_typed g fields children (raws_of children) typed)
+level_below g tag (Some e) fields vs [] typed same = none_by_level g fields
+level_below g tag (Some e) fields vs (d ∷ cs) typed same = absurd typed
+
 -- what the column's own node gives, and then those of the children
 whole_level : {A : Type 0} (g : Form → List PlainValue → List A) (c : Column) (children : List Column) → AreSentWhole c children
     → by_level g (fields_of_columns (c ∷ [])) (raws_of (c ∷ [])) ≡ g (node_form c.data_type.tag c.encoding) c.raw ++ by_level g (fields_of_columns children) (raws_of children)
 whole_level g c children whole =
     let own = g (node_form c.data_type.tag c.encoding) c.raw in
-    let below = by_level g c.data_type.children (raws_below (node_form c.data_type.tag c.encoding) c.data_type.children c.raw) in
-    ap (λ b. own ++ b) (append-nil below)
-    ∙ ap (λ raws. own ++ by_level g c.data_type.children raws) whole.same
-    ∙ ap (λ b. own ++ b) (sym (level_typed g c.data_type.children children (raws_of children) whole.typed))
+    let lower = by_level g c.data_type.children (raws_below (node_form c.data_type.tag c.encoding) c.data_type.children c.raw) in
+    ap (λ b. own ++ b) (append-nil lower)
+    ∙ ap (λ b. own ++ b) (level_below g c.data_type.tag c.encoding c.data_type.children c.raw children whole.typed whole.same)
 
 pub whole_nodes : (c : Column) (children : List Column) → AreSentWhole c children
     → stored_nodes (fields_of_columns (c ∷ [])) (raws_of (c ∷ [])) ≡ (own_node c.raw ∷ []) ++ stored_nodes (fields_of_columns children) (raws_of children)
@@ -183,15 +191,15 @@ raws_typed (more h c rest) (d ∷ cs) (vs ∷ raws) are all =
     let own = of_column (HoldsRaws vs) d.data_type (record { tag = h.tag; children = c }) d.encoding h.encoding are.0 are.1 (all.0, all.1) in
     (own.0, own.1, raws_typed rest cs raws are.2 all.2)
 
-flat_raws : (e : Option Encoding) (P : Type 0) → e ≡ None → IfFlattened e P → P
-flat_raws None P plain holds = holds
-flat_raws (Some e) P plain holds = cc
+raws_under : (tag : Tag) (e : Option Encoding) (fields : Fields) (vs : List PlainValue) (children : List Column) → AreOf (below e fields) children → raws_below (node_form tag e) fields vs ≡ raws_of children
+    → IfFlattened e (AreRaws fields (raws_below (node_form tag e) fields vs)) → AreRaws (fields_of_columns children) (raws_of children)
+raws_under tag None fields vs children typed same are = raws_typed fields children (raws_of children) typed (subst (AreRaws fields) same are)
+raws_under tag (Some e) fields vs [] typed same are = tt
+raws_under tag (Some e) fields vs (d ∷ cs) typed same are = absurd typed
 
 -- so may the children's
 pub whole_raws : (c : Column) (children : List Column) → AreSentWhole c children → AreRaws (fields_of_columns (c ∷ [])) (raws_of (c ∷ [])) → AreRaws (fields_of_columns children) (raws_of children)
-whole_raws c children whole are =
-    raws_typed c.data_type.children children (raws_of children) whole.typed
-    (subst (AreRaws c.data_type.children) whole.same (flat_raws c.encoding (AreRaws c.data_type.children (raws_below (node_form c.data_type.tag c.encoding) c.data_type.children c.raw)) whole.plain are.1))
+whole_raws c children whole are = raws_under c.data_type.tag c.encoding c.data_type.children c.raw children whole.typed whole.same are.1
 
 -- nodes that can be told, of a field
 abbrev pub SmallBelow : List PlainValue → TypeShape → Option Encoding → Type 0
@@ -224,35 +232,67 @@ fewer (more h c rest) (d ∷ cs) n are less =
     let same : flattened d.encoding (taken_nodes d.data_type.children) ≡ flattened h.encoding (taken_nodes c) = λ i. flattened (are.1 i) (taken_nodes (are.0 i).children) in
     (omega (arith, less, same), fewer rest cs n are.2 (omega (arith, less)))
 
+taken_below : (e : Option Encoding) (fields : Fields) → taken_nodes (below e fields) ≡ flattened e (taken_nodes fields)
+taken_below None fields = refl
+taken_below (Some e) fields = refl
+
 pub whole_counted : (c : Column) (children : List Column) (n : ℕ) → AreSentWhole c children → nodes_of_column c < n → AllByRecursion (λ (d : Column). nodes_of_column d < n) children
 whole_counted c children n whole less =
-    let all = ap (λ e. flattened e (taken_nodes c.data_type.children)) whole.plain in
-    fewer c.data_type.children children n whole.typed (omega (arith, less, all))
+    fewer (below c.encoding c.data_type.children) children n whole.typed (omega (arith, less, taken_below c.encoding c.data_type.children))
+
+-- without values all nodes are small
+none_small : (fields : Fields) → AreSmall fields []
+none_small none = tt
+none_small (more h c rest) = tt
+
+small_under : (tag : Tag) (e : Option Encoding) (fields : Fields) (vs : List PlainValue) (children : List Column) → AreOf (below e fields) children → raws_below (node_form tag e) fields vs ≡ raws_of children
+    → AreSmall fields (raws_below (node_form tag e) fields vs) → AreSmall (fields_of_columns children) (raws_of children)
+small_under tag None fields vs children typed same small = small_typed fields children (raws_of children) typed (subst (AreSmall fields) same small)
+small_under tag (Some e) fields vs [] typed same small = tt
+small_under tag (Some e) fields vs (d ∷ cs) typed same small = absurd typed
+
+small_over : (tag : Tag) (e : Option Encoding) (fields : Fields) (vs : List PlainValue) (children : List Column) → AreOf (below e fields) children → raws_below (node_form tag e) fields vs ≡ raws_of children
+    → AreSmall (fields_of_columns children) (raws_of children) → AreSmall fields (raws_below (node_form tag e) fields vs)
+small_over tag None fields vs children typed same small = subst (AreSmall fields) (sym same) (small_named fields children (raws_of children) typed small)
+small_over tag (Some e) fields vs children typed same small = none_small fields
 
 -- the column can be told just where its own node and its children can
 pub whole_told : (c : Column) (children : List Column) → AreSentWhole c children → AreTold (c ∷ []) → AreTold children
 whole_told c children whole told = record {
   counted = whole_counted c children 18446744073709551615 whole told.counted.0;
-  small = small_typed c.data_type.children children (raws_of children) whole.typed (subst (AreSmall c.data_type.children) whole.same told.small.1);
+  small = small_under c.data_type.tag c.encoding c.data_type.children c.raw children whole.typed whole.same told.small.1;
 }
 
 pub told_whole : (c : Column) (children : List Column) → AreSentWhole c children → nodes_of_column c < 18446744073709551615 → IsSmall (node_form c.data_type.tag c.encoding) c.raw → AreTold children → AreTold (c ∷ [])
 told_whole c children whole counted own told = record {
   counted = (counted, tt);
-  small = (own, subst (AreSmall c.data_type.children) (sym whole.same) (small_named c.data_type.children children (raws_of children) whole.typed told.small), tt);
+  small = (own, small_over c.data_type.tag c.encoding c.data_type.children c.raw children whole.typed whole.same told.small, tt);
 }
 
+-- so its size is that of its own node and that of its children
+pub sized_whole : (align : ℕ) (c : Column) (children : List Column) (own below all : ℕ) → AreSentWhole c children → nodes_of_column c < 18446744073709551615 → IsSmall (node_form c.data_type.tag c.encoding) c.raw
+    → own ≡ sum_by (rounded align) (own_sizes (node_form c.data_type.tag c.encoding) c.raw) → AreTold children → below ≡ capped (columns_size align children) → all ≡ capped (own + below)
+    → AreTold (c ∷ []) × (all ≡ capped (columns_size align (c ∷ [])))
+sized_whole align c children own below all whole counted small is told size sum =
+    (told_whole c children whole counted small told, omega (arith, sum, is, size, whole_size align c children whole))
+
 -- the column is stored where its own node is, and then its children are
-pub leads_whole : (align : ℕ) (c : Column) (children : List Column) (old b : Body) → 0 < align → AreSentWhole c children
-    → Stores align (own_node c.raw ∷ []) (own_chunks (node_form c.data_type.tag c.encoding) c.raw) old b
-    → Leads align children (Stores align (stored_nodes (fields_of_columns (c ∷ [])) (raws_of (c ∷ []))) (stored_chunks (fields_of_columns (c ∷ [])) (raws_of (c ∷ []))) old) b
-leads_whole align c children old b some whole own = λ z others.
+pub stores_whole : (align : ℕ) (c : Column) (children : List Column) (a b z : Body) → 0 < align → AreSentWhole c children
+    → Stores align (own_node c.raw ∷ []) (own_chunks (node_form c.data_type.tag c.encoding) c.raw) a b
+    → Stores align (stored_nodes (fields_of_columns children) (raws_of children)) (stored_chunks (fields_of_columns children) (raws_of children)) b z
+    → Stores align (stored_nodes (fields_of_columns (c ∷ [])) (raws_of (c ∷ []))) (stored_chunks (fields_of_columns (c ∷ [])) (raws_of (c ∷ []))) a z
+stores_whole align c children a b z some whole own others =
     let nodes = stored_nodes (fields_of_columns children) (raws_of children) in
     let chunks = stored_chunks (fields_of_columns children) (raws_of children) in
-    let both = stores_more align (own_node c.raw ∷ []) nodes (own_chunks (node_form c.data_type.tag c.encoding) c.raw) chunks old b z some own others in
-    subst (λ ns. Stores align ns (stored_chunks (fields_of_columns (c ∷ [])) (raws_of (c ∷ []))) old z) (sym (whole_nodes c children whole))
-    (subst (λ xs. Stores align ((own_node c.raw ∷ []) ++ nodes) xs old z) (sym (whole_chunks c children whole)) both)
+    let both = stores_more align (own_node c.raw ∷ []) nodes (own_chunks (node_form c.data_type.tag c.encoding) c.raw) chunks a b z some own others in
+    subst (λ ns. Stores align ns (stored_chunks (fields_of_columns (c ∷ [])) (raws_of (c ∷ []))) a z) (sym (whole_nodes c children whole))
+    (subst (λ xs. Stores align ((own_node c.raw ∷ []) ++ nodes) xs a z) (sym (whole_chunks c children whole)) both)
 
--- each child is smaller than the column
-pub child_falls : (c : Column) (children : List Column) (k : ℕ) (d : Column) → AreSentWhole c children → k < length children → d ≡ get_or children k d → column_size d < column_size c
-child_falls c children k d whole here is = omega (arith, parts_smaller c children whole.typed, child_below children k d here is)
+-- and each child is smaller than the column
+pub whole_smaller : (c : Column) (children : List Column) → AreSentWhole c children → parts_measure children < slot_measure c
+whole_smaller c children whole = of_encoding c.encoding refl children whole.typed
+  where
+    of_encoding : (e : Option Encoding) → c.encoding ≡ e → (cs : List Column) → AreOf (below e c.data_type.children) cs → parts_measure cs < slot_measure c
+    of_encoding None is cs typed = parts_smaller c cs typed
+    of_encoding (Some e) is [] typed = omega arith
+    of_encoding (Some e) is (d ∷ cs) typed = absurd typed

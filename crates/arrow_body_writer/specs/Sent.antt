@@ -1,62 +1,65 @@
--- The nodes of fields by their numbers in pre-order, and the raw values that each of them is sent.
-use Rattle.std.specs.Prelude.{◌≡◌, ◌≤◌, ◌<◌, ℕ, zero, suc, ◌+◌, ◌-◌, nat_lt, true, if◌then◌else◌, Option, List, [], ◌∷◌}
-use Rattle.arrow_types.specs.Field.{Head, Fields, none, more, TypeShape}
+-- The raw values that the nodes below a column's own are sent, and the columns that these are.
+use Rattle.std.specs.Prelude.{◌≡◌, ℕ, ◌+◌, List, [], ◌∷◌, map, ⊤, Option, None, Some, MatchOption}
+use Rattle.std.specs.List.{flat_map}
+use Rattle.arrow_types.specs.DataType.{null}
+use Rattle.arrow_types.specs.Field.{Fields, none, more, TypeShape}
 use Rattle.arrow_types.specs.declared.field.Encoding.{Encoding}
-use Rattle.arrow_data.specs.Column.{Column}
-use Rattle.arrow_data.specs.Form.{node_form}
-use Rattle.arrow_data.specs.PlainValue.{PlainValue}
+use Rattle.arrow_data.specs.Column.{Column, type_of_field}
+use Rattle.arrow_data.specs.Form.{IsLists, node_form}
+use Rattle.arrow_data.specs.PlainValue.{PlainValue, field_value}
 use Rattle.arrow_data.specs.declared.form.Form.{Form}
 use Rattle.arrow_data.specs.declared.form.Form.TheVariants as forms
-use Rattle.arrow_body_reader.specs.Taken.{flattened, taken_nodes}
-use Rattle.arrow_body_laws.specs.Raws.{raws_below}
+use Rattle.arrow_body_reader.specs.Taken.{below, flattened, taken_nodes}
+use Rattle.arrow_body_laws.specs.Raws.{items_in_value, raws_below}
+use Rattle.arrow_body_writer.specs.declared.steps.Steps.{Steps, Here, Items', Field'}
 
--- how many nodes a field has, its own among them
-abbrev pub nodes_of_field : Head → Fields → ℕ
-nodes_of_field head children = 1 + flattened head.encoding (taken_nodes children)
-
--- node n of the fields is node m of field k (Columnar Format, "RecordBatch message")
-abbrev pub IsNodeOf : Fields → ℕ → ℕ → ℕ → Type 0
-IsNodeOf none n k m = ⊥
-IsNodeOf (more head children rest) n zero m = (m ≡ n) × (n < nodes_of_field head children)
-IsNodeOf (more head children rest) n (suc k) m = (nodes_of_field head children ≤ n) × IsNodeOf rest (n - nodes_of_field head children) k m
-
--- the raw values that node n of fields with these raw values is sent
-abbrev pub sent_in : Fields → List (List PlainValue) → ℕ → List PlainValue
-sent_in none raws n = []
-sent_in (more head children rest) [] n = []
-sent_in (more head children rest) (vs ∷ raws) zero = vs
-sent_in (more head children rest) (vs ∷ raws) (suc n) =
-    if nat_lt n (flattened head.encoding (taken_nodes children))
-    then sent_in children (raws_below (node_form head.tag head.encoding) children vs) n
-    else sent_in rest raws (n - flattened head.encoding (taken_nodes children))
-
--- the raw values that node n of a column of this type and this encoding is sent, its own node the first
-abbrev pub sent_by : TypeShape → Option Encoding → List PlainValue → ℕ → List PlainValue
-sent_by t e vs n = sent_in (more (record { name = []; nullable = true; tag = t.tag; encoding = e }) t.children none) (vs ∷ []) n
-
--- how many nodes a column of this type and this encoding has
+-- how many nodes a column of this type and this encoding has, its own among them
 abbrev pub nodes_of_type : TypeShape → Option Encoding → ℕ
 nodes_of_type t e = 1 + flattened e (taken_nodes t.children)
 
--- the form of node n of the fields
-abbrev pub form_in : Fields → ℕ → Form
-form_in none n = forms.Nulls
-form_in (more head children rest) zero = node_form head.tag head.encoding
-form_in (more head children rest) (suc n) =
-    if nat_lt n (flattened head.encoding (taken_nodes children))
-    then form_in children n
-    else form_in rest (n - flattened head.encoding (taken_nodes children))
-
--- the form of node n of a column of this type and this encoding
-abbrev pub form_by : TypeShape → Option Encoding → ℕ → Form
-form_by t e n = form_in (more (record { name = []; nullable = true; tag = t.tag; encoding = e }) t.children none) n
-
--- how many nodes a column has, the raw values that its node n is sent, and the form of that node
 abbrev pub nodes_of_column : Column → ℕ
 nodes_of_column c = nodes_of_type c.data_type c.encoding
 
-abbrev pub sent_to : Column → ℕ → List PlainValue
-sent_to c n = sent_by c.data_type c.encoding c.raw n
+-- the form of a column's own node
+abbrev pub form_of_column : Column → Form
+form_of_column c = node_form c.data_type.tag c.encoding
 
-abbrev pub form_of_column : Column → ℕ → Form
-form_of_column c n = form_by c.data_type c.encoding n
+-- What slots with these values send along steps: of lists the items of one slot after those of the one before; of structs
+-- value k of each slot, null under a null (Columnar Format, "Variable-size List Layout", "Struct Layout").
+abbrev pub sent_along : Steps → List PlainValue → List PlainValue
+sent_along Here vs = vs
+sent_along (Items' p rest) vs = sent_along rest (flat_map items_in_value vs)
+sent_along (Field' k p rest) vs = sent_along rest (map (field_value k) vs)
+
+-- the steps lead down from a node of this type and this encoding
+abbrev pub LeadDown : Steps → TypeShape → Option Encoding → Type 0
+LeadDown Here t e = ⊤
+LeadDown (Items' p rest) t e = IsLists (node_form t.tag e) × MatchOption (type_of_field t.children 0) ⊥ (λ f. LeadDown rest f.0 f.1)
+LeadDown (Field' k p rest) t e = (node_form t.tag e ≡ forms.Structs) × MatchOption (type_of_field t.children k) ⊥ (λ f. LeadDown rest f.0 f.1)
+
+-- the same from a field that is there
+abbrev pub LeadFrom : Option (TypeShape × Option Encoding) → Steps → Type 0
+LeadFrom field steps = MatchOption field ⊥ (λ f. LeadDown steps f.0 f.1)
+
+-- the type and the encoding of a field, those of nulls where there is none
+abbrev pub field_type : Option (TypeShape × Option Encoding) → TypeShape
+field_type None = record { tag = null; children = none }
+field_type (Some f) = f.0
+
+abbrev pub field_encoding : Option (TypeShape × Option Encoding) → Option Encoding
+field_encoding None = None
+field_encoding (Some f) = f.1
+
+-- the column of a field with these raw values
+abbrev pub column_by : Option (TypeShape × Option Encoding) → List PlainValue → Column
+column_by field vs = record { data_type = field_type field; encoding = field_encoding field; raw = vs; resolved = vs; dictionaries = []; offsets = []; below = [] }
+
+-- the columns of fields with raw values for each
+abbrev pub columns_by : Fields → List (List PlainValue) → List Column
+columns_by none raws = []
+columns_by (more head children rest) [] = []
+columns_by (more head children rest) (vs ∷ raws) = column_by (Some (record { tag = head.tag; children = children }, head.encoding)) vs ∷ columns_by rest raws
+
+-- the columns that are sent below a column's own node
+abbrev pub sent_below : Column → List Column
+sent_below c = columns_by (below c.encoding c.data_type.children) (raws_below (form_of_column c) c.data_type.children c.raw)

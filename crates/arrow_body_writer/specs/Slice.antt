@@ -1,9 +1,8 @@
 -- Slots of an array, one after another.
-use Rattle.std.specs.Prelude.{◌≤◌, ℕ, List, length}
+use Rattle.std.specs.Prelude.{◌≤◌, List, length}
 use Rattle.arrow_data.specs.Column.{values_from}
 use Rattle.arrow_data.specs.FullSlots.{AreFull}
 use Rattle.arrow_data.specs.PlainValue.{PlainValue}
-use Rattle.arrow_body_writer.specs.Sent.{sent_by}
 use Rattle.arrow_body_writer.specs.declared.slice.Slice.{Slice}
 
 -- the array has these slots
@@ -18,7 +17,3 @@ values_in s = values_from s.array.now.raw s.start s.stop
 -- none of them is null
 abbrev pub IsFull : Slice → Type 0
 IsFull s = AreFull s.array.now s.start s.stop
-
--- the raw values that they send to node n of the array's column, its own node the first
-abbrev pub sent_of : Slice → ℕ → List PlainValue
-sent_of s n = sent_by s.array.now.data_type s.array.now.encoding (values_in s) n

@@ -1,13 +1,13 @@
 -- Children that are sent whole.
-use Rattle.std.specs.Prelude.{◌≡◌, List, None}
+use Rattle.std.specs.Prelude.{◌≡◌, List}
 use Rattle.arrow_data.specs.Column.{AreOf, Column}
 use Rattle.arrow_data.specs.Form.{node_form}
+use Rattle.arrow_body_reader.specs.Taken.{below}
 use Rattle.arrow_body_laws.specs.Laws.{raws_of}
 use Rattle.arrow_body_laws.specs.Raws.{raws_below}
 
 -- The columns below the column's own node are sent just the raw values of the children (Columnar Format, "Variable-size List
 -- Layout", "Struct Layout").
 pub record AreSentWhole (c : Column) (children : List Column) : Type 0 where
-  pub plain : c.encoding ≡ None
-  pub typed : AreOf c.data_type.children children
+  pub typed : AreOf (below c.encoding c.data_type.children) children
   pub same : raws_below (node_form c.data_type.tag c.encoding) c.data_type.children c.raw ≡ raws_of children

@@ -12,20 +12,19 @@ ghost use Rattle.std.specs.List.{AllByRecursion};
 ghost use Rattle.arrow_body_writer.specs.Align.{alignment_of};
 ghost use Rattle.arrow_body_writer.specs.Counts.{IsCounted, sent_at};
 ghost use Rattle.arrow_body_writer.specs.Part.{HasRoom, IsTold, chunk_of};
-ghost use Rattle.arrow_body_writer.specs.Sent.{form_of_column, nodes_of_column, sent_to};
-ghost use Rattle.arrow_body_writer.specs.Source.{column_in, rest_of};
+ghost use Rattle.arrow_body_writer.specs.Sent.{form_of_column, sent_below};
+ghost use Rattle.arrow_body_writer.specs.Source.{IsSource, column_in, rest_of};
 ghost use Rattle.arrow_body_writer.specs.Storable.{AreTold, CanBeStored};
 ghost use Rattle.arrow_body_writer.specs.Storing.{IsEmpty, Stores, body_view};
 
 use crate::align::Align;
 use crate::buffers::{put_buffer, put_padded};
 use crate::counts::{Counted, count_sent};
-use crate::forms::{form_of_node, nodes_in, nodes_in_all};
+use crate::forms::{nodes_in_all, nodes_in_rest};
 use crate::measured::{body_size, rest_size};
 use crate::part::{Part, part_of};
 use crate::slots::full_form;
 use crate::source::Source;
-use crate::whole::whole_below;
 use arrow_data::form::Form;
 use arrow_data::{Array, Dictionary};
 use arrow_types::{Buffer, FieldNode};
@@ -65,19 +64,16 @@ fn put_chunk(body: Body, align: Align, part: Part, node: &Counted) -> Result<Bod
     })
 }
 
-// Appends a node of the column, and its buffers.
-fn put_node(body: Body, align: Align, source: &Source, node: usize) -> Result<Body, AllocError>
-    requires there { node < nodes_of_column (column_in source.now) }
-    requires small { IsSmall (form_of_column (column_in source.now) node)
-        (sent_to (column_in source.now) node) }
+// Appends the column's own node, and its buffers.
+fn put_node(body: Body, align: Align, source: &Source) -> Result<Body, AllocError>
+    requires source { IsSource source.now }
+    requires small { IsSmall (form_of_column (column_in source.now)) (column_in source.now).raw }
     requires raws { AreRaws (fields_of_columns (column_in source.now ∷ [])) (raws_of (column_in source.now ∷ [])) }
-    ensures { IfOk result (Stores (alignment_of align)
-        (own_node (sent_to (column_in source.now) node) ∷ [])
-        (own_chunks (form_of_column (column_in source.now) node)
-        (sent_to (column_in source.now) node)) body) }
+    ensures { IfOk result (Stores (alignment_of align) (own_node (column_in source.now).raw ∷ [])
+        (own_chunks (form_of_column (column_in source.now)) (column_in source.now).raw) body) }
 {
-    let form = form_of_node(source, node);
-    let tally = count_sent(form, source, node);
+    let form = source.form();
+    let tally = count_sent(form, source);
     let mut nodes = body.nodes;
     nodes.push(FieldNode {
         length: tally.slots as i64,
@@ -90,7 +86,6 @@ fn put_node(body: Body, align: Align, source: &Source, node: usize) -> Result<Bo
     };
     let counted = Counted {
         source: *source,
-        number: node,
         tally,
     };
     for k in 0..3 {
@@ -155,41 +150,60 @@ fn put_own(body: Body, align: Align, array: &Array) -> Result<Body, AllocError>
             put_bytes(&mut written, align, array.value_bytes(0, array.len()))?;
             Ok(written)
         }
-        Some(_) | None => put_node(written, align, &Source::Slots(array), 0),
+        Some(_) | None => put_node(written, align, &Source::Slots(array)),
     }
 }
 
-// Appends all nodes of the column, and their buffers, node by node.
-fn put_by_number(body: Body, align: Align, source: &Source) -> Result<Body, AllocError>
-    requires { AreTold (column_in source.now ∷ []) }
+// Appends all nodes of the column, and their buffers: its own node, and then the columns that are
+// sent below it (Columnar Format, "RecordBatch message").
+#[cycle(put)]
+fn put_column(body: Body, align: Align, source: &Source) -> Result<Body, AllocError>
+    requires source { IsSource source.now }
+    requires told { AreTold (column_in source.now ∷ []) }
+    requires raws { AreRaws (fields_of_columns (column_in source.now ∷ [])) (raws_of (column_in source.now ∷ [])) }
     ensures { IfOk result (Stores (alignment_of align)
         (stored_nodes (fields_of_columns (column_in source.now ∷ [])) (raws_of (column_in source.now ∷ [])))
         (stored_chunks (fields_of_columns (column_in source.now ∷ [])) (raws_of (column_in source.now ∷ []))) body) }
 {
-    let count = nodes_in(source);
+    let written = match source {
+        Source::Slots(array) => put_own(body, align, array)?,
+        _ => put_node(body, align, source)?,
+    };
+    match source.whole_below() {
+        Some(children) => put_columns(written, align, children),
+        None => put_below(written, align, source),
+    }
+}
+
+// Appends the columns of arrays.
+#[cycle(put)]
+fn put_columns(body: Body, align: Align, arrays: &[Array]) -> Result<Body, AllocError>
+    requires told { AreTold arrays.now }
+    requires raws { AreRaws (fields_of_columns arrays.now) (raws_of arrays.now) }
+    ensures { IfOk result (Stores (alignment_of align)
+        (stored_nodes (fields_of_columns arrays.now) (raws_of arrays.now))
+        (stored_chunks (fields_of_columns arrays.now) (raws_of arrays.now)) body) }
+{
     let mut written = body;
-    for node in 0..count {
-        written = put_node(written, align, source, node)?;
+    for array in arrays {
+        written = put_column(written, align, &Source::Slots(array))?;
     }
     Ok(written)
 }
 
-// Appends all nodes of the array's column, and their buffers. Children that are sent whole are
-// columns by themselves after the array's own node (Columnar Format, "RecordBatch message").
+// Appends the columns that are sent below a column's own node.
 #[cycle(put)]
-fn put_column(body: Body, align: Align, array: &Array) -> Result<Body, AllocError>
-    requires told { AreTold (array.now ∷ []) }
-    requires raws { AreRaws (fields_of_columns (array.now ∷ [])) (raws_of (array.now ∷ [])) }
+fn put_below(body: Body, align: Align, source: &Source) -> Result<Body, AllocError>
+    requires source { IsSource source.now }
+    requires told { AreTold (sent_below (column_in source.now)) }
+    requires raws { AreRaws (fields_of_columns (column_in source.now ∷ [])) (raws_of (column_in source.now ∷ [])) }
     ensures { IfOk result (Stores (alignment_of align)
-        (stored_nodes (fields_of_columns (array.now ∷ [])) (raws_of (array.now ∷ [])))
-        (stored_chunks (fields_of_columns (array.now ∷ [])) (raws_of (array.now ∷ []))) body) }
+        (stored_nodes (fields_of_columns (sent_below (column_in source.now))) (raws_of (sent_below (column_in source.now))))
+        (stored_chunks (fields_of_columns (sent_below (column_in source.now))) (raws_of (sent_below (column_in source.now)))) body) }
 {
-    let Some(children) = whole_below(array) else {
-        return put_by_number(body, align, &Source::Slots(array));
-    };
-    let mut written = put_own(body, align, array)?;
-    for child in children {
-        written = put_column(written, align, child)?;
+    let mut written = body;
+    for k in 0..source.width() {
+        written = put_column(written, align, &source.below(k))?;
     }
     Ok(written)
 }
@@ -271,10 +285,7 @@ pub fn store_in(room: Body, arrays: &[Array], align: Align) -> Result<Body, Allo
 {
     let count = nodes_in_all(arrays);
     let empty = begun(room, count)?;
-    let mut body = empty;
-    for array in arrays {
-        body = put_column(body, align, array)?;
-    }
+    let body = put_columns(empty, align, arrays)?;
     Ok(body)
 }
 
@@ -330,9 +341,8 @@ pub fn store_rest_in(
         (fields_of_columns (rest_of dictionary.now from ∷ []))
         b.nodes.items b.buffers.items b.bytes.items) }
 {
-    let source = Source::Rest(dictionary, from);
-    let count = nodes_in(&source);
+    let count = nodes_in_rest(dictionary);
     let empty = begun(room, count)?;
-    let rest = put_by_number(empty, align, &source)?;
+    let rest = put_column(empty, align, &Source::Rest(dictionary, from))?;
     Ok(rest)
 }

@@ -14,6 +14,7 @@ use crate::packing::Pending;
 use crate::part::Part;
 use crate::pass::Pass;
 use crate::slice::Slice;
+use crate::steps::Steps;
 use crate::writing::{Writing, put_zeros};
 use std::alloc::AllocError;
 
@@ -44,7 +45,7 @@ fn put_part(out: Vec<u8>, part: Part, node: &Counted) -> Result<Vec<u8>, AllocEr
     ensures { IfOk result (λ written.
         written.items ≡ out.items ++ part_bytes part (sent_at node.now)) }
 {
-    if let Some(slice) = node.source.own_slots(node.number) {
+    if let Some(slice) = node.source.own_slots() {
         return put_slice(out, part, slice);
     }
     let mut writing = Writing {
@@ -54,7 +55,7 @@ fn put_part(out: Vec<u8>, part: Part, node: &Counted) -> Result<Vec<u8>, AllocEr
     };
     writing.begin(part)?;
     let mut pass = Pass::Put(part, writing);
-    node.source.send(&mut pass, node.number)?;
+    node.source.send(&mut pass, &Steps::Here)?;
     match pass {
         Pass::Put(part, mut writing) => {
             writing.finish(part)?;

@@ -1,22 +1,20 @@
-//! How many nodes a column has, and which form each has.
+//! How many nodes a column has.
 
-ghost use Rattle.std.specs.Prelude.{◌≡◌, ◌<◌, [], ◌∷◌};
+ghost use Rattle.std.specs.Prelude.{◌≡◌, ℕ, [], ◌∷◌};
 ghost use Rattle.arrow_types.specs.View.{fields_view, type_view};
 ghost use Rattle.arrow_data.specs.Form.{HasFieldsOf, form_of};
-ghost use Rattle.arrow_body_reader.specs.Taken.{taken_nodes};
+ghost use Rattle.arrow_body_reader.specs.Taken.{IfFlattened, taken_nodes};
 ghost use Rattle.arrow_body_laws.specs.Formed.{AreFormed};
 ghost use Rattle.arrow_body_laws.specs.Laws.{raws_of};
 ghost use Rattle.arrow_body_laws.specs.Raws.{AreRaws};
 ghost use Rattle.arrow_body_laws.specs.Stored.{fields_of_columns};
-ghost use Rattle.arrow_body_writer.specs.Sent.{form_in, form_of_column, nodes_of_column};
-ghost use Rattle.arrow_body_writer.specs.Source.{column_in};
+ghost use Rattle.arrow_body_writer.specs.Sent.{nodes_of_column, nodes_of_type};
+ghost use Rattle.arrow_body_writer.specs.Source.{rest_of};
 ghost use Rattle.arrow_body_writer.specs.Tally.{capped};
 
-use crate::nodes::find;
-use crate::source::Source;
-use arrow_data::Array;
-use arrow_data::form::{Form, form_of, node_form};
-use arrow_types::{DataType, Field};
+use arrow_data::form::{Form, form_of};
+use arrow_data::{Array, Dictionary};
+use arrow_types::{DataType, Encoding, Field};
 
 // How many nodes the fields have, or the greatest number where there are more. Below each type
 // stand the fields that it asks for.
@@ -50,47 +48,37 @@ pub(crate) fn count_below(data_type: &DataType) -> usize
     }
 }
 
-// The form of a node of the fields.
-#[cycle(formed)]
-fn form_below(fields: &[Field], node: usize) -> Form
-    requires { node < taken_nodes (fields_view fields.now) }
-    ensures { result ≡ form_in (fields_view fields.now) node }
+// How many nodes a column of the type and the encoding has, or the greatest number where there are
+// more. Below each type stand the fields that it asks for.
+fn count_column(data_type: &DataType, encoding: Option<Encoding>) -> usize
+    ensures count { result ≡ capped (nodes_of_type (type_view data_type.now) encoding) }
+    ensures formed { IfFlattened encoding (HasFieldsOf (form_of (type_view data_type.now).tag)
+        (type_view data_type.now).children × AreFormed (type_view data_type.now).children) }
 {
-    let Some(found) = find(fields, node) else {
-        return Form::Nulls;
-    };
-    let field = &fields[found.field];
-    if found.node == 0 {
-        node_form(&field.data_type, field.dictionary)
-    } else {
-        form_below(field.data_type.children(), found.node - 1)
-    }
-}
-
-// The form of a node of the column.
-pub(crate) fn form_of_node(source: &Source, node: usize) -> Form
-    requires { node < nodes_of_column (column_in source.now) }
-    ensures { result ≡ form_of_column (column_in source.now) node }
-{
-    if node == 0 {
-        node_form(source.data_type(), source.encoding())
-    } else {
-        form_below(source.data_type().children(), node - 1)
-    }
-}
-
-// How many nodes the column has, or the greatest number where there are more. Below each type
-// stand the fields that it asks for, so that the raw values can be stored.
-pub(crate) fn nodes_in(source: &Source) -> usize
-    ensures count { result
-        ≡ capped (nodes_of_column (column_in source.now)) }
-    ensures raws { AreRaws (fields_of_columns (column_in source.now ∷ [])) (raws_of (column_in source.now ∷ [])) }
-{
-    let data_type = source.data_type();
-    match source.encoding() {
+    match encoding {
         Some(_) => 1,
         None => count_below(data_type).saturating_add(1),
     }
+}
+
+// How many nodes the array's column has, or the greatest number where there are more. Its raw
+// values can be stored.
+pub(crate) fn nodes_in(array: &Array) -> usize
+    ensures count { result ≡ capped (nodes_of_column array.now) }
+    ensures raws { AreRaws (fields_of_columns (array.now ∷ [])) (raws_of (array.now ∷ [])) }
+{
+    // What is known of every array is asked for, so that the proof has it.
+    let _slots = array.len();
+    count_column(array.data_type(), array.encoding().copied())
+}
+
+// The same of a column of values of the dictionary.
+pub(crate) fn nodes_in_rest(dictionary: &Dictionary) -> usize
+    ensures count { (from : ℕ) → result ≡ capped (nodes_of_column (rest_of dictionary.now from)) }
+    ensures raws { (from : ℕ) → AreRaws (fields_of_columns (rest_of dictionary.now from ∷ []))
+        (raws_of (rest_of dictionary.now from ∷ [])) }
+{
+    count_column(dictionary.data_type(), None)
 }
 
 // How many nodes the columns of the arrays have, or the greatest number where there are more. Their
@@ -101,7 +89,7 @@ pub(crate) fn nodes_in_all(arrays: &[Array]) -> usize
 {
     let mut count: usize = 0;
     for array in arrays {
-        count = count.saturating_add(nodes_in(&Source::Slots(array)));
+        count = count.saturating_add(nodes_in(array));
     }
     count
 }

@@ -11,32 +11,35 @@
 //! validity bitmap are copied with the bytes under nulls, which are cleared in the copy (`masked`).
 //! Offsets and the bytes between them are copied where nothing lies under a null (`offsets`), and
 //! to each offset so much is added as the buffer has gone on (`spans`). Of all other slots no byte
-//! is copied that stood under a null. A node is known by its number in pre-order. An array's own
-//! node has all its slots. One walk finds those that a node below lists and structs is sent, and
-//! counts them or writes one of its buffers (`pass`); nothing is kept of them. Where a struct or a
-//! list is sent all slots of its children (`whole`), these are laid out as columns by themselves
-//! after its own node: so the work grows with the nodes, and not with their square. A column with
-//! nulls above others, or with slots that it does not send, is walked from its own node to each.
+//! is copied that stood under a null.
+//!
+//! A column is stored level by level: its own node, and then the columns that are sent below it. An
+//! array's own node has all its slots, and where each child of a list or a struct is sent just its
+//! own slots (`whole`) the children are such columns again. Else a column says from which one above
+//! it is sent (`source`): then one walk from the array down along the steps to it counts its slots or
+//! writes one of its buffers (`pass`), and nothing is kept of them. So the work grows with the
+//! nodes, and under nulls and slots that are not sent with the levels above each, too.
 //!
 //! | Notion | Definition |
 //! |---|---|
 //! | the alignment | `specs/Align.antt`: `alignment_of` |
 //! | columns that can be stored, their size | `specs/Storable.antt`: `CanBeStored`, `columns_size` |
 //! | what is added to a body | `specs/Storing.antt`: `Stores` |
-//! | where values come from | `specs/Source.antt`: `rest_of`, `column_in` |
-//! | nodes by their numbers, and what each is sent | `specs/Sent.antt`: `IsNodeOf`, `sent_to` |
+//! | where a column's values come from | `specs/Source.antt`: `rest_of`, `column_in` |
+//! | what is sent along steps, and below a column | `specs/Sent.antt`: `sent_along`, `sent_below` |
 //! | slots one after another | `specs/Slice.antt`: `IsSlice`, `values_in` |
-//! | a node whose slots are counted | `specs/Counts.antt`: `IsCounted`, `sent_at` |
+//! | a column whose slots are counted | `specs/Counts.antt`: `IsCounted`, `sent_at` |
 //! | slots passed, and counted | `specs/Pass.antt`: `Takes`; `specs/Tally.antt`: `IsTally` |
 //! | children that are sent whole | `specs/Whole.antt`: `AreSentWhole` |
 //! | a buffer on its way | `specs/Part.antt`: `IsWritten`; `specs/Packing.antt`; `specs/Runs.antt` |
 //! | offsets, bitmaps as they lie | `specs/Offsets.antt`: `AreHeld`; `specs/Marks.antt`: `AreMarked` |
 //!
-//! Of the proofs, `Sending` says what nodes are sent, `Passing`, `RunPasses` and `Sources` what a
-//! pass takes of that, `Levels` goes from levels to the numbers of nodes, `Chunks` shows that a body
-//! to which all columns were added is the stored one, `Wholes` when children are sent whole,
-//! `FullNodes` what is sent of nodes without a null, `Marking` and `Bytewise` speak of bitmaps,
-//! `Numbering` of numbers that are cleared, `Holding`, `Moving` and `Spanning` of offsets.
+//! Of the proofs, `Sending` says what is sent along steps and below a column, `Passing`, `RunPasses`
+//! and `Sources` what a pass takes of that, `Chunks` shows that a body to which all columns were added
+//! is the stored one, `Wholes` when children are sent whole, and that a column is its own node and
+//! what is sent below it, `FullNodes` what is sent of nodes without a null, `Marking` and `Bytewise`
+//! speak of bitmaps, `Numbering` of numbers that are cleared, `Holding`, `Moving` and `Spanning` of
+//! offsets.
 #![tactic(auto)]
 
 pub(crate) mod align;
@@ -47,7 +50,6 @@ pub(crate) mod counts;
 pub(crate) mod forms;
 pub(crate) mod masked;
 pub(crate) mod measured;
-pub(crate) mod nodes;
 pub(crate) mod offsets;
 pub(crate) mod packing;
 pub(crate) mod part;
@@ -58,6 +60,7 @@ pub(crate) mod slice;
 pub(crate) mod slots;
 pub(crate) mod source;
 pub(crate) mod spans;
+pub(crate) mod steps;
 pub(crate) mod tally;
 pub(crate) mod whole;
 pub(crate) mod writing;

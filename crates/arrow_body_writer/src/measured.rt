@@ -1,40 +1,36 @@
 //! How long a body is, before it is written.
 
 ghost use Rattle.std.specs.Prelude.{◌≡◌, ◌≤◌, ◌<◌, ◌^◌, [], ◌∷◌, IfSome, MatchOption};
-ghost use Rattle.std.specs.List.{sum_by};
+ghost use Rattle.std.specs.List.{AllByRecursion, sum_by};
+ghost use Rattle.arrow_data.specs.Column.{Column};
 ghost use Rattle.arrow_body_laws.specs.Laws.{raws_of};
 ghost use Rattle.arrow_body_laws.specs.Raws.{AreRaws, IsSmall};
 ghost use Rattle.arrow_body_laws.specs.Size.{own_sizes};
 ghost use Rattle.arrow_body_laws.specs.Stored.{fields_of_columns, rounded};
 ghost use Rattle.arrow_body_writer.specs.Align.{alignment_of};
-ghost use Rattle.arrow_body_writer.specs.Sent.{form_of_column, nodes_of_column, sent_to};
-ghost use Rattle.arrow_body_writer.specs.Source.{column_in, rest_of};
+ghost use Rattle.arrow_body_writer.specs.Sent.{form_of_column, nodes_of_column, sent_below};
+ghost use Rattle.arrow_body_writer.specs.Source.{IsSource, column_in, rest_of};
 ghost use Rattle.arrow_body_writer.specs.Storable.{AreTold, CanBeStored, columns_size};
 ghost use Rattle.arrow_body_writer.specs.Tally.{capped};
 
 use crate::align::Align;
 use crate::counts::count_sent;
-use crate::forms::{form_of_node, nodes_in};
+use crate::forms::{nodes_in, nodes_in_rest};
 use crate::sizes::{is_small, node_size};
 use crate::source::Source;
-use crate::whole::whole_below;
 use arrow_data::{Array, Dictionary};
 
-// The bytes of the buffers of a node of the column, each padded; None where the node cannot be
-// told.
-fn size_of_node(align: Align, source: &Source, node: usize) -> Option<u64>
-    requires { node < nodes_of_column (column_in source.now) }
+// The bytes of the buffers of the column's own node, each padded; None where it cannot be told.
+fn own_size(align: Align, source: &Source) -> Option<u64>
+    requires { IsSource source.now }
     ensures { MatchOption result
-        (IsSmall (form_of_column (column_in source.now) node)
-        (sent_to (column_in source.now) node) → ⊥)
-        (λ size. IsSmall (form_of_column (column_in source.now) node)
-        (sent_to (column_in source.now) node)
+        (IsSmall (form_of_column (column_in source.now)) (column_in source.now).raw → ⊥)
+        (λ size. IsSmall (form_of_column (column_in source.now)) (column_in source.now).raw
         × (size ≡ sum_by (rounded (alignment_of align))
-        (own_sizes (form_of_column (column_in source.now) node)
-        (sent_to (column_in source.now) node)))) }
+        (own_sizes (form_of_column (column_in source.now)) (column_in source.now).raw))) }
 {
-    let form = form_of_node(source, node);
-    let tally = count_sent(form, source, node);
+    let form = source.form();
+    let tally = count_sent(form, source);
     if is_small(form, tally) {
         Some(node_size(align, form, tally))
     } else {
@@ -42,68 +38,56 @@ fn size_of_node(align: Align, source: &Source, node: usize) -> Option<u64>
     }
 }
 
-// The bytes that the column has in a body, node by node, or the greatest number where there are
-// more; None where its nodes cannot be told.
-fn size_by_number(align: Align, source: &Source) -> Option<u64>
-    ensures size { MatchOption result (AreTold (column_in source.now ∷ []) → ⊥) (λ size.
+// The bytes that the column has in a body, or the greatest number where there are more; None where
+// its nodes cannot be told, which are not too many. They are those of its own node, and of the
+// columns that are sent below it.
+#[cycle(size)]
+fn column_size(align: Align, source: &Source) -> Option<u64>
+    requires source { IsSource source.now }
+    requires counted { nodes_of_column (column_in source.now) < 18446744073709551615 }
+    requires raws { AreRaws (fields_of_columns (column_in source.now ∷ [])) (raws_of (column_in source.now ∷ [])) }
+    ensures { MatchOption result (AreTold (column_in source.now ∷ []) → ⊥) (λ size.
         AreTold (column_in source.now ∷ [])
         × (size ≡ capped (columns_size (alignment_of align) (column_in source.now ∷ [])))) }
-    ensures raws { AreRaws (fields_of_columns (column_in source.now ∷ [])) (raws_of (column_in source.now ∷ [])) }
 {
-    let count = nodes_in(source);
-    if count == usize::MAX {
-        return None;
-    }
-    let mut size: u64 = 0;
-    for node in 0..count {
-        let Some(own) = size_of_node(align, source, node) else {
-            return None;
-        };
-        size = size.saturating_add(own);
-    }
-    Some(size)
+    let own = own_size(align, source)?;
+    let below = match source.whole_below() {
+        Some(children) => whole_size(align, children)?,
+        None => size_below(align, source)?,
+    };
+    Some(own.saturating_add(below))
 }
 
-// The bytes that the array's column has in a body, or the greatest number where there are more;
-// None where its nodes cannot be told, which are not too many. Children that are sent whole are
-// columns by themselves after the array's own node.
+// The same of the columns of arrays.
 #[cycle(size)]
-fn size_by_level(align: Align, array: &Array) -> Option<u64>
-    requires { nodes_of_column array.now < 18446744073709551615 }
-    ensures { MatchOption result (AreTold (array.now ∷ []) → ⊥) (λ size.
-        AreTold (array.now ∷ [])
-        × (size ≡ capped (columns_size (alignment_of align) (array.now ∷ [])))) }
+fn whole_size(align: Align, arrays: &[Array]) -> Option<u64>
+    requires counted { AllByRecursion (λ (c : Column). nodes_of_column c < 18446744073709551615) arrays.now }
+    requires raws { AreRaws (fields_of_columns arrays.now) (raws_of arrays.now) }
+    ensures { MatchOption result (AreTold arrays.now → ⊥) (λ size.
+        AreTold arrays.now × (size ≡ capped (columns_size (alignment_of align) arrays.now))) }
 {
-    let source = Source::Slots(array);
-    let Some(children) = whole_below(array) else {
-        return size_by_number(align, &source);
-    };
-    let Some(own) = size_of_node(align, &source, 0) else {
-        return None;
-    };
-    let mut size = own;
-    for child in children {
-        let Some(below) = size_by_level(align, child) else {
-            return None;
-        };
-        size = size.saturating_add(below);
+    let mut size: u64 = 0;
+    for array in arrays {
+        size = size.saturating_add(column_size(align, &Source::Slots(array))?);
     }
     Some(size)
 }
 
-// The bytes that the array's column has in a body, or the greatest number where there are more;
-// None where its nodes cannot be told. They are counted once.
-fn column_size(align: Align, array: &Array) -> Option<u64>
-    ensures size { MatchOption result (AreTold (array.now ∷ []) → ⊥) (λ size.
-        AreTold (array.now ∷ [])
-        × (size ≡ capped (columns_size (alignment_of align) (array.now ∷ [])))) }
-    ensures raws { AreRaws (fields_of_columns (array.now ∷ [])) (raws_of (array.now ∷ [])) }
+// The same of the columns that are sent below a column's own node.
+#[cycle(size)]
+fn size_below(align: Align, source: &Source) -> Option<u64>
+    requires source { IsSource source.now }
+    requires counted { nodes_of_column (column_in source.now) < 18446744073709551615 }
+    requires raws { AreRaws (fields_of_columns (column_in source.now ∷ [])) (raws_of (column_in source.now ∷ [])) }
+    ensures { MatchOption result (AreTold (sent_below (column_in source.now)) → ⊥) (λ size.
+        AreTold (sent_below (column_in source.now))
+        × (size ≡ capped (columns_size (alignment_of align) (sent_below (column_in source.now))))) }
 {
-    if nodes_in(&Source::Slots(array)) == usize::MAX {
-        None
-    } else {
-        size_by_level(align, array)
+    let mut size: u64 = 0;
+    for k in 0..source.width() {
+        size = size.saturating_add(column_size(align, &source.below(k))?);
     }
+    Some(size)
 }
 
 // The size where a body may be so long, None where it is more than 2^62 bytes.
@@ -131,9 +115,10 @@ pub fn body_size(arrays: &[Array], align: Align) -> Option<u64>
 {
     let mut size: u64 = 0;
     for array in arrays {
-        let Some(column) = column_size(align, array) else {
+        if nodes_in(array) == usize::MAX {
             return None;
-        };
+        }
+        let column = column_size(align, &Source::Slots(array))?;
         size = size.saturating_add(column);
     }
     allowed(size)
@@ -154,8 +139,9 @@ pub fn rest_size(dictionary: &Dictionary, from: usize, align: Align) -> Option<u
         AreRaws (fields_of_columns (rest_of dictionary.now from ∷ []))
         (raws_of (rest_of dictionary.now from ∷ []))) }
 {
-    let Some(size) = size_by_number(align, &Source::Rest(dictionary, from)) else {
+    if nodes_in_rest(dictionary) == usize::MAX {
         return None;
-    };
+    }
+    let size = column_size(align, &Source::Rest(dictionary, from))?;
     allowed(size)
 }

@@ -1,7 +1,7 @@
 //! Slots of an array, one after another.
 
-ghost use Rattle.std.specs.Prelude.{IsTrue};
-ghost use Rattle.arrow_body_writer.specs.Slice.{IsFull, IsSlice};
+ghost use Rattle.std.specs.Prelude.{◌≡◌, IsTrue};
+ghost use Rattle.arrow_body_writer.specs.Slice.{IsFull, IsSlice, values_in};
 
 use arrow_data::Array;
 
@@ -19,4 +19,17 @@ pub(crate) fn is_without_null(slice: Slice<'_>) -> bool
     ensures { IsTrue result → IsFull slice.entry }
 {
     slice.array.first_null(slice.start, slice.stop) == slice.stop
+}
+
+// All slots of an array.
+pub(crate) fn all_slots(array: &Array) -> Slice<'_>
+    ensures slots { IsSlice result }
+    ensures all { values_in result ≡ array.now.raw }
+    ensures array { result.array.now ≡ array.now }
+{
+    Slice {
+        array,
+        start: 0,
+        stop: array.len(),
+    }
 }

@@ -1,18 +1,27 @@
-//! Where the raw values of a column come from: an array, or the rest of a dictionary.
+//! Where the raw values of a column come from: an array, the rest of a dictionary, or the lists or
+//! structs above it.
 
-ghost use Rattle.std.specs.Prelude.{◌≡◌, ◌<◌, IfSome, OnErr, OnOk, None};
+ghost use Rattle.std.specs.Prelude.{◌≡◌, ◌<◌, IfSome, MatchOption, OnErr, OnOk, None, Some, [], ◌∷◌, length, slice_get};
 ghost use Rattle.std.specs.List.{AllByRecursion};
+ghost use Rattle.arrow_types.specs.Field.{width};
 ghost use Rattle.arrow_types.specs.View.{type_view};
-ghost use Rattle.arrow_data.specs.Fits.{AllFit};
+ghost use Rattle.arrow_data.specs.Column.{type_of_field};
+ghost use Rattle.arrow_body_laws.specs.Laws.{raws_of};
+ghost use Rattle.arrow_body_laws.specs.Raws.{AreRaws};
+ghost use Rattle.arrow_body_laws.specs.Stored.{fields_of_columns};
 ghost use Rattle.arrow_body_writer.specs.Pass.{HasPlace, Takes, part_in};
-ghost use Rattle.arrow_body_writer.specs.Sent.{nodes_of_column, sent_to};
+ghost use Rattle.arrow_body_writer.specs.Sent.{LeadDown, form_of_column, sent_along, sent_below};
 ghost use Rattle.arrow_body_writer.specs.Slice.{IsSlice, values_in};
-ghost use Rattle.arrow_body_writer.specs.Source.{column_in, rest_of};
+ghost use Rattle.arrow_body_writer.specs.Source.{IsSource, column_in, rest_of};
+ghost use Rattle.arrow_body_writer.specs.Whole.{AreSentWhole};
 
 use crate::pass::Pass;
-use crate::slice::Slice;
+use crate::slice::{Slice, all_slots};
+use crate::steps::Steps;
+use crate::whole::whole_below;
+use arrow_data::form::{Form, node_form};
 use arrow_data::{Array, Dictionary};
-use arrow_types::{DataType, Encoding};
+use arrow_types::{DataType, Encoding, Field};
 use std::alloc::AllocError;
 
 // A column that is stored.
@@ -23,94 +32,142 @@ pub(crate) enum Source<'a> {
     // The values of a dictionary from this one on, in a column without an encoding: none where the
     // dictionary has no more than so many values (`Message.fbs`, table `DictionaryBatch`).
     Rest(&'a Dictionary, usize),
+    // The items of the lists of a column (Columnar Format, "Variable-size List Layout").
+    Items(&'a Source<'a>),
+    // This field of the structs of a column, null where these are (Columnar Format, "Struct
+    // Layout").
+    Field(&'a Source<'a>, usize),
+}
+
+// The child field at a place.
+fn child_field(data_type: &DataType, k: usize) -> &Field
+    requires { k < width (type_view data_type.now).children }
+    ensures { type_of_field (type_view data_type.now).children k
+        ≡ Some (type_view result.now.data_type, result.now.dictionary) }
+{
+    &data_type.children()[k]
 }
 
 impl<'a> Source<'a> {
-    // The type of the values, which they fit.
+    // The type of the values.
     pub(crate) fn data_type(&self) -> &DataType
-        ensures same { type_view result.now ≡ (column_in self.now).data_type }
-        ensures fit { AllFit (column_in self.now).data_type (column_in self.now).encoding
-            (column_in self.now).raw }
+        requires { IsSource self.now }
+        ensures { type_view result.now ≡ (column_in self.now).data_type }
     {
         match self {
-            Source::Slots(array) => {
-                // What is known of every array is asked for, so that the proof has it.
-                let _slots = array.len();
-                array.data_type()
-            }
+            Source::Slots(array) => array.data_type(),
             Source::Rest(dictionary, _) => dictionary.data_type(),
+            Source::Items(lists) => &child_field(lists.data_type(), 0).data_type,
+            Source::Field(structs, k) => &child_field(structs.data_type(), *k).data_type,
         }
     }
 
     // How the column refers to its dictionary.
     pub(crate) fn encoding(&self) -> Option<Encoding>
+        requires { IsSource self.now }
         ensures { result ≡ (column_in self.now).encoding }
     {
         match self {
             Source::Slots(array) => array.encoding().copied(),
             Source::Rest(..) => None,
+            Source::Items(lists) => child_field(lists.data_type(), 0).dictionary,
+            Source::Field(structs, k) => child_field(structs.data_type(), *k).dictionary,
         }
     }
 
-    // All slots of the array, where the node is the array's own.
-    pub(crate) fn own_slots(&self, node: usize) -> Option<Slice<'a>>
-        ensures slots { IfSome result (λ slice. IsSlice slice) }
-        ensures sent { IfSome result (λ slice.
-            values_in slice ≡ sent_to (column_in self.now) node) }
+    // The form of the column's own node.
+    pub(crate) fn form(&self) -> Form
+        requires { IsSource self.now }
+        ensures { result ≡ form_of_column (column_in self.now) }
     {
-        if node > 0 {
-            return None;
-        }
+        node_form(self.data_type(), self.encoding())
+    }
+
+    // All slots of the array, where the column is an array's.
+    pub(crate) fn own_slots(&self) -> Option<Slice<'a>>
+        ensures slots { IfSome result (λ slice. IsSlice slice) }
+        ensures sent { IfSome result (λ slice. values_in slice ≡ (column_in self.now).raw) }
+    {
         match self {
-            Source::Slots(array) => Some(Slice {
-                array,
-                start: 0,
-                stop: array.len(),
-            }),
-            Source::Rest(..) => None,
+            Source::Slots(array) => Some(all_slots(array)),
+            _ => None,
         }
     }
 
-    // Takes what all slots of the column send to one of its nodes.
-    pub(crate) fn send(&self, pass: &mut Pass, node: usize) -> Result<(), AllocError>
-        requires there { node < nodes_of_column (column_in self.now) }
+    // The children of an array, where they are sent whole.
+    pub(crate) fn whole_below(&self) -> Option<&'a [Array]>
+        ensures { IfSome result (λ children. AreSentWhole (column_in self.now) children.now) }
+    {
+        match self {
+            Source::Slots(array) => whole_below(array),
+            _ => None,
+        }
+    }
+
+    // How many columns are sent below the column's own node: none below a dictionary-encoded one.
+    pub(crate) fn width(&self) -> usize
+        requires source { IsSource self.now }
+        requires raws { AreRaws (fields_of_columns (column_in self.now ∷ [])) (raws_of (column_in self.now ∷ [])) }
+        ensures { result ≡ length (sent_below (column_in self.now)) }
+    {
+        match self.encoding() {
+            Some(_) => 0,
+            None => self.data_type().children().len(),
+        }
+    }
+
+    // The column at a place among these.
+    pub(crate) fn below(&self, k: usize) -> Source<'_>
+        requires source { IsSource self.now }
+        requires raws { AreRaws (fields_of_columns (column_in self.now ∷ [])) (raws_of (column_in self.now ∷ [])) }
+        requires inside { k < length (sent_below (column_in self.now)) }
+        ensures source { IsSource result }
+        ensures same { slice_get (sent_below (column_in self.now)) k ≡ Some (column_in result) }
+    {
+        match self.form() {
+            Form::Lists(_) => Source::Items(self),
+            _ => Source::Field(self, k),
+        }
+    }
+
+    // Takes what all slots of the column send along the steps.
+    pub(crate) fn send(&self, pass: &mut Pass, steps: &Steps<'_>) -> Result<(), AllocError>
+        requires source { IsSource self.now }
+        requires down { LeadDown steps.now (column_in self.now).data_type (column_in self.now).encoding }
         requires room { AllByRecursion (HasPlace (part_in pass.old))
-            (sent_to (column_in self.now) node) }
-        ensures ok { OnOk result (Takes pass.old pass.new (sent_to (column_in self.now) node)) }
+            (sent_along steps.now (column_in self.now).raw) }
+        ensures ok { OnOk result
+            (Takes pass.old pass.new (sent_along steps.now (column_in self.now).raw)) }
         ensures err { OnErr result (part_in pass.old ≡ None → ⊥) }
     {
         match self {
-            Source::Slots(array) => {
-                let all = Slice {
-                    array,
-                    start: 0,
-                    stop: array.len(),
-                };
-                pass.take_sent(all, node)
-            }
-            Source::Rest(dictionary, from) => take_rest(pass, dictionary, *from, node),
+            Source::Slots(array) => pass.take_along(all_slots(array), steps),
+            Source::Rest(dictionary, from) => take_rest(pass, dictionary, *from, steps),
+            Source::Items(lists) => lists.send(pass, &Steps::Items(&*steps)),
+            Source::Field(structs, k) => structs.send(pass, &Steps::Field(*k, &*steps)),
         }
     }
 }
 
-// Takes what the values of a dictionary from one on send to a node, array by array.
+// Takes what the values of a dictionary from one on send along the steps, array by array.
 fn take_rest(
     pass: &mut Pass,
     dictionary: &Dictionary,
     from: usize,
-    node: usize,
+    steps: &Steps<'_>,
 ) -> Result<(), AllocError>
-    requires there { node < nodes_of_column (rest_of dictionary.now from) }
+    requires down { LeadDown steps.now dictionary.now.data_type None }
     requires room { AllByRecursion (HasPlace (part_in pass.old))
-        (sent_to (rest_of dictionary.now from) node) }
-    ensures ok { OnOk result (Takes pass.old pass.new (sent_to (rest_of dictionary.now from) node)) }
+        (sent_along steps.now (rest_of dictionary.now from).raw) }
+    ensures ok { OnOk result
+        (Takes pass.old pass.new (sent_along steps.now (rest_of dictionary.now from).raw)) }
     ensures err { OnErr result (part_in pass.old ≡ None → ⊥) }
 {
     let mut i = from;
     while i < dictionary.len() {
         let (array, start) = dictionary.value(i);
         let stop = array.len();
-        pass.take_sent(Slice { array, start, stop }, node)?;
+        pass.take_along(Slice { array, start, stop }, steps)?;
         i += stop - start;
     }
     Ok(())

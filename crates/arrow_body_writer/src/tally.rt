@@ -71,7 +71,7 @@ fn reach(form: Form, slice: Slice<'_>) -> Option<usize>
         Form::Bytes(_) => string_reach(slice),
         Form::Texts(_) => string_reach(slice),
         Form::Lists(_) => list_reach(slice),
-        _ => { Some(0) }
+        _ => Some(0),
     }
 }
 

@@ -60,16 +60,17 @@ fn whole_fields(array: &Array) -> Option<&[Array]>
     }
 }
 
-// Whether the column has no encoding, and by its type nothing stands below it.
+// Whether nothing stands below the column: below one of indices (its children come with the
+// dictionary), and below a type without children.
 fn is_leaf(array: &Array) -> bool
     ensures { IsTrue result → AreSentWhole array.now [] }
 {
     let form = form_of(array.data_type());
-    array.encoding().is_none() && form.is_leaf()
+    array.encoding().is_some() || form.is_leaf()
 }
 
 // The children of lists or structs, where each is sent just its own slots: so it can be laid out as
-// a column by itself. A column of another type has none. None also of a column with an encoding.
+// a column by itself. A column with an encoding or of another type has none.
 pub(crate) fn whole_below(array: &Array) -> Option<&[Array]>
     ensures { IfSome result (λ children. AreSentWhole array.now children.now) }
 {

@@ -1,21 +1,32 @@
-use Rattle.std.proofs.Common.{[], ◌∷◌, drop}
-use Rattle.arrow_data.specs.Column.{column_size}
+use Rattle.std.proofs.Common.{drop}
+use Rattle.arrow_data.specs.Same.{parts_measure, slot_measure}
 use Rattle.arrow_body_laws.specs.Laws.{raws_of}
 use Rattle.arrow_body_laws.specs.Raws.{AreRaws}
-use Rattle.arrow_body_laws.specs.Stored.{fields_of_columns, stored_chunks, stored_nodes}
-use Rattle.arrow_body_writer.proofs.Chunks.{Leads}
+use Rattle.arrow_body_laws.specs.Stored.{fields_of_columns}
+use Rattle.arrow_body_writer.proofs.Chunks.{StoresUpTo}
 use Rattle.arrow_body_writer.specs.Align.{alignment_of}
+use Rattle.arrow_body_writer.specs.Sent.{sent_below}
+use Rattle.arrow_body_writer.specs.Source.{column_in}
 use Rattle.arrow_body_writer.specs.Storable.{AreTold}
-use Rattle.arrow_body_writer.specs.Storing.{Stores}
 use Rattle.arrow_body_writer.proofs.body.+put.Given as goal
 
--- a child is smaller than the column
+-- what is sent below a column is smaller than the column
 abbrev pub decreases-put_column : goal.decreases-put_column
-decreases-put_column l = column_size l.array.now
+decreases-put_column l = slot_measure (column_in l.source.now)
 
--- the children to come can be told and stored, and with them the column is stored
-abbrev pub invariant-loop-child : goal.invariant-loop-child
-invariant-loop-child l =
-    AreTold (drop l.child-index l.children) × AreRaws (fields_of_columns (drop l.child-index l.children)) (raws_of (drop l.child-index l.children))
-    × Leads (alignment_of l.align) (drop l.child-index l.children)
-    (Stores (alignment_of l.align) (stored_nodes (fields_of_columns (l.array ∷ [])) (raws_of (l.array ∷ []))) (stored_chunks (fields_of_columns (l.array ∷ [])) (raws_of (l.array ∷ []))) l.fn.body) l.written
+abbrev pub decreases-put_columns : goal.decreases-put_columns
+decreases-put_columns l = parts_measure l.arrays.now
+
+abbrev pub decreases-put_below : goal.decreases-put_below
+decreases-put_below l = parts_measure (sent_below (column_in l.source.now))
+
+-- the columns to come can be told and stored, and with them all are stored
+abbrev pub invariant-put_columns-loop-array : goal.invariant-put_columns-loop-array
+invariant-put_columns-loop-array l =
+    AreTold (drop l.array-index l.arrays) × AreRaws (fields_of_columns (drop l.array-index l.arrays)) (raws_of (drop l.array-index l.arrays))
+    × StoresUpTo (alignment_of l.align) l.arrays (drop l.array-index l.arrays) l.fn.body l.written
+
+abbrev pub invariant-put_below-loop-k : goal.invariant-put_below-loop-k
+invariant-put_below-loop-k l =
+    AreTold (drop l.k (sent_below (column_in l.source))) × AreRaws (fields_of_columns (drop l.k (sent_below (column_in l.source)))) (raws_of (drop l.k (sent_below (column_in l.source))))
+    × StoresUpTo (alignment_of l.align) (sent_below (column_in l.source)) (drop l.k (sent_below (column_in l.source))) l.fn.body l.written

@@ -4,7 +4,6 @@ use Rattle.arrow_body_writer.proofs.Chunks.{chunk_next, chunk_past, some_alignme
 use Rattle.arrow_body_writer.proofs.Rooms.{node_rooms}
 use Rattle.arrow_body_writer.specs.Align.{alignment_of}
 use Rattle.arrow_body_writer.specs.Part.{chunk_of, part_of}
-use Rattle.arrow_body_writer.specs.Sent.{sent_by}
 use Rattle.arrow_body_writer.specs.Storing.{Stores}
 use Rattle.arrow_body_writer.specs.Source.{column_in}
 use Rattle.arrow_body_writer.proofs.body.put_node.Goals as goal
@@ -13,17 +12,16 @@ use Rattle.arrow_body_writer.proofs.body.put_node.Goals.{in-Some+in_ok-written, 
 -- each number has room
 pub put_chunk-requires-clause-room : goal.put_chunk-requires-clause-room
 put_chunk-requires-clause-room c =
-    node_rooms (column_in c.args.source.now) c.args.node c.requires.raws c.requires.there c.loop-k.k c.in-Some.part
-    (ap (λ f. part_of f c.loop-k.k) (sym c.form_of_node-form.ensures) ∙ sym c.part_of.ensures ∙ c.in-Some.is)
+    node_rooms (column_in c.args.source.now) c.requires.raws c.loop-k.k c.in-Some.part
+    (ap (λ f. part_of f c.loop-k.k) (sym c.form-form.ensures) ∙ sym c.part_of.ensures ∙ c.in-Some.is)
 
 -- one buffer more, or none
 pub loop-k-preserved : goal.loop-k-preserved
 loop-k-preserved c =
-    let a = column_in c.args.source.now in
     let k = c.loop-k.k in
-    let form = c.form_of_node-form.result in
+    let form = c.form-form.result in
     let align = alignment_of c.args.align in
-    let sent = sent_by a.data_type a.encoding a.raw c.args.node in
+    let sent = (column_in c.args.source.now).raw in
     let own = own_chunks form sent in
     elim c.match-part_of.branch [
       | in-Some+in_ok-written w ↦ subst (λ b. Stores align (own_node sent ∷ []) (take (k + 1) own) c.args.body b) (sym w.written-is)

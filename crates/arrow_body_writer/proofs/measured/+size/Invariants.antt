@@ -1,21 +1,35 @@
-use Rattle.std.proofs.Common.{◌≡◌, ◌≤◌, ◌<◌, ◌+◌, [], ◌∷◌, drop}
+use Rattle.std.proofs.Common.{◌<◌, drop}
 use Rattle.std.specs.List.{AllByRecursion}
-use Rattle.arrow_data.specs.Column.{Column, column_size}
+use Rattle.arrow_data.specs.Column.{Column}
+use Rattle.arrow_data.specs.Same.{parts_measure, slot_measure}
+use Rattle.arrow_body_laws.specs.Laws.{raws_of}
+use Rattle.arrow_body_laws.specs.Raws.{AreRaws}
+use Rattle.arrow_body_laws.specs.Stored.{fields_of_columns}
+use Rattle.arrow_body_writer.proofs.Measures.{IsMeasured}
 use Rattle.arrow_body_writer.specs.Align.{alignment_of}
-use Rattle.arrow_body_writer.specs.Sent.{nodes_of_column}
-use Rattle.arrow_body_writer.specs.Storable.{AreTold, columns_size}
-use Rattle.arrow_body_writer.specs.Tally.{capped}
+use Rattle.arrow_body_writer.specs.Sent.{nodes_of_column, sent_below}
+use Rattle.arrow_body_writer.specs.Source.{column_in}
 use Rattle.arrow_body_writer.proofs.measured.+size.Given as goal
 
--- a child is smaller than the column
-abbrev pub decreases-size_by_level : goal.decreases-size_by_level
-decreases-size_by_level l = column_size l.array.now
+-- what is sent below a column is smaller than the column
+abbrev pub decreases-column_size : goal.decreases-column_size
+decreases-column_size l = slot_measure (column_in l.source.now)
 
--- the size so far and that of the children to come are the column's; it can be told just where those to come can
-abbrev pub invariant-loop-child : goal.invariant-loop-child
-invariant-loop-child l =
-    (capped (l.size + columns_size (alignment_of l.align) (drop l.child-index l.children)) ≡ capped (columns_size (alignment_of l.align) (l.array ∷ [])))
-    × (l.size ≤ 18446744073709551615)
-    × (AreTold (drop l.child-index l.children) → AreTold (l.array ∷ []))
-    × (AreTold (l.array ∷ []) → AreTold (drop l.child-index l.children))
-    × AllByRecursion (λ (d : Column). nodes_of_column d < 18446744073709551615) (drop l.child-index l.children)
+abbrev pub decreases-whole_size : goal.decreases-whole_size
+decreases-whole_size l = parts_measure l.arrays.now
+
+abbrev pub decreases-size_below : goal.decreases-size_below
+decreases-size_below l = parts_measure (sent_below (column_in l.source.now))
+
+-- the size so far and that of the columns to come are the size of all; all can be told just where those to come can
+abbrev pub invariant-whole_size-loop-array : goal.invariant-whole_size-loop-array
+invariant-whole_size-loop-array l =
+    IsMeasured (alignment_of l.align) l.arrays (drop l.array-index l.arrays) l.size
+    × AllByRecursion (λ (d : Column). nodes_of_column d < 18446744073709551615) (drop l.array-index l.arrays)
+    × AreRaws (fields_of_columns (drop l.array-index l.arrays)) (raws_of (drop l.array-index l.arrays))
+
+abbrev pub invariant-size_below-loop-k : goal.invariant-size_below-loop-k
+invariant-size_below-loop-k l =
+    IsMeasured (alignment_of l.align) (sent_below (column_in l.source)) (drop l.k (sent_below (column_in l.source))) l.size
+    × AllByRecursion (λ (d : Column). nodes_of_column d < 18446744073709551615) (drop l.k (sent_below (column_in l.source)))
+    × AreRaws (fields_of_columns (drop l.k (sent_below (column_in l.source)))) (raws_of (drop l.k (sent_below (column_in l.source))))

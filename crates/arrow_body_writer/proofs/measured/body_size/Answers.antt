@@ -1,19 +1,34 @@
-use Rattle.std.proofs.Common.{◌+◌, drop, sym, ap, ◌∙◌, subst, arith}
+use Rattle.std.proofs.Common.{◌≡◌, ◌+◌, MatchOption, drop, sym, subst, arith}
 use Rattle.arrow_body_laws.specs.Laws.{raws_of}
 use Rattle.arrow_body_laws.specs.Raws.{AreRaws}
 use Rattle.arrow_body_laws.specs.Stored.{fields_of_columns}
-use Rattle.arrow_body_writer.proofs.Measures.{allowed_size, columns_from, if_allowed, none_left, raws_both, size_first, told_both, told_none, told_one, told_others}
+use Rattle.arrow_body_writer.proofs.Measures.{IsMeasured, allowed_size, columns_from, if_allowed, measured_all, measured_next, measured_none, none_left, raws_both, told_one}
 use Rattle.arrow_body_writer.specs.Align.{alignment_of}
-use Rattle.arrow_body_writer.specs.Storable.{AreTold, columns_size}
+use Rattle.arrow_body_writer.specs.Storable.{AreTold, CanBeStored, columns_size}
 use Rattle.arrow_body_writer.proofs.measured.body_size.Goals as goal
 
--- a column cannot be told
-pub returns-in_default-clause-size : goal.returns-in_default-clause-size
-returns-in_default-clause-size c = λ stored.
+-- nothing is measured yet
+pub loop-array-init : goal.loop-array-init
+loop-array-init c = (measured_none (alignment_of c.args.align) c.args.arrays.now, λ are. are)
+
+-- a column has too many nodes
+pub returns-then-nodes_in-clause-size : goal.returns-then-nodes_in-clause-size
+returns-then-nodes_in-clause-size c = λ stored.
     let i = c.loop-array.array-index in
     let a = c.array-item.result in
     let from = columns_from c.args.arrays.now i a c.loop-array-test.true c.array-item.is in
-    c.in_default.ensures.size (told_one a (drop (i + 1) c.args.arrays.now) (subst AreTold from (c.loop-array.invariant.3 stored.told)))
+    let told = told_one a (drop (i + 1) c.args.arrays.now) (subst AreTold from (c.loop-array.invariant.0.untold stored.told)) in
+    omega (arith, told.counted.0, c.nodes_in.ensures.count, c.if-nodes_in.true)
+
+-- a column cannot be told
+pub returns-in_err-column-clause-size : goal.returns-in_err-column-clause-size
+returns-in_err-column-clause-size c =
+    let i = c.loop-array.array-index in
+    let a = c.array-item.result in
+    let all = c.args.arrays.now in
+    let from = columns_from all i a c.loop-array-test.true c.array-item.is in
+    subst (λ r. MatchOption r (CanBeStored (alignment_of c.args.align) all → ⊥) (λ size. CanBeStored (alignment_of c.args.align) all × (size ≡ columns_size (alignment_of c.args.align) all))) (sym c.from_residual.ensures)
+    (λ stored. c.in_err-column.ensures (told_one a (drop (i + 1) all) (subst AreTold from (c.loop-array.invariant.0.untold stored.told))))
 
 -- one column more
 pub loop-array-preserved : goal.loop-array-preserved
@@ -21,28 +36,25 @@ loop-array-preserved c =
     let align = alignment_of c.args.align in
     let i = c.loop-array.array-index in
     let a = c.array-item.result in
-    let rest = drop (i + 1) c.args.arrays.now in
-    let from = columns_from c.args.arrays.now i a c.loop-array-test.true c.array-item.is in
-    let size = ap (columns_size align) from ∙ size_first align a rest in (
-      omega (arith, c.loop-array.invariant.0, c.saturating_add-size.ensures, c.in-Some.ensures.size.1, size),
-      omega (arith, c.saturating_add-size.ensures),
-      λ told. c.loop-array.invariant.2 (subst AreTold (sym from) (told_both a rest c.in-Some.ensures.size.0 told)),
-      λ told. told_others a rest (subst AreTold from (c.loop-array.invariant.3 told)),
-      λ are. c.loop-array.invariant.4 (subst (λ cs. AreRaws (fields_of_columns cs) (raws_of cs)) (sym from) (raws_both a rest c.in-Some.ensures.raws are)),
+    let all = c.args.arrays.now in
+    let rest = drop (i + 1) all in
+    let from = columns_from all i a c.loop-array-test.true c.array-item.is in
+    let own = c.in_ok-column.ensures in (
+      measured_next align all rest a c.loop-array.size c.in_ok-column.column c.saturating_add-size.result (subst (λ cs. IsMeasured align all cs c.loop-array.size) from c.loop-array.invariant.0) own.0 own.1 (omega (arith, c.saturating_add-size.ensures)),
+      λ are. c.loop-array.invariant.1 (subst (λ cs. AreRaws (fields_of_columns cs) (raws_of cs)) (sym from) (raws_both a rest c.nodes_in.ensures.raws are)),
     )
 
 -- all columns
 pub returns-clause-size : goal.returns-clause-size
 returns-clause-size c =
     let align = alignment_of c.args.align in
-    let none = none_left c.args.arrays.now c.loop-array.array-index c.loop-array-test.false in
-    let told = c.loop-array.invariant.2 (subst AreTold (sym none) told_none) in
-    let nothing = ap (columns_size align) none in
-    allowed_size align c.args.arrays.now c.allowed.result c.loop-array.size told (omega (arith, c.loop-array.invariant.0, c.loop-array.invariant.1, nothing)) c.allowed.ensures
+    let all = c.args.arrays.now in
+    let measured = measured_all align all (drop c.loop-array.array-index all) c.loop-array.size c.loop-array.invariant.0 (none_left all c.loop-array.array-index c.loop-array-test.false) in
+    allowed_size align all c.allowed.result c.loop-array.size measured.0 measured.1 c.allowed.ensures
 
 -- all raw values can be stored
 pub returns-clause-raws : goal.returns-clause-raws
 returns-clause-raws c =
     let none = none_left c.args.arrays.now c.loop-array.array-index c.loop-array-test.false in
     if_allowed (AreRaws (fields_of_columns c.args.arrays.now) (raws_of c.args.arrays.now)) c.allowed.result
-    (c.loop-array.invariant.4 (subst (λ cs. AreRaws (fields_of_columns cs) (raws_of cs)) (sym none) tt))
+    (c.loop-array.invariant.1 (subst (λ cs. AreRaws (fields_of_columns cs) (raws_of cs)) (sym none) tt))

@@ -1,13 +1,12 @@
-use Rattle.std.proofs.Common.{◌≤◌, ◌-◌, length, None}
+use Rattle.std.proofs.Common.{◌≤◌, ◌-◌, length}
 use Rattle.arrow_data.specs.Column.{values_from}
 use Rattle.arrow_body_writer.specs.Pass.{Takes}
-use Rattle.arrow_body_writer.specs.Sent.{sent_by}
+use Rattle.arrow_body_writer.specs.Sent.{sent_along}
 use Rattle.arrow_body_writer.proofs.source.take_rest.Given as goal
 
 -- what the values so far send is taken
 abbrev pub invariant-loop-i : goal.invariant-loop-i
-invariant-loop-i l =
-    (l.from ≤ l.i) × Takes l.fn.pass l.pass (sent_by l.dictionary.data_type None (values_from l.dictionary.values l.from l.i) l.node)
+invariant-loop-i l = (l.from ≤ l.i) × Takes l.fn.pass l.pass (sent_along l.steps (values_from l.dictionary.values l.from l.i))
 
 abbrev pub decreases-loop-i : goal.decreases-loop-i
 decreases-loop-i l = length l.dictionary.values - l.i

@@ -1,35 +1,33 @@
-use Rattle.std.proofs.Common.{◌≤◌, ◌-◌, ◌*◌, suc}
-use Rattle.arrow_data.specs.Column.{column_size, values_from}
-use Rattle.arrow_data.specs.Same.{parts_measure, slot_measure}
+use Rattle.std.proofs.Common.{◌≤◌, ◌+◌, ◌-◌, ◌*◌}
+use Rattle.arrow_data.specs.Column.{values_from}
+use Rattle.arrow_body_writer.proofs.RunPasses.{by_field, by_items}
+use Rattle.arrow_body_writer.proofs.Sending.{count_steps}
 use Rattle.arrow_body_writer.specs.Pass.{Takes}
-use Rattle.arrow_body_writer.specs.Sent.{sent_by}
 use Rattle.arrow_body_writer.proofs.pass.Pass.+sent.Given as goal
 
 -- what the slots so far send is taken
 abbrev pub invariant-take_items-loop-i : goal.invariant-take_items-loop-i
 invariant-take_items-loop-i l =
     (l.lists.start ≤ l.i) × (l.i ≤ l.lists.stop)
-    × Takes l.fn.self l.self (sent_by l.lists.array.now.data_type l.lists.array.now.encoding (values_from l.lists.array.now.raw l.lists.start l.i) (suc l.node))
+    × Takes l.fn.self l.self (by_items l.steps (values_from l.lists.array.now.raw l.lists.start l.i))
 
-abbrev pub invariant-take_parts-loop-i : goal.invariant-take_parts-loop-i
-invariant-take_parts-loop-i l =
+abbrev pub invariant-take_field-loop-i : goal.invariant-take_field-loop-i
+invariant-take_field-loop-i l =
     (l.structs.start ≤ l.i) × (l.i ≤ l.structs.stop)
-    × Takes l.fn.self l.self (sent_by l.structs.array.now.data_type l.structs.array.now.encoding (values_from l.structs.array.now.raw l.structs.start l.i) (suc l.node))
+    × Takes l.fn.self l.self (by_field l.k l.steps (values_from l.structs.array.now.raw l.structs.start l.i))
 
 abbrev pub decreases-take_items-loop-i : goal.decreases-take_items-loop-i
 decreases-take_items-loop-i l = l.lists.stop - l.i
 
-abbrev pub decreases-take_parts-loop-i : goal.decreases-take_parts-loop-i
-decreases-take_parts-loop-i l = l.structs.stop - l.i
+abbrev pub decreases-take_field-loop-i : goal.decreases-take_field-loop-i
+decreases-take_field-loop-i l = l.structs.stop - l.i
 
--- each call goes to smaller columns
-abbrev pub decreases-take_sent : goal.decreases-take_sent
-decreases-take_sent l = slot_measure l.slice.array.now
+-- each call has a step less to go
+abbrev pub decreases-take_along : goal.decreases-take_along
+decreases-take_along l = 2 * count_steps l.steps.now
 
--- the child is smaller than its list
 abbrev pub decreases-take_items : goal.decreases-take_items
-decreases-take_items l = 2 * column_size l.lists.array.now
+decreases-take_items l = 2 * count_steps l.steps.now + 1
 
--- the children are smaller than their struct
-abbrev pub decreases-take_parts : goal.decreases-take_parts
-decreases-take_parts l = parts_measure l.children.now
+abbrev pub decreases-take_field : goal.decreases-take_field
+decreases-take_field l = 2 * count_steps l.steps.now + 1

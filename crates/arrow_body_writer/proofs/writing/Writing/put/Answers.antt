@@ -2,7 +2,7 @@ use Rattle.std.proofs.Common.{ap, length, subst}
 use Rattle.std.proofs.lemmas.Result.{on_ok_weaker}
 use Rattle.arrow_data.specs.PlainValue.{value_at}
 use Rattle.arrow_body_writer.specs.Part.{HasNextOffset}
-use Rattle.arrow_body_writer.proofs.Steps.{lists_step, strings_step}
+use Rattle.arrow_body_writer.proofs.OneMore.{lists_step, strings_step}
 use Rattle.arrow_body_writer.proofs.writing.Writing.put.Goals as goal
 
 -- the offset after a byte string or a text

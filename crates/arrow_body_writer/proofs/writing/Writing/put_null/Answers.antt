@@ -1,5 +1,5 @@
 use Rattle.std.proofs.lemmas.Result.{on_ok_weaker}
-use Rattle.arrow_body_writer.proofs.Steps.{null_step}
+use Rattle.arrow_body_writer.proofs.OneMore.{null_step}
 use Rattle.arrow_body_writer.proofs.writing.Writing.put_null.Goals as goal
 
 -- the offset stays

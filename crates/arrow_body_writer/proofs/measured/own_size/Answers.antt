@@ -5,26 +5,25 @@ use Rattle.arrow_body_laws.specs.Size.{own_sizes}
 use Rattle.arrow_body_laws.specs.Stored.{rounded}
 use Rattle.arrow_body_writer.proofs.Measures.{told_is}
 use Rattle.arrow_body_writer.specs.Align.{alignment_of}
-use Rattle.arrow_body_writer.specs.Sent.{sent_to}
 use Rattle.arrow_body_writer.specs.Source.{column_in}
-use Rattle.arrow_body_writer.proofs.measured.size_of_node.Goals as goal
+use Rattle.arrow_body_writer.proofs.measured.own_size.Goals as goal
 
 -- the node can be told, and what was counted is exact
 pub returns-then-is_small : goal.returns-then-is_small
 returns-then-is_small c =
     let align = alignment_of c.args.align in
-    let sent = sent_to (column_in c.args.source.now) c.args.node in
-    let form = c.form_of_node-form.result in
+    let sent = (column_in c.args.source.now).raw in
+    let form = c.form-form.result in
     let tally = c.count_sent-tally in
     let small : IsSmall form sent = (c.if-is_small.ensures.small sent tally.ensures).0 refl in (
-      subst (λ f. IsSmall f sent) c.form_of_node-form.ensures small,
+      subst (λ f. IsSmall f sent) c.form-form.ensures small,
       c.node_size.ensures ∙ ap (sum_by (rounded align)) (told_is form sent tally.result tally.ensures small (c.if-is_small.ensures.near refl))
-          ∙ ap (λ f. sum_by (rounded align) (own_sizes f sent)) c.form_of_node-form.ensures,
+          ∙ ap (λ f. sum_by (rounded align) (own_sizes f sent)) c.form-form.ensures,
     )
 
 -- it cannot be told
 pub returns-else-is_small : goal.returns-else-is_small
 returns-else-is_small c = λ told.
-    let sent = sent_to (column_in c.args.source.now) c.args.node in
-    let no : false ≡ true = (c.if-is_small.ensures.small sent c.count_sent-tally.ensures).1 (subst (λ f. IsSmall f sent) (sym c.form_of_node-form.ensures) told) in
+    let sent = (column_in c.args.source.now).raw in
+    let no : false ≡ true = (c.if-is_small.ensures.small sent c.count_sent-tally.ensures).1 (subst (λ f. IsSmall f sent) (sym c.form-form.ensures) told) in
     cc
