@@ -29,6 +29,7 @@ use arrow_data::form::Form;
 use arrow_data::{Array, Dictionary};
 use arrow_types::{Buffer, FieldNode};
 use std::alloc::{AllocError, Global};
+use std::mem;
 
 /// The body of a batch, with its nodes and the places of its buffers (Columnar Format, "RecordBatch
 /// message").
@@ -43,57 +44,49 @@ pub struct Body {
 }
 
 // Appends a buffer of the node.
-fn put_chunk(body: Body, align: Align, part: Part, node: &Counted) -> Result<Body, AllocError>
+fn put_chunk(body: &mut Body, align: Align, part: Part, node: &Counted) -> Result<(), AllocError>
     requires counted { IsCounted node.now }
     requires room { AllByRecursion (HasRoom part) (sent_at node.now) }
     requires told { IsTold part (sent_at node.now) }
-    ensures { IfOk result (Stores (alignment_of align) []
-        (chunk_of part (sent_at node.now) ∷ []) body) }
+    ensures { OnOk result (Stores (alignment_of align) []
+        (chunk_of part (sent_at node.now) ∷ []) body.old body.new) }
 {
     let offset = body.bytes.len();
-    let (bytes, len) = put_buffer(body.bytes, align, part, node)?;
-    let mut buffers = body.buffers;
-    buffers.push(Buffer {
+    let none = Vec::new(*body.bytes.allocator());
+    let bytes = mem::replace(&mut body.bytes, none);
+    let (bytes, len) = put_buffer(bytes, align, part, node)?;
+    body.bytes = bytes;
+    body.buffers.push(Buffer {
         offset: offset as i64,
         length: len as i64,
     })?;
-    Ok(Body {
-        nodes: body.nodes,
-        buffers,
-        bytes,
-    })
+    Ok(())
 }
 
 // Appends the column's own node, and its buffers.
-fn put_node(body: Body, align: Align, source: &Source) -> Result<Body, AllocError>
+fn put_node(body: &mut Body, align: Align, source: &Source) -> Result<(), AllocError>
     requires source { IsSource source.now }
     requires small { IsSmall (form_of_column (column_in source.now)) (column_in source.now).raw }
     requires raws { AreRaws (fields_of_columns (column_in source.now ∷ [])) (raws_of (column_in source.now ∷ [])) }
-    ensures { IfOk result (Stores (alignment_of align) (own_node (column_in source.now).raw ∷ [])
-        (own_chunks (form_of_column (column_in source.now)) (column_in source.now).raw) body) }
+    ensures { OnOk result (Stores (alignment_of align) (own_node (column_in source.now).raw ∷ [])
+        (own_chunks (form_of_column (column_in source.now)) (column_in source.now).raw) body.old body.new) }
 {
     let form = source.form();
     let tally = count_sent(form, source);
-    let mut nodes = body.nodes;
-    nodes.push(FieldNode {
+    body.nodes.push(FieldNode {
         length: tally.slots as i64,
         null_count: tally.nulls as i64,
     })?;
-    let mut written = Body {
-        nodes,
-        buffers: body.buffers,
-        bytes: body.bytes,
-    };
     let counted = Counted {
         source: *source,
         tally,
     };
     for k in 0..3 {
         if let Some(part) = part_of(form, k) {
-            written = put_chunk(written, align, part, &counted)?;
+            put_chunk(body, align, part, &counted)?;
         }
     }
-    Ok(written)
+    Ok(())
 }
 
 // Appends a buffer with these bytes.
@@ -133,79 +126,86 @@ fn put_full(body: &mut Body, align: Align, array: &Array) -> Result<(), AllocErr
 
 // Appends the array's own node, and its buffers. Of structs and numbers of which none is null it is
 // known at once what these hold.
-fn put_own(body: Body, align: Align, array: &Array) -> Result<Body, AllocError>
+fn put_own(body: &mut Body, align: Align, array: &Array) -> Result<(), AllocError>
     requires small { IsSmall (node_form array.now.data_type.tag array.now.encoding) array.now.raw }
     requires raws { AreRaws (fields_of_columns (array.now ∷ [])) (raws_of (array.now ∷ [])) }
-    ensures { IfOk result (Stores (alignment_of align) (own_node array.now.raw ∷ [])
-        (own_chunks (node_form array.now.data_type.tag array.now.encoding) array.now.raw) body) }
+    ensures { OnOk result (Stores (alignment_of align) (own_node array.now.raw ∷ [])
+        (own_chunks (node_form array.now.data_type.tag array.now.encoding) array.now.raw)
+        body.old body.new) }
 {
-    let mut written = body;
     match full_form(array) {
-        Some(Form::Structs) => {
-            put_full(&mut written, align, array)?;
-            Ok(written)
-        }
+        Some(Form::Structs) => put_full(body, align, array),
         Some(Form::Numbers { .. }) => {
-            put_full(&mut written, align, array)?;
-            put_bytes(&mut written, align, array.value_bytes(0, array.len()))?;
-            Ok(written)
+            put_full(body, align, array)?;
+            put_bytes(body, align, array.value_bytes(0, array.len()))
         }
-        Some(_) | None => put_node(written, align, &Source::Slots(array)),
+        Some(_) | None => put_node(body, align, &Source::Slots(array)),
+    }
+}
+
+// Appends the column's own node, and its buffers.
+fn put_level(body: &mut Body, align: Align, source: &Source) -> Result<(), AllocError>
+    requires source { IsSource source.now }
+    requires told { AreTold (column_in source.now ∷ []) }
+    requires raws { AreRaws (fields_of_columns (column_in source.now ∷ [])) (raws_of (column_in source.now ∷ [])) }
+    ensures { OnOk result (Stores (alignment_of align) (own_node (column_in source.now).raw ∷ [])
+        (own_chunks (form_of_column (column_in source.now)) (column_in source.now).raw) body.old body.new) }
+{
+    match source {
+        Source::Slots(array) => put_own(body, align, array),
+        _ => put_node(body, align, source),
     }
 }
 
 // Appends all nodes of the column, and their buffers: its own node, and then the columns that are
 // sent below it (Columnar Format, "RecordBatch message").
 #[cycle(put)]
-fn put_column(body: Body, align: Align, source: &Source) -> Result<Body, AllocError>
+fn put_column(body: &mut Body, align: Align, source: &Source) -> Result<(), AllocError>
     requires source { IsSource source.now }
     requires told { AreTold (column_in source.now ∷ []) }
     requires raws { AreRaws (fields_of_columns (column_in source.now ∷ [])) (raws_of (column_in source.now ∷ [])) }
-    ensures { IfOk result (Stores (alignment_of align)
+    ensures { OnOk result (Stores (alignment_of align)
         (stored_nodes (fields_of_columns (column_in source.now ∷ [])) (raws_of (column_in source.now ∷ [])))
-        (stored_chunks (fields_of_columns (column_in source.now ∷ [])) (raws_of (column_in source.now ∷ []))) body) }
+        (stored_chunks (fields_of_columns (column_in source.now ∷ [])) (raws_of (column_in source.now ∷ [])))
+        body.old body.new) }
 {
-    let written = match source {
-        Source::Slots(array) => put_own(body, align, array)?,
-        _ => put_node(body, align, source)?,
-    };
+    put_level(body, align, source)?;
     match source.whole_below() {
-        Some(children) => put_columns(written, align, children),
-        None => put_below(written, align, source),
+        Some(children) => put_columns(body, align, children),
+        None => put_below(body, align, source),
     }
 }
 
 // Appends the columns of arrays.
 #[cycle(put)]
-fn put_columns(body: Body, align: Align, arrays: &[Array]) -> Result<Body, AllocError>
+fn put_columns(body: &mut Body, align: Align, arrays: &[Array]) -> Result<(), AllocError>
     requires told { AreTold arrays.now }
     requires raws { AreRaws (fields_of_columns arrays.now) (raws_of arrays.now) }
-    ensures { IfOk result (Stores (alignment_of align)
+    ensures { OnOk result (Stores (alignment_of align)
         (stored_nodes (fields_of_columns arrays.now) (raws_of arrays.now))
-        (stored_chunks (fields_of_columns arrays.now) (raws_of arrays.now)) body) }
+        (stored_chunks (fields_of_columns arrays.now) (raws_of arrays.now)) body.old body.new) }
 {
-    let mut written = body;
     for array in arrays {
-        written = put_column(written, align, &Source::Slots(array))?;
+        put_column(body, align, &Source::Slots(array))?;
     }
-    Ok(written)
+    Ok(())
 }
 
 // Appends the columns that are sent below a column's own node.
 #[cycle(put)]
-fn put_below(body: Body, align: Align, source: &Source) -> Result<Body, AllocError>
+fn put_below(body: &mut Body, align: Align, source: &Source) -> Result<(), AllocError>
     requires source { IsSource source.now }
     requires told { AreTold (sent_below (column_in source.now)) }
     requires raws { AreRaws (fields_of_columns (column_in source.now ∷ [])) (raws_of (column_in source.now ∷ [])) }
-    ensures { IfOk result (Stores (alignment_of align)
+    ensures { OnOk result (Stores (alignment_of align)
         (stored_nodes (fields_of_columns (sent_below (column_in source.now))) (raws_of (sent_below (column_in source.now))))
-        (stored_chunks (fields_of_columns (sent_below (column_in source.now))) (raws_of (sent_below (column_in source.now)))) body) }
+        (stored_chunks (fields_of_columns (sent_below (column_in source.now))) (raws_of (sent_below (column_in source.now))))
+        body.old body.new) }
 {
-    let mut written = body;
     for k in 0..source.width() {
-        written = put_column(written, align, &source.below(k))?;
+        put_column(body, align, &source.below(k))?;
     }
-    Ok(written)
+    Ok(())
 }
 
 impl Body {
@@ -230,20 +230,16 @@ impl Body {
         self.bytes.clear();
         self.bytes.reserve_exact(size)
     }
-}
 
-// A body to which nothing was added yet, in this room, with room for so many nodes and for as many
-// buffers as these can have.
-fn begun(room: Body, nodes: usize) -> Result<Body, AllocError>
-    ensures { IfOk result (λ body. IsEmpty body) }
-{
-    let mut empty = room;
-    empty.nodes.clear();
-    empty.buffers.clear();
-    empty.bytes.clear();
-    empty.nodes.reserve_exact(nodes)?;
-    empty.buffers.reserve_exact(nodes.saturating_mul(3))?;
-    Ok(empty)
+    // Takes all out of the body, and makes room for so many nodes, and for as many buffers as these
+    // can have.
+    fn begin(&mut self, nodes: usize) -> Result<(), AllocError>
+        ensures { OnOk result (IsEmpty self.new) }
+    {
+        self.make_room(0)?;
+        self.nodes.reserve_exact(nodes)?;
+        self.buffers.reserve_exact(nodes.saturating_mul(3))
+    }
 }
 
 /// The body of the columns, laid out anew: each node with the slots that it is sent and no others,
@@ -264,29 +260,28 @@ pub fn store(alloc: Global, arrays: &[Array], align: Align) -> Result<Body, Allo
 {
     // A body that can be stored has a size.
     let size = body_size(arrays, align).unwrap_or(0);
-    let mut room = Body::new(alloc);
-    room.make_room(size as usize)?;
-    store_in(room, arrays, align)
+    let mut body = Body::new(alloc);
+    body.make_room(size as usize)?;
+    store_in(&mut body, arrays, align)?;
+    Ok(body)
 }
 
-/// The same body as that of `store`, in the room of an earlier one, of which nothing is left. Nodes,
-/// buffers and bytes take a growth each only where this room is too small for them; who knows how
-/// many bytes there will be makes room for them before. `AllocError` where a growth was refused.
+/// Makes a body that of `store`, in the room of what it was. Nodes, buffers and bytes take a growth
+/// each only where this room is too small for them; who knows how many bytes there will be makes
+/// room for them before. `AllocError` where a growth was refused: nothing is said then of the body.
 ///
 /// Condition: the columns can be stored, that is, `body_size` answers a number.
-pub fn store_in(room: Body, arrays: &[Array], align: Align) -> Result<Body, AllocError>
+pub fn store_in(body: &mut Body, arrays: &[Array], align: Align) -> Result<(), AllocError>
     requires { CanBeStored (alignment_of align) arrays.now }
-    ensures same { IfOk result (λ b. body_view b ≡ stored (alignment_of align)
+    ensures same { OnOk result (body_view body.new ≡ stored (alignment_of align)
         (fields_of_columns arrays.now) (raws_of arrays.now)) }
-    ensures read { IfOk result (λ b. IsBodyOf (alignment_of align)
-        (fields_of_columns arrays.now) (raws_of arrays.now) (body_view b)) }
-    ensures tidy { IfOk result (λ b. IsTidy (alignment_of align)
-        (fields_of_columns arrays.now) b.nodes.items b.buffers.items b.bytes.items) }
+    ensures read { OnOk result (IsBodyOf (alignment_of align)
+        (fields_of_columns arrays.now) (raws_of arrays.now) (body_view body.new)) }
+    ensures tidy { OnOk result (IsTidy (alignment_of align) (fields_of_columns arrays.now)
+        body.new.nodes.items body.new.buffers.items body.new.bytes.items) }
 {
-    let count = nodes_in_all(arrays);
-    let empty = begun(room, count)?;
-    let body = put_columns(empty, align, arrays)?;
-    Ok(body)
+    body.begin(nodes_in_all(arrays))?;
+    put_columns(body, align, arrays)
 }
 
 /// The body of one column without an encoding whose slots hold the values of the dictionary from
@@ -315,34 +310,33 @@ pub fn store_rest(
         b.nodes.items b.buffers.items b.bytes.items) }
 {
     let size = rest_size(dictionary, from, align).unwrap_or(0);
-    let mut room = Body::new(alloc);
-    room.make_room(size as usize)?;
-    store_rest_in(room, dictionary, from, align)
+    let mut body = Body::new(alloc);
+    body.make_room(size as usize)?;
+    store_rest_in(&mut body, dictionary, from, align)?;
+    Ok(body)
 }
 
-/// The same body as that of `store_rest`, in the room of an earlier one, as `store_in` has it.
-/// `AllocError` where a growth was refused.
+/// Makes a body that of `store_rest`, in the room of what it was, as `store_in` does. `AllocError`
+/// where a growth was refused: nothing is said then of the body.
 ///
 /// Condition: the column can be stored, that is, `rest_size` answers a number.
 pub fn store_rest_in(
-    room: Body,
+    body: &mut Body,
     dictionary: &Dictionary,
     from: usize,
     align: Align,
-) -> Result<Body, AllocError>
+) -> Result<(), AllocError>
     requires { CanBeStored (alignment_of align) (rest_of dictionary.now from ∷ []) }
-    ensures same { IfOk result (λ b. body_view b ≡ stored (alignment_of align)
+    ensures same { OnOk result (body_view body.new ≡ stored (alignment_of align)
         (fields_of_columns (rest_of dictionary.now from ∷ []))
         (raws_of (rest_of dictionary.now from ∷ []))) }
-    ensures read { IfOk result (λ b. IsBodyOf (alignment_of align)
+    ensures read { OnOk result (IsBodyOf (alignment_of align)
         (fields_of_columns (rest_of dictionary.now from ∷ []))
-        (raws_of (rest_of dictionary.now from ∷ [])) (body_view b)) }
-    ensures tidy { IfOk result (λ b. IsTidy (alignment_of align)
+        (raws_of (rest_of dictionary.now from ∷ [])) (body_view body.new)) }
+    ensures tidy { OnOk result (IsTidy (alignment_of align)
         (fields_of_columns (rest_of dictionary.now from ∷ []))
-        b.nodes.items b.buffers.items b.bytes.items) }
+        body.new.nodes.items body.new.buffers.items body.new.bytes.items) }
 {
-    let count = nodes_in_rest(dictionary);
-    let empty = begun(room, count)?;
-    let rest = put_column(empty, align, &Source::Rest(dictionary, from))?;
-    Ok(rest)
+    body.begin(nodes_in_rest(dictionary))?;
+    put_column(body, align, &Source::Rest(dictionary, from))
 }

@@ -74,7 +74,7 @@ fn put_padding(out: &mut Vec<u8>, align: Align, len: usize) -> Result<(), AllocE
     if over == 0 {
         Ok(())
     } else {
-        put_zeros(out, align.bytes() - over)
+        put_zeros(out, (align.bytes() - over) as u32)
     }
 }
 

@@ -3,9 +3,9 @@
 //! What the field nodes, the buffers and the bytes of raw values are is said in
 //! `arrow_body_laws`, as one function of the alignment, the fields and the raw values. `store`
 //! gives just that body of columns, and `body_size` tells before, without memory, how many bytes it
-//! has, or that it cannot be stored. `store_rest` and `rest_size` do the same of one column whose
-//! slots hold the values of a dictionary from one on. `store_in` and `store_rest_in` give the same
-//! bodies in the room of an earlier one, so that who stores one after another asks for memory once.
+//! has, or that it cannot be stored. `store_rest` and `rest_size` do the same of a column whose
+//! slots hold the values of a dictionary from one on; `store_in` and `store_rest_in` use the room
+//! of an earlier body.
 //!
 //! A body is written front to back, by the public calls of `arrow_data` alone. Numbers beside a
 //! validity bitmap are copied with the bytes under nulls, which are cleared in the copy (`masked`).
@@ -13,12 +13,11 @@
 //! to each offset so much is added as the buffer has gone on (`spans`). Of all other slots no byte
 //! is copied that stood under a null.
 //!
-//! A column is stored level by level: its own node, and then the columns that are sent below it. An
-//! array's own node has all its slots, and where each child of a list or a struct is sent just its
-//! own slots (`whole`) the children are such columns again. Else a column says from which one above
-//! it is sent (`source`): then one walk from the array down along the steps to it counts its slots or
-//! writes one of its buffers (`pass`), and nothing is kept of them. So the work grows with the
-//! nodes, and under nulls and slots that are not sent with the levels above each, too.
+//! A column is stored level by level: its own node, then the columns that are sent below it. Where
+//! each child of a list or a struct is sent just its own slots (`whole`) these are the children.
+//! Else a column says from which one above it is sent (`source`): then one walk from the array down
+//! along the steps to it counts its slots or writes one of its buffers (`pass`). So the work grows
+//! with the nodes, and under nulls and slots that are not sent with the levels above each, too.
 //!
 //! | Notion | Definition |
 //! |---|---|
@@ -35,11 +34,9 @@
 //! | offsets, bitmaps as they lie | `specs/Offsets.antt`: `AreHeld`; `specs/Marks.antt`: `AreMarked` |
 //!
 //! Of the proofs, `Sending` says what is sent along steps and below a column, `Passing`, `RunPasses`
-//! and `Sources` what a pass takes of that, `Chunks` shows that a body to which all columns were added
-//! is the stored one, `Wholes` when children are sent whole, and that a column is its own node and
-//! what is sent below it, `FullNodes` what is sent of nodes without a null, `Marking` and `Bytewise`
-//! speak of bitmaps, `Numbering` of numbers that are cleared, `Holding`, `Moving` and `Spanning` of
-//! offsets.
+//! and `Sources` what a pass takes of that, `Chunks` shows that what all columns add is the stored
+//! body, `Wholes` when children are sent whole; `FullNodes` speaks of nodes without a null, `Marking`
+//! and `Bytewise` of bitmaps, `Numbering` of numbers, `Holding`, `Moving`, `Spanning` of offsets.
 #![tactic(auto)]
 
 pub(crate) mod align;

@@ -73,6 +73,7 @@ impl Pass {
 
     // Takes what a null sends along the steps: a null below structs alone, nothing below lists
     // (Columnar Format, "Struct Layout").
+    #[cycle(take_null_along)]
     fn take_null_along(&mut self, steps: &Steps<'_>) -> Result<(), AllocError>
         ensures ok { OnOk result
             (Takes self.old self.new (sent_along steps.now (null_value ∷ []))) }

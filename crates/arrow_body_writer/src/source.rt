@@ -131,6 +131,7 @@ impl<'a> Source<'a> {
     }
 
     // Takes what all slots of the column send along the steps.
+    #[cycle(send)]
     pub(crate) fn send(&self, pass: &mut Pass, steps: &Steps<'_>) -> Result<(), AllocError>
         requires source { IsSource self.now }
         requires down { LeadDown steps.now (column_in self.now).data_type (column_in self.now).encoding }

@@ -35,13 +35,11 @@ pub(crate) struct Writing {
 }
 
 // Appends zero bytes.
-pub(crate) fn put_zeros(out: &mut Vec<u8>, count: usize) -> Result<(), AllocError>
+pub(crate) fn put_zeros(out: &mut Vec<u8>, count: u32) -> Result<(), AllocError>
     ensures { OnOk result (out.new.items ≡ out.old.items ++ replicate count 0) }
 {
-    for _k in 0..count {
-        out.push(0)?;
-    }
-    Ok(())
+    let end = out.len() + count as usize;
+    out.resize(end, 0)
 }
 
 // Appends bytes.
@@ -64,7 +62,7 @@ pub(crate) fn put_fixed(
 {
     match array.bytes_at(i) {
         Some(bytes) => out.extend_from_slice(bytes),
-        None => put_zeros(out, width as usize),
+        None => put_zeros(out, width),
     }
 }
 
@@ -136,7 +134,7 @@ impl Writing {
             Part::Numbers(bits) => put_int(&mut self.out, number_width(bits), 0),
             Part::StringOffsets(width) | Part::ListOffsets(width) => self.put_end(width, 0),
             Part::Strings => Ok(()),
-            Part::FixedBytes(width) => put_zeros(&mut self.out, width as usize),
+            Part::FixedBytes(width) => put_zeros(&mut self.out, width),
         }
     }
 

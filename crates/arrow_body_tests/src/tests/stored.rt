@@ -104,15 +104,14 @@ impl Wanted {
     }
 }
 
-// The body of the columns in this room, where it is as it should be, in new room too.
-fn stored_in(alloc: Global, room: Body, columns: &[Array], wanted: &Wanted) -> Option<Body> {
+// Stores the columns in new room and in this one: None where a body is not as it should be.
+fn store_twice(alloc: Global, room: &mut Body, columns: &[Array], wanted: &Wanted) -> Option<()> {
     let size = body_size(columns, wanted.align)?;
     let first = store(alloc, columns, wanted.align).ok()?;
-    let mut room = room;
     room.make_room(size as usize).ok()?;
-    let body = store_in(room, columns, wanted.align).ok()?;
-    let is_so = size == wanted.bytes.len() as u64 && wanted.is(&first) && wanted.is(&body);
-    is_so.then_some(body)
+    store_in(room, columns, wanted.align).ok()?;
+    let is_so = size == wanted.bytes.len() as u64 && wanted.is(&first) && wanted.is(room);
+    is_so.then_some(())
 }
 
 #[test]
@@ -123,8 +122,8 @@ fn columns_are_laid_out_again(rt: HostRuntime) {
         let (of, parts) = of.split_once(" | ").expect(&rt, row);
         let (_, of) = of.split_once(": ").expect(&rt, row);
         let columns = loaded(&rt, of, parts, &[]).expect(&rt, "a body that is sound");
-        let body = stored_in(rt.alloc(), room, &columns, &Wanted::of(&rt, wanted));
-        room = body.expect(&rt, row);
+        let wanted = Wanted::of(&rt, wanted);
+        store_twice(rt.alloc(), &mut room, &columns, &wanted).expect(&rt, row);
     }
 }
 
@@ -141,20 +140,19 @@ fn of_segments(rt: &(impl Abort + AllocGlobal), of: &str, segments: &str) -> Dic
     whole.expect(rt, "a segment")
 }
 
-// The body of the rest in this room, where it is as it should be, in new room too.
-fn rest_in(
+// The same of the rest of a dictionary.
+fn store_rest_twice(
     alloc: Global,
-    room: Body,
+    room: &mut Body,
     (dictionary, from): (&Dictionary, usize),
     wanted: &Wanted,
-) -> Option<Body> {
+) -> Option<()> {
     let size = rest_size(dictionary, from, wanted.align)?;
     let first = store_rest(alloc, dictionary, from, wanted.align).ok()?;
-    let mut room = room;
     room.make_room(size as usize).ok()?;
-    let body = store_rest_in(room, dictionary, from, wanted.align).ok()?;
-    let is_so = size == wanted.bytes.len() as u64 && wanted.is(&first) && wanted.is(&body);
-    is_so.then_some(body)
+    store_rest_in(room, dictionary, from, wanted.align).ok()?;
+    let is_so = size == wanted.bytes.len() as u64 && wanted.is(&first) && wanted.is(room);
+    is_so.then_some(())
 }
 
 #[test]
@@ -167,7 +165,7 @@ fn rests_are_laid_out(rt: HostRuntime) {
         let (_, of) = of.split_once(": ").expect(&rt, row);
         let whole = of_segments(&rt, of, segments);
         let from = from.parse::<usize>().ok().expect(&rt, row);
-        let body = rest_in(rt.alloc(), room, (&whole, from), &Wanted::of(&rt, wanted));
-        room = body.expect(&rt, row);
+        let wanted = Wanted::of(&rt, wanted);
+        store_rest_twice(rt.alloc(), &mut room, (&whole, from), &wanted).expect(&rt, row);
     }
 }

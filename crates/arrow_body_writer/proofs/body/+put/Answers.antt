@@ -1,20 +1,19 @@
-use Rattle.std.proofs.Common.{◌+◌, [], ◌∷◌, drop, sym, subst, arith}
-use Rattle.std.proofs.lemmas.Result.{IfOk-weaker}
+use Rattle.std.proofs.Common.{◌+◌, drop, subst, arith}
+use Rattle.std.proofs.lemmas.Result.{on_ok_weaker}
 use Rattle.arrow_body_laws.specs.Laws.{raws_of}
 use Rattle.arrow_body_laws.specs.Raws.{AreRaws}
-use Rattle.arrow_body_laws.specs.Stored.{fields_of_columns, own_chunks, own_node, stored_chunks, stored_nodes}
+use Rattle.arrow_body_laws.specs.Stored.{fields_of_columns, stored_chunks, stored_nodes}
 use Rattle.arrow_body_writer.proofs.Chunks.{StoresUpTo, leads_more, leads_out, some_alignment}
 use Rattle.arrow_body_writer.proofs.Measures.{columns_from, none_left, raws_one, raws_others, told_one, told_others}
 use Rattle.arrow_body_writer.proofs.Passing.{child_below, found_column}
 use Rattle.arrow_body_writer.proofs.Sending.{sent_whole}
 use Rattle.arrow_body_writer.proofs.Wholes.{stores_whole, whole_raws, whole_smaller, whole_told}
 use Rattle.arrow_body_writer.specs.Align.{alignment_of}
-use Rattle.arrow_body_writer.specs.Sent.{form_of_column, sent_below}
+use Rattle.arrow_body_writer.specs.Sent.{sent_below}
 use Rattle.arrow_body_writer.specs.Source.{column_in}
 use Rattle.arrow_body_writer.specs.Storable.{AreTold}
 use Rattle.arrow_body_writer.specs.Storing.{Stores}
 use Rattle.arrow_body_writer.proofs.body.+put.Goals as goal
-use Rattle.arrow_body_writer.proofs.body.+put.Goals.{put_column-in-Slots+in_ok-written-in-Slots, put_column-in_default+in_ok-written-in_default}
 
 -- nothing is added yet
 pub put_below-loop-k-init : goal.put_below-loop-k-init
@@ -48,10 +47,10 @@ put_below-loop-k-preserved t c =
     let rest = drop (k + 1) all in
     let found = found_column all k d c.below.ensures.same in
     let from = columns_from all k d found.0 found.1 in
-    let P = Stores align (stored_nodes (fields_of_columns all) (raws_of all)) (stored_chunks (fields_of_columns all) (raws_of all)) c.args.body in (
+    let P = Stores align (stored_nodes (fields_of_columns all) (raws_of all)) (stored_chunks (fields_of_columns all) (raws_of all)) c.args.body.now in (
       told_others d rest (subst AreTold from c.loop-k.invariant.0),
       raws_others d rest (subst (λ cs. AreRaws (fields_of_columns cs) (raws_of cs)) from c.loop-k.invariant.1),
-      leads_more align d rest P c.loop-k.written c.in_ok-written.written (some_alignment c.args.align) (subst (λ cs. StoresUpTo align all cs c.args.body c.loop-k.written) from c.loop-k.invariant.2) c.in_ok-written.ensures,
+      leads_more align d rest P c.loop-k.body c.put_column.new.body (some_alignment c.args.align) (subst (λ cs. StoresUpTo align all cs c.args.body.now c.loop-k.body) from c.loop-k.invariant.2) c.in_ok-put_column.ensures,
     )
 
 -- all of them
@@ -59,9 +58,9 @@ pub put_below-returns : goal.put_below-returns
 put_below-returns t c =
     let all = sent_below (column_in c.args.source.now) in
     let align = alignment_of c.args.align in
-    let P = Stores align (stored_nodes (fields_of_columns all) (raws_of all)) (stored_chunks (fields_of_columns all) (raws_of all)) c.args.body in
+    let P = Stores align (stored_nodes (fields_of_columns all) (raws_of all)) (stored_chunks (fields_of_columns all) (raws_of all)) c.args.body.now in
     let none = none_left all c.loop-k.k (omega (arith, c.loop-k-test.false, c.width-k-end.ensures)) in
-    leads_out align P c.loop-k.written (subst (λ cs. StoresUpTo align all cs c.args.body c.loop-k.written) none c.loop-k.invariant.2)
+    leads_out align P c.loop-k.body (subst (λ cs. StoresUpTo align all cs c.args.body.now c.loop-k.body) none c.loop-k.invariant.2)
 
 -- children that are sent whole can be told and stored, and are smaller
 pub put_column-put_columns-requires : goal.put_column-put_columns-requires
@@ -82,32 +81,17 @@ put_column-put_below-requires t c =
 pub put_column-returns-in-Some : goal.put_column-returns-in-Some
 put_column-returns-in-Some t c =
     let a = column_in c.args.source.now in
-    let align = alignment_of c.args.align in
     let children = c.in-Some.children.now in
-    let own : Stores align (own_node a.raw ∷ []) (own_chunks (form_of_column a) a.raw) c.args.body c.match-source.written = elim c.match-source.branch [
-      | put_column-in-Slots+in_ok-written-in-Slots w ↦ subst (Stores align (own_node a.raw ∷ []) (own_chunks (form_of_column a) a.raw) c.args.body) (sym w.written-is)
-          (subst (λ s. Stores align (own_node (column_in s).raw ∷ []) (own_chunks (form_of_column (column_in s)) (column_in s).raw) c.args.body w.in_ok-written-in-Slots.written) (sym w.in-Slots.is) w.in_ok-written-in-Slots.ensures)
-      | put_column-in_default+in_ok-written-in_default w ↦ subst (Stores align (own_node a.raw ∷ []) (own_chunks (form_of_column a) a.raw) c.args.body) (sym w.written-is) w.in_ok-written-in_default.ensures
-    ] in
-    IfOk-weaker c.put_columns.result
-    (Stores align (stored_nodes (fields_of_columns children) (raws_of children)) (stored_chunks (fields_of_columns children) (raws_of children)) c.match-source.written)
-    (Stores align (stored_nodes (fields_of_columns (a ∷ [])) (raws_of (a ∷ []))) (stored_chunks (fields_of_columns (a ∷ [])) (raws_of (a ∷ []))) c.args.body)
-    (λ z others. stores_whole align a children c.args.body c.match-source.written z (some_alignment c.args.align) c.in-Some.ensures own others) c.put_columns.ensures
+    on_ok_weaker c.put_columns.result
+    (λ others. stores_whole (alignment_of c.args.align) a children c.args.body.now c.put_level.new.body c.put_columns.new.body (some_alignment c.args.align) c.in-Some.ensures c.in_ok-put_level.ensures others)
+    c.put_columns.ensures
 
 pub put_column-returns-in-None : goal.put_column-returns-in-None
 put_column-returns-in-None t c =
     let a = column_in c.args.source.now in
-    let align = alignment_of c.args.align in
-    let below = sent_below a in
-    let own : Stores align (own_node a.raw ∷ []) (own_chunks (form_of_column a) a.raw) c.args.body c.match-source.written = elim c.match-source.branch [
-      | put_column-in-Slots+in_ok-written-in-Slots w ↦ subst (Stores align (own_node a.raw ∷ []) (own_chunks (form_of_column a) a.raw) c.args.body) (sym w.written-is)
-          (subst (λ s. Stores align (own_node (column_in s).raw ∷ []) (own_chunks (form_of_column (column_in s)) (column_in s).raw) c.args.body w.in_ok-written-in-Slots.written) (sym w.in-Slots.is) w.in_ok-written-in-Slots.ensures)
-      | put_column-in_default+in_ok-written-in_default w ↦ subst (Stores align (own_node a.raw ∷ []) (own_chunks (form_of_column a) a.raw) c.args.body) (sym w.written-is) w.in_ok-written-in_default.ensures
-    ] in
-    IfOk-weaker c.put_below.result
-    (Stores align (stored_nodes (fields_of_columns below) (raws_of below)) (stored_chunks (fields_of_columns below) (raws_of below)) c.match-source.written)
-    (Stores align (stored_nodes (fields_of_columns (a ∷ [])) (raws_of (a ∷ []))) (stored_chunks (fields_of_columns (a ∷ [])) (raws_of (a ∷ []))) c.args.body)
-    (λ z others. stores_whole align a below c.args.body c.match-source.written z (some_alignment c.args.align) (sent_whole a c.requires.raws) own others) c.put_below.ensures
+    on_ok_weaker c.put_below.result
+    (λ others. stores_whole (alignment_of c.args.align) a (sent_below a) c.args.body.now c.put_level.new.body c.put_below.new.body (some_alignment c.args.align) (sent_whole a c.requires.raws) c.in_ok-put_level.ensures others)
+    c.put_below.ensures
 
 -- the array's column can be told and stored, and it is smaller
 pub put_columns-put_column-requires : goal.put_columns-put_column-requires
@@ -130,10 +114,10 @@ put_columns-loop-array-preserved t c =
     let d = c.array-item.result in
     let rest = drop (i + 1) all in
     let from = columns_from all i d c.loop-array-test.true c.array-item.is in
-    let P = Stores align (stored_nodes (fields_of_columns all) (raws_of all)) (stored_chunks (fields_of_columns all) (raws_of all)) c.args.body in (
+    let P = Stores align (stored_nodes (fields_of_columns all) (raws_of all)) (stored_chunks (fields_of_columns all) (raws_of all)) c.args.body.now in (
       told_others d rest (subst AreTold from c.loop-array.invariant.0),
       raws_others d rest (subst (λ cs. AreRaws (fields_of_columns cs) (raws_of cs)) from c.loop-array.invariant.1),
-      leads_more align d rest P c.loop-array.written c.in_ok-written.written (some_alignment c.args.align) (subst (λ cs. StoresUpTo align all cs c.args.body c.loop-array.written) from c.loop-array.invariant.2) c.in_ok-written.ensures,
+      leads_more align d rest P c.loop-array.body c.put_column.new.body (some_alignment c.args.align) (subst (λ cs. StoresUpTo align all cs c.args.body.now c.loop-array.body) from c.loop-array.invariant.2) c.in_ok-put_column.ensures,
     )
 
 -- all arrays
@@ -141,6 +125,6 @@ pub put_columns-returns : goal.put_columns-returns
 put_columns-returns t c =
     let all = c.args.arrays.now in
     let align = alignment_of c.args.align in
-    let P = Stores align (stored_nodes (fields_of_columns all) (raws_of all)) (stored_chunks (fields_of_columns all) (raws_of all)) c.args.body in
+    let P = Stores align (stored_nodes (fields_of_columns all) (raws_of all)) (stored_chunks (fields_of_columns all) (raws_of all)) c.args.body.now in
     let none = none_left all c.loop-array.array-index c.loop-array-test.false in
-    leads_out align P c.loop-array.written (subst (λ cs. StoresUpTo align all cs c.args.body c.loop-array.written) none c.loop-array.invariant.2)
+    leads_out align P c.loop-array.body (subst (λ cs. StoresUpTo align all cs c.args.body.now c.loop-array.body) none c.loop-array.invariant.2)

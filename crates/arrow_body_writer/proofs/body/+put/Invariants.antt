@@ -24,9 +24,9 @@ decreases-put_below l = parts_measure (sent_below (column_in l.source.now))
 abbrev pub invariant-put_columns-loop-array : goal.invariant-put_columns-loop-array
 invariant-put_columns-loop-array l =
     AreTold (drop l.array-index l.arrays) × AreRaws (fields_of_columns (drop l.array-index l.arrays)) (raws_of (drop l.array-index l.arrays))
-    × StoresUpTo (alignment_of l.align) l.arrays (drop l.array-index l.arrays) l.fn.body l.written
+    × StoresUpTo (alignment_of l.align) l.arrays (drop l.array-index l.arrays) l.fn.body l.body
 
 abbrev pub invariant-put_below-loop-k : goal.invariant-put_below-loop-k
 invariant-put_below-loop-k l =
     AreTold (drop l.k (sent_below (column_in l.source))) × AreRaws (fields_of_columns (drop l.k (sent_below (column_in l.source)))) (raws_of (drop l.k (sent_below (column_in l.source))))
-    × StoresUpTo (alignment_of l.align) (sent_below (column_in l.source)) (drop l.k (sent_below (column_in l.source))) l.fn.body l.written
+    × StoresUpTo (alignment_of l.align) (sent_below (column_in l.source)) (drop l.k (sent_below (column_in l.source))) l.fn.body l.body

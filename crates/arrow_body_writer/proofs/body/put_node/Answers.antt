@@ -7,7 +7,7 @@ use Rattle.arrow_body_writer.specs.Part.{chunk_of, part_of}
 use Rattle.arrow_body_writer.specs.Storing.{Stores}
 use Rattle.arrow_body_writer.specs.Source.{column_in}
 use Rattle.arrow_body_writer.proofs.body.put_node.Goals as goal
-use Rattle.arrow_body_writer.proofs.body.put_node.Goals.{in-Some+in_ok-written, in_default}
+use Rattle.arrow_body_writer.proofs.body.put_node.Goals.{in-Some+in_ok-put_chunk, in_default}
 
 -- each number has room
 pub put_chunk-requires-clause-room : goal.put_chunk-requires-clause-room
@@ -24,9 +24,9 @@ loop-k-preserved c =
     let sent = (column_in c.args.source.now).raw in
     let own = own_chunks form sent in
     elim c.match-part_of.branch [
-      | in-Some+in_ok-written w ↦ subst (λ b. Stores align (own_node sent ∷ []) (take (k + 1) own) c.args.body b) (sym w.written-is)
-          (subst (λ xs. Stores align (own_node sent ∷ []) xs c.args.body w.in_ok-written.written) (sym (chunk_next form k sent w.in-Some.part (sym c.part_of.ensures ∙ w.in-Some.is)))
-          (stores_more align (own_node sent ∷ []) [] (take k own) (chunk_of w.in-Some.part sent ∷ []) c.args.body c.loop-k.written w.in_ok-written.written (some_alignment c.args.align) c.loop-k.invariant w.in_ok-written.ensures))
-      | in_default w ↦ subst (λ b. Stores align (own_node sent ∷ []) (take (k + 1) own) c.args.body b) (sym w.written-is)
-          (subst (λ xs. Stores align (own_node sent ∷ []) xs c.args.body c.loop-k.written) (sym (chunk_past form k sent (sym w.in_default.ensures))) c.loop-k.invariant)
+      | in-Some+in_ok-put_chunk w ↦ subst (λ b. Stores align (own_node sent ∷ []) (take (k + 1) own) c.args.body.now b) (sym w.body-is)
+          (subst (λ xs. Stores align (own_node sent ∷ []) xs c.args.body.now w.put_chunk.new.body) (sym (chunk_next form k sent w.in-Some.part (sym c.part_of.ensures ∙ w.in-Some.is)))
+          (stores_more align (own_node sent ∷ []) [] (take k own) (chunk_of w.in-Some.part sent ∷ []) c.args.body.now c.loop-k.body w.put_chunk.new.body (some_alignment c.args.align) c.loop-k.invariant w.in_ok-put_chunk.ensures))
+      | in_default w ↦ subst (λ b. Stores align (own_node sent ∷ []) (take (k + 1) own) c.args.body.now b) (sym w.body-is)
+          (subst (λ xs. Stores align (own_node sent ∷ []) xs c.args.body.now c.loop-k.body) (sym (chunk_past form k sent (sym w.in_default.ensures))) c.loop-k.invariant)
     ]

@@ -8,4 +8,4 @@ use Rattle.arrow_body_writer.proofs.body.put_node.Given as goal
 -- the node and its first buffers are added
 abbrev pub invariant-loop-k : goal.invariant-loop-k
 invariant-loop-k l =
-    Stores (alignment_of l.align) (own_node (column_in l.source).raw ∷ []) (take l.k (own_chunks l.form (column_in l.source).raw)) l.fn.body l.written
+    Stores (alignment_of l.align) (own_node (column_in l.source).raw ∷ []) (take l.k (own_chunks l.form (column_in l.source).raw)) l.fn.body l.body

@@ -1,4 +1,5 @@
 use Rattle.std.proofs.Common.{sym, subst}
+use Rattle.std.proofs.lemmas.Result.{on_ok_weaker}
 use Rattle.arrow_body_laws.proofs.Tidied.{is_tidy}
 use Rattle.arrow_body_laws.proofs.Whole.{is_read}
 use Rattle.arrow_body_laws.specs.Laws.{IsBodyOf, raws_of}
@@ -11,21 +12,27 @@ use Rattle.arrow_body_writer.proofs.body.store_in.Goals as goal
 -- all columns
 pub returns-clause-same : goal.returns-clause-same
 returns-clause-same c =
-    let empty = c.in_ok-empty.ensures in
-    stored_from (alignment_of c.args.align) (c.args.arrays.now) c.in_ok-empty.empty c.in_ok-body.body empty.no_nodes empty.no_buffers empty.no_bytes c.in_ok-body.ensures
+    let empty = c.in_ok-begin.ensures in
+    on_ok_weaker c.put_columns.result
+    (λ all. stored_from (alignment_of c.args.align) (c.args.arrays.now) c.begin.new.self c.put_columns.new.body empty.no_nodes empty.no_buffers empty.no_bytes all)
+    c.put_columns.ensures
 
 -- so it is read as them
 pub returns-clause-read : goal.returns-clause-read
 returns-clause-read c =
     let all = c.args.arrays.now in
     let align = alignment_of c.args.align in
-    subst (IsBodyOf align (fields_of_columns all) (raws_of all)) (sym (returns-clause-same c))
-    (is_read align (fields_of_columns all) (raws_of all) (some_alignment c.args.align) (c.nodes_in_all-count.ensures.raws) c.requires.told.small)
+    on_ok_weaker c.put_columns.result
+    (λ same. subst (IsBodyOf align (fields_of_columns all) (raws_of all)) (sym same)
+    (is_read align (fields_of_columns all) (raws_of all) (some_alignment c.args.align) (c.nodes_in_all.ensures.raws) c.requires.told.small))
+    (returns-clause-same c)
 
 -- and tidy
 pub returns-clause-tidy : goal.returns-clause-tidy
 returns-clause-tidy c =
     let all = c.args.arrays.now in
     let align = alignment_of c.args.align in
-    subst (λ (b : PlainBody). IsTidy align (fields_of_columns all) b.nodes b.buffers b.bytes) (sym (returns-clause-same c))
-    (is_tidy align (fields_of_columns all) (raws_of all) (some_alignment c.args.align) (c.nodes_in_all-count.ensures.raws) c.requires.told.small)
+    on_ok_weaker c.put_columns.result
+    (λ same. subst (λ (b : PlainBody). IsTidy align (fields_of_columns all) b.nodes b.buffers b.bytes) (sym same)
+    (is_tidy align (fields_of_columns all) (raws_of all) (some_alignment c.args.align) (c.nodes_in_all.ensures.raws) c.requires.told.small))
+    (returns-clause-same c)

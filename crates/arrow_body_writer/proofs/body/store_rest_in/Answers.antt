@@ -1,4 +1,5 @@
 use Rattle.std.proofs.Common.{[], ◌∷◌, sym, subst}
+use Rattle.std.proofs.lemmas.Result.{on_ok_weaker}
 use Rattle.arrow_body_laws.proofs.Tidied.{is_tidy}
 use Rattle.arrow_body_laws.proofs.Whole.{is_read}
 use Rattle.arrow_body_laws.specs.Laws.{IsBodyOf, raws_of}
@@ -12,21 +13,27 @@ use Rattle.arrow_body_writer.proofs.body.store_rest_in.Goals as goal
 -- the column
 pub returns-clause-same : goal.returns-clause-same
 returns-clause-same c =
-    let empty = c.in_ok-empty.ensures in
-    stored_from (alignment_of c.args.align) (rest_of c.args.dictionary.now c.args.from ∷ []) c.in_ok-empty.empty c.in_ok-rest.rest empty.no_nodes empty.no_buffers empty.no_bytes c.in_ok-rest.ensures
+    let empty = c.in_ok-begin.ensures in
+    on_ok_weaker c.put_column.result
+    (λ all. stored_from (alignment_of c.args.align) (rest_of c.args.dictionary.now c.args.from ∷ []) c.begin.new.self c.put_column.new.body empty.no_nodes empty.no_buffers empty.no_bytes all)
+    c.put_column.ensures
 
 -- so it is read as the values
 pub returns-clause-read : goal.returns-clause-read
 returns-clause-read c =
     let all = rest_of c.args.dictionary.now c.args.from ∷ [] in
     let align = alignment_of c.args.align in
-    subst (IsBodyOf align (fields_of_columns all) (raws_of all)) (sym (returns-clause-same c))
-    (is_read align (fields_of_columns all) (raws_of all) (some_alignment c.args.align) (c.nodes_in_rest-count.ensures.raws c.args.from) c.requires.told.small)
+    on_ok_weaker c.put_column.result
+    (λ same. subst (IsBodyOf align (fields_of_columns all) (raws_of all)) (sym same)
+    (is_read align (fields_of_columns all) (raws_of all) (some_alignment c.args.align) (c.nodes_in_rest.ensures.raws c.args.from) c.requires.told.small))
+    (returns-clause-same c)
 
 -- and tidy
 pub returns-clause-tidy : goal.returns-clause-tidy
 returns-clause-tidy c =
     let all = rest_of c.args.dictionary.now c.args.from ∷ [] in
     let align = alignment_of c.args.align in
-    subst (λ (b : PlainBody). IsTidy align (fields_of_columns all) b.nodes b.buffers b.bytes) (sym (returns-clause-same c))
-    (is_tidy align (fields_of_columns all) (raws_of all) (some_alignment c.args.align) (c.nodes_in_rest-count.ensures.raws c.args.from) c.requires.told.small)
+    on_ok_weaker c.put_column.result
+    (λ same. subst (λ (b : PlainBody). IsTidy align (fields_of_columns all) b.nodes b.buffers b.bytes) (sym same)
+    (is_tidy align (fields_of_columns all) (raws_of all) (some_alignment c.args.align) (c.nodes_in_rest.ensures.raws c.args.from) c.requires.told.small))
+    (returns-clause-same c)
