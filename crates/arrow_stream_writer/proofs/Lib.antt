@@ -10,3 +10,4 @@ pub mod Closing
 pub mod Showing
 pub mod Delivering
 pub mod Rests
+pub mod Pieces

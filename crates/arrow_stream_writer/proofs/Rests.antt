@@ -1,6 +1,6 @@
 -- What is appended of a dictionary batch: its frame.
 use Rattle.std.proofs.Common.{◌≡◌, ◌≤◌, ◌<◌, ◌^◌, ℕ, ℤ, Bool, true, false, cond, leb, List, [], ◌∷◌, ◌++◌, length, drop, refl, sym, ap, ◌∙◌, subst, arith}
-use Rattle.std.specs.Prelude.{Option, None, Some, Result, Ok, Err}
+use Rattle.std.specs.Prelude.{Option, None, Some, Err}
 use Rattle.std.specs.List.{AllByRecursion}
 use Rattle.std.specs.Ordering.{int_eq}
 use Rattle.std.proofs.lemmas.Bool.{and_from, and_left, and_right, le-leb, lt-leb}
@@ -21,9 +21,9 @@ use Rattle.arrow_stream_laws.specs.Plan.{Sending}
 use Rattle.arrow_stream_laws.specs.Sizes.{dictionary_size}
 use Rattle.arrow_sink.specs.declared.write_fault.WriteFault.{WriteFault}
 use Rattle.arrow_sink.specs.declared.write_fault.WriteFault.TheVariants.{SchemaDiffers, TooLarge, DictionariesDiffer, Sink, Broken, Finished, Memory}
-use Rattle.arrow_stream_writer.specs.Framing.{IsStored, Puts, update_load}
+use Rattle.arrow_stream_writer.specs.Framing.{IsStored, Puts, PutsLoad, update_load}
 use Rattle.arrow_stream_writer.specs.Terms.{Terms}
-use Rattle.arrow_stream_writer.specs.Updating.{IsNamed, PutsUpdate}
+use Rattle.arrow_stream_writer.specs.Updating.{IsNamed, PutsFrame, PutsUpdate}
 use Rattle.arrow_stream_writer.proofs.Storable.{fails, nodes_few, small_if}
 
 -- THE TYPES OF VALUES HAVE FEW FIELDS
@@ -77,24 +77,26 @@ module _ (terms : Terms) (id : ℤ) (is_delta : Bool) (from : ℕ) (d : ValueLis
   }
 
   -- what was answered to the batch is the answer to the update
-  pub puts_update : (answer : Result (Unit {0}) WriteFault) (old new : List ℕ) → length d.values ≤ terms.limits.max_rows → Puts terms (update_load terms.shape.fields brought) old answer new
-      → PutsUpdate terms brought old answer new
-  puts_update (Ok done) old new few x = record {
+  pub puts_update : (old new : List ℕ) → length d.values ≤ terms.limits.max_rows → PutsLoad terms (update_load terms.shape.fields brought) old new → PutsFrame terms brought old new
+  puts_update old new few x = record {
     frame = x.frame;
     fits_in = and_from (frame_fits terms.limits terms.align (dictionary_size terms.align (fields_for terms.shape.fields id)) (fields_for terms.shape.fields id) (drop from d.values ∷ []) (length (drop from d.values)))
         (leb (length d.values) terms.limits.max_rows) x.fits_in (le-leb (length d.values) terms.limits.max_rows few);
     is_update = record { record_batch = x.record_batch; body = x.body; built = x.built; frame = x.is_frame };
     appended = x.appended;
   }
-  puts_update (Err TooLarge) old new few x =
+
+  -- a load that is refused is a refused dictionary batch, whatever is left of it
+  pub refuses_update : (fault : WriteFault) (old left new : List ℕ) → Puts terms (update_load terms.shape.fields brought) old (Err fault) left → PutsUpdate terms brought old (Err fault) new
+  refuses_update TooLarge old left new x =
       and_left (frame_fits terms.limits terms.align (dictionary_size terms.align (fields_for terms.shape.fields id)) (fields_for terms.shape.fields id) (drop from d.values ∷ []) (length (drop from d.values)))
       (leb (length d.values) terms.limits.max_rows) x
-  puts_update (Err Memory) old new few x = x
-  puts_update (Err SchemaDiffers) old new few x = x
-  puts_update (Err DictionariesDiffer) old new few x = x
-  puts_update (Err Sink) old new few x = x
-  puts_update (Err Broken) old new few x = x
-  puts_update (Err Finished) old new few x = x
+  refuses_update Memory old left new x = x
+  refuses_update SchemaDiffers old left new x = x
+  refuses_update DictionariesDiffer old left new x = x
+  refuses_update Sink old left new x = x
+  refuses_update Broken old left new x = x
+  refuses_update Finished old left new x = x
 
   -- a dictionary of too many values is refused
   pub whole_over : terms.limits.max_rows < length d.values → sending_fits terms.limits terms.align terms.shape.fields brought ≡ false

@@ -26,6 +26,11 @@ pub record AppendsFrame (align : ℕ) (m : PlainMessage) (body old new : List �
   pub is_frame : (limits : LimitNumbers) → header_size align m.header ≤ limits.max_metadata → length body ≤ limits.max_body →
       IsFrameOf limits (header_size align m.header) m.header body (framed m (header_size align m.header) body)
 
+-- Just the head of the message's frame was appended, all of it but the body: with any body of the length that the message tells
+-- behind it, it is the frame of the message with this body.
+abbrev pub AppendsHead : ℕ → PlainMessage → List ℕ → List ℕ → Type 0
+AppendsHead align m old new = (body : List ℕ) → m.body_len ≡ length body → AppendsFrame align m body old (new ++ body)
+
 -- the end marker was appended
 pub record AppendsMarker (old new : List ℕ) : Type 0 where
   pub marker : List ℕ

@@ -8,7 +8,7 @@ use Rattle.arrow_data.specs.PlainValue.{PlainValue}
 use Rattle.arrow_body_laws.specs.Laws.{raws_of}
 use Rattle.arrow_body_laws.specs.Raws.{AreRaws, AreSmall}
 use Rattle.arrow_body_laws.specs.Stored.{PlainBody, stored}
-use Rattle.arrow_meta_reader.specs.Means.{PlainBatch, PlainHeader, batch, dictionary}
+use Rattle.arrow_meta_reader.specs.Means.{PlainBatch, PlainHeader, PlainMessage, batch, dictionary}
 use Rattle.arrow_stream_laws.specs.Admission.{fields_for, frame_fits}
 use Rattle.arrow_stream_laws.specs.Built.{IsBuilt}
 use Rattle.arrow_stream_laws.specs.Frames.{IsFrameOf}
@@ -19,6 +19,7 @@ use Rattle.arrow_sink.specs.declared.write_fault.WriteFault.TheVariants.{TooLarg
 use Rattle.arrow_stream_writer.specs.Terms.{Terms}
 use Rattle.arrow_stream_writer.specs.declared.frames.BatchKind.{BatchKind}
 use Rattle.arrow_stream_writer.specs.declared.frames.BatchKind.TheVariants.{Record, Dictionary}
+use Rattle.arrow_stream_writer.specs.declared.frames.Part.{Part}
 
 -- What a frame is to carry: of which kind it is, and the fields, the raw values and the number of rows of its columns.
 pub record Load : Type 0 where
@@ -65,6 +66,19 @@ abbrev pub PutsMessage : Terms → PlainHeader → List ℕ → List ℕ → Res
 PutsMessage terms header body old (Ok done) new = PutsFrameOf terms header body old new
 PutsMessage terms header body old (Err TooLarge) new = terms.limits.max_metadata < header_size terms.align header
 PutsMessage terms header body old (Err fault) new = fault ≡ Memory
+
+-- the same of the head of a message's frame, whatever body of the length that it tells stands behind it
+abbrev pub PutsHead : Terms → PlainMessage → List ℕ → Result (Unit {0}) WriteFault → List ℕ → Type 0
+PutsHead terms m old answer new = (body : List ℕ) → m.body_len ≡ length body → PutsMessage terms m.header body old answer (new ++ body)
+
+-- the bytes of a part: those before the body that was stored last, and the body's
+abbrev pub part_bytes : Part → List ℕ
+part_bytes p = p.bytes.items ++ p.body.bytes.items
+
+-- the body was appended to the bytes before it
+pub record AppendsBody (old new : Part) : Type 0 where
+  pub bytes : new.bytes.items ≡ part_bytes old
+  pub nothing_left : new.body.bytes.items ≡ []
 
 -- A frame that keeps to the limits and carries the load was appended.
 pub record PutsLoad (terms : Terms) (load : Load) (old new : List ℕ) : Type 0 where

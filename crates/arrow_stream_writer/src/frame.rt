@@ -3,7 +3,7 @@
 ghost use Rattle.std.specs.Prelude.{◌≡◌, ◌≤◌, ◌<◌, ◌+◌, ◌-◌, ◌++◌, IsSome, OnOk, OnErr, Ok, IfOk};
 ghost use Rattle.std.specs.Prelude.{length, replicate, take};
 ghost use Rattle.arrow_body_laws.specs.Stored.{rounded};
-ghost use Rattle.arrow_stream_writer.specs.Frame.{AppendsFrame, AppendsMarker, prefix_bytes};
+ghost use Rattle.arrow_stream_writer.specs.Frame.{AppendsFrame, AppendsHead, AppendsMarker, prefix_bytes};
 ghost use Rattle.arrow_meta_reader.specs.Means.{message_view};
 ghost use Rattle.arrow_meta_writer.specs.Metadata.{size_of};
 
@@ -70,10 +70,9 @@ pub fn put_frame(
         out.old.items out.new.items) }
     ensures err { OnErr result (out.new.items ≡ out.old.items) }
 {
-    let metadata = encode(*out.allocator(), message)?;
-    let size = rounded(align, 8 + metadata.len()) - 8;
     let before = out.len();
-    match put_parts(out, size, &metadata, body) {
+    put_head(out, align, message)?;
+    match out.extend_from_slice(body) {
         Ok(()) => Ok(()),
         Err(fault) => {
             out.truncate(before);
@@ -82,18 +81,39 @@ pub fn put_frame(
     }
 }
 
-// Appends the prefix of metadata of this size, the metadata, zero bytes up to the size, and the
-// body. Where a growth was refused, the bytes of before stand first.
-fn put_parts(out: &mut Vec<u8>, size: usize, metadata: &[u8], body: &[u8]) -> Result<(), AllocError>
+/// Appends the head of a message's frame, all of it but the body: with any body of the length that
+/// the message tells behind it, it is the frame of the message with this body.
+pub(crate) fn put_head(out: &mut Vec<u8>, align: usize, message: &Message) -> Result<(), AllocError>
+    requires some { 1 ≤ align }
+    requires few { align ≤ 64 }
+    requires sendable { IsSome (size_of (message_view message.now)) }
+    ensures ok { OnOk result (AppendsHead align (message_view message.now) out.old.items out.new.items) }
+    ensures err { OnErr result (out.new.items ≡ out.old.items) }
+    ensures kept { take (length out.old.items) out.new.items ≡ out.old.items }
+{
+    let metadata = encode(*out.allocator(), message)?;
+    let size = rounded(align, 8 + metadata.len()) - 8;
+    let before = out.len();
+    match put_metadata(out, size, &metadata) {
+        Ok(()) => Ok(()),
+        Err(fault) => {
+            out.truncate(before);
+            Err(fault)
+        }
+    }
+}
+
+// Appends the prefix of metadata of this size, the metadata, and zero bytes up to the size. The
+// bytes of before stand first, also where a growth was refused.
+fn put_metadata(out: &mut Vec<u8>, size: usize, metadata: &[u8]) -> Result<(), AllocError>
     requires { size ≤ 2147483648 }
     ensures ok { OnOk result (out.new.items
-        ≡ (((out.old.items ++ prefix_bytes size) ++ metadata.now)
-        ++ replicate (size - length metadata.now) 0) ++ body.now) }
-    ensures err { OnErr result (take (length out.old.items) out.new.items ≡ out.old.items) }
+        ≡ ((out.old.items ++ prefix_bytes size) ++ metadata.now)
+        ++ replicate (size - length metadata.now) 0) }
+    ensures kept { take (length out.old.items) out.new.items ≡ out.old.items }
 {
     put_prefix(out, size)?;
     out.extend_from_slice(metadata)?;
     let end = out.len() + size.saturating_sub(metadata.len());
-    out.resize(end, 0)?;
-    out.extend_from_slice(body)
+    out.resize(end, 0)
 }

@@ -3,7 +3,7 @@
 //! What would not keep to the limits is refused before a byte of its frame is appended: the body is
 //! measured before it is stored, then its nodes are looked at, then the metadata are measured.
 
-ghost use Rattle.std.specs.Prelude.{◌≡◌, ◌≤◌, ◌<◌, ◌^◌, IsSome, MatchOption, length};
+ghost use Rattle.std.specs.Prelude.{◌≡◌, ◌≤◌, ◌<◌, ◌^◌, IsSome, MatchOption, OnOk, length};
 ghost use Rattle.std.specs.List.{list_any};
 ghost use Rattle.arrow_body_writer.specs.Align.{alignment_of};
 ghost use Rattle.arrow_body_writer.specs.Storing.{body_view};
@@ -11,11 +11,12 @@ ghost use Rattle.arrow_meta_reader.specs.Means.{batch_view, header_view, message
 ghost use Rattle.arrow_meta_writer.specs.Metadata.{size_of};
 ghost use Rattle.arrow_stream_reader.specs.Batch.{is_bad_length};
 ghost use Rattle.arrow_stream_laws.specs.Sizes.{header_size};
-ghost use Rattle.arrow_stream_writer.specs.Framing.{IsStored, Load, Puts, PutsMessage, header_of, record_load};
+ghost use Rattle.arrow_stream_writer.specs.Framing.{AppendsBody, IsStored, Load, Puts, PutsHead};
+ghost use Rattle.arrow_stream_writer.specs.Framing.{header_of, part_bytes, record_load};
 ghost use Rattle.arrow_stream_writer.specs.Terms.{terms_of};
 ghost use Rattle.arrow_stream_writer.specs.Updating.{IsNamed, PutsUpdate, sending_of};
 
-use crate::frame::put_frame;
+use crate::frame::put_head;
 use crate::settings::Settings;
 use arrow_body_writer::{Align, Body, body_size, rest_size, store_in, store_rest_in};
 use arrow_data::{Batch, Dictionary};
@@ -23,6 +24,7 @@ use arrow_meta_reader::{Header, Message, MetadataVersion, RecordBatch};
 use arrow_meta_writer::encoded_size;
 use arrow_sink::WriteFault;
 use arrow_types::FieldNode;
+use std::alloc::AllocError;
 use std::mem;
 
 /// What a batch is to a reader (`Message.fbs`, union `MessageHeader`).
@@ -45,12 +47,43 @@ pub(crate) struct DictionaryBatch<'a> {
     pub(crate) dictionary: &'a Dictionary,
 }
 
-/// The part of a batch as it is built: the bytes of its frames, and the room of the body that was
-/// stored last.
+/// A body of fewer bytes is sent as one piece with what stands before it.
+const LONG: usize = 16_384;
+
+/// The part of a batch as it is built: the bytes of its frames, and behind them the body that was
+/// stored last, which is sent from where it lies. Both keep their room.
 #[derive(Drop)]
 pub(crate) struct Part {
     pub(crate) bytes: Vec<u8>,
-    pub(crate) room: Body,
+    pub(crate) body: Body,
+}
+
+impl Part {
+    /// How many bytes it has.
+    pub(crate) fn len(&self) -> usize
+        ensures { result ≡ length (part_bytes self.now) }
+    {
+        self.bytes.len() + self.body.bytes.len()
+    }
+
+    /// Appends the body to the bytes before it.
+    fn append_body(&mut self) -> Result<(), AllocError>
+        ensures { OnOk result (AppendsBody self.old self.new) }
+    {
+        self.bytes.extend_from_slice(&self.body.bytes)?;
+        self.body.bytes.clear();
+        Ok(())
+    }
+
+    /// Appends a short body to the bytes before it.
+    fn append_short_body(&mut self) -> Result<(), AllocError>
+        ensures { OnOk result (part_bytes self.new ≡ part_bytes self.old) }
+    {
+        if self.body.bytes.len() < LONG {
+            self.append_body()?;
+        }
+        Ok(())
+    }
 }
 
 // The header of the message that holds the batch.
@@ -111,33 +144,27 @@ fn metadata_len(align: Align, message: &Message) -> Option<u64>
 }
 
 impl Settings {
-    /// Appends the frame of the message with this body.
-    pub(crate) fn put_message(
-        &self,
-        message: &Message,
-        body: &[u8],
-        out: &mut Vec<u8>,
-    ) -> Result<(), WriteFault>
+    /// Appends the head of the message's frame.
+    pub(crate) fn put_head(&self, message: &Message, out: &mut Vec<u8>) -> Result<(), WriteFault>
         requires version { message.now.version ≡ MetadataVersion.V5 }
-        requires told { message.now.body_len ≡ length body.now }
-        requires short { length body.now ≤ self.now.limits.max_body }
-        ensures { PutsMessage (terms_of self.now) (message_view message.now).header body.now
-            out.old.items result out.new.items }
+        requires short { message.now.body_len ≤ self.now.limits.max_body }
+        ensures { PutsHead (terms_of self.now) (message_view message.now) out.old.items result
+            out.new.items }
     {
         let (_, max_metadata) = (self.limits.max_body(), self.limits.max_metadata());
         let len = metadata_len(self.align, message).ok_or(WriteFault::TooLarge)?;
         if len > max_metadata {
             return Err(WriteFault::TooLarge);
         }
-        // One growth makes room for all of the frame.
-        out.reserve(8 + len as usize + body.len())?;
-        put_frame(out, self.align.bytes(), message, body)?;
+        // One growth makes room for all of it.
+        out.reserve(8 + len as usize)?;
+        put_head(out, self.align.bytes(), message)?;
         Ok(())
     }
 
-    /// Appends the frame of a batch whose columns were stored in the part's room. Of what was stored
-    /// the room alone is left. After a fault what stands behind the bytes is a rest of which nothing
-    /// is said.
+    /// Appends the head of the frame of a batch whose columns were stored in the part's body, which
+    /// stays behind it. After a fault what stands behind the bytes is a rest of which nothing is
+    /// said.
     pub(crate) fn put_stored(
         &self,
         kind: BatchKind,
@@ -145,39 +172,39 @@ impl Settings {
         part: &mut Part,
     ) -> Result<(), WriteFault>
         ensures { (load : Load) → load.kind ≡ kind → load.rows ≡ rows
-            → IsStored (terms_of self.now).align load (body_view part.old.room)
-            → Puts (terms_of self.now) load part.old.bytes.items result part.new.bytes.items }
+            → IsStored (terms_of self.now).align load (body_view part.old.body)
+            → Puts (terms_of self.now) load part.old.bytes.items result (part_bytes part.new) }
     {
         let max_rows = self.limits.max_rows();
         if rows as u64 > max_rows {
             return Err(WriteFault::TooLarge);
         }
-        if part.room.bytes.len() as u64 > self.limits.max_body() {
+        if part.body.bytes.len() as u64 > self.limits.max_body() {
             return Err(WriteFault::TooLarge);
         }
-        if have_bad_length(max_rows, &part.room.nodes) {
+        if have_bad_length(max_rows, &part.body.nodes) {
             return Err(WriteFault::TooLarge);
         }
         let batch = RecordBatch {
             length: rows as i64,
-            nodes: mem::replace(&mut part.room.nodes, Vec::new(self.alloc)),
-            buffers: mem::replace(&mut part.room.buffers, Vec::new(self.alloc)),
+            nodes: mem::replace(&mut part.body.nodes, Vec::new(self.alloc)),
+            buffers: mem::replace(&mut part.body.buffers, Vec::new(self.alloc)),
         };
         let message = Message {
             version: MetadataVersion::V5,
             header: header_of(kind, batch),
-            body_len: part.room.bytes.len() as u64,
+            body_len: part.body.bytes.len() as u64,
         };
-        let answer = self.put_message(&message, &part.room.bytes, &mut part.bytes);
-        give_back(message, &mut part.room);
+        let answer = self.put_head(&message, &mut part.bytes);
+        give_back(message, &mut part.body);
         answer
     }
 
-    /// Appends the frame of the batch's record batch, whose body is stored in the part's room. After
-    /// a fault what stands behind the bytes is a rest of which nothing is said.
+    /// Appends the frame of the batch's record batch, whose body may stay where it is stored, behind
+    /// the bytes. After a fault what stands there is a rest of which nothing is said.
     pub(crate) fn put_record(&self, batch: &Batch, part: &mut Part) -> Result<(), WriteFault>
         ensures { Puts (terms_of self.now) (record_load batch.now) part.old.bytes.items result
-            part.new.bytes.items }
+            (part_bytes part.new) }
     {
         // The proof has by it at hand what is known of every batch.
         let _ = batch.schema();
@@ -190,14 +217,15 @@ impl Settings {
         if batch.rows() as u64 > max_rows {
             return Err(WriteFault::TooLarge);
         }
-        part.room.make_room(size as usize)?;
-        let empty = mem::replace(&mut part.room, Body::new(self.alloc));
-        part.room = store_in(empty, columns, self.align)?;
-        self.put_stored(BatchKind::Record, batch.rows(), part)
+        part.body.make_room(size as usize)?;
+        store_in(&mut part.body, columns, self.align)?;
+        self.put_stored(BatchKind::Record, batch.rows(), part)?;
+        part.append_short_body()?;
+        Ok(())
     }
 
-    /// Appends the frame of the dictionary batch, whose body is stored in the part's room. After a
-    /// fault what stands behind the bytes is a rest of which nothing is said.
+    /// Appends the frame of the dictionary batch, all of it to the bytes. After a fault what stands
+    /// behind these is a rest of which nothing is said.
     pub(crate) fn put_update(
         &self,
         update: &DictionaryBatch,
@@ -220,10 +248,11 @@ impl Settings {
         if size > max_body {
             return Err(WriteFault::TooLarge);
         }
-        part.room.make_room(size as usize)?;
-        let empty = mem::replace(&mut part.room, Body::new(self.alloc));
-        part.room = store_rest_in(empty, dictionary, update.from, self.align)?;
+        part.body.make_room(size as usize)?;
+        store_rest_in(&mut part.body, dictionary, update.from, self.align)?;
         let kind = BatchKind::Dictionary(update.id, update.is_delta);
-        self.put_stored(kind, len - update.from, part)
+        self.put_stored(kind, len - update.from, part)?;
+        part.append_body()?;
+        Ok(())
     }
 }

@@ -14,15 +14,16 @@
 //! dictionaries. `frames.rt` builds frames of columns within the limits. `send_part` and `send_end`
 //! (`sending.rt`) send what was built: only where the sink took all of a part are the staged
 //! dictionaries sent ones. A frame is eight bytes of prefix, the metadata of a message and its body
-//! (Columnar Format, "Encapsulated message format"): `frame.rt` appends it, and the end marker.
+//! (Columnar Format, "Encapsulated message format"): `frame.rt` appends it, its head alone, or the
+//! end marker. The last body of a part, where it is long, is sent from where it was stored.
 //!
 //! | Notion | Definition |
 //! |---|---|
 //! | what a writer over a sink shows | `specs/Shown.antt`: `shown` |
 //! | the part of a batch, built | `specs/Parts.antt`: `IsPartBuilt`, `BuildsPart` |
-//! | a frame, the end marker, appended | `specs/Frame.antt`: `AppendsFrame`, `AppendsMarker` |
+//! | a frame, its head, the end marker, appended | `specs/Frame.antt`: `AppendsFrame`, `AppendsHead`, `AppendsMarker` |
 //! | sizes that hang on fields alone | `specs/Sizes.antt`: `BatchesSized`, `DictionariesSized` |
-//! | the frame of columns, within the limits | `specs/Framing.antt`: `Puts`; `specs/Terms.antt`: `Terms` |
+//! | the frame of columns, within the limits | `specs/Framing.antt`: `Puts`, `part_bytes`; `specs/Terms.antt`: `Terms` |
 //! | the dictionaries of a batch | `specs/Lists.antt`: `AreListsOf`, `FindsLists` |
 //! | those that are to be sent | `specs/Updating.antt`: `AddsPlan` |
 //! | whether it takes more | `specs/Taking.antt`: `taking`; `specs/Marker.antt` |
@@ -30,8 +31,8 @@
 //!
 //! Of the proofs, `Finding`, `Gathering` and `Found` go from one column's dictionaries to those of
 //! a batch, `Storable`, `Framed` and `Rests` from columns to frames, `Adding` and `Closing` make a
-//! part, `Showing` says what a writer shows after its calls, and `Delivering` what a reader has of
-//! it.
+//! part, `Pieces` says what a sink has of two pieces, `Showing` what a writer shows after its calls,
+//! and `Delivering` what a reader has of it.
 #![tactic(auto)]
 
 mod frame;

@@ -4,7 +4,7 @@ ghost use Rattle.std.specs.Prelude.{◌≡◌, ◌≤◌, ◌^◌, [], IfOk};
 ghost use Rattle.arrow_body_writer.specs.Align.{alignment_of};
 ghost use Rattle.arrow_meta_reader.specs.Means.{schema};
 ghost use Rattle.arrow_types.specs.Schema.{IsNoted};
-ghost use Rattle.arrow_stream_writer.specs.Framing.{PutsMessage};
+ghost use Rattle.arrow_stream_writer.specs.Framing.{PutsMessage, part_bytes};
 ghost use Rattle.arrow_stream_writer.specs.Parts.{BuildsOrDrops, BuildsPart, PutsUpdates};
 ghost use Rattle.arrow_stream_writer.specs.Terms.{terms_of};
 ghost use Rattle.arrow_stream_writer.specs.Updating.{work_of};
@@ -30,7 +30,7 @@ pub(crate) struct PartBuilder {
     pub(crate) settings: Settings,
     /// The dictionaries that were sent, and those that the part in work brings.
     pub(crate) tracker: Tracker,
-    /// The part that was built last. Its bytes keep their room.
+    /// The part that was built last.
     pub(crate) part: Part,
 }
 
@@ -63,7 +63,7 @@ impl PartBuilder {
             tracker: Tracker::new(alloc),
             part: Part {
                 bytes: Vec::new(alloc),
-                room: Body::new(alloc),
+                body: Body::new(alloc),
             },
         })
     }
@@ -86,8 +86,7 @@ impl PartBuilder {
             header: Header::Schema(self.settings.schema.copy(self.settings.alloc)?),
             body_len: 0,
         };
-        self.settings
-            .put_message(&message, &[], &mut self.part.bytes)
+        self.settings.put_head(&message, &mut self.part.bytes)
     }
 
     /// Builds the part of the batch, which is to begin at this place, and stages its dictionaries.
@@ -97,7 +96,7 @@ impl PartBuilder {
         requires committed { self.old.tracker.next ≡ self.old.tracker.sent }
         ensures settings { self.new.settings ≡ self.old.settings }
         ensures built { BuildsOrDrops (terms_of self.old.settings) place batch.now
-            self.old.tracker.sent result self.new.part.bytes.items self.new.tracker }
+            self.old.tracker.sent result (part_bytes self.new.part) self.new.tracker }
     {
         match self.put_frames(place, batch) {
             Ok(()) => Ok(()),
@@ -115,7 +114,7 @@ impl PartBuilder {
         requires committed { self.old.tracker.next ≡ self.old.tracker.sent }
         ensures settings { self.new.settings ≡ self.old.settings }
         ensures built { BuildsPart (terms_of self.old.settings) place batch.now
-            self.old.tracker.sent result self.new.part.bytes.items self.new.tracker }
+            self.old.tracker.sent result (part_bytes self.new.part) self.new.tracker }
     {
         self.part.bytes.clear();
         let same = *batch.schema() == *self.settings.schema;
@@ -124,7 +123,7 @@ impl PartBuilder {
         }
         put_updates(&self.settings, batch, &mut self.tracker, &mut self.part)?;
         self.settings.put_record(batch, &mut self.part)?;
-        if self.part.bytes.len() as u64 > Limits::LAST_PLACE - place {
+        if self.part.len() as u64 > Limits::LAST_PLACE - place {
             return Err(WriteFault::TooLarge);
         }
         Ok(())

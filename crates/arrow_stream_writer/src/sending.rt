@@ -1,33 +1,49 @@
 //! Sending a part that was built, and the end marker.
 
-ghost use Rattle.std.specs.Prelude.{◌≡◌, ◌<◌, ◌+◌, ◌-◌, ◌^◌, IfErr, OnErr, OnOk};
+ghost use Rattle.std.specs.Prelude.{◌≡◌, ◌<◌, ◌+◌, ◌-◌, ◌^◌, ◌++◌, IfErr, OnErr, OnOk};
 ghost use Rattle.std.specs.Io.KnownBytes.{Appends};
 ghost use Rattle.arrow_sink.specs.Sinks.{AcceptsBeginning};
+ghost use Rattle.arrow_stream_writer.specs.Framing.{part_bytes};
 ghost use Rattle.arrow_stream_writer.specs.Marker.{marker};
 ghost use Rattle.arrow_sink.specs.declared.write_fault.WriteFault.TheVariants.{Sink};
 
+use crate::frames::Part;
 use arrow_dict::Tracker;
-use arrow_sink::{Sink, WriteFault, send};
+use arrow_sink::{Sink, SinkFault, WriteFault, send};
+
+// Sends two pieces, one after the other.
+fn send_pieces<S: Sink>(sink: &mut S, first: &[u8], second: &[u8]) -> Result<(), SinkFault>
+    requires { S.failed sink.old < 2 ^ 64 - 1 }
+    ensures all { OnOk result
+        (Appends (S.contents sink.old) (S.contents sink.new) (first.now ++ second.now)) }
+    ensures fine { OnOk result (S.failed sink.new ≡ S.failed sink.old) }
+    ensures beginning { OnErr result
+        (AcceptsBeginning (S.contents sink.old) (S.contents sink.new) (first.now ++ second.now)) }
+    ensures failed { OnErr result (S.failed sink.new ≡ S.failed sink.old + 1) }
+{
+    send(sink, first)?;
+    send(sink, second)
+}
 
 /// Sends a part. What was staged becomes what was sent only where the sink took all of the part;
 /// else it is dropped, and the fault is `Sink`.
 pub(crate) fn send_part<S: Sink>(
     sink: &mut S,
-    part: &[u8],
+    part: &Part,
     tracker: &mut Tracker,
 ) -> Result<(), WriteFault>
     requires { S.failed sink.old < 2 ^ 64 - 1 }
-    ensures all { OnOk result (Appends (S.contents sink.old) (S.contents sink.new) part.now) }
+    ensures all { OnOk result (Appends (S.contents sink.old) (S.contents sink.new) (part_bytes part.now)) }
     ensures fine { OnOk result (S.failed sink.new ≡ S.failed sink.old) }
     ensures committed { OnOk result (tracker.new.sent ≡ tracker.old.next) }
     ensures fault { IfErr result (λ fault. fault ≡ Sink) }
     ensures beginning { OnErr result
-        (AcceptsBeginning (S.contents sink.old) (S.contents sink.new) part.now) }
+        (AcceptsBeginning (S.contents sink.old) (S.contents sink.new) (part_bytes part.now)) }
     ensures failed { OnErr result (S.failed sink.new ≡ S.failed sink.old + 1) }
     ensures discarded { OnErr result (tracker.new.sent ≡ tracker.old.sent) }
     ensures none_staged { tracker.new.next ≡ tracker.new.sent }
 {
-    match send(sink, part) {
+    match send_pieces(sink, &part.bytes, &part.body.bytes) {
         Ok(()) => {
             tracker.commit();
             Ok(())

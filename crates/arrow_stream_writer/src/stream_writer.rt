@@ -125,11 +125,11 @@ impl<S: Sink> StreamWriter<S> {
         self.builder.build(self.place, batch)?;
         match send_part(
             &mut self.sink,
-            &self.builder.part.bytes,
+            &self.builder.part,
             &mut self.builder.tracker,
         ) {
             Ok(()) => {
-                self.place += self.builder.part.bytes.len() as u64;
+                self.place += self.builder.part.len() as u64;
                 Ok(())
             }
             Err(fault) => {

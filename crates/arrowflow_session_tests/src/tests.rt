@@ -9,6 +9,7 @@ mod beginnings;
 mod broken;
 mod calls;
 mod limits;
+mod long;
 mod one_id;
 mod other_schemas;
 mod session;

@@ -2,6 +2,7 @@ use Rattle.std.proofs.Common.{◌≡◌, ◌≤◌, ◌<◌, ◌+◌, ◌^◌, l
 use Rattle.std.proofs.lemmas.Result.{err_from_is_err_and}
 use Rattle.arrow_types.specs.Equality.{is_equal_decides}
 use Rattle.arrow_types.specs.Stored.{schema_code}
+use Rattle.arrow_stream_writer.specs.Framing.{part_bytes}
 use Rattle.arrow_stream_writer.specs.Terms.{terms_of}
 use Rattle.arrow_stream_writer.specs.Updating.{work_of}
 use Rattle.arrow_stream_writer.proofs.Closing.{part_of, place_refused, record_refused}
@@ -24,7 +25,7 @@ returns-in_err-put_record-clause-built c =
     let x = c.in_ok-put_updates.ensures in
     let failed = err_from_is_err_and c.from_residual-in_err-put_record.result c.from_residual-in_err-put_record.ensures.1 in
     rw (failed.1, failed.2) (
-      record_refused terms c.args.place t sent c.in_err-put_record.field-0.0 c.put_updates.new.part.bytes.items c.put_record.new.part.bytes.items same equal x.one c.in_err-put_record.ensures,
+      record_refused terms c.args.place t sent c.in_err-put_record.field-0.0 c.put_updates.new.part.bytes.items (part_bytes c.put_record.new.part) same equal x.one c.in_err-put_record.ensures,
       x.is_work.sent,
     )
 
@@ -38,7 +39,7 @@ returns-then-len-place-clause-built c =
     sym c.schema.ensures.same ∙ (is_equal_decides schema_code c.schema.result.now c.deref.result.now).0 (sym c.if-not-same.ensures.gives) ∙ c.deref.ensures in
     let equal = (is_equal_decides schema_code t.schema terms.shape).1 same in
     let x = c.in_ok-put_updates.ensures in
-    let bytes = c.put_record.new.part.bytes.items in
+    let bytes = part_bytes c.put_record.new.part in
     let long = c.len.ensures in
     let past = c.if-len-place.true in
     let over : 2 ^ 62 < c.args.place + length bytes = omega arith in (
@@ -56,7 +57,7 @@ returns-clause-built c =
     sym c.schema.ensures.same ∙ (is_equal_decides schema_code c.schema.result.now c.deref.result.now).0 (sym c.if-not-same.ensures.gives) ∙ c.deref.ensures in
     let equal = (is_equal_decides schema_code t.schema terms.shape).1 same in
     let x = c.in_ok-put_updates.ensures in
-    let bytes = c.put_record.new.part.bytes.items in
+    let bytes = part_bytes c.put_record.new.part in
     let long = c.len.ensures in
     let inside = c.if-len-place.false in
     let place_near = c.requires.near in

@@ -1,9 +1,9 @@
-use Rattle.std.proofs.Common.{rules, ◌≡◌, sym, arith, refl}
+use Rattle.std.proofs.Common.{rules, ◌≡◌, Ok, sym, subst, arith, refl}
 use Rattle.std.proofs.lemmas.Result.{err_from_is_err_and}
 use Rattle.arrow_sink.specs.declared.write_fault.WriteFault.TheVariants.{TooLarge}
 use Rattle.arrow_body_writer.specs.Align.{alignment_of}
 use Rattle.arrow_body_writer.specs.Storing.{body_view}
-use Rattle.arrow_stream_writer.specs.Framing.{record_load}
+use Rattle.arrow_stream_writer.specs.Framing.{Puts, record_load}
 use Rattle.arrow_stream_writer.specs.Terms.{terms_of}
 use Rattle.arrow_stream_writer.proofs.Framed.{long_body, many_rows, never_stored, stored_of}
 use Rattle.arrow_stream_writer.proofs.settings.Settings.put_record.Goals as goal
@@ -37,11 +37,22 @@ returns-then-rows-max_rows c =
     let over = c.if-rows-max_rows.true in
     many_rows (terms_of c.args.self.now) c.args.batch.now c.columns-columns.result.now c.schema.ensures.known c.columns-columns.ensures.same (omega arith)
 
+-- no head was built for what was stored
+pub returns-in_err-put_stored : goal.returns-in_err-put_stored
+returns-in_err-put_stored c =
+    let sized = rw c.in_ok-size.ensures.ok_part at c.body_size.ensures.size in
+    let raws = rw c.in_ok-size.ensures.ok_part at c.body_size.ensures.raws in
+    let stored = stored_of (alignment_of c.args.self.now.align) c.args.batch.now c.columns-columns.result.now (body_view c.store_in.new.body) c.schema.ensures.known c.columns-columns.ensures.same
+    raws sized.0.told.small c.in_ok-store_in.ensures.same in
+    let failed = err_from_is_err_and c.from_residual-in_err-put_stored.result c.from_residual-in_err-put_stored.ensures.1 in
+    rw (failed.1, failed.2) (c.in_err-put_stored.ensures (record_load c.args.batch.now) refl (sym c.rows-2.ensures) stored)
+
 -- the columns were stored
 pub returns : goal.returns
 returns c =
     let sized = rw c.in_ok-size.ensures.ok_part at c.body_size.ensures.size in
     let raws = rw c.in_ok-size.ensures.ok_part at c.body_size.ensures.raws in
-    let stored = stored_of (alignment_of c.args.self.now.align) c.args.batch.now c.columns-columns.result.now (body_view c.in_ok-part.field-0) c.schema.ensures.known c.columns-columns.ensures.same
-    raws sized.0.told.small c.in_ok-part.ensures.same in
-    c.put_stored.ensures (record_load c.args.batch.now) refl (sym c.rows-2.ensures) stored
+    let stored = stored_of (alignment_of c.args.self.now.align) c.args.batch.now c.columns-columns.result.now (body_view c.store_in.new.body) c.schema.ensures.known c.columns-columns.ensures.same
+    raws sized.0.told.small c.in_ok-store_in.ensures.same in
+    subst (Puts (terms_of c.args.self.now) (record_load c.args.batch.now) c.args.part.now.bytes.items (Ok tt)) (sym c.in_ok-append_short_body.ensures)
+    (c.in_ok-put_stored.ensures (record_load c.args.batch.now) refl (sym c.rows-2.ensures) stored)

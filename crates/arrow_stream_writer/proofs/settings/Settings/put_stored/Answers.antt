@@ -1,4 +1,4 @@
-use Rattle.std.proofs.Common.{List, ap, sym, ◌∙◌, subst, arith, w64, to_z, pos}
+use Rattle.std.proofs.Common.{◌≡◌, List, ◌++◌, length, rules, ap, sym, ◌∙◌, subst, arith, w64, to_z, pos}
 use Rattle.std.specs.Prelude.{not}
 use Rattle.std.proofs.lemmas.Int.{to_z_pos}
 use Rattle.arrow_body_writer.proofs.Chunks.{some_alignment}
@@ -14,7 +14,7 @@ pub returns-then-rows-max_rows : goal.returns-then-rows-max_rows
 returns-then-rows-max_rows c = λ load kind rows s.
     let limit = c.max_rows-max_rows.ensures.value in
     let over = c.if-rows-max_rows.true in
-    rows_over (terms_of c.args.self.now) load (body_view c.args.part.now.room) s (some_alignment c.args.self.now.align) (omega arith)
+    rows_over (terms_of c.args.self.now) load (body_view c.args.part.now.body) s (some_alignment c.args.self.now.align) (omega arith)
 
 -- a body too long
 pub returns-then-len-max_body : goal.returns-then-len-max_body
@@ -22,14 +22,14 @@ returns-then-len-max_body c = λ load kind rows s.
     let limit = c.max_body.ensures.value in
     let long = c.len.ensures in
     let over = c.if-len-max_body.true in
-    body_over (terms_of c.args.self.now) load (body_view c.args.part.now.room) s (some_alignment c.args.self.now.align) (omega arith)
+    body_over (terms_of c.args.self.now) load (body_view c.args.part.now.body) s (some_alignment c.args.self.now.align) (omega arith)
 
 -- a node with too many slots
 pub returns-then-have_bad_length : goal.returns-then-have_bad_length
 returns-then-have_bad_length c = λ load kind rows s.
     let terms = terms_of c.args.self.now in
     let some = some_alignment c.args.self.now.align in
-    let b = body_view c.args.part.now.room in
+    let b = body_view c.args.part.now.body in
     let few = few_by terms load b s some c.deref.result.now c.max_rows-max_rows.result c.have_bad_length.result c.deref.ensures.value c.max_rows-max_rows.ensures.value c.have_bad_length.ensures in
     slots_over terms load b s some (few ∙ ap not c.if-have_bad_length.true)
 
@@ -38,7 +38,7 @@ pub returns : goal.returns
 returns c = λ load kind rows s.
     let terms = terms_of c.args.self.now in
     let some = some_alignment c.args.self.now.align in
-    let b = body_view c.args.part.now.room in
+    let b = body_view c.args.part.now.body in
     let few = few_by terms load b s some c.deref.result.now c.max_rows-max_rows.result c.have_bad_length.result c.deref.ensures.value c.max_rows-max_rows.ensures.value c.have_bad_length.ensures in
     let row_limit = c.max_rows-max_rows.ensures.value in
     let row_ceiling = c.max_rows-max_rows.ensures.ceiling in
@@ -53,5 +53,6 @@ returns c = λ load kind rows s.
     let buffers = c.replace-2.ensures.value in
     let is_header = c.header_of.ensures ∙ (λ i. header_of c.args.kind (record batch { length = to_z w64 c.args.rows; nodes = (nodes i).items; buffers = (buffers i).items }))
     ∙ ap (λ n. header_of c.args.kind (record batch { length = n })) count ∙ ap (λ k. header_of k batch) (sym kind) in
-    answers_load terms load b s some header c.put_message-answer.result c.args.part.now.bytes.items c.put_message-answer.new.out.items is_header (omega arith) (omega arith) (few ∙ ap not c.if-have_bad_length.false)
-    (subst (λ (body : List _). PutsMessage terms header body c.args.part.now.bytes.items c.put_message-answer.result c.put_message-answer.new.out.items) c.deref-2.ensures.value c.put_message-answer.ensures)
+    let told : c.len-2.result ≡ length b.bytes = search rules in
+    answers_load terms load b s some header c.put_head-answer.result c.args.part.now.bytes.items (c.put_head-answer.new.out.items ++ c.give_back.new.body.bytes.items) is_header (omega arith) (omega arith) (few ∙ ap not c.if-have_bad_length.false)
+    (subst (λ (body : List _). PutsMessage terms header b.bytes c.args.part.now.bytes.items c.put_head-answer.result (c.put_head-answer.new.out.items ++ body)) (sym c.give_back.ensures) (c.put_head-answer.ensures b.bytes told))

@@ -1,4 +1,4 @@
-use Rattle.std.proofs.Common.{◌+◌, List, Err, refl, sym, ap, ◌∙◌, subst, length, arith}
+use Rattle.std.proofs.Common.{◌+◌, List, Err, refl, sym, ap, ◌∙◌, subst, arith}
 use Rattle.std.specs.Io.KnownBytes.{Appends}
 use Rattle.arrow_sink.specs.Sinks.{AcceptsBeginning}
 use Rattle.arrow_stream_laws.specs.Writer.{WriterView, Writes}
@@ -30,8 +30,8 @@ returns-in-Ok-clause-answer g c =
     let was : HasTerms terms old = record { limits = refl; options = refl; shape = refl } in
     let has : HasTerms terms new = record { limits = ap (λ (u : Terms). u.limits) kept; options = ap options_of kept; shape = ap (λ (u : Terms). u.shape) kept } in
     let open_before = writing old.status (sym c.in_ok-taking.ensures) in
-    let more = subst (λ (xs : List _). Appends old.contents new.contents xs) (c.deref.ensures.value ∙ sym built.same) c.in-Ok.ensures.all in
-    let long = c.len.ensures ∙ sym c.deref.ensures.len ∙ ap length c.deref.ensures.value ∙ built.sized in
+    let more = subst (λ (xs : List _). Appends old.contents new.contents xs) (sym built.same) c.in-Ok.ensures.all in
+    let long = c.len.ensures ∙ built.sized in
     writes_accepted terms c.args.batch.now old new was has open_before built.frames built.is_part more (c.in-Ok.ensures.committed ∙ built.staged) (ap (λ n. old.place + n) long) open_before c.in-Ok.ensures.fine
 
 -- the sink failed in it
@@ -55,7 +55,7 @@ returns-in-Err-clause-answer g c =
     let was : HasTerms terms old = record { limits = refl; options = refl; shape = refl } in
     let has : HasTerms terms new = record { limits = ap (λ (u : Terms). u.limits) kept; options = ap options_of kept; shape = ap (λ (u : Terms). u.shape) kept } in
     let open_before = writing old.status (sym c.in_ok-taking.ensures) in
-    let some = subst (λ (xs : List _). AcceptsBeginning old.contents new.contents xs) (c.deref.ensures.value ∙ sym built.same) c.in-Err.ensures.beginning in
+    let some = subst (λ (xs : List _). AcceptsBeginning old.contents new.contents xs) (sym built.same) c.in-Err.ensures.beginning in
     subst (λ k. Writes old c.args.batch.now (Err k) new) (sym c.in-Err.ensures.fault)
     (writes_failed terms c.args.batch.now old new was has open_before built.frames built.is_part some (c.in-Err.ensures.discarded ∙ built.kept) refl refl c.in-Err.ensures.failed)
 
@@ -65,5 +65,5 @@ invariant_of-self-in-Ok-clause-near g c =
     let old = c.args.self.now in
     let terms = terms_of old.builder.settings in
     let built = c.in_ok-build.ensures.built in
-    let long = c.len.ensures ∙ sym c.deref.ensures.len ∙ ap length c.deref.ensures.value ∙ built.sized in
+    let long = c.len.ensures ∙ built.sized in
     omega (arith, long, part_near terms old.place c.args.batch.now old.builder.tracker.sent built.frames built.is_part)

@@ -1,11 +1,11 @@
-use Rattle.std.proofs.Common.{◌≡◌, ◌≤◌, arith, rules}
+use Rattle.std.proofs.Common.{◌≡◌, ◌≤◌, ◌++◌, length, arith, rules}
 use Rattle.std.proofs.lemmas.Result.{err_from_is_err_and}
 use Rattle.arrow_sink.specs.declared.write_fault.WriteFault.TheVariants.{TooLarge}
 use Rattle.arrow_meta_reader.specs.Means.{message_view}
 use Rattle.arrow_stream_laws.specs.Sizes.{header_size}
 use Rattle.arrow_stream_writer.specs.Terms.{terms_of}
 use Rattle.arrow_stream_writer.proofs.Framed.{appended_frame, past_ceiling}
-use Rattle.arrow_stream_writer.proofs.settings.Settings.put_message.Goals as goal
+use Rattle.arrow_stream_writer.proofs.settings.Settings.put_head.Goals as goal
 
 -- the metadata are over every limit
 pub returns-in_err-len : goal.returns-in_err-len
@@ -15,16 +15,18 @@ returns-in_err-len c =
     let none = rw c.in_err-len.ensures.ok_part at c.metadata_len.ensures in
     let failed = err_from_is_err_and c.from_residual.result c.from_residual.ensures.1 in
     let fault : c.in_err-len.field-0.0 ≡ TooLarge = search rules in
-    rw (failed.1, failed.2, fault) (past_ceiling c.args.self.now.limits.max_metadata _ (omega arith) none)
+    rw (failed.1, failed.2, fault) (λ body told. past_ceiling c.args.self.now.limits.max_metadata _ (omega arith) none)
 
--- the frame was appended
+-- the head was appended
 pub returns : goal.returns
-returns c =
+returns c body told =
     let terms = terms_of c.args.self.now in
     let m = message_view c.args.message.now in
-    let told = rw c.in_ok-len.ensures.ok_part at c.metadata_len.ensures in
-    let sized = told.1 in
+    let sent = rw c.in_ok-len.ensures.ok_part at c.metadata_len.ensures in
+    let sized = sent.1 in
     let limit = c.max_metadata-max_metadata.ensures.value in
     let small = c.if-len-max_metadata.false in
     let fits : header_size terms.align m.header ≤ terms.limits.max_metadata = omega arith in
-    appended_frame terms c.bytes.result m c.args.body.now c.args.out.now.items c.reserve.new.self.items c.put_frame.new.out.items c.bytes.ensures fits c.requires.short c.in_ok-reserve.ensures.items c.in_ok-put_frame.ensures.ok
+    let within = c.requires.short in
+    let short : length body ≤ terms.limits.max_body = omega (arith, told, within) in
+    appended_frame terms c.bytes.result m body c.args.out.now.items c.reserve.new.self.items (c.put_head.new.out.items ++ body) c.bytes.ensures fits short c.in_ok-reserve.ensures.items (c.in_ok-put_head.ensures.ok body told)

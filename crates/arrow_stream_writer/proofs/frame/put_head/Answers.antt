@@ -3,16 +3,16 @@ use Rattle.arrow_body_laws.specs.Stored.{rounded}
 use Rattle.arrow_meta_reader.specs.Means.{message_view}
 use Rattle.arrow_stream_writer.specs.Frame.{prefix_bytes}
 use Rattle.arrow_stream_writer.proofs.Framing.{appended_parts}
-use Rattle.arrow_stream_writer.proofs.frame.put_frame.Goals as goal
+use Rattle.arrow_stream_writer.proofs.frame.put_head.Goals as goal
 
--- the whole frame stands behind what there was
+-- the head stands behind what there was, and with a body behind it the whole frame
 pub returns-in-Ok-clause-ok : goal.returns-in-Ok-clause-ok
-returns-in-Ok-clause-ok c =
+returns-in-Ok-clause-ok c body told =
     let m = message_view c.args.message.now in
     let old = c.args.out.now.items in
     let v = c.in_ok-metadata.metadata.items in
     let size = c.rounded-size.result - 8 in
     let sized : size ≡ rounded c.args.align (8 + length v) - 8 = search rules in
-    let parts = c.in-Ok.ensures.ok in
-    let more = parts ∙ ap (λ (u : List _). (((old ++ prefix_bytes size) ++ u) ++ replicate (size - length u) 0) ++ c.args.body.now) c.deref.ensures.value in
-    appended_parts c.args.align m c.args.body.now v size old c.put_parts.new.out.items c.requires.some c.requires.few c.in_ok-metadata.ensures.typed c.in_ok-metadata.ensures.bytes (sym c.in_ok-metadata.ensures.size) c.requires.told sized more
+    let head = c.in-Ok.ensures.ok ∙ ap (λ (u : List _). ((old ++ prefix_bytes size) ++ u) ++ replicate (size - length u) 0) c.deref.ensures.value in
+    let more = ap (λ (r : List _). r ++ body) head in
+    appended_parts c.args.align m body v size old (c.put_metadata.new.out.items ++ body) c.requires.some c.requires.few c.in_ok-metadata.ensures.typed c.in_ok-metadata.ensures.bytes (sym c.in_ok-metadata.ensures.size) told sized more
