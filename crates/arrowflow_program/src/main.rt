@@ -5,18 +5,20 @@
 ghost use Rattle.std.specs.Prelude.{◌≡◌, ◌⊎◌, IfErr, OnOk};
 ghost use Rattle.arrowflow.specs.Report.Faults.{status_of as status_by};
 
+mod calls;
 mod drilling;
 mod ends;
+mod held;
 mod pipe;
 mod watched;
 
+use crate::calls::Ends;
 use crate::drilling::{Rehearsal, drill_files};
 use crate::ends::{create, input_name, is_same_file, is_standard, open, output_name, size_of};
 use crate::pipe::Pipe;
 use crate::watched::{Onlooker, Progress, Watched};
 use arrowflow::{
-    ArgFault, ColumnsFault, Counted, Limits, Options, Plan, Selection, Task, ToolFault, check,
-    check_quietly, copy, plan, schema_text, show, show_columns, show_first,
+    ArgFault, Limits, Options, Plan, Selection, Task, ToolFault, check_quietly, plan, schema_text,
 };
 use std::io::{ErrorKind, Input, Write};
 use std::process::ExitCode;
@@ -123,7 +125,7 @@ pub(crate) fn print_text<R: AllocGlobal + Print + Eprint>(rt: &R, text: &str) ->
     let mut output = Pipe::new(io::writer(rt));
     let written = output.write_all(text.as_bytes());
     let answer = written.map_err(|_| ToolFault::Output);
-    status_of(rt, answer, ("-", "-"), &output)
+    status_of(rt, answer, ("-", "-"), output.is_closed())
 }
 
 /// Prints a line for each message of the stream in the file of this name.
@@ -132,13 +134,15 @@ where
     R: AllocGlobal + Files + Input + Print + Eprint,
     R::File: Drop,
 {
-    let mut file = match open(rt, 0, name) {
+    let file = match open(rt, 0, name) {
         Ok(file) => file,
         Err(fault) => return tell(rt, &fault, name, "-"),
     };
-    let output = Counted::new(Pipe::new(io::writer(rt)));
-    let (output, answer) = check(rt.alloc(), &mut file, output, limits);
-    status_of(rt, answer, (name, "-"), &output.into_inner())
+    let Ok(ends) = Ends::new(rt.alloc(), file, io::writer(rt)) else {
+        return out_of_memory(rt);
+    };
+    let ended = ends.check(rt.alloc(), limits);
+    status_of(rt, ended.answer, (name, "-"), ended.is_closed)
 }
 
 /// Reads the stream in the file of this name, and prints the line of its fault alone.
@@ -166,16 +170,15 @@ where
     R: AllocGlobal + Files + Input + Print + Eprint,
     R::File: Drop,
 {
-    let mut file = match open(rt, 0, name) {
+    let file = match open(rt, 0, name) {
         Ok(file) => file,
         Err(fault) => return tell(rt, &fault, name, "-"),
     };
-    let output = Counted::new(Pipe::new(io::writer(rt)));
-    let (output, answer) = match rows {
-        Some(rows) => show_first(rt.alloc(), &mut file, output, rows, limits),
-        None => show(rt.alloc(), &mut file, output, limits),
+    let Ok(ends) = Ends::new(rt.alloc(), file, io::writer(rt)) else {
+        return out_of_memory(rt);
     };
-    status_of(rt, answer, (name, "-"), &output.into_inner())
+    let ended = ends.show(rt.alloc(), rows, limits);
+    status_of(rt, ended.answer, (name, "-"), ended.is_closed)
 }
 
 /// Prints the columns of these names alone, of the first so many rows, or of all, of the stream in
@@ -201,18 +204,17 @@ where
         columns: &columns,
         rows,
     };
-    let mut file = match open(rt, 0, name) {
+    let file = match open(rt, 0, name) {
         Ok(file) => file,
         Err(fault) => return tell(rt, &fault, name, "-"),
     };
-    let output = Counted::new(Pipe::new(io::writer(rt)));
-    let (output, answer) = show_columns(rt.alloc(), &mut file, output, &selection, limits);
-    let answer = match answer {
-        Ok(()) => Ok(()),
-        Err(ColumnsFault::Tool(fault)) => Err(fault),
-        Err(ColumnsFault::Lacks(place)) => return no_column(rt, columns.get(place)),
+    let Ok(ends) = Ends::new(rt.alloc(), file, io::writer(rt)) else {
+        return out_of_memory(rt);
     };
-    status_of(rt, answer, (name, "-"), &output.into_inner())
+    match ends.show_columns(rt.alloc(), &selection, limits) {
+        Ok(ended) => status_of(rt, ended.answer, (name, "-"), ended.is_closed),
+        Err(place) => no_column(rt, columns.get(place)),
+    }
 }
 
 /// Tells of a column that the schema lacks.
@@ -240,13 +242,16 @@ where
         return FAILED;
     }
     let output = match create(rt, to) {
-        Ok(output) => Counted::new(Pipe::new(output)),
+        Ok(output) => output,
         Err(fault) => return tell(rt, &fault, from, to),
     };
-    let mut input = Watched::new(input, progress_of(rt, "copy", from, Some(to)));
-    let (output, answer) = copy(rt.alloc(), &mut input, output, options, limits);
+    let input = Watched::new(input, progress_of(rt, "copy", from, Some(to)));
+    let Ok(ends) = Ends::new(rt.alloc(), input, output) else {
+        return out_of_memory(rt);
+    };
+    let (input, ended) = ends.copy(rt.alloc(), options, limits);
     input.clear();
-    status_of(rt, answer, (from, to), &output.into_inner())
+    status_of(rt, ended.answer, (from, to), ended.is_closed)
 }
 
 /// How far a command has come that reads the file of the first name, and writes that of the second
@@ -269,12 +274,13 @@ fn progress_of<'a, R: Files + Eprint + Clock + Onlooker>(
 }
 
 /// Tells how a call ended that read the input of the first name and wrote the output of the second,
-/// and gives its status; that of want of memory where the line cannot be made.
-fn status_of<R: AllocGlobal + Eprint, W: Write>(
+/// whose reader may have gone, and gives its status; that of want of memory where the line cannot be
+/// made.
+fn status_of<R: AllocGlobal + Eprint>(
     rt: &R,
     answer: Result<(), ToolFault>,
     names: (&str, &str),
-    output: &Pipe<W>,
+    is_closed: bool,
 ) -> u8
     ensures fine { OnOk answer (result ≡ FINE) }
     ensures fault { IfErr answer (λ fault. (result ≡ status_by fault) ⊎ (result ≡ FAILED)) }
@@ -282,7 +288,7 @@ fn status_of<R: AllocGlobal + Eprint, W: Write>(
     match answer {
         Ok(()) => FINE,
         // whoever closes a pipe knows that, and wants to hear nothing of it
-        Err(fault) if output.is_closed() => fault.status(),
+        Err(fault) if is_closed => fault.status(),
         Err(fault) => tell(rt, &fault, names.0, names.1),
     }
 }
