@@ -11,7 +11,7 @@ use arrow_types::{BitWidth, DataType, Schema};
 use std::process::Abort;
 
 /// A batch of one column of 64-bit numbers, so many from 0 on.
-fn counting(rt: &(impl Abort + AllocGlobal), count: i64) -> Batch {
+fn counting(rt: &(impl Abort + AllocGlobal), count: u32) -> Batch {
     let (bits, signed) = (BitWidth::SixtyFour, true);
     let number = field(rt, "n", DataType::Int { bits, signed });
     let fields = vec![in rt.alloc(); number].expect(rt, MEMORY);
@@ -27,10 +27,10 @@ fn counting(rt: &(impl Abort + AllocGlobal), count: i64) -> Batch {
 }
 
 /// The body of such a batch.
-fn body(rt: &(impl Abort + AllocGlobal), count: i64) -> Vec<u8> {
+fn body(rt: &(impl Abort + AllocGlobal), count: u32) -> Vec<u8> {
     let mut bytes = Vec::new(rt.alloc());
     for number in 0..count {
-        let number = number.to_le_bytes();
+        let number = u64::from(number).to_le_bytes();
         bytes.extend_from_slice(&number).expect(rt, MEMORY);
     }
     bytes
