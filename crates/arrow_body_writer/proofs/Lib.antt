@@ -14,6 +14,7 @@ pub mod Measures
 pub mod Chunks
 pub mod Rooms
 pub mod Marking
+pub mod Masking
 pub mod Bytewise
 pub mod Numbering
 pub mod Wholes

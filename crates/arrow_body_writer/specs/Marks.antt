@@ -40,6 +40,12 @@ pub record HasNumbers (n : Masked) (raw : List PlainValue) : Type 0 where
   pub marks : AreMarked raw n.bits.now
   pub numbers : AreNumbered n.width raw n.values.now
 
+-- Each slot has its bit, which is set where it is not null; it is then a slot of these others (Columnar Format, "Struct Layout").
+pub record AreMasked (own raw : List PlainValue) (bits : List ℕ) : Type 0 where
+  pub marks : AreMarked raw bits
+  pub longer : length raw ≤ length own
+  pub same : (j : ℕ) → j < length raw → is_null_value (value_at raw j) ≡ false → value_at raw j ≡ value_at own j
+
 -- the buffer of validity, none of a column in which all is null
 abbrev pub validity_of : Buffers → Option (List ℕ)
 validity_of buffers.Nulls = None

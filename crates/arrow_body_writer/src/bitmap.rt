@@ -1,10 +1,13 @@
 //! The validity bitmap of an array, and ranges of its bits.
 
-ghost use Rattle.std.specs.Prelude.{◌≡◌, ◌≤◌, ◌*◌, IfSome, count_by, length, not, option_map};
+ghost use Rattle.std.specs.Prelude.{◌≡◌, ◌≤◌, ◌*◌, ℕ, IfSome, count_by, length, map, not, option_map};
 ghost use Rattle.arrow_bits.specs.Bitmap.{bits_of};
-ghost use Rattle.arrow_body_writer.specs.Marks.{AreMarked, IsBitRange, bits_in, validity_of};
+ghost use Rattle.arrow_data.specs.Column.{HasField};
+ghost use Rattle.arrow_data.specs.PlainValue.{field_value};
+ghost use Rattle.arrow_body_writer.specs.Marks.{AreMarked, AreMasked, IsBitRange, bits_in, validity_of};
 
 use crate::packing::BitRange;
+use crate::whole::is_full;
 use arrow_bits::Bits;
 use arrow_data::{Array, Buffers};
 
@@ -29,6 +32,19 @@ pub(crate) fn bitmap(array: &Array) -> Option<&[u8]>
 {
     let bits = validity_of(array.buffers())?;
     if bits.is_empty() { None } else { Some(bits) }
+}
+
+// The bitmap of structs, where a child of theirs has no null of its own: in its place a null is sent
+// where the struct is null, and nowhere else (Columnar Format, "Struct Layout").
+pub(crate) fn bitmap_above<'a>(structs: &'a Array, child: &Array) -> Option<&'a [u8]>
+    ensures { IfSome result (λ bits. (k : ℕ) → HasField structs.now k child.now
+        → AreMasked child.now.raw (map (field_value k) structs.now.raw) bits.now) }
+{
+    if is_full(child) {
+        bitmap(structs)
+    } else {
+        None
+    }
 }
 
 // How many of the first bits of bytes are 0.

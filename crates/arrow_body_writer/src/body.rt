@@ -9,6 +9,7 @@ ghost use Rattle.arrow_body_laws.specs.Raws.{AreRaws, IsSmall};
 ghost use Rattle.arrow_body_laws.specs.Stored.{fields_of_columns, own_chunks, own_node};
 ghost use Rattle.arrow_body_laws.specs.Stored.{stored, stored_chunks, stored_nodes};
 ghost use Rattle.std.specs.List.{AllByRecursion};
+ghost use Rattle.std.specs.Vec.{vec_capacity};
 ghost use Rattle.arrow_body_writer.specs.Align.{alignment_of};
 ghost use Rattle.arrow_body_writer.specs.Counts.{IsCounted, sent_at};
 ghost use Rattle.arrow_body_writer.specs.Part.{HasRoom, IsTold, chunk_of};
@@ -223,7 +224,8 @@ impl Body {
     /// Takes all out of the body, and makes room for so many bytes, which takes at most one growth.
     /// After `AllocError` it is empty too.
     pub fn make_room(&mut self, size: usize) -> Result<(), AllocError>
-        ensures { IsEmpty self.new }
+        ensures empty { IsEmpty self.new }
+        ensures room { OnOk result (size ≤ vec_capacity self.new.bytes) }
     {
         self.nodes.clear();
         self.buffers.clear();

@@ -1,6 +1,6 @@
 //! The buffers of a node, one after another.
 
-ghost use Rattle.std.specs.Prelude.{◌≡◌, ◌-◌, ◌++◌, IfOk, OnOk, length, replicate};
+ghost use Rattle.std.specs.Prelude.{◌≡◌, ◌≤◌, ◌-◌, ◌++◌, IfOk, OnOk, length, replicate};
 ghost use Rattle.std.specs.List.{AllByRecursion};
 ghost use Rattle.arrow_body_laws.specs.Stored.{padded, rounded};
 ghost use Rattle.arrow_body_writer.specs.Align.{alignment_of};
@@ -67,15 +67,12 @@ fn put_part(out: Vec<u8>, part: Part, node: &Counted) -> Result<Vec<u8>, AllocEr
 
 // Appends zero bytes after a buffer of this length, up to a multiple of the alignment.
 fn put_padding(out: &mut Vec<u8>, align: Align, len: usize) -> Result<(), AllocError>
+    requires { len ≤ 9223372036854775807 }
     ensures { OnOk result (out.new.items
         ≡ out.old.items ++ replicate (rounded (alignment_of align) len - len) 0) }
 {
-    let over = len % align.bytes();
-    if over == 0 {
-        Ok(())
-    } else {
-        put_zeros(out, (align.bytes() - over) as u32)
-    }
+    let zeros = align.round_up(len as u64) - len as u64;
+    put_zeros(out, zeros as u32)
 }
 
 // Appends the bytes of a buffer, padded.

@@ -29,7 +29,7 @@ fn of_width(own: usize, values: &[u8], width: usize) -> Option<&[u8]>
 }
 
 // The bytes of the array's numbers or indices, where these have this width.
-fn values_of(array: &Array, width: usize) -> Option<&[u8]>
+pub(crate) fn values_of(array: &Array, width: usize) -> Option<&[u8]>
     ensures { IfSome result (λ values. AreNumbered width array.now.raw values.now) }
 {
     match array.buffers() {

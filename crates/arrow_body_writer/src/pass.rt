@@ -1,6 +1,6 @@
 //! A pass over the slots that a node is sent, of its own array or of one above it.
 
-ghost use Rattle.std.specs.Prelude.{◌≡◌, ℕ, List, [], ◌∷◌, OnErr, OnOk, None, Some, map};
+ghost use Rattle.std.specs.Prelude.{◌≡◌, ℕ, List, [], ◌∷◌, IfOk, IsFalse, IsTrue, OnErr, OnOk, None, Some, map};
 ghost use Rattle.std.specs.List.{AllByRecursion, flat_map};
 ghost use Rattle.arrow_data.specs.Column.{IsList, IsStruct, type_of_field};
 ghost use Rattle.arrow_data.specs.PlainValue.{PlainValue, field_value, null_value};
@@ -11,6 +11,8 @@ ghost use Rattle.arrow_body_writer.specs.Sent.{LeadDown, LeadFrom, sent_along};
 ghost use Rattle.arrow_body_writer.specs.Slice.{IsSlice, values_in};
 ghost use Rattle.arrow_body_writer.specs.Tally.{IsTally};
 
+use crate::bitmap::bitmap_above;
+use crate::packing::BitRange;
 use crate::part::Part;
 use crate::slice::Slice;
 use crate::slots::items;
@@ -86,6 +88,35 @@ impl Pass {
         }
     }
 
+    // Takes what field k of structs sends to its own node, where its child has no null of its own: by
+    // the bitmap of the structs, all at once (Columnar Format, "Struct Layout"). Tells whether it did:
+    // not where what is asked for is neither counts, nor bits, nor numbers.
+    fn take_masked(
+        &mut self,
+        structs: Slice<'_>,
+        k: usize,
+        steps: &Steps<'_>,
+    ) -> Result<bool, AllocError>
+        requires { IsSlice structs }
+        ensures taken { IfOk result (λ done. IsTrue done → Takes self.old self.new
+            (sent_along steps.now (map (field_value k) (values_in structs.entry)))) }
+        ensures kept { IfOk result (λ done. IsFalse done → self.new ≡ self.old) }
+        ensures err { OnErr result (part_in self.old ≡ None → ⊥) }
+    {
+        let Slice { array, start, stop } = structs;
+        let (Steps::Here, Some(child)) = (steps, array.field(k)) else {
+            return Ok(false);
+        };
+        let Some(bytes) = bitmap_above(array, child) else {
+            return Ok(false);
+        };
+        let bits = BitRange { bytes, start, stop };
+        match self {
+            Pass::Count(form, tally) => Ok(tally.add_masked(*form, bits)),
+            Pass::Put(part, writing) => writing.put_masked(*part, child, bits),
+        }
+    }
+
     // Takes what the slots send along the steps.
     #[cycle(sent)]
     pub(crate) fn take_along(
@@ -102,7 +133,12 @@ impl Pass {
         match steps {
             Steps::Here => self.take_slots(slice),
             Steps::Items(rest) => self.take_items(slice, rest),
-            Steps::Field(k, rest) => self.take_field(slice, *k, rest),
+            Steps::Field(k, rest) => {
+                if self.take_masked(slice, *k, rest)? {
+                    return Ok(());
+                }
+                self.take_field(slice, *k, rest)
+            }
         }
     }
 

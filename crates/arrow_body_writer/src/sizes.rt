@@ -1,6 +1,6 @@
 //! How many bytes the buffers of a node have.
 
-ghost use Rattle.std.specs.Prelude.{◌≡◌, ◌≤◌, ◌+◌, ◌↔◌, IsTrue, List};
+ghost use Rattle.std.specs.Prelude.{◌≡◌, ◌≤◌, ◌↔◌, IsTrue, List};
 ghost use Rattle.std.specs.List.{sum_by};
 ghost use Rattle.std.specs.Int.{div_ceil};
 ghost use Rattle.arrow_data.specs.PlainValue.{PlainValue};
@@ -33,20 +33,6 @@ pub(crate) fn is_small(form: Form, tally: Tally) -> bool
     tally.slots <= 2_147_483_647 && tally.end <= offset_limit(form)
 }
 
-// A number of bytes, rounded up to a multiple of the alignment.
-fn round_up(align: Align, len: u64) -> u64
-    requires { len ≤ 9223372036854775807 }
-    ensures same { result ≡ rounded (alignment_of align) len }
-    ensures near { result ≤ len + 63 }
-{
-    let over = len % align.bytes() as u64;
-    if over == 0 {
-        len
-    } else {
-        len + (align.bytes() as u64 - over)
-    }
-}
-
 // The bytes of a bitmap of so many slots.
 fn bitmap_size(slots: u64) -> u64
     requires { slots ≤ 2147483647 }
@@ -66,21 +52,21 @@ pub(crate) fn node_size(align: Align, form: Form, tally: Tally) -> u64
     let validity = if tally.nulls == 0 {
         0
     } else {
-        round_up(align, bitmap_size(tally.slots))
+        align.round_up(bitmap_size(tally.slots))
     };
     match form {
         Form::Nulls => 0,
-        Form::Bits => validity + round_up(align, bitmap_size(tally.slots)),
+        Form::Bits => validity + align.round_up(bitmap_size(tally.slots)),
         Form::Numbers { bits, .. } => {
-            validity + round_up(align, number_width(bits) as u64 * tally.slots)
+            validity + align.round_up(number_width(bits) as u64 * tally.slots)
         }
         Form::Bytes(width) | Form::Texts(width) => {
-            let offsets = round_up(align, width.bytes() as u64 * (tally.slots + 1));
-            validity + offsets + round_up(align, tally.end)
+            let offsets = align.round_up(width.bytes() as u64 * (tally.slots + 1));
+            validity + offsets + align.round_up(tally.end)
         }
-        Form::FixedBytes(width) => validity + round_up(align, u64::from(width) * tally.slots),
+        Form::FixedBytes(width) => validity + align.round_up(u64::from(width) * tally.slots),
         Form::Lists(width) => {
-            validity + round_up(align, width.bytes() as u64 * (tally.slots + 1))
+            validity + align.round_up(width.bytes() as u64 * (tally.slots + 1))
         }
         Form::Structs => validity,
     }

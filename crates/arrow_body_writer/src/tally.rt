@@ -1,8 +1,10 @@
 //! The slots that a node is sent, counted.
 
-ghost use Rattle.std.specs.Prelude.{◌≡◌, ◌≤◌, ◌<◌, ◌+◌, ◌-◌, ◌*◌, IfSome, count_by, length, not};
+ghost use Rattle.std.specs.Prelude.{◌≡◌, ◌≤◌, ◌<◌, ◌+◌, ◌-◌, ◌*◌, List, IfSome, IsFalse, IsTrue};
+ghost use Rattle.std.specs.Prelude.{count_by, length, not};
 ghost use Rattle.std.specs.List.{sum_by};
 ghost use Rattle.arrow_data.specs.Column.{values_from};
+ghost use Rattle.arrow_data.specs.PlainValue.{PlainValue};
 ghost use Rattle.arrow_body_laws.specs.Raws.{bytes_in_value, items_in_value, last_offset};
 ghost use Rattle.arrow_body_writer.specs.Marks.{AreMarked, IsBitRange, bits_in};
 ghost use Rattle.arrow_body_writer.specs.Slice.{IsFull, IsSlice, values_in};
@@ -22,6 +24,13 @@ pub(crate) struct Tally {
     pub(crate) slots: u64,
     pub(crate) nulls: u64,
     pub(crate) end: u64,
+}
+
+// Whether a node of the form has offsets.
+fn has_offsets(form: Form) -> bool
+    ensures { IsFalse result → (vs : List PlainValue) → last_offset form vs ≡ 0 }
+{
+    matches!(form, Form::Bytes(_) | Form::Texts(_) | Form::Lists(_))
 }
 
 // How far the offsets of slots go on of which none is null: 0 where the form has none.
@@ -159,6 +168,21 @@ impl Tally {
         self.slots = self.slots.saturating_add((bits.stop - bits.start) as u64);
         self.nulls = self.nulls.saturating_add(zeros(bits) as u64);
         self.end = self.end.saturating_add(len as u64);
+    }
+
+    // Counts slots by their bits alone, where a node of the form has no offsets; tells whether it did.
+    pub(crate) fn add_masked(&mut self, form: Form, bits: BitRange<'_>) -> bool
+        requires { IsBitRange bits }
+        ensures counted { IsTrue result → (raw : List PlainValue)
+            → AreMarked raw bits.entry.bytes.now → bits.entry.stop ≤ length raw
+            → Counts form (values_from raw bits.entry.start bits.entry.stop) self.old self.new }
+        ensures kept { IsFalse result → self.new ≡ self.old }
+    {
+        if has_offsets(form) {
+            return false;
+        }
+        self.add_marked(bits, 0);
+        true
     }
 
     // Counts slots beside a bitmap: by its bits, where nothing lies under a null.

@@ -1,12 +1,14 @@
 //! A buffer on its way into the body, slot by slot.
 
-ghost use Rattle.std.specs.Prelude.{◌≡◌, ◌<◌, ◌≤◌, ◌+◌, ◌++◌, [], ◌∷◌, List, ℕ, IfOk, OnOk, length, replicate};
+ghost use Rattle.std.specs.Prelude.{◌≡◌, ◌<◌, ◌≤◌, ◌+◌, ◌++◌, [], ◌∷◌, List, ℕ, IfOk, IsFalse, IsTrue, OnOk};
+ghost use Rattle.std.specs.Prelude.{length, replicate};
 ghost use Rattle.std.specs.List.{AllByRecursion};
 ghost use Rattle.arrow_bits.specs.Numbers.{number_bytes};
 ghost use Rattle.arrow_data.specs.Column.{values_from};
 ghost use Rattle.arrow_data.specs.Form.{greatest_offset, offset_bytes};
 ghost use Rattle.arrow_data.specs.PlainValue.{PlainValue, null_value, value_at};
 ghost use Rattle.arrow_body_laws.specs.Raws.{fixed_in};
+ghost use Rattle.arrow_body_writer.specs.Marks.{AreMasked, IsBitRange};
 ghost use Rattle.arrow_body_writer.specs.Part.{AreOffsetsTo, HasNextOffset, HasRoom, IsTold};
 ghost use Rattle.arrow_body_writer.specs.Part.{IsWritten, Puts, part_bytes};
 ghost use Rattle.arrow_body_writer.specs.Runs.{IsPiece, IsThere};
@@ -14,7 +16,7 @@ ghost use Rattle.arrow_body_writer.specs.Slice.{IsFull, IsSlice, values_in};
 ghost use Rattle.arrow_body_writer.specs.Spans.{AreSpans, AreThere};
 
 use crate::bitmap::bitmap;
-use crate::masked::numbers_of;
+use crate::masked::{Masked, numbers_of, values_of};
 use crate::packing::{BitRange, Pending};
 use crate::part::Part;
 use crate::pieces::{Piece, pieces, spanned};
@@ -226,6 +228,41 @@ impl Writing {
         } else {
             Ok(end)
         }
+    }
+
+    // Adds what slots of the array are in the buffer of which those are null whose bit is 0: the bits
+    // themselves, or numbers. Tells whether it did; other buffers stay as they are.
+    pub(crate) fn put_masked(
+        &mut self,
+        part: Part,
+        array: &Array,
+        bits: BitRange<'_>,
+    ) -> Result<bool, AllocError>
+        requires bits { IsBitRange bits }
+        requires slots { bits.stop ≤ length array.now.raw }
+        ensures added { IfOk result (λ done. IsTrue done → (raw : List PlainValue)
+            → AreMasked array.now.raw raw bits.entry.bytes.now → bits.entry.stop ≤ length raw
+            → Puts part (values_from raw bits.entry.start bits.entry.stop) self.old self.new) }
+        ensures kept { IfOk result (λ done. IsFalse done → self.new ≡ self.old) }
+    {
+        let BitRange { bytes, start, stop } = bits;
+        match part {
+            Part::Validity => self.pending.push_range(&mut self.out, bits)?,
+            Part::Numbers(width) => {
+                let width = number_width(width);
+                let Some(values) = values_of(array, width) else {
+                    return Ok(false);
+                };
+                let numbers = Masked {
+                    width,
+                    values,
+                    bits: bytes,
+                };
+                numbers.put(&mut self.out, start, stop)?;
+            }
+            _ => return Ok(false),
+        }
+        Ok(true)
     }
 
     // Adds what the slots are in the buffer. Where they have a bitmap its bits are copied, and of

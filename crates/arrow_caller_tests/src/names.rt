@@ -73,6 +73,7 @@ use arrowflow::session::receive;
 use arrowflow::session::run;
 use arrowflow::show;
 use arrowflow::stream::Align;
+use arrowflow::stream::CONTINUATION;
 use arrowflow::stream::Counted;
 use arrowflow::stream::Fault;
 use arrowflow::stream::Item;

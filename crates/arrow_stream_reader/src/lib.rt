@@ -53,4 +53,5 @@ mod stream_schema;
 pub use fault::Fault;
 pub use item::Item;
 pub use kind::Kind;
+pub use prefix::CONTINUATION;
 pub use reader::StreamReader;

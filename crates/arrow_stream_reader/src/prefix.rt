@@ -7,8 +7,9 @@ ghost use Rattle.arrow_stream_reader.specs.Frame.{prefix_says};
 use crate::kind::Refusal;
 use arrow_types::Limits;
 
-/// The number of the four bytes that begin a frame and the end marker.
-const CONTINUATION: u32 = 0xffff_ffff;
+/// The number of the four bytes that begin a frame and the end marker (Columnar Format,
+/// "Encapsulated message format").
+pub const CONTINUATION: u32 = 0xffff_ffff;
 
 /// What the first eight bytes say.
 #[derive(Clone, Copy)]

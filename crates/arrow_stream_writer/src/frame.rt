@@ -7,37 +7,20 @@ ghost use Rattle.arrow_stream_writer.specs.Frame.{AppendsFrame, AppendsHead, App
 ghost use Rattle.arrow_meta_reader.specs.Means.{message_view};
 ghost use Rattle.arrow_meta_writer.specs.Metadata.{size_of};
 
-use arrow_bits::put_int;
 use arrow_meta_reader::Message;
 use arrow_meta_writer::encode;
+use arrow_stream_reader::CONTINUATION;
 use std::alloc::AllocError;
 
-// The bytes of a number, rounded up to a multiple of the alignment.
-fn rounded(align: usize, len: usize) -> usize
-    requires some { 1 ≤ align }
-    requires few { align ≤ 64 }
-    requires short { len ≤ 2147483648 }
-    ensures { result ≡ rounded align len }
+// The eight bytes before metadata of so many bytes (Columnar Format, "Encapsulated message format").
+pub(crate) fn prefix_of(size: u32) -> [u8; 8]
+    ensures { result ≡ prefix_bytes size }
 {
-    len.div_ceil(align) * align
-}
-
-// Appends the eight bytes before metadata of so many bytes (Columnar Format, "Encapsulated message
-// format").
-fn put_prefix(out: &mut Vec<u8>, size: usize) -> Result<(), AllocError>
-    requires { size ≤ 2147483648 }
-    ensures ok { OnOk result (out.new.items ≡ out.old.items ++ prefix_bytes size) }
-    ensures err { OnErr result (out.new.items ≡ out.old.items) }
-{
-    let start = out.len();
-    out.extend_from_slice(&[255; 4])?;
-    match put_int(out, 4, size as i128) {
-        Ok(()) => Ok(()),
-        Err(fault) => {
-            out.truncate(start);
-            Err(fault)
-        }
-    }
+    let first = CONTINUATION.to_le_bytes();
+    let then = size.to_le_bytes();
+    [
+        first[0], first[1], first[2], first[3], then[0], then[1], then[2], then[3],
+    ]
 }
 
 /// Appends the end marker.
@@ -47,7 +30,7 @@ pub fn put_end_marker(out: &mut Vec<u8>) -> Result<(), AllocError>
     ensures ok { OnOk result (AppendsMarker out.old.items out.new.items) }
     ensures err { OnErr result (out.new.items ≡ out.old.items) }
 {
-    put_prefix(out, 0)
+    out.extend_from_slice(&prefix_of(0))
 }
 
 /// Appends the frame of a message with this body, the metadata padded with zero bytes so that they
@@ -92,7 +75,7 @@ pub(crate) fn put_head(out: &mut Vec<u8>, align: usize, message: &Message) -> Re
     ensures kept { take (length out.old.items) out.new.items ≡ out.old.items }
 {
     let metadata = encode(*out.allocator(), message)?;
-    let size = rounded(align, 8 + metadata.len()) - 8;
+    let size = (8 + metadata.len()).next_multiple_of(align) - 8;
     let before = out.len();
     match put_metadata(out, size, &metadata) {
         Ok(()) => Ok(()),
@@ -112,7 +95,7 @@ fn put_metadata(out: &mut Vec<u8>, size: usize, metadata: &[u8]) -> Result<(), A
         ++ replicate (size - length metadata.now) 0) }
     ensures kept { take (length out.old.items) out.new.items ≡ out.old.items }
 {
-    put_prefix(out, size)?;
+    out.extend_from_slice(&prefix_of(size as u32))?;
     out.extend_from_slice(metadata)?;
     let end = out.len() + size.saturating_sub(metadata.len());
     out.resize(end, 0)

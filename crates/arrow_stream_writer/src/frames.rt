@@ -139,8 +139,7 @@ fn metadata_len(align: Align, message: &Message) -> Option<u64>
         × (len ≡ header_size (alignment_of align) (header_view message.now.header))) }
 {
     let size = encoded_size(message)?;
-    let align = align.bytes() as u64;
-    Some((8 + size).div_ceil(align) * align - 8)
+    Some(align.round_up(8 + size) - 8)
 }
 
 impl Settings {

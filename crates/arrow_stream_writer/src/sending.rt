@@ -7,6 +7,7 @@ ghost use Rattle.arrow_stream_writer.specs.Framing.{part_bytes};
 ghost use Rattle.arrow_stream_writer.specs.Marker.{marker};
 ghost use Rattle.arrow_sink.specs.declared.write_fault.WriteFault.TheVariants.{Sink};
 
+use crate::frame::prefix_of;
 use crate::frames::Part;
 use arrow_dict::Tracker;
 use arrow_sink::{Sink, SinkFault, WriteFault, send};
@@ -55,11 +56,7 @@ pub(crate) fn send_part<S: Sink>(
     }
 }
 
-// The bytes of the end marker: the continuation, and the size 0 (Columnar Format, "IPC Streaming
-// Format").
-const MARKER: [u8; 8] = [255, 255, 255, 255, 0, 0, 0, 0];
-
-/// Sends the end marker, and then flushes the sink once. Takes no memory.
+/// Sends the end marker, the prefix of no metadata (Columnar Format, "IPC Streaming Format"), and then flushes the sink once. Takes no memory.
 pub(crate) fn send_end<S: Sink>(sink: &mut S) -> Result<(), WriteFault>
     requires { S.failed sink.old < 2 ^ 64 - 1 }
     ensures all { OnOk result (Appends (S.contents sink.old) (S.contents sink.new) marker) }
@@ -70,7 +67,7 @@ pub(crate) fn send_end<S: Sink>(sink: &mut S) -> Result<(), WriteFault>
         (AcceptsBeginning (S.contents sink.old) (S.contents sink.new) marker) }
     ensures failed { OnErr result (S.failed sink.new ≡ S.failed sink.old + 1) }
 {
-    send(sink, &MARKER)?;
+    send(sink, &prefix_of(0))?;
     sink.flush()?;
     Ok(())
 }

@@ -14,13 +14,17 @@ use arrow_types::{Buffer, FieldNode};
 use std::alloc::Global;
 use std::process::Abort;
 
-static COLUMNS: [&str; 4] = [
+static COLUMNS: [&str; 6] = [
     "a number under a null: int32 | 3/1 | #5, 1 9 3 => 8 | 3/1 | #5 @0, 1 0 3 @8 | 24",
     "a validity of no nulls: int32 | 2/0 | #255, 1 2 => 64 | 2/0 | # @0, 1 2 @0 | 64",
     "an item under a null: list int32 | 3/1 4/0 | #5, 0 2 3 4, #, 1 2 7 3 \
     => 8 | 3/1 3/0 | #5 @0, 0 2 2 3 @8, # @24, 1 2 3 @24 | 40",
     "a text under a null: struct[1] utf8 | 2/1 2/0 | #1, #, 0 1 2, 'ab' \
     => 8 | 2/1 2/1 | #1 @0, #1 @8, 0 1 1 @16, 'a' @32 | 40",
+    "a number under a null struct: struct[1] int32 | 3/1 4/0 | #5, #, 1 9 3 7 \
+    => 8 | 3/1 3/1 | #5 @0, #5 @8, 1 0 3 @16 | 32",
+    "a null number beside it: struct[1] int32 | 3/1 3/1 | #5, #6, 1 9 3 \
+    => 8 | 3/1 3/2 | #5 @0, #4 @8, 0 0 3 @16 | 32",
 ];
 
 // Dictionaries of one segment or of two, and from which value on they are stored. The texts are "a",
