@@ -105,6 +105,20 @@ pub if_allowed : (P : Type 0) (allowed : Option ℕ) → P → IfSome allowed (�
 if_allowed P None known = tt
 if_allowed P (Some len) known = known
 
+-- all columns can be told just where those to come can
+pub record IsToldUpTo (all rest : List Column) : Type 0 where
+  pub told : AreTold rest → AreTold all
+  pub untold : AreTold all → AreTold rest
+
+pub told_start : (all : List Column) → IsToldUpTo all all
+told_start all = record { told = λ t. t; untold = λ t. t }
+
+pub told_next : (all rest : List Column) (c : Column) → IsToldUpTo all (c ∷ rest) → AreTold (c ∷ []) → IsToldUpTo all rest
+told_next all rest c so_far one = record { told = λ t. so_far.told (told_both c rest one t); untold = λ t. told_others c rest (so_far.untold t) }
+
+pub told_out : (all rest : List Column) → IsToldUpTo all rest → rest ≡ [] → AreTold all
+told_out all rest so_far none = so_far.told (subst AreTold (sym none) told_none)
+
 -- The size so far and that of the columns to come are the size of all, and all can be told just where those to come can.
 pub record IsMeasured (align : ℕ) (all rest : List Column) (size : ℕ) : Type 0 where
   pub sum : capped (size + columns_size align rest) ≡ capped (columns_size align all)

@@ -1,31 +1,36 @@
 //! The body of columns, written.
 
-ghost use Rattle.std.specs.Prelude.{◌≡◌, ◌≤◌, ◌<◌, ℕ, Some, [], ◌∷◌, IfOk, OnOk, length, pos};
+ghost use Rattle.std.specs.Prelude.{◌≡◌, ◌≤◌, ◌<◌, ℕ, Some, [], ◌∷◌, IfErr, IfOk, OnOk, length, pos};
+ghost use Rattle.arrow_data.specs.Column.{Column};
 ghost use Rattle.arrow_data.specs.Form.{node_form};
 ghost use Rattle.arrow_data.specs.FullSlots.{AreFull};
 ghost use Rattle.arrow_body_laws.specs.Laws.{IsBodyOf, raws_of};
 ghost use Rattle.arrow_body_laws.specs.Tidy.{IsTidy};
 ghost use Rattle.arrow_body_laws.specs.Raws.{AreRaws, IsSmall};
 ghost use Rattle.arrow_body_laws.specs.Stored.{fields_of_columns, own_chunks, own_node};
-ghost use Rattle.arrow_body_laws.specs.Stored.{stored, stored_chunks, stored_nodes};
+ghost use Rattle.arrow_body_laws.specs.Stored.{stored};
 ghost use Rattle.std.specs.List.{AllByRecursion};
 ghost use Rattle.std.specs.Vec.{vec_capacity};
 ghost use Rattle.arrow_body_writer.specs.Align.{alignment_of};
 ghost use Rattle.arrow_body_writer.specs.Counts.{IsCounted, sent_at};
 ghost use Rattle.arrow_body_writer.specs.Part.{HasRoom, IsTold, chunk_of};
-ghost use Rattle.arrow_body_writer.specs.Sent.{form_of_column, sent_below};
+ghost use Rattle.arrow_body_writer.specs.Sent.{form_of_column, nodes_of_column, sent_below};
 ghost use Rattle.arrow_body_writer.specs.Source.{IsSource, column_in, rest_of};
 ghost use Rattle.arrow_body_writer.specs.Storable.{AreTold, CanBeStored};
-ghost use Rattle.arrow_body_writer.specs.Storing.{IsEmpty, Stores, body_view};
+ghost use Rattle.arrow_body_writer.specs.Tally.{IsTally};
+ghost use Rattle.arrow_body_writer.specs.Storing.{IsEmpty, Stores, StoresColumns, body_view};
+ghost use Rattle.arrow_body_writer.specs.declared.store_fault.StoreFault.TheVariants.{TooLarge};
 
 use crate::align::Align;
 use crate::buffers::{put_buffer, put_padded};
 use crate::counts::{Counted, count_sent};
-use crate::forms::{nodes_in_all, nodes_in_rest};
+use crate::forms::{are_countable, nodes_in_all, nodes_in_rest};
 use crate::measured::{body_size, rest_size};
 use crate::part::{Part, part_of};
+use crate::sizes::{MOST_SLOTS, is_small};
 use crate::slots::full_form;
 use crate::source::Source;
+use crate::store_fault::StoreFault;
 use arrow_data::form::Form;
 use arrow_data::{Array, Dictionary};
 use arrow_types::{Buffer, FieldNode};
@@ -64,30 +69,49 @@ fn put_chunk(body: &mut Body, align: Align, part: Part, node: &Counted) -> Resul
     Ok(())
 }
 
+// Appends the node of slots that were counted, and its buffers; it has this form.
+fn put_counted(body: &mut Body, align: Align, form: Form, node: &Counted) -> Result<(), AllocError>
+    requires source { IsSource node.now.source }
+    requires form { form ≡ form_of_column (column_in node.now.source) }
+    requires tally { IsTally form (sent_at node.now) node.now.tally }
+    requires small { IsSmall form (sent_at node.now) }
+    requires raws { AreRaws (fields_of_columns (column_in node.now.source ∷ []))
+        (raws_of (column_in node.now.source ∷ [])) }
+    ensures { OnOk result (Stores (alignment_of align) (own_node (sent_at node.now) ∷ [])
+        (own_chunks form (sent_at node.now)) body.old body.new) }
+{
+    body.nodes.push(FieldNode {
+        length: node.tally.slots as i64,
+        null_count: node.tally.nulls as i64,
+    })?;
+    for k in 0..3 {
+        if let Some(part) = part_of(form, k) {
+            put_chunk(body, align, part, node)?;
+        }
+    }
+    Ok(())
+}
+
 // Appends the column's own node, and its buffers.
-fn put_node(body: &mut Body, align: Align, source: &Source) -> Result<(), AllocError>
+fn put_node(body: &mut Body, align: Align, source: &Source) -> Result<(), StoreFault>
     requires source { IsSource source.now }
-    requires small { IsSmall (form_of_column (column_in source.now)) (column_in source.now).raw }
     requires raws { AreRaws (fields_of_columns (column_in source.now ∷ [])) (raws_of (column_in source.now ∷ [])) }
-    ensures { OnOk result (Stores (alignment_of align) (own_node (column_in source.now).raw ∷ [])
+    ensures small { OnOk result (IsSmall (form_of_column (column_in source.now)) (column_in source.now).raw) }
+    ensures stored { OnOk result (Stores (alignment_of align) (own_node (column_in source.now).raw ∷ [])
         (own_chunks (form_of_column (column_in source.now)) (column_in source.now).raw) body.old body.new) }
+    ensures large { IfErr result (λ fault. fault ≡ TooLarge
+        → IsSmall (form_of_column (column_in source.now)) (column_in source.now).raw → ⊥) }
 {
     let form = source.form();
     let tally = count_sent(form, source);
-    body.nodes.push(FieldNode {
-        length: tally.slots as i64,
-        null_count: tally.nulls as i64,
-    })?;
+    if !is_small(form, tally) {
+        return Err(StoreFault::TooLarge);
+    }
     let counted = Counted {
         source: *source,
         tally,
     };
-    for k in 0..3 {
-        if let Some(part) = part_of(form, k) {
-            put_chunk(body, align, part, &counted)?;
-        }
-    }
-    Ok(())
+    Ok(put_counted(body, align, form, &counted)?)
 }
 
 // Appends a buffer with these bytes.
@@ -127,30 +151,38 @@ fn put_full(body: &mut Body, align: Align, array: &Array) -> Result<(), AllocErr
 
 // Appends the array's own node, and its buffers. Of structs and numbers of which none is null it is
 // known at once what these hold.
-fn put_own(body: &mut Body, align: Align, array: &Array) -> Result<(), AllocError>
-    requires small { IsSmall (node_form array.now.data_type.tag array.now.encoding) array.now.raw }
-    requires raws { AreRaws (fields_of_columns (array.now ∷ [])) (raws_of (array.now ∷ [])) }
-    ensures { OnOk result (Stores (alignment_of align) (own_node array.now.raw ∷ [])
+fn put_own(body: &mut Body, align: Align, array: &Array) -> Result<(), StoreFault>
+    requires { AreRaws (fields_of_columns (array.now ∷ [])) (raws_of (array.now ∷ [])) }
+    ensures small { OnOk result
+        (IsSmall (node_form array.now.data_type.tag array.now.encoding) array.now.raw) }
+    ensures stored { OnOk result (Stores (alignment_of align) (own_node array.now.raw ∷ [])
         (own_chunks (node_form array.now.data_type.tag array.now.encoding) array.now.raw)
         body.old body.new) }
+    ensures large { IfErr result (λ fault. fault ≡ TooLarge
+        → IsSmall (node_form array.now.data_type.tag array.now.encoding) array.now.raw → ⊥) }
 {
+    if array.len() as u64 > MOST_SLOTS {
+        return Err(StoreFault::TooLarge);
+    }
     match full_form(array) {
-        Some(Form::Structs) => put_full(body, align, array),
+        Some(Form::Structs) => Ok(put_full(body, align, array)?),
         Some(Form::Numbers { .. }) => {
             put_full(body, align, array)?;
-            put_bytes(body, align, array.value_bytes(0, array.len()))
+            Ok(put_bytes(body, align, array.value_bytes(0, array.len()))?)
         }
         Some(_) | None => put_node(body, align, &Source::Slots(array)),
     }
 }
 
 // Appends the column's own node, and its buffers.
-fn put_level(body: &mut Body, align: Align, source: &Source) -> Result<(), AllocError>
+fn put_level(body: &mut Body, align: Align, source: &Source) -> Result<(), StoreFault>
     requires source { IsSource source.now }
-    requires told { AreTold (column_in source.now ∷ []) }
     requires raws { AreRaws (fields_of_columns (column_in source.now ∷ [])) (raws_of (column_in source.now ∷ [])) }
-    ensures { OnOk result (Stores (alignment_of align) (own_node (column_in source.now).raw ∷ [])
+    ensures small { OnOk result (IsSmall (form_of_column (column_in source.now)) (column_in source.now).raw) }
+    ensures stored { OnOk result (Stores (alignment_of align) (own_node (column_in source.now).raw ∷ [])
         (own_chunks (form_of_column (column_in source.now)) (column_in source.now).raw) body.old body.new) }
+    ensures large { IfErr result (λ fault. fault ≡ TooLarge
+        → IsSmall (form_of_column (column_in source.now)) (column_in source.now).raw → ⊥) }
 {
     match source {
         Source::Slots(array) => put_own(body, align, array),
@@ -159,16 +191,14 @@ fn put_level(body: &mut Body, align: Align, source: &Source) -> Result<(), Alloc
 }
 
 // Appends all nodes of the column, and their buffers: its own node, and then the columns that are
-// sent below it (Columnar Format, "RecordBatch message").
+// sent below it (Columnar Format, "RecordBatch message"). Not where one of the nodes cannot be told.
 #[cycle(put)]
-fn put_column(body: &mut Body, align: Align, source: &Source) -> Result<(), AllocError>
+fn put_column(body: &mut Body, align: Align, source: &Source) -> Result<(), StoreFault>
     requires source { IsSource source.now }
-    requires told { AreTold (column_in source.now ∷ []) }
+    requires counted { nodes_of_column (column_in source.now) < 18446744073709551615 }
     requires raws { AreRaws (fields_of_columns (column_in source.now ∷ [])) (raws_of (column_in source.now ∷ [])) }
-    ensures { OnOk result (Stores (alignment_of align)
-        (stored_nodes (fields_of_columns (column_in source.now ∷ [])) (raws_of (column_in source.now ∷ [])))
-        (stored_chunks (fields_of_columns (column_in source.now ∷ [])) (raws_of (column_in source.now ∷ [])))
-        body.old body.new) }
+    ensures stored { OnOk result (StoresColumns (alignment_of align) (column_in source.now ∷ []) body.old body.new) }
+    ensures large { IfErr result (λ fault. fault ≡ TooLarge → AreTold (column_in source.now ∷ []) → ⊥) }
 {
     put_level(body, align, source)?;
     match source.whole_below() {
@@ -179,12 +209,11 @@ fn put_column(body: &mut Body, align: Align, source: &Source) -> Result<(), Allo
 
 // Appends the columns of arrays.
 #[cycle(put)]
-fn put_columns(body: &mut Body, align: Align, arrays: &[Array]) -> Result<(), AllocError>
-    requires told { AreTold arrays.now }
+fn put_columns(body: &mut Body, align: Align, arrays: &[Array]) -> Result<(), StoreFault>
+    requires counted { AllByRecursion (λ (c : Column). nodes_of_column c < 18446744073709551615) arrays.now }
     requires raws { AreRaws (fields_of_columns arrays.now) (raws_of arrays.now) }
-    ensures { OnOk result (Stores (alignment_of align)
-        (stored_nodes (fields_of_columns arrays.now) (raws_of arrays.now))
-        (stored_chunks (fields_of_columns arrays.now) (raws_of arrays.now)) body.old body.new) }
+    ensures stored { OnOk result (StoresColumns (alignment_of align) arrays.now body.old body.new) }
+    ensures large { IfErr result (λ fault. fault ≡ TooLarge → AreTold arrays.now → ⊥) }
 {
     for array in arrays {
         put_column(body, align, &Source::Slots(array))?;
@@ -194,14 +223,12 @@ fn put_columns(body: &mut Body, align: Align, arrays: &[Array]) -> Result<(), Al
 
 // Appends the columns that are sent below a column's own node.
 #[cycle(put)]
-fn put_below(body: &mut Body, align: Align, source: &Source) -> Result<(), AllocError>
+fn put_below(body: &mut Body, align: Align, source: &Source) -> Result<(), StoreFault>
     requires source { IsSource source.now }
-    requires told { AreTold (sent_below (column_in source.now)) }
+    requires counted { nodes_of_column (column_in source.now) < 18446744073709551615 }
     requires raws { AreRaws (fields_of_columns (column_in source.now ∷ [])) (raws_of (column_in source.now ∷ [])) }
-    ensures { OnOk result (Stores (alignment_of align)
-        (stored_nodes (fields_of_columns (sent_below (column_in source.now))) (raws_of (sent_below (column_in source.now))))
-        (stored_chunks (fields_of_columns (sent_below (column_in source.now))) (raws_of (sent_below (column_in source.now))))
-        body.old body.new) }
+    ensures stored { OnOk result (StoresColumns (alignment_of align) (sent_below (column_in source.now)) body.old body.new) }
+    ensures large { IfErr result (λ fault. fault ≡ TooLarge → AreTold (sent_below (column_in source.now)) → ⊥) }
 {
     for k in 0..source.width() {
         put_column(body, align, &source.below(k))?;
@@ -264,24 +291,30 @@ pub fn store(alloc: Global, arrays: &[Array], align: Align) -> Result<Body, Allo
     let size = body_size(arrays, align).unwrap_or(0);
     let mut body = Body::new(alloc);
     body.make_room(size as usize)?;
-    store_in(&mut body, arrays, align)?;
-    Ok(body)
+    match store_in(&mut body, arrays, align) {
+        Ok(()) => Ok(body),
+        Err(_) => Err(AllocError),
+    }
 }
 
-/// Makes a body that of `store`, in the room of what it was. Nodes, buffers and bytes take a growth
-/// each only where this room is too small for them; who knows how many bytes there will be makes
-/// room for them before. `AllocError` where a growth was refused: nothing is said then of the body.
-///
-/// Condition: the columns can be stored, that is, `body_size` answers a number.
-pub fn store_in(body: &mut Body, arrays: &[Array], align: Align) -> Result<(), AllocError>
-    requires { CanBeStored (alignment_of align) arrays.now }
+/// Makes a body that of `store`, in the room of what it was, in one walk over the columns. Nodes,
+/// buffers and bytes grow only where this room is too small for them. `TooLarge` just where
+/// `body_size` answers no number whatever the most bytes of a body; `Memory` where a growth was
+/// refused. After a fault nothing is said of the body.
+pub fn store_in(body: &mut Body, arrays: &[Array], align: Align) -> Result<(), StoreFault>
+    ensures told { OnOk result (AreTold arrays.now) }
+    ensures raws { OnOk result (AreRaws (fields_of_columns arrays.now) (raws_of arrays.now)) }
     ensures same { OnOk result (body_view body.new ≡ stored (alignment_of align)
         (fields_of_columns arrays.now) (raws_of arrays.now)) }
     ensures read { OnOk result (IsBodyOf (alignment_of align)
         (fields_of_columns arrays.now) (raws_of arrays.now) (body_view body.new)) }
     ensures tidy { OnOk result (IsTidy (alignment_of align) (fields_of_columns arrays.now)
         body.new.nodes.items body.new.buffers.items body.new.bytes.items) }
+    ensures large { IfErr result (λ fault. fault ≡ TooLarge → AreTold arrays.now → ⊥) }
 {
+    if !are_countable(arrays) {
+        return Err(StoreFault::TooLarge);
+    }
     body.begin(nodes_in_all(arrays))?;
     put_columns(body, align, arrays)
 }
@@ -314,21 +347,23 @@ pub fn store_rest(
     let size = rest_size(dictionary, from, align).unwrap_or(0);
     let mut body = Body::new(alloc);
     body.make_room(size as usize)?;
-    store_rest_in(&mut body, dictionary, from, align)?;
-    Ok(body)
+    match store_rest_in(&mut body, dictionary, from, align) {
+        Ok(()) => Ok(body),
+        Err(_) => Err(AllocError),
+    }
 }
 
-/// Makes a body that of `store_rest`, in the room of what it was, as `store_in` does. `AllocError`
-/// where a growth was refused: nothing is said then of the body.
-///
-/// Condition: the column can be stored, that is, `rest_size` answers a number.
+/// Makes a body that of `store_rest`, in the room of what it was, as `store_in` does, with its
+/// faults.
 pub fn store_rest_in(
     body: &mut Body,
     dictionary: &Dictionary,
     from: usize,
     align: Align,
-) -> Result<(), AllocError>
-    requires { CanBeStored (alignment_of align) (rest_of dictionary.now from ∷ []) }
+) -> Result<(), StoreFault>
+    ensures told { OnOk result (AreTold (rest_of dictionary.now from ∷ [])) }
+    ensures raws { OnOk result (AreRaws (fields_of_columns (rest_of dictionary.now from ∷ []))
+        (raws_of (rest_of dictionary.now from ∷ []))) }
     ensures same { OnOk result (body_view body.new ≡ stored (alignment_of align)
         (fields_of_columns (rest_of dictionary.now from ∷ []))
         (raws_of (rest_of dictionary.now from ∷ []))) }
@@ -338,7 +373,13 @@ pub fn store_rest_in(
     ensures tidy { OnOk result (IsTidy (alignment_of align)
         (fields_of_columns (rest_of dictionary.now from ∷ []))
         body.new.nodes.items body.new.buffers.items body.new.bytes.items) }
+    ensures large { IfErr result (λ fault. fault ≡ TooLarge
+        → AreTold (rest_of dictionary.now from ∷ []) → ⊥) }
 {
-    body.begin(nodes_in_rest(dictionary))?;
+    let nodes = nodes_in_rest(dictionary);
+    if nodes == usize::MAX {
+        return Err(StoreFault::TooLarge);
+    }
+    body.begin(nodes)?;
     put_column(body, align, &Source::Rest(dictionary, from))
 }

@@ -1,7 +1,9 @@
 //! How many nodes a column has.
 
-ghost use Rattle.std.specs.Prelude.{◌≡◌, ℕ, [], ◌∷◌};
+ghost use Rattle.std.specs.Prelude.{◌≡◌, ◌<◌, ◌↔◌, ℕ, [], ◌∷◌, IsTrue};
+ghost use Rattle.std.specs.List.{AllByRecursion};
 ghost use Rattle.arrow_types.specs.View.{fields_view, type_view};
+ghost use Rattle.arrow_data.specs.Column.{Column};
 ghost use Rattle.arrow_data.specs.Form.{HasFieldsOf, form_of};
 ghost use Rattle.arrow_body_reader.specs.Taken.{IfFlattened, taken_nodes};
 ghost use Rattle.arrow_body_laws.specs.Formed.{AreFormed};
@@ -92,4 +94,17 @@ pub(crate) fn nodes_in_all(arrays: &[Array]) -> usize
         count = count.saturating_add(nodes_in(array));
     }
     count
+}
+
+// Whether each of the columns has fewer nodes than the greatest number.
+pub(crate) fn are_countable(arrays: &[Array]) -> bool
+    ensures { IsTrue result
+        ↔ AllByRecursion (λ (c : Column). nodes_of_column c < 18446744073709551615) arrays.now }
+{
+    for array in arrays {
+        if nodes_in(array) == usize::MAX {
+            return false;
+        }
+    }
+    true
 }

@@ -1,11 +1,11 @@
 //! Columns laid out again as the one tidy body of a batch (Columnar Format, "RecordBatch message").
 //!
 //! What the field nodes, the buffers and the bytes of raw values are is said in
-//! `arrow_body_laws`, as one function of the alignment, the fields and the raw values. `store`
-//! gives just that body of columns, and `body_size` tells before, without memory, how many bytes it
-//! has, or that it cannot be stored. `store_rest` and `rest_size` do the same of a column whose
-//! slots hold the values of a dictionary from one on; `store_in` and `store_rest_in` use the room
-//! of an earlier body.
+//! `arrow_body_laws`, as one function of the alignment, the fields and the raw values. `store_in`
+//! makes just that body of columns in the room of an earlier one, or tells that it cannot be stored.
+//! `body_size` tells without memory how many bytes it has, and `store` gives it anew. `store_rest`,
+//! `store_rest_in` and `rest_size` do the same of a column whose slots hold the values of a
+//! dictionary from one on.
 //!
 //! A body is written front to back, by the public calls of `arrow_data` alone. Numbers beside a
 //! validity bitmap are copied with the bytes under nulls, which are cleared in the copy (`masked`).
@@ -35,8 +35,8 @@
 //!
 //! Of the proofs, `Sending` says what is sent along steps and below a column, `Passing`, `RunPasses`
 //! and `Sources` what a pass takes of that, `Chunks` shows that what all columns add is the stored
-//! body, `Wholes` when children are sent whole; `FullNodes` speaks of nodes without a null, `Marking`
-//! and `Bytewise` of bitmaps, `Numbering` of numbers, `Holding`, `Moving`, `Spanning` of offsets.
+//! body, `Wholes` when children are sent whole; `FullNodes` speaks of nodes without a null, `Marking`,
+//! `Bytewise`, `Masking` of bitmaps, `Numbering` of numbers, `Holding`, `Moving`, `Spanning` of offsets.
 #![tactic(auto)]
 
 pub(crate) mod align;
@@ -58,6 +58,7 @@ pub(crate) mod slots;
 pub(crate) mod source;
 pub(crate) mod spans;
 pub(crate) mod steps;
+pub(crate) mod store_fault;
 pub(crate) mod tally;
 pub(crate) mod whole;
 pub(crate) mod writing;
@@ -65,3 +66,4 @@ pub(crate) mod writing;
 pub use align::Align;
 pub use body::{Body, store, store_in, store_rest, store_rest_in};
 pub use measured::{body_size, rest_size};
+pub use store_fault::StoreFault;

@@ -13,6 +13,10 @@ use crate::align::Align;
 use crate::tally::Tally;
 use arrow_data::form::{Form, number_width};
 
+// The most slots that a node can have (`Schema.fbs`, where lengths go; `Message.fbs`, struct
+// `FieldNode`).
+pub(crate) const MOST_SLOTS: u64 = 2_147_483_647;
+
 // The greatest that the offsets of a node of the form can tell.
 fn offset_limit(form: Form) -> u64
     ensures { result ≡ offset_limit form }
@@ -30,7 +34,7 @@ pub(crate) fn is_small(form: Form, tally: Tally) -> bool
     ensures few { IsTrue result → tally.slots ≤ 2147483647 }
     ensures near { IsTrue result → tally.end ≤ 9223372036854775807 }
 {
-    tally.slots <= 2_147_483_647 && tally.end <= offset_limit(form)
+    tally.slots <= MOST_SLOTS && tally.end <= offset_limit(form)
 }
 
 // The bytes of a bitmap of so many slots.

@@ -11,14 +11,15 @@ use Rattle.arrow_body_reader.specs.Sound.{lengths_of}
 use Rattle.arrow_body_reader.specs.Taken.{taken_buffers, taken_nodes}
 use Rattle.arrow_body_laws.specs.Laws.{IsBodyOf, raws_of}
 use Rattle.arrow_body_laws.specs.Raws.{AreRaws, AreSmall}
-use Rattle.arrow_body_laws.specs.Size.{size_of}
 use Rattle.arrow_body_laws.specs.Stored.{PlainBody, fields_of_columns, stored}
 use Rattle.arrow_body_laws.specs.Tidy.{IsTidy}
 use Rattle.arrow_body_laws.proofs.Named.{same_body}
 use Rattle.arrow_body_laws.proofs.Soundness.{are_stored, lengths_are}
 use Rattle.arrow_body_laws.proofs.Tidied.{is_tidy}
 use Rattle.arrow_body_laws.proofs.Whole.{is_read}
-use Rattle.arrow_body_writer.specs.Storable.{CanBeStored, columns_size}
+use Rattle.arrow_body_writer.specs.Storable.{AreTold}
+use Rattle.arrow_body_writer.specs.declared.store_fault.StoreFault.{StoreFault}
+use Rattle.arrow_body_writer.specs.declared.store_fault.StoreFault.TheVariants as stores
 use Rattle.arrow_meta_reader.specs.Means.{PlainBatch, PlainHeader, PlainMessage}
 use Rattle.arrow_stream_reader.specs.Batch.{is_bad_length}
 use Rattle.arrow_stream_laws.specs.Admission.{frame_fits}
@@ -31,7 +32,7 @@ use Rattle.arrow_stream_writer.specs.Frame.{AppendsFrame, framed}
 use Rattle.arrow_stream_writer.proofs.Sizing.{batch_sized, dictionary_sized}
 use Rattle.arrow_stream_writer.specs.declared.frames.BatchKind.{BatchKind}
 use Rattle.arrow_stream_writer.specs.declared.frames.BatchKind.TheVariants.{Record, Dictionary}
-use Rattle.arrow_stream_writer.specs.Framing.{IsStored, IsTooLarge, Load, Puts, PutsFrameOf, PutsLoad, PutsMessage, header_of, metadata_of, record_load}
+use Rattle.arrow_stream_writer.specs.Framing.{IsStored, IsTooLarge, Load, Puts, PutsFrameOf, PutsLoad, PutsMessage, header_of, metadata_of, not_stored, record_load}
 use Rattle.arrow_stream_writer.specs.Terms.{Terms}
 use Rattle.arrow_stream_writer.proofs.Storable.{cannot_store, fails, offsets_small, passes, raws_by_fields, size_by_fields, slots_stored, small_by_fields}
 
@@ -201,21 +202,17 @@ module _ (terms : Terms) (t : Table) (cs : List Column) (known : IsTable t) (sam
   are_of : AreOf t.schema.fields cs
   are_of = subst (AreOf t.schema.fields) (sym same) known.typed
 
-  -- columns that cannot be stored are too large
-  pub never_stored : terms.limits.max_body ≤ 2 ^ 40 → terms.limits.max_rows ≤ 2147483647 → (CanBeStored terms.align cs → ⊥) → IsTooLarge terms (record_load t)
-  never_stored bodies ceiling cannot =
+  -- columns that cannot be told are too large
+  never_stored : terms.limits.max_rows ≤ 2147483647 → (AreTold cs → ⊥) → IsTooLarge terms (record_load t)
+  never_stored ceiling cannot =
       subst (λ (ds : List Column). frame_fits terms.limits terms.align (batch_size terms.align t.schema.fields) t.schema.fields (raws_of ds) t.rows ≡ false) same
-      (cannot_store terms.limits terms.align (batch_size terms.align t.schema.fields) t.schema.fields cs t.rows bodies ceiling known.schema are_of cannot)
+      (cannot_store terms.limits terms.align (batch_size terms.align t.schema.fields) t.schema.fields cs t.rows ceiling known.schema are_of cannot)
 
-  -- so are those with a body over the limit
-  pub long_body : terms.limits.max_body < columns_size terms.align cs → IsTooLarge terms (record_load t)
-  long_body over =
-      let size = size_by_fields terms.align t.schema.fields cs (raws_of cs) are_of ∙ ap (λ (ds : List Column). size_of terms.align t.schema.fields (raws_of ds)) same in
-      fails terms.limits terms.align (batch_size terms.align t.schema.fields) t.schema.fields (raws_of t.columns) t.rows (λ x. let fit = x.body_fits in omega arith)
-
-  -- and those with too many rows
-  pub many_rows : terms.limits.max_rows < t.rows → IsTooLarge terms (record_load t)
-  many_rows over = fails terms.limits terms.align (batch_size terms.align t.schema.fields) t.schema.fields (raws_of t.columns) t.rows (λ x. let fit = x.rows_fit in omega arith)
+  -- so columns that are not stored are, or a growth was refused
+  pub refuses_record : terms.limits.max_rows ≤ 2147483647 → (fault : StoreFault) → (fault ≡ stores.TooLarge → AreTold cs → ⊥) → (old new : List ℕ)
+      → Puts terms (record_load t) old (Err (not_stored fault)) new
+  refuses_record ceiling stores.TooLarge large old new = never_stored ceiling (large refl)
+  refuses_record ceiling stores.Memory large old new = refl
 
 -- over the ceiling is over each limit
 pub past_ceiling : (limit size : ℕ) → limit ≤ 2 ^ 30 → 2 ^ 30 < size → limit < size

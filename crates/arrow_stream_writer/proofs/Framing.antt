@@ -33,7 +33,8 @@ next_multiple align n some = by_rest (n % align) refl
     by_rest : (r : ℕ) → n % align ≡ r → next_multiple_of n align ≡ rounded align n
     by_rest zero rest =
         let whole : n / align * align ≡ n = omega (arith, div-add-mod' n align, rest) in
-        let high : next_multiple_of n align ≡ n + 0 = ap (λ k. n + (align - k) % align) rest ∙ ap (λ k. n + k) (mod_self align) in
+        let all : align - n % align ≡ align = omega (arith, rest) in
+        let high : next_multiple_of n align ≡ n + 0 = ap (λ k. n + k % align) all ∙ ap (λ k. n + k) (mod_self align) in
         let none : min 1 (n % align) ≡ 0 = omega (arith, rest) in
         let low : rounded align n ≡ n / align * align + 0 * align = ap (λ k. (n / align + k) * align) none ∙ add-mul (n / align) 0 align in
         omega (arith, whole, high, low)

@@ -1,5 +1,5 @@
 -- What is appended of a dictionary batch: its frame.
-use Rattle.std.proofs.Common.{◌≡◌, ◌≤◌, ◌<◌, ◌^◌, ℕ, ℤ, Bool, true, false, cond, leb, List, [], ◌∷◌, ◌++◌, length, drop, refl, sym, ap, ◌∙◌, subst, arith}
+use Rattle.std.proofs.Common.{◌≡◌, ◌≤◌, ◌<◌, ℕ, ℤ, Bool, true, false, cond, leb, List, [], ◌∷◌, ◌++◌, length, drop, refl, sym, ap, ◌∙◌, subst, arith}
 use Rattle.std.specs.Prelude.{Option, None, Some, Err}
 use Rattle.std.specs.List.{AllByRecursion}
 use Rattle.std.specs.Ordering.{int_eq}
@@ -10,10 +10,11 @@ use Rattle.arrow_types.specs.declared.field.Encoding.{Encoding}
 use Rattle.arrow_data.specs.Column.{ValueList}
 use Rattle.arrow_body_laws.specs.Laws.{raws_of}
 use Rattle.arrow_body_laws.specs.Raws.{AreRaws, AreSmall}
-use Rattle.arrow_body_laws.specs.Size.{size_of}
 use Rattle.arrow_body_laws.specs.Stored.{PlainBody, fields_of_columns, stored}
 use Rattle.arrow_body_writer.specs.Source.{rest_of}
-use Rattle.arrow_body_writer.specs.Storable.{CanBeStored, columns_size}
+use Rattle.arrow_body_writer.specs.Storable.{AreTold}
+use Rattle.arrow_body_writer.specs.declared.store_fault.StoreFault.{StoreFault}
+use Rattle.arrow_body_writer.specs.declared.store_fault.StoreFault.TheVariants as stores
 use Rattle.arrow_dict.specs.ValueTypes.{value_type_of}
 use Rattle.arrow_stream_reader.specs.Batch.{field_of_type}
 use Rattle.arrow_stream_laws.specs.Admission.{fields_for, frame_fits, sending_fits}
@@ -21,7 +22,7 @@ use Rattle.arrow_stream_laws.specs.Plan.{Sending}
 use Rattle.arrow_stream_laws.specs.Sizes.{dictionary_size}
 use Rattle.arrow_sink.specs.declared.write_fault.WriteFault.{WriteFault}
 use Rattle.arrow_sink.specs.declared.write_fault.WriteFault.TheVariants.{SchemaDiffers, TooLarge, DictionariesDiffer, Sink, Broken, Finished, Memory}
-use Rattle.arrow_stream_writer.specs.Framing.{IsStored, Puts, PutsLoad, update_load}
+use Rattle.arrow_stream_writer.specs.Framing.{IsStored, Puts, PutsLoad, not_stored, update_load}
 use Rattle.arrow_stream_writer.specs.Terms.{Terms}
 use Rattle.arrow_stream_writer.specs.Updating.{IsNamed, PutsFrame, PutsUpdate}
 use Rattle.arrow_stream_writer.proofs.Storable.{fails, nodes_few, small_if}
@@ -104,33 +105,22 @@ module _ (terms : Terms) (id : ℤ) (is_delta : Bool) (from : ℕ) (d : ValueLis
       and_right (frame_fits terms.limits terms.align (dictionary_size terms.align (fields_for terms.shape.fields id)) (fields_for terms.shape.fields id) (drop from d.values ∷ []) (length (drop from d.values)))
       (leb (length d.values) terms.limits.max_rows) (lt-leb (length d.values) terms.limits.max_rows over)
 
-  -- so are values that cannot be stored
-  pub never_rest : terms.limits.max_body ≤ 2 ^ 40 → terms.limits.max_rows ≤ 2147483647 → IsSchema terms.shape.fields → (CanBeStored terms.align (rest_of d from ∷ []) → ⊥)
-      → sending_fits terms.limits terms.align terms.shape.fields brought ≡ false
-  never_rest bodies ceiling known cannot =
+  -- so are values that cannot be told
+  never_rest : terms.limits.max_rows ≤ 2147483647 → IsSchema terms.shape.fields → (AreTold (rest_of d from ∷ []) → ⊥) → sending_fits terms.limits terms.align terms.shape.fields brought ≡ false
+  never_rest ceiling known cannot =
       let own = fields_for terms.shape.fields id in
       let raws = drop from d.values ∷ [] in
       and_left (frame_fits terms.limits terms.align (dictionary_size terms.align own) own raws (length (drop from d.values))) (leb (length d.values) terms.limits.max_rows)
       (fails terms.limits terms.align (dictionary_size terms.align own) own raws (length (drop from d.values)) (λ t.
       let few = few_named 65536 (dictionary_fields terms.shape.fields) id d.data_type (all_few 65536 terms.shape.fields known.bounded.few) named in
       let nodes = nodes_few d.data_type None in
-      let fits = t.body_fits in
-      let size = ap (λ (fields : Fields). size_of terms.align fields raws) same_fields in
       cannot (record {
-        told = record {
-          counted = (omega arith, tt);
-          small = subst (λ (fields : Fields). AreSmall fields raws) (sym same_fields) (small_if terms.limits.max_rows own raws ceiling t.slots_fit t.offsets);
-        };
-        size = omega arith;
+        counted = (omega arith, tt);
+        small = subst (λ (fields : Fields). AreSmall fields raws) (sym same_fields) (small_if terms.limits.max_rows own raws ceiling t.slots_fit t.offsets);
       })))
 
-  -- and those with a body over the limit
-  pub long_rest : terms.limits.max_body < columns_size terms.align (rest_of d from ∷ []) → sending_fits terms.limits terms.align terms.shape.fields brought ≡ false
-  long_rest over =
-      let own = fields_for terms.shape.fields id in
-      let raws = drop from d.values ∷ [] in
-      and_left (frame_fits terms.limits terms.align (dictionary_size terms.align own) own raws (length (drop from d.values))) (leb (length d.values) terms.limits.max_rows)
-      (fails terms.limits terms.align (dictionary_size terms.align own) own raws (length (drop from d.values)) (λ t.
-      let fits = t.body_fits in
-      let size = ap (λ (fields : Fields). size_of terms.align fields raws) same_fields in
-      omega arith))
+  -- so values that are not stored are, or a growth was refused
+  pub refuses_rest : terms.limits.max_rows ≤ 2147483647 → IsSchema terms.shape.fields → (fault : StoreFault) → (fault ≡ stores.TooLarge → AreTold (rest_of d from ∷ []) → ⊥) → (old new : List ℕ)
+      → PutsUpdate terms brought old (Err (not_stored fault)) new
+  refuses_rest ceiling known stores.TooLarge large old new = never_rest ceiling known (large refl)
+  refuses_rest ceiling known stores.Memory large old new = refl

@@ -1,5 +1,5 @@
 -- Columns of a schema: what is stored of them by its fields, and which of them can be stored.
-use Rattle.std.proofs.Common.{◌≡◌, ◌&&◌, ◌≤◌, ◌<◌, ◌+◌, ◌^◌, ℕ, pos, Bool, true, false, List, [], ◌∷◌, ◌++◌, length, map, leb, refl, sym, ap, ◌∙◌, subst, arith}
+use Rattle.std.proofs.Common.{◌≡◌, ◌&&◌, ◌≤◌, ◌<◌, ◌+◌, ℕ, pos, Bool, true, false, List, [], ◌∷◌, ◌++◌, length, map, leb, refl, sym, ap, ◌∙◌, subst, arith}
 use Rattle.std.specs.Prelude.{nat_le, Option, None, Some}
 use Rattle.std.specs.List.{AllByRecursion, list_all, sum_by}
 use Rattle.std.proofs.lemmas.Bool.{and_from, false_from_ne_true, leb-true, le-leb}
@@ -19,7 +19,7 @@ use Rattle.arrow_body_laws.specs.Raws.{AreRaws, AreSmall, IsOwn, IsSmall, last_o
 use Rattle.arrow_body_laws.specs.Size.{own_sizes, size_of, sizes_of}
 use Rattle.arrow_body_laws.specs.Stored.{fields_of_columns, rounded, stored_nodes}
 use Rattle.arrow_body_writer.specs.Sent.{nodes_of_type}
-use Rattle.arrow_body_writer.specs.Storable.{CanBeStored}
+use Rattle.arrow_body_writer.specs.Storable.{AreTold}
 use Rattle.arrow_stream_laws.specs.Admission.{frame_fits}
 use Rattle.arrow_stream_laws.specs.Sizes.{offsets_fit, slots_in}
 
@@ -194,14 +194,11 @@ module _ (l : LimitNumbers) (align metadata : ℕ) (fields : Fields) (raws : Lis
   pub fails : (Tests l align metadata fields raws rows → ⊥) → frame_fits l align metadata fields raws rows ≡ false
   fails f = false_from_ne_true (frame_fits l align metadata fields raws rows) (λ e. f (passed e))
 
--- columns that cannot be stored pass no tests
-pub cannot_store : (l : LimitNumbers) (align metadata : ℕ) (fields : Fields) (cs : List Column) (rows : ℕ) → l.max_body ≤ 2 ^ 40 → l.max_rows ≤ 2147483647 → IsSchema fields → AreOf fields cs
-    → (CanBeStored align cs → ⊥) → frame_fits l align metadata fields (raws_of cs) rows ≡ false
-cannot_store l align metadata fields cs rows bodies ceiling known are cannot =
+-- columns that cannot be told pass no tests
+pub cannot_store : (l : LimitNumbers) (align metadata : ℕ) (fields : Fields) (cs : List Column) (rows : ℕ) → l.max_rows ≤ 2147483647 → IsSchema fields → AreOf fields cs
+    → (AreTold cs → ⊥) → frame_fits l align metadata fields (raws_of cs) rows ≡ false
+cannot_store l align metadata fields cs rows ceiling known are cannot =
     fails l align metadata fields (raws_of cs) rows (λ t. cannot (record {
-      told = record {
-        counted = columns_few fields cs are known.bounded.few;
-        small = small_by_columns fields cs (raws_of cs) are (small_if l.max_rows fields (raws_of cs) ceiling t.slots_fit t.offsets);
-      };
-      size = let same = size_by_fields align fields cs (raws_of cs) are in let fits = t.body_fits in omega arith;
+      counted = columns_few fields cs are known.bounded.few;
+      small = small_by_columns fields cs (raws_of cs) are (small_if l.max_rows fields (raws_of cs) ceiling t.slots_fit t.offsets);
     }))

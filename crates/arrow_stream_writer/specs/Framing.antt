@@ -14,6 +14,8 @@ use Rattle.arrow_stream_laws.specs.Built.{IsBuilt}
 use Rattle.arrow_stream_laws.specs.Frames.{IsFrameOf}
 use Rattle.arrow_stream_laws.specs.Plan.{Sending}
 use Rattle.arrow_stream_laws.specs.Sizes.{batch_size, dictionary_size, header_size}
+use Rattle.arrow_body_writer.specs.declared.store_fault.StoreFault.{StoreFault}
+use Rattle.arrow_body_writer.specs.declared.store_fault.StoreFault.TheVariants as stores
 use Rattle.arrow_sink.specs.declared.write_fault.WriteFault.{WriteFault}
 use Rattle.arrow_sink.specs.declared.write_fault.WriteFault.TheVariants.{TooLarge, Memory}
 use Rattle.arrow_stream_writer.specs.Terms.{Terms}
@@ -35,6 +37,11 @@ record_load t = record { kind = Record; fields = t.schema.fields; raws = raws_of
 -- that of a dictionary batch
 abbrev pub update_load : Fields → Sending → Load
 update_load fields w = record { kind = Dictionary w.id w.is_delta; fields = fields_for fields w.id; raws = w.carried ∷ []; rows = length w.carried }
+
+-- what it is to a writer that columns are not stored
+abbrev pub not_stored : StoreFault → WriteFault
+not_stored stores.TooLarge = TooLarge
+not_stored stores.Memory = Memory
 
 -- the header of the message of a kind
 abbrev pub header_of : BatchKind → PlainBatch → PlainHeader

@@ -1,7 +1,7 @@
 //! The frames of record batches and dictionary batches, built of columns.
 //!
-//! What would not keep to the limits is refused before a byte of its frame is appended: the body is
-//! measured before it is stored, then its nodes are looked at, then the metadata are measured.
+//! What would not keep to the limits is refused before a byte of its frame is appended: columns are
+//! walked once, which stores their body, then its nodes are looked at, then the metadata are measured.
 
 ghost use Rattle.std.specs.Prelude.{◌≡◌, ◌≤◌, ◌<◌, ◌^◌, IsSome, MatchOption, OnOk, length};
 ghost use Rattle.std.specs.List.{list_any};
@@ -12,13 +12,13 @@ ghost use Rattle.arrow_meta_writer.specs.Metadata.{size_of};
 ghost use Rattle.arrow_stream_reader.specs.Batch.{is_bad_length};
 ghost use Rattle.arrow_stream_laws.specs.Sizes.{header_size};
 ghost use Rattle.arrow_stream_writer.specs.Framing.{AppendsBody, IsStored, Load, Puts, PutsHead};
-ghost use Rattle.arrow_stream_writer.specs.Framing.{header_of, part_bytes, record_load};
+ghost use Rattle.arrow_stream_writer.specs.Framing.{header_of, not_stored, part_bytes, record_load};
 ghost use Rattle.arrow_stream_writer.specs.Terms.{terms_of};
 ghost use Rattle.arrow_stream_writer.specs.Updating.{IsNamed, PutsUpdate, sending_of};
 
 use crate::frame::put_head;
 use crate::settings::Settings;
-use arrow_body_writer::{Align, Body, body_size, rest_size, store_in, store_rest_in};
+use arrow_body_writer::{Align, Body, StoreFault, store_in, store_rest_in};
 use arrow_data::{Batch, Dictionary};
 use arrow_meta_reader::{Header, Message, MetadataVersion, RecordBatch};
 use arrow_meta_writer::encoded_size;
@@ -106,6 +106,16 @@ fn give_back(message: Message, body: &mut Body)
             body.buffers = batch.buffers;
         }
         Header::Schema(_) => {}
+    }
+}
+
+// What it is to a writer that columns are not stored.
+fn not_stored(fault: StoreFault) -> WriteFault
+    ensures { result ≡ not_stored fault }
+{
+    match fault {
+        StoreFault::TooLarge => WriteFault::TooLarge,
+        StoreFault::Memory => WriteFault::Memory,
     }
 }
 
@@ -205,19 +215,11 @@ impl Settings {
         ensures { Puts (terms_of self.now) (record_load batch.now) part.old.bytes.items result
             (part_bytes part.new) }
     {
-        // The proof has by it at hand what is known of every batch.
-        let _ = batch.schema();
-        let columns = batch.columns();
-        let (max_body, max_rows) = (self.limits.max_body(), self.limits.max_rows());
-        let size = body_size(columns, self.align).ok_or(WriteFault::TooLarge)?;
-        if size > max_body {
-            return Err(WriteFault::TooLarge);
+        // The proof has by it at hand what is known of every batch, and of all limits.
+        let _ = (batch.schema(), self.limits.max_rows());
+        if let Err(fault) = store_in(&mut part.body, batch.columns(), self.align) {
+            return Err(not_stored(fault));
         }
-        if batch.rows() as u64 > max_rows {
-            return Err(WriteFault::TooLarge);
-        }
-        part.body.make_room(size as usize)?;
-        store_in(&mut part.body, columns, self.align)?;
         self.put_stored(BatchKind::Record, batch.rows(), part)?;
         part.append_short_body()?;
         Ok(())
@@ -238,17 +240,14 @@ impl Settings {
         // The proof has by it at hand what is known of every schema.
         let _ = self.schema.fields();
         let dictionary = update.dictionary;
-        let (max_body, max_rows) = (self.limits.max_body(), self.limits.max_rows());
         let len = dictionary.len();
-        if len as u64 > max_rows {
+        if len as u64 > self.limits.max_rows() {
             return Err(WriteFault::TooLarge);
         }
-        let size = rest_size(dictionary, update.from, self.align).ok_or(WriteFault::TooLarge)?;
-        if size > max_body {
-            return Err(WriteFault::TooLarge);
+        let stored = store_rest_in(&mut part.body, dictionary, update.from, self.align);
+        if let Err(fault) = stored {
+            return Err(not_stored(fault));
         }
-        part.body.make_room(size as usize)?;
-        store_rest_in(&mut part.body, dictionary, update.from, self.align)?;
         let kind = BatchKind::Dictionary(update.id, update.is_delta);
         self.put_stored(kind, len - update.from, part)?;
         part.append_body()?;

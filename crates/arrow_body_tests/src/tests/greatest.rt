@@ -4,7 +4,7 @@
 use super::bodies::{append, dictionary, nodes_in};
 use super::told::holds;
 use arrow_body_reader::{BodyFault, are_fit, load};
-use arrow_body_writer::{Align, rest_size};
+use arrow_body_writer::{Align, Body, StoreFault, rest_size, store_rest_in};
 use arrow_data::{Array, Dictionary};
 use arrow_test_fields::fields_of;
 use arrow_types::{Buffer, Field, FieldNode};
@@ -113,5 +113,10 @@ fn the_most_values_and_bytes(rt: HostRuntime) {
     for (name, piece, times, from, size) in &CASES {
         let whole = again_and_again(&rt, piece, *times);
         holds(&rt, name, rest_size(&whole, *from, Align::Eight) == *size);
+        if size.is_none() {
+            let mut room = Body::new(rt.alloc());
+            let stored = store_rest_in(&mut room, &whole, *from, Align::Eight);
+            holds(&rt, name, stored == Err(StoreFault::TooLarge));
+        }
     }
 }

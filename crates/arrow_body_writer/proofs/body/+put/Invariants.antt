@@ -1,13 +1,15 @@
-use Rattle.std.proofs.Common.{drop}
+use Rattle.std.proofs.Common.{◌<◌, drop}
+use Rattle.std.specs.List.{AllByRecursion}
+use Rattle.arrow_data.specs.Column.{Column}
 use Rattle.arrow_data.specs.Same.{parts_measure, slot_measure}
 use Rattle.arrow_body_laws.specs.Laws.{raws_of}
 use Rattle.arrow_body_laws.specs.Raws.{AreRaws}
 use Rattle.arrow_body_laws.specs.Stored.{fields_of_columns}
 use Rattle.arrow_body_writer.proofs.Chunks.{StoresUpTo}
+use Rattle.arrow_body_writer.proofs.Measures.{IsToldUpTo}
 use Rattle.arrow_body_writer.specs.Align.{alignment_of}
-use Rattle.arrow_body_writer.specs.Sent.{sent_below}
+use Rattle.arrow_body_writer.specs.Sent.{nodes_of_column, sent_below}
 use Rattle.arrow_body_writer.specs.Source.{column_in}
-use Rattle.arrow_body_writer.specs.Storable.{AreTold}
 use Rattle.arrow_body_writer.proofs.body.+put.Given as goal
 
 -- what is sent below a column is smaller than the column
@@ -20,13 +22,17 @@ decreases-put_columns l = parts_measure l.arrays.now
 abbrev pub decreases-put_below : goal.decreases-put_below
 decreases-put_below l = parts_measure (sent_below (column_in l.source.now))
 
--- the columns to come can be told and stored, and with them all are stored
+-- all can be told just where the columns to come can, and with these all are stored
 abbrev pub invariant-put_columns-loop-array : goal.invariant-put_columns-loop-array
 invariant-put_columns-loop-array l =
-    AreTold (drop l.array-index l.arrays) × AreRaws (fields_of_columns (drop l.array-index l.arrays)) (raws_of (drop l.array-index l.arrays))
+    IsToldUpTo l.arrays (drop l.array-index l.arrays)
+    × AllByRecursion (λ (d : Column). nodes_of_column d < 18446744073709551615) (drop l.array-index l.arrays)
+    × AreRaws (fields_of_columns (drop l.array-index l.arrays)) (raws_of (drop l.array-index l.arrays))
     × StoresUpTo (alignment_of l.align) l.arrays (drop l.array-index l.arrays) l.fn.body l.body
 
 abbrev pub invariant-put_below-loop-k : goal.invariant-put_below-loop-k
 invariant-put_below-loop-k l =
-    AreTold (drop l.k (sent_below (column_in l.source))) × AreRaws (fields_of_columns (drop l.k (sent_below (column_in l.source)))) (raws_of (drop l.k (sent_below (column_in l.source))))
+    IsToldUpTo (sent_below (column_in l.source)) (drop l.k (sent_below (column_in l.source)))
+    × AllByRecursion (λ (d : Column). nodes_of_column d < 18446744073709551615) (drop l.k (sent_below (column_in l.source)))
+    × AreRaws (fields_of_columns (drop l.k (sent_below (column_in l.source)))) (raws_of (drop l.k (sent_below (column_in l.source))))
     × StoresUpTo (alignment_of l.align) (sent_below (column_in l.source)) (drop l.k (sent_below (column_in l.source))) l.fn.body l.body

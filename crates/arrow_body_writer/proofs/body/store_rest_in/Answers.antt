@@ -1,4 +1,4 @@
-use Rattle.std.proofs.Common.{[], ◌∷◌, sym, subst}
+use Rattle.std.proofs.Common.{[], ◌∷◌, sym, subst, arith}
 use Rattle.std.proofs.lemmas.Result.{on_ok_weaker}
 use Rattle.arrow_body_laws.proofs.Tidied.{is_tidy}
 use Rattle.arrow_body_laws.proofs.Whole.{is_read}
@@ -10,30 +10,45 @@ use Rattle.arrow_body_writer.specs.Align.{alignment_of}
 use Rattle.arrow_body_writer.specs.Source.{rest_of}
 use Rattle.arrow_body_writer.proofs.body.store_rest_in.Goals as goal
 
--- the column
+-- the column has too many nodes
+pub returns-then-nodes-clause-large : goal.returns-then-nodes-clause-large
+returns-then-nodes-clause-large c = λ large told. omega (arith, told.counted.0, c.nodes_in_rest-nodes.ensures.count c.args.from, c.if-nodes.true)
+
+-- it has few
+pub put_column-requires-clause-counted : goal.put_column-requires-clause-counted
+put_column-requires-clause-counted c = omega (arith, c.nodes_in_rest-nodes.ensures.count c.args.from, c.if-nodes.false)
+
+-- what can be told was stored
+pub returns-clause-told : goal.returns-clause-told
+returns-clause-told c = on_ok_weaker c.put_column.result (λ all. all.told) c.put_column.ensures.stored
+
 pub returns-clause-same : goal.returns-clause-same
 returns-clause-same c =
     let empty = c.in_ok-begin.ensures in
     on_ok_weaker c.put_column.result
-    (λ all. stored_from (alignment_of c.args.align) (rest_of c.args.dictionary.now c.args.from ∷ []) c.begin.new.self c.put_column.new.body empty.no_nodes empty.no_buffers empty.no_bytes all)
-    c.put_column.ensures
+    (λ all. stored_from (alignment_of c.args.align) (rest_of c.args.dictionary.now c.args.from ∷ []) c.begin.new.self c.put_column.new.body empty.no_nodes empty.no_buffers empty.no_bytes all.stored)
+    c.put_column.ensures.stored
 
--- so it is read as the values
+-- so it is read
 pub returns-clause-read : goal.returns-clause-read
 returns-clause-read c =
-    let all = rest_of c.args.dictionary.now c.args.from ∷ [] in
+    let cs = rest_of c.args.dictionary.now c.args.from ∷ [] in
     let align = alignment_of c.args.align in
+    let empty = c.in_ok-begin.ensures in
     on_ok_weaker c.put_column.result
-    (λ same. subst (IsBodyOf align (fields_of_columns all) (raws_of all)) (sym same)
-    (is_read align (fields_of_columns all) (raws_of all) (some_alignment c.args.align) (c.nodes_in_rest.ensures.raws c.args.from) c.requires.told.small))
-    (returns-clause-same c)
+    (λ all. let same = stored_from align cs c.begin.new.self c.put_column.new.body empty.no_nodes empty.no_buffers empty.no_bytes all.stored in
+    subst (IsBodyOf align (fields_of_columns cs) (raws_of cs)) (sym same)
+    (is_read align (fields_of_columns cs) (raws_of cs) (some_alignment c.args.align) (c.nodes_in_rest-nodes.ensures.raws c.args.from) all.told.small))
+    c.put_column.ensures.stored
 
 -- and tidy
 pub returns-clause-tidy : goal.returns-clause-tidy
 returns-clause-tidy c =
-    let all = rest_of c.args.dictionary.now c.args.from ∷ [] in
+    let cs = rest_of c.args.dictionary.now c.args.from ∷ [] in
     let align = alignment_of c.args.align in
+    let empty = c.in_ok-begin.ensures in
     on_ok_weaker c.put_column.result
-    (λ same. subst (λ (b : PlainBody). IsTidy align (fields_of_columns all) b.nodes b.buffers b.bytes) (sym same)
-    (is_tidy align (fields_of_columns all) (raws_of all) (some_alignment c.args.align) (c.nodes_in_rest.ensures.raws c.args.from) c.requires.told.small))
-    (returns-clause-same c)
+    (λ all. let same = stored_from align cs c.begin.new.self c.put_column.new.body empty.no_nodes empty.no_buffers empty.no_bytes all.stored in
+    subst (λ (b : PlainBody). IsTidy align (fields_of_columns cs) b.nodes b.buffers b.bytes) (sym same)
+    (is_tidy align (fields_of_columns cs) (raws_of cs) (some_alignment c.args.align) (c.nodes_in_rest-nodes.ensures.raws c.args.from) all.told.small))
+    c.put_column.ensures.stored

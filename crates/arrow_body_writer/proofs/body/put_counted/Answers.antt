@@ -6,22 +6,22 @@ use Rattle.arrow_body_writer.specs.Align.{alignment_of}
 use Rattle.arrow_body_writer.specs.Part.{chunk_of, part_of}
 use Rattle.arrow_body_writer.specs.Storing.{Stores}
 use Rattle.arrow_body_writer.specs.Source.{column_in}
-use Rattle.arrow_body_writer.proofs.body.put_node.Goals as goal
-use Rattle.arrow_body_writer.proofs.body.put_node.Goals.{in-Some+in_ok-put_chunk, in_default}
+use Rattle.arrow_body_writer.proofs.body.put_counted.Goals as goal
+use Rattle.arrow_body_writer.proofs.body.put_counted.Goals.{in-Some+in_ok-put_chunk, in_default}
 
 -- each number has room
 pub put_chunk-requires-clause-room : goal.put_chunk-requires-clause-room
 put_chunk-requires-clause-room c =
-    node_rooms (column_in c.args.source.now) c.requires.raws c.loop-k.k c.in-Some.part
-    (ap (λ f. part_of f c.loop-k.k) (sym c.form-form.ensures) ∙ sym c.part_of.ensures ∙ c.in-Some.is)
+    node_rooms (column_in c.args.node.now.source) c.requires.raws c.loop-k.k c.in-Some.part
+    (ap (λ f. part_of f c.loop-k.k) (sym c.requires.form) ∙ sym c.part_of.ensures ∙ c.in-Some.is)
 
 -- one buffer more, or none
 pub loop-k-preserved : goal.loop-k-preserved
 loop-k-preserved c =
     let k = c.loop-k.k in
-    let form = c.form-form.result in
+    let form = c.args.form in
     let align = alignment_of c.args.align in
-    let sent = (column_in c.args.source.now).raw in
+    let sent = (column_in c.args.node.now.source).raw in
     let own = own_chunks form sent in
     elim c.match-part_of.branch [
       | in-Some+in_ok-put_chunk w ↦ subst (λ b. Stores align (own_node sent ∷ []) (take (k + 1) own) c.args.body.now b) (sym w.body-is)
