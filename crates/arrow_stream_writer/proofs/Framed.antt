@@ -34,7 +34,7 @@ use Rattle.arrow_stream_writer.specs.declared.frames.BatchKind.{BatchKind}
 use Rattle.arrow_stream_writer.specs.declared.frames.BatchKind.TheVariants.{Record, Dictionary}
 use Rattle.arrow_stream_writer.specs.Framing.{IsStored, IsTooLarge, Load, Puts, PutsFrameOf, PutsLoad, PutsMessage, header_of, metadata_of, not_stored, record_load}
 use Rattle.arrow_stream_writer.specs.Terms.{Terms}
-use Rattle.arrow_stream_writer.proofs.Storable.{cannot_store, fails, offsets_small, passes, raws_by_fields, size_by_fields, slots_stored, small_by_fields}
+use Rattle.arrow_stream_writer.proofs.Storable.{cannot_store, fails, offsets_small, passes, raws_by_fields, slots_stored, small_by_fields}
 
 all_long : (rows : ℕ) (raws : List (List PlainValue)) → AllByRecursion (λ (vs : List PlainValue). length vs ≡ rows) raws → AllByRecursion (λ (n : ℕ). n ≡ rows) (map length raws)
 all_long rows [] h = tt

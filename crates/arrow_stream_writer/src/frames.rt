@@ -216,7 +216,8 @@ impl Settings {
             (part_bytes part.new) }
     {
         // The proof has by it at hand what is known of every batch, and of all limits.
-        let _ = (batch.schema(), self.limits.max_rows());
+        let _ = batch.schema();
+        let _ = self.limits.max_rows();
         if let Err(fault) = store_in(&mut part.body, batch.columns(), self.align) {
             return Err(not_stored(fault));
         }
