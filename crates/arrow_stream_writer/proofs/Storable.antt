@@ -1,7 +1,7 @@
 -- Columns of a schema: what is stored of them by its fields, and which of them can be stored.
 use Rattle.std.proofs.Common.{◌≡◌, ◌&&◌, ◌≤◌, ◌<◌, ◌+◌, ℕ, pos, Bool, true, false, List, [], ◌∷◌, ◌++◌, length, map, leb, refl, sym, ap, ◌∙◌, subst, arith}
 use Rattle.std.specs.Prelude.{nat_le, Option, None, Some}
-use Rattle.std.specs.List.{AllByRecursion, list_all, sum_by}
+use Rattle.std.specs.List.{AllByRecursion, list_all}
 use Rattle.std.proofs.lemmas.Bool.{and_from, false_from_ne_true, leb-true, le-leb}
 use Rattle.std.proofs.lemmas.List.{map-append}
 use Rattle.std.proofs.lemmas.List.Folds.{list_all-append}
@@ -16,8 +16,8 @@ use Rattle.arrow_data.specs.PlainValue.{PlainValue}
 use Rattle.arrow_body_reader.specs.Taken.{IfFlattened, flattened, taken_nodes}
 use Rattle.arrow_body_laws.specs.Laws.{raws_of}
 use Rattle.arrow_body_laws.specs.Raws.{AreRaws, AreSmall, IsOwn, IsSmall, last_offset, offset_limit, raws_below}
-use Rattle.arrow_body_laws.specs.Size.{own_sizes, size_of, sizes_of}
-use Rattle.arrow_body_laws.specs.Stored.{fields_of_columns, rounded, stored_nodes}
+use Rattle.arrow_body_laws.specs.Size.{size_of}
+use Rattle.arrow_body_laws.specs.Stored.{fields_of_columns, stored_nodes}
 use Rattle.arrow_body_writer.specs.Sent.{nodes_of_type}
 use Rattle.arrow_body_writer.specs.Storable.{AreTold}
 use Rattle.arrow_stream_laws.specs.Admission.{frame_fits}
@@ -64,19 +64,6 @@ small_by_columns (more h c rest) (d ∷ cs) (vs ∷ raws) are x =
       subst (λ t. Q t d.encoding) (sym are.0) (subst (λ e. Q (record { tag = h.tag; children = c }) e) (sym are.1) x.1),
       small_by_columns rest cs raws are.2 x.2,
     )
-
-same_sizes : (fields : Fields) (cs : List Column) (raws : List (List PlainValue)) → AreOf fields cs → sizes_of (fields_of_columns cs) raws ≡ sizes_of fields raws
-same_sizes none [] raws are = refl
-same_sizes none (d ∷ cs) raws are = absurd are
-same_sizes (more h c rest) [] raws are = absurd are
-same_sizes (more h c rest) (d ∷ cs) [] are = refl
-same_sizes (more h c rest) (d ∷ cs) (vs ∷ raws) are = λ i.
-    own_sizes (node_form (are.0 i).tag (are.1 i)) vs
-    ++ (sizes_of (are.0 i).children (raws_below (node_form (are.0 i).tag (are.1 i)) (are.0 i).children vs) ++ same_sizes rest cs raws are.2 i)
-
--- the body is as long as the fields say
-pub size_by_fields : (align : ℕ) (fields : Fields) (cs : List Column) (raws : List (List PlainValue)) → AreOf fields cs → size_of align (fields_of_columns cs) raws ≡ size_of align fields raws
-size_by_fields align fields cs raws are = ap (sum_by (rounded align)) (same_sizes fields cs raws are)
 
 -- NODES
 
