@@ -1,6 +1,6 @@
 //! From nodes, buffers and a body to columns.
 
-ghost use Rattle.std.specs.Prelude.{◌≡◌, IfSome, MatchResult};
+ghost use Rattle.std.specs.Prelude.{◌≡◌, IfOk, IfSome, MatchResult};
 ghost use Rattle.arrow_types.specs.View.{fields_view};
 ghost use Rattle.arrow_body_reader.specs.Sound.{AreFit, Explains, IsExplained, IsSound, columns_of};
 ghost use Rattle.arrow_body_reader.specs.Sound.{number_of};
@@ -11,10 +11,10 @@ use crate::build::Builder;
 use crate::look::look;
 use crate::source::Source;
 use crate::taken::Left;
-use arrow_data::{Array, Dictionary, Listed, SharedType, shared_types};
+use arrow_data::{Array, Dictionary, Listed, SharedBody, SharedType, shared_types};
 use arrow_types::{Buffer, Field, FieldNode};
 use bytes::Bytes;
-use std::alloc::Global;
+use std::alloc::{AllocError, Global};
 use std::error::Error;
 use std::fmt;
 
@@ -121,8 +121,10 @@ pub fn load(
         (λ fault. Explains fault body.now dictionaries.now
         (fields_view fields.now) nodes.now buffers.now) }
 {
-    match shared_types(alloc, fields) {
-        Ok(types) => load_typed(alloc, fields, &types, nodes, buffers, body, dictionaries),
+    match shared(alloc, fields, body) {
+        Ok((types, body)) => {
+            load_typed(alloc, fields, &types, nodes, buffers, &body, dictionaries)
+        }
         Err(_) => {
             check(fields, nodes, buffers, body.as_slice(), dictionaries)?;
             Err(BodyFault::Memory)
@@ -130,8 +132,22 @@ pub fn load(
     }
 }
 
+// What the arrays of fields share: the types of their nodes, and the body.
+fn shared(
+    alloc: Global,
+    fields: &[Field],
+    body: &Bytes,
+) -> Result<(Vec<SharedType>, SharedBody), AllocError>
+    ensures types { IfOk result (λ s. s.0.items ≡ node_types (fields_view fields.now)) }
+    ensures body { IfOk result (λ s. s.1 ≡ body.now) }
+{
+    let types = shared_types(alloc, fields)?;
+    let bytes = body.clone()?;
+    Ok((types, SharedBody::new(alloc, bytes)?))
+}
+
 /// As `load`, with the types of the nodes, which `shared_types` makes once for all batches of the
-/// fields: the columns share them.
+/// fields, and with a body that was made to be shared: the columns share both.
 ///
 /// The nodes are walked over once: each is looked at, and its array is made of the ranges that the
 /// look found. Once a growth is refused, or a text or an index is not as it should be, the walk goes
@@ -142,7 +158,7 @@ pub fn load_typed(
     types: &[SharedType],
     nodes: &[FieldNode],
     buffers: &[Buffer],
-    body: &Bytes,
+    body: &SharedBody,
     dictionaries: &[(i64, Dictionary)],
 ) -> Result<Vec<Array>, BodyFault>
     requires typed { types.now ≡ node_types (fields_view fields.now) }

@@ -12,23 +12,22 @@ ghost use Rattle.arrow_body_reader.specs.Place.{children_at, column_at, columns_
 use crate::look::Node;
 use crate::place::{Laid, Place};
 use arrow_data::form::form_of;
-use arrow_data::{Array, ChildData, NodeBuffers};
+use arrow_data::{Array, ChildData, NodeBuffers, SharedBody};
 use arrow_types::Field;
-use bytes::Bytes;
 use std::alloc::Global;
 
 // Makes the arrays of fields out of ranges of a body, which they share.
 #[derive(Drop)]
 pub(crate) struct Builder<'a> {
     alloc: Global,
-    body: &'a Bytes,
+    body: &'a SharedBody,
     // The arrays of the fields so far.
     pub(crate) arrays: Vec<Array>,
 }
 
 impl<'a> Builder<'a> {
     // One with room for the arrays of so many fields, None where the growth is refused.
-    pub(crate) fn new(alloc: Global, body: &'a Bytes, count: usize) -> Option<Builder<'a>>
+    pub(crate) fn new(alloc: Global, body: &'a SharedBody, count: usize) -> Option<Builder<'a>>
         ensures { IfSome result (λ b. (b.body.now ≡ body.now) × (b.arrays.items ≡ [])) }
     {
         match Vec::with_capacity(alloc, count) {

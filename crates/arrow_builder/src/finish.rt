@@ -15,7 +15,7 @@ ghost use Rattle.arrow_types.specs.View.{type_view};
 
 use crate::node::Node;
 use crate::slots::Buffers;
-use arrow_data::{Array, ByteRange, ChildData, Listed, NodeBuffers};
+use arrow_data::{Array, ByteRange, ChildData, Listed, NodeBuffers, SharedBody};
 use arrow_types::Field;
 use bytes::Bytes;
 use std::alloc::{AllocError, Global};
@@ -107,7 +107,7 @@ fn array_of(
 }
 
 // The bytes of the buffers behind each other, and where each lies.
-fn body_of(alloc: Global, buffers: &Buffers) -> Result<(Bytes, [ByteRange; 3]), AllocError>
+fn body_of(alloc: Global, buffers: &Buffers) -> Result<(SharedBody, [ByteRange; 3]), AllocError>
     ensures inside { IfOk result (λ r. AllByRecursion (IsInside r.0) r.1) }
     ensures same { IfOk result (λ r. map (bytes_of r.0) r.1 ≡ buffers_in buffers.now) }
 {
@@ -117,7 +117,7 @@ fn body_of(alloc: Global, buffers: &Buffers) -> Result<(Bytes, [ByteRange; 3]), 
     let values = range(validity.end, body.len());
     body.extend_from_slice(&buffers.bytes)?;
     let bytes = range(values.end, body.len());
-    Ok((shared(body)?, [validity, values, bytes]))
+    Ok((shared(alloc, body)?, [validity, values, bytes]))
 }
 
 // The range from a place up to another one.
@@ -129,8 +129,9 @@ fn range(start: usize, end: usize) -> ByteRange
 }
 
 // The bytes as a body that arrays can share.
-fn shared(body: Vec<u8>) -> Result<Bytes, AllocError>
+fn shared(alloc: Global, body: Vec<u8>) -> Result<SharedBody, AllocError>
     ensures { IfOk result (λ b. b ≡ body.items) }
 {
-    Bytes::from_vec(body).map_err(|_| AllocError)
+    let bytes = Bytes::from_vec(body).map_err(|_| AllocError)?;
+    SharedBody::new(alloc, bytes)
 }

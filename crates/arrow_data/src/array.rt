@@ -19,9 +19,9 @@ use crate::byte_range::{ByteRange, bytes_in};
 use crate::dictionary::Dictionary;
 use crate::form::OffsetWidth;
 use crate::offsets::OffsetBuffer;
+use crate::shared_body::SharedBody;
 use crate::slot::{first_invalid, is_valid};
 use arrow_types::{DataType, Encoding};
-use bytes::Bytes;
 use std::marker::Model;
 use std::rc::Rc;
 
@@ -75,7 +75,7 @@ pub struct Array {
     pub(crate) data_type: Rc<DataType>,
     pub(crate) encoding: Option<Encoding>,
     pub(crate) len: usize,
-    pub(crate) body: Bytes,
+    pub(crate) body: SharedBody,
     pub(crate) ranges: Ranges,
 }
 

@@ -56,10 +56,12 @@ impl Bools {
     }
 }
 
-// Numbers of `width` bytes: those of a column of numbers, or of indices into a dictionary.
+// Numbers of `width` bytes: those of a column of numbers, or of indices into a dictionary. Width and
+// sign lie in one word: a sign with a word of its own lies beside seven bytes of nothing, which an
+// array that is moved takes along in two parts that overlap.
 #[derive(Clone, Copy)]
 pub(crate) struct Ints {
-    pub(crate) width: usize,
+    pub(crate) width: u32,
     pub(crate) signed: bool,
     pub(crate) validity: ByteRange,
     pub(crate) values: ByteRange,
@@ -85,7 +87,7 @@ impl Ints {
         ensures { result.now ≡ slice_range (bytes_of body.now self.values)
             (self.width * slots.start) (self.width * slots.stop) }
     {
-        cells(bytes_in(body, self.values), self.width, len, slots)
+        cells(bytes_in(body, self.values), self.width as usize, len, slots)
     }
 }
 

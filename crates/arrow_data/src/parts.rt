@@ -18,9 +18,9 @@ use crate::buffers::{Bools, Fixed, Ints, Strings};
 use crate::byte_range::{ByteRange, hold_bytes};
 use crate::dictionary::Dictionary;
 use crate::form::{Form, OffsetWidth, form_of, number_width};
+use crate::shared_body::SharedBody;
 use crate::shared_type::SharedType;
 use arrow_types::{BitWidth, DataType, Encoding, Field};
-use bytes::Bytes;
 use std::alloc::{AllocError, Global};
 use std::rc::Rc;
 
@@ -30,7 +30,7 @@ pub struct NodeBuffers<'a> {
     /// How many slots the node has.
     pub len: usize,
     /// The body.
-    pub body: &'a Bytes,
+    pub body: &'a SharedBody,
     /// Where each buffer lies in the body, in the order of the format. An empty range stands for an
     /// absent validity bitmap, and for the offsets of no slots.
     pub ranges: &'a [ByteRange],
@@ -206,7 +206,7 @@ fn numbers(bits: BitWidth, signed: bool, buffers: &[ByteRange]) -> Ints
     ensures values { result.values ≡ slice_index_or buffers.now 1 result.values }
 {
     Ints {
-        width: number_width(bits),
+        width: number_width(bits) as u32,
         signed,
         validity: buffers[0],
         values: buffers[1],

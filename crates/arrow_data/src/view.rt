@@ -81,7 +81,7 @@ impl<'a> NumberBuffers<'a> {
         ensures values { result.values.now ≡ bytes_of body.now ints.values }
     {
         NumberBuffers {
-            width: ints.width,
+            width: ints.width as usize,
             signed: ints.signed,
             validity: bytes_in(body, ints.validity),
             values: bytes_in(body, ints.values),

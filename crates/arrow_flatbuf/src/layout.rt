@@ -36,7 +36,7 @@ pub fn aligned(place: usize, size: Width) -> usize
     ensures value { result ≡ up (width size) place }
     ensures near { result < place + 8 }
 {
-    place + gap(byte_count(size), place)
+    place + gap(size, place)
 }
 
 /// Where a table of so many fields stands that is laid out from a place on. Its vtable, which has
@@ -93,14 +93,19 @@ pub(crate) fn byte_count(size: Width) -> usize
     }
 }
 
-/// How many bytes there are from a place to the next multiple of a width.
+/// How many bytes there are from a place to the next multiple of a width. Each width is divided by
+/// as a constant, which a processor does by a mask.
 #[tactic(auto, unfolding(crate::specs::Layout::gap))]
-pub(crate) fn gap(size: usize, place: usize) -> usize
-    requires { 1 ≤ size }
-    ensures value { result ≡ gap size place }
-    ensures small { result < size }
+pub(crate) fn gap(size: Width, place: usize) -> usize
+    ensures value { result ≡ gap (width size) place }
+    ensures small { result < width size }
 {
-    (size - place % size) % size
+    match size {
+        Width::One => 0,
+        Width::Two => (2 - place % 2) % 2,
+        Width::Four => (4 - place % 4) % 4,
+        Width::Eight => (8 - place % 8) % 8,
+    }
 }
 
 /// The end of a table's fields, the first of which is laid out from a place on.
@@ -123,8 +128,8 @@ pub(crate) fn slot_end(place: usize, slot: Slot) -> usize
 {
     match slot {
         Slot::Absent => place,
-        Slot::Scalar(size, _) => place + gap(byte_count(size), place) + byte_count(size),
-        Slot::Target(_) => place + gap(4, place) + 4,
+        Slot::Scalar(size, _) => place + gap(size, place) + byte_count(size),
+        Slot::Target(_) => place + gap(Width::Four, place) + 4,
     }
 }
 
@@ -135,7 +140,7 @@ pub(crate) fn entry_of(place: usize, slot: Slot) -> usize
 {
     match slot {
         Slot::Absent => 0,
-        Slot::Scalar(size, _) => place + gap(byte_count(size), place),
-        Slot::Target(_) => place + gap(4, place),
+        Slot::Scalar(size, _) => place + gap(size, place),
+        Slot::Target(_) => place + gap(Width::Four, place),
     }
 }

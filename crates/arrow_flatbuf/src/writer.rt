@@ -6,7 +6,7 @@
 //! growth was refused, and the bytes are those of before. A writer with room for all that is
 //! appended grows no more.
 ghost use Rattle.std.specs.Prelude.{◌≡◌, ◌≤◌, ◌<◌, ◌+◌, ◌*◌, ◌-◌, ◌^◌, ◌++◌, ℕ, List, [], ◌∷◌};
-ghost use Rattle.std.specs.Prelude.{length, take, IfOk, IsErr, OnOk, OnErr};
+ghost use Rattle.std.specs.Prelude.{length, take, IsErr, OnOk, OnErr};
 ghost use Rattle.byteorder.specs.Endian.{little_bytes};
 ghost use Rattle.arrow_flatbuf.specs.Layout.{width, gap, zeros, vtable_size, slot_end, slots_end};
 ghost use Rattle.arrow_flatbuf.specs.Layout.{entries, slot_bytes, slots_bytes, table_end};
@@ -14,8 +14,8 @@ ghost use Rattle.arrow_flatbuf.specs.Layout.{table_bytes};
 ghost use Rattle.arrow_flatbuf.specs.Stands.{SlotsFit, SlotFits};
 ghost use Rattle.arrow_flatbuf.specs.Nodes.{text_bytes, count_bytes, pairs_head, pair_bytes};
 
-use crate::layout::{Slot, Width, byte_count, entry_of, gap, slot_end, slots_end};
-use std::alloc::{AllocError, Global};
+use crate::layout::{Slot, Width, entry_of, gap, slot_end, slots_end};
+use std::alloc::AllocError;
 use std::marker::Model;
 
 /// Bytes that grow at their end. Contracts see it as their list.
@@ -33,12 +33,13 @@ impl Model for TableWriter {
 }
 
 impl TableWriter {
-    /// A writer of no bytes, with room for so many. `AllocError` where there is no such room.
-    pub fn with_capacity(alloc: Global, capacity: usize) -> Result<Self, AllocError>
-        ensures { IfOk result (λ writer. writer ≡ []) }
+    /// A writer of no bytes, which writes into the room of a list. What the list held is dropped.
+    pub fn in_room(room: Vec<u8>) -> Self
+        ensures { result ≡ [] }
     {
-        let bytes = Vec::with_capacity(alloc, capacity)?;
-        Ok(TableWriter { bytes })
+        let mut bytes = room;
+        bytes.clear();
+        TableWriter { bytes }
     }
 
     /// The first free place: how many bytes there are.
@@ -120,7 +121,7 @@ impl TableWriter {
         ensures err { OnErr result (self.new ≡ self.old) }
     {
         let before = self.place();
-        self.pad(4)?;
+        self.pad(Width::Four)?;
         match self.number(Width::Four, count as u64) {
             Ok(()) => Ok(()),
             Err(fault) => self.cut_back(before, fault),
@@ -136,7 +137,7 @@ impl TableWriter {
         ensures err { OnErr result (self.new ≡ self.old) }
     {
         let before = self.place();
-        self.zeros(gap(8, before + 4))?;
+        self.zeros(gap(Width::Eight, before + 4))?;
         match self.number(Width::Four, pairs as u64) {
             Ok(()) => Ok(()),
             Err(fault) => self.cut_back(before, fault),
@@ -148,19 +149,12 @@ impl TableWriter {
         ensures ok { OnOk result (self.new ≡ self.old ++ pair_bytes ((first, second) ∷ [])) }
         ensures err { OnErr result (self.new ≡ self.old) }
     {
-        let before = self.place();
-        self.number(Width::Eight, first)?;
-        match self.number(Width::Eight, second) {
-            Ok(()) => Ok(()),
-            Err(fault) => self.cut_back(before, fault),
-        }
+        self.append(&pair_of(first, second))
     }
 
-    /// Appends zero bytes up to the next multiple of a size.
-    pub fn pad(&mut self, size: usize) -> Result<(), AllocError>
-        requires low { 1 ≤ size }
-        requires high { size ≤ 8 }
-        ensures ok { OnOk result (self.new ≡ self.old ++ zeros (gap size (length self.old))) }
+    /// Appends zero bytes up to the next multiple of a width.
+    pub fn pad(&mut self, size: Width) -> Result<(), AllocError>
+        ensures ok { OnOk result (self.new ≡ self.old ++ zeros (gap (width size) (length self.old))) }
         ensures err { OnErr result (self.new ≡ self.old) }
     {
         let missing = gap(size, self.place());
@@ -184,12 +178,12 @@ impl TableWriter {
         ensures ok { OnOk result (self.new ≡ self.old ++ table_bytes (length self.old) slots.now) }
         ensures err { OnErr result (take (length self.old) self.new ≡ self.old) }
     {
-        self.pad(2)?;
+        self.pad(Width::Two)?;
         let vtable = self.place();
         self.number(Width::Two, 4 + 2 * slots.len() as u64)?;
         self.number(Width::Two, slots_end(4, slots) as u64)?;
         self.entries(slots)?;
-        self.pad(8)?;
+        self.pad(Width::Eight)?;
         let table = self.place();
         self.number(Width::Four, (table - vtable) as u64)?;
         self.fields(table, slots)
@@ -201,7 +195,7 @@ impl TableWriter {
         ensures ok { OnOk result (self.new ≡ self.old ++ text_bytes (length self.old) bytes.now) }
         ensures err { OnErr result (take (length self.old) self.new ≡ self.old) }
     {
-        self.pad(4)?;
+        self.pad(Width::Four)?;
         self.number(Width::Four, bytes.len() as u64)?;
         self.append(bytes)?;
         self.append(&[0])
@@ -250,11 +244,11 @@ impl TableWriter {
         match slot {
             Slot::Absent => Ok(()),
             Slot::Scalar(size, number) => {
-                self.zeros(gap(byte_count(size), end))?;
+                self.zeros(gap(size, end))?;
                 self.number(size, number)
             }
             Slot::Target(target) => {
-                let missing = gap(4, end);
+                let missing = gap(Width::Four, end);
                 self.zeros(missing)?;
                 self.number(Width::Four, (target - (table + (end + missing))) as u64)
             }
@@ -267,7 +261,13 @@ impl TableWriter {
         ensures ok { OnOk result (self.new ≡ self.old ++ little_bytes (width size) number) }
         ensures err { OnErr result (self.new ≡ self.old) }
     {
-        self.append(&number.to_le_bytes()[..byte_count(size)])
+        let bytes = number.to_le_bytes();
+        match size {
+            Width::One => self.append(&bytes[..1]),
+            Width::Two => self.append(&bytes[..2]),
+            Width::Four => self.append(&bytes[..4]),
+            Width::Eight => self.append(&bytes),
+        }
     }
 
     /// Appends zero bytes.
@@ -277,6 +277,9 @@ impl TableWriter {
         ensures ok { OnOk result (self.new ≡ self.old ++ zeros count) }
         ensures err { OnErr result (self.new ≡ self.old) }
     {
+        if count == 0 {
+            return Ok(());
+        }
         self.append(&[0; 8][..count])
     }
 
@@ -287,4 +290,16 @@ impl TableWriter {
     {
         self.bytes.extend_from_slice(bytes)
     }
+}
+
+// Two numbers of eight bytes, lowest byte first, one behind the other.
+fn pair_of(first: u64, second: u64) -> [u8; 16]
+    ensures { result ≡ pair_bytes ((first, second) ∷ []) }
+{
+    let a = first.to_le_bytes();
+    let b = second.to_le_bytes();
+    [
+        a[0], a[1], a[2], a[3], a[4], a[5], a[6], a[7], b[0], b[1], b[2], b[3], b[4], b[5], b[6],
+        b[7],
+    ]
 }

@@ -12,4 +12,4 @@ pub use arrow_meta_reader::{
     BatchKind, Header, Message, MessageTree, MetaFault, MetadataVersion, RecordBatch, Work, decode,
     decode_counted, judge, tree, tree_counted,
 };
-pub use arrow_meta_writer::{encode, encoded_size};
+pub use arrow_meta_writer::{encode, encode_in, encoded_size};

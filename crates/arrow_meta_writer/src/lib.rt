@@ -43,4 +43,4 @@ mod types;
 mod writing;
 
 pub use sizes::encoded_size;
-pub use writing::encode;
+pub use writing::{encode, encode_in};

@@ -27,7 +27,7 @@ use crate::tables::{
     DICTIONARY_BATCH_FIELDS, MESSAGE_FIELDS, RECORD_BATCH_FIELDS, SCHEMA_FIELDS, START,
     message_table_end,
 };
-use arrow_flatbuf::{Slot, TableWriter, table_place};
+use arrow_flatbuf::{Slot, TableWriter, Width, table_place};
 use arrow_meta_reader::{Header, Message, MetadataVersion};
 use std::alloc::{AllocError, Global};
 
@@ -52,10 +52,27 @@ pub fn encode(alloc: Global, message: &Message) -> Result<Vec<u8>, AllocError>
     ensures typed { IfOk result (λ v. IsHeader (header_view message.now.header)) }
 {
     let size = encoded_size(message).unwrap_or(0);
-    let mut writer = TableWriter::with_capacity(alloc, size as usize)?;
+    encode_in(Vec::with_capacity(alloc, size as usize)?, message)
+}
+
+/// The bytes that [`encode`] answers, in the room of a list: where they fit in it no memory is
+/// asked for. What the list held is dropped, and its room too where a growth was refused.
+pub fn encode_in(room: Vec<u8>, message: &Message) -> Result<Vec<u8>, AllocError>
+    requires { IsSome (size_of (message_view message.now)) }
+    ensures bytes { IfOk result (λ v. v.items ≡ metadata (message_view message.now)) }
+    ensures lies { IfOk result
+        (λ v. LiesAligned (message_tree (message_view message.now)) v.items) }
+    ensures means { IfOk result
+        (λ v. (limits : LimitNumbers)
+        → MetadataMeans limits v.items (message_view message.now)
+        ↔ Allows limits (message_view message.now)) }
+    ensures size { IfOk result (λ v. Some (length v.items) ≡ size_of (message_view message.now)) }
+    ensures typed { IfOk result (λ v. IsHeader (header_view message.now.header)) }
+{
+    let mut writer = TableWriter::in_room(room);
     writer.offset(table_place(START, MESSAGE_FIELDS))?;
     write_message(&mut writer, message)?;
-    writer.pad(8)?;
+    writer.pad(Width::Eight)?;
     Ok(writer.into_bytes())
 }
 

@@ -12,7 +12,7 @@ ghost use Rattle.arrow_stream_reader.specs.Views.{HasNoColumns};
 use crate::kind::Refusal;
 use crate::stop::Stop;
 use arrow_body_reader::{BodyFault, check, have_length, load_typed};
-use arrow_data::{Array, Dictionary, SharedType};
+use arrow_data::{Array, Dictionary, SharedBody, SharedType};
 use arrow_meta_reader::RecordBatch;
 use arrow_types::Field;
 use bytes::Bytes;
@@ -77,13 +77,14 @@ impl<'a> Body<'a> {
     }
 
     /// The bytes for columns: a copy of those that are lent, or the shared ones.
-    fn own(&self, alloc: Global) -> Result<Bytes, AllocError>
+    fn own(&self, alloc: Global) -> Result<SharedBody, AllocError>
         ensures same { IfOk result (λ b. b ≡ self.now) }
     {
-        match &self.source {
-            Source::Lent(bytes) => Bytes::copy_from_slice(alloc, bytes),
-            Source::Shared(message, start) => message.slice(*start..),
-        }
+        let bytes = match &self.source {
+            Source::Lent(bytes) => Bytes::copy_from_slice(alloc, bytes)?,
+            Source::Shared(message, start) => message.slice(*start..)?,
+        };
+        SharedBody::new(alloc, bytes)
     }
 }
 

@@ -8,9 +8,10 @@ ghost use Rattle.arrow_meta_reader.specs.Means.{message_view};
 ghost use Rattle.arrow_meta_writer.specs.Metadata.{size_of};
 
 use arrow_meta_reader::Message;
-use arrow_meta_writer::encode;
+use arrow_meta_writer::encode_in;
 use arrow_stream_reader::CONTINUATION;
 use std::alloc::AllocError;
+use std::mem;
 
 // The eight bytes before metadata of so many bytes (Columnar Format, "Encapsulated message format").
 pub(crate) fn prefix_of(size: u32) -> [u8; 8]
@@ -54,7 +55,8 @@ pub fn put_frame(
     ensures err { OnErr result (out.new.items ≡ out.old.items) }
 {
     let before = out.len();
-    put_head(out, align, message)?;
+    let mut room = Vec::new(*out.allocator());
+    put_head(out, &mut room, align, message)?;
     match out.extend_from_slice(body) {
         Ok(()) => Ok(()),
         Err(fault) => {
@@ -65,8 +67,14 @@ pub fn put_frame(
 }
 
 /// Appends the head of a message's frame, all of it but the body: with any body of the length that
-/// the message tells behind it, it is the frame of the message with this body.
-pub(crate) fn put_head(out: &mut Vec<u8>, align: usize, message: &Message) -> Result<(), AllocError>
+/// the message tells behind it, it is the frame of the message with this body. The metadata are laid
+/// out in a room, which is kept.
+pub(crate) fn put_head(
+    out: &mut Vec<u8>,
+    room: &mut Vec<u8>,
+    align: usize,
+    message: &Message,
+) -> Result<(), AllocError>
     requires some { 1 ≤ align }
     requires few { align ≤ 64 }
     requires sendable { IsSome (size_of (message_view message.now)) }
@@ -74,10 +82,13 @@ pub(crate) fn put_head(out: &mut Vec<u8>, align: usize, message: &Message) -> Re
     ensures err { OnErr result (out.new.items ≡ out.old.items) }
     ensures kept { take (length out.old.items) out.new.items ≡ out.old.items }
 {
-    let metadata = encode(*out.allocator(), message)?;
+    let empty = Vec::new(*out.allocator());
+    let metadata = encode_in(mem::replace(room, empty), message)?;
     let size = (8 + metadata.len()).next_multiple_of(align) - 8;
     let before = out.len();
-    match put_metadata(out, size, &metadata) {
+    let answer = put_metadata(out, size, &metadata);
+    *room = metadata;
+    match answer {
         Ok(()) => Ok(()),
         Err(fault) => {
             out.truncate(before);

@@ -51,11 +51,13 @@ pub(crate) struct DictionaryBatch<'a> {
 const LONG: usize = 16_384;
 
 /// The part of a batch as it is built: the bytes of its frames, and behind them the body that was
-/// stored last, which is sent from where it lies. Both keep their room.
+/// stored last, which is sent from where it lies. Both keep their room, and so do the metadata,
+/// which are laid out by themselves.
 #[derive(Drop)]
 pub(crate) struct Part {
     pub(crate) bytes: Vec<u8>,
     pub(crate) body: Body,
+    pub(crate) room: Vec<u8>,
 }
 
 impl Part {
@@ -153,8 +155,13 @@ fn metadata_len(align: Align, message: &Message) -> Option<u64>
 }
 
 impl Settings {
-    /// Appends the head of the message's frame.
-    pub(crate) fn put_head(&self, message: &Message, out: &mut Vec<u8>) -> Result<(), WriteFault>
+    /// Appends the head of the message's frame, whose metadata are laid out in a room.
+    pub(crate) fn put_head(
+        &self,
+        message: &Message,
+        out: &mut Vec<u8>,
+        room: &mut Vec<u8>,
+    ) -> Result<(), WriteFault>
         requires version { message.now.version ≡ MetadataVersion.V5 }
         requires short { message.now.body_len ≤ self.now.limits.max_body }
         ensures { PutsHead (terms_of self.now) (message_view message.now) out.old.items result
@@ -167,7 +174,7 @@ impl Settings {
         }
         // One growth makes room for all of it.
         out.reserve(8 + len as usize)?;
-        put_head(out, self.align.bytes(), message)?;
+        put_head(out, room, self.align.bytes(), message)?;
         Ok(())
     }
 
@@ -204,7 +211,7 @@ impl Settings {
             header: header_of(kind, batch),
             body_len: part.body.bytes.len() as u64,
         };
-        let answer = self.put_head(&message, &mut part.bytes);
+        let answer = self.put_head(&message, &mut part.bytes, &mut part.room);
         give_back(message, &mut part.body);
         answer
     }

@@ -64,6 +64,7 @@ impl PartBuilder {
             part: Part {
                 bytes: Vec::new(alloc),
                 body: Body::new(alloc),
+                room: Vec::new(alloc),
             },
         })
     }
@@ -86,7 +87,8 @@ impl PartBuilder {
             header: Header::Schema(self.settings.schema.copy(self.settings.alloc)?),
             body_len: 0,
         };
-        self.settings.put_head(&message, &mut self.part.bytes)
+        self.settings
+            .put_head(&message, &mut self.part.bytes, &mut self.part.room)
     }
 
     /// Builds the part of the batch, which is to begin at this place, and stages its dictionaries.

@@ -56,7 +56,8 @@ pub(crate) fn send_part<S: Sink>(
     }
 }
 
-/// Sends the end marker, the prefix of no metadata (Columnar Format, "IPC Streaming Format"), and then flushes the sink once. Takes no memory.
+/// Sends the end marker, the prefix of no metadata (Columnar Format, "IPC Streaming Format"), and
+/// then flushes the sink once. Takes no memory.
 pub(crate) fn send_end<S: Sink>(sink: &mut S) -> Result<(), WriteFault>
     requires { S.failed sink.old < 2 ^ 64 - 1 }
     ensures all { OnOk result (Appends (S.contents sink.old) (S.contents sink.new) marker) }

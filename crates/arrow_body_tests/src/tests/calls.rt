@@ -4,7 +4,7 @@ use super::bodies::{dictionary, listed, loaded, parts_of};
 use super::told::{holds, is_text, told};
 use arrow_body_reader::BodyFault::{Index, Layout, Memory, Text};
 use arrow_body_reader::{BodyFault, are_fit, check, load_typed};
-use arrow_data::{Array, Dictionary, shared_types};
+use arrow_data::{Array, Dictionary, SharedBody, shared_types};
 use arrow_test_fields::fields_of;
 use arrow_types::Field;
 use std::process::Abort;
@@ -65,13 +65,14 @@ fn loaded_typed(
     let fault = check(&fields, &nodes, &buffers, &body, dictionaries).err();
     let alloc = rt.alloc();
     let types = shared_types(alloc, &fields).expect(rt, "memory");
+    let shared = SharedBody::new(alloc, body).expect(rt, "memory");
     let columns = load_typed(
         alloc,
         &fields,
         &types,
         &nodes,
         &buffers,
-        &body,
+        &shared,
         dictionaries,
     );
     is_checked(rt, parts, &fields, &columns, fault);

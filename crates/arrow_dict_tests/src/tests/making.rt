@@ -9,7 +9,7 @@ ghost use Rattle.arrow_data.specs.Layout.{IsText, buffer_count};
 ghost use Rattle.arrow_data.specs.Listed.{listed};
 
 use arrow_data::layout::is_laid;
-use arrow_data::{Array, ByteRange, ChildData, Dictionary, NodeBuffers};
+use arrow_data::{Array, ByteRange, ChildData, Dictionary, NodeBuffers, SharedBody};
 use arrow_dict::{Store, StoreFault};
 use arrow_types::{BitWidth, DataType, Field};
 use bytes::Bytes;
@@ -41,7 +41,8 @@ fn is_simple(data_type: &DataType) -> bool
 // A column of `len` slots without nulls.
 fn column(rt: &impl Abort, alloc: Global, data_type: DataType, len: usize, bytes: &[u8]) -> Array {
     let field = field(alloc, data_type);
-    let body = Bytes::copy_from_slice(alloc, bytes).expect(rt, "memory");
+    let copy = Bytes::copy_from_slice(alloc, bytes).expect(rt, "memory");
+    let body = SharedBody::new(alloc, copy).expect(rt, "memory");
     let range = ByteRange {
         start: 0,
         end: bytes.len(),

@@ -25,7 +25,7 @@ const FIELDS: [Slot; 4] = [
 
 // The buffer, one call after the other.
 fn written(alloc: Global) -> Result<Vec<u8>, AllocError> {
-    let mut writer = TableWriter::with_capacity(alloc, LAID_OUT.len())?;
+    let mut writer = TableWriter::in_room(Vec::new(alloc));
     writer.offset(16)?;
     if table_end(4, &FIELDS) <= 32 && writer.place() == 4 {
         writer.table(&FIELDS)?;
@@ -41,7 +41,7 @@ fn written(alloc: Global) -> Result<Vec<u8>, AllocError> {
     }
     writer.pair(1, u64::MAX)?;
     writer.text("")?;
-    writer.pad(8)?;
+    writer.pad(Width::Eight)?;
     Ok(writer.into_bytes())
 }
 
@@ -60,9 +60,7 @@ fn a_buffer_is_laid_out(rt: HostRuntime) {
 
 // Whether a writer shows what was appended so far.
 fn is_shown(alloc: Global) -> bool {
-    let Ok(mut writer) = TableWriter::with_capacity(alloc, 4) else {
-        return false;
-    };
+    let mut writer = TableWriter::in_room(Vec::new(alloc));
     if writer.offset(8).is_err() {
         return false;
     }

@@ -17,4 +17,4 @@ returns-in-Ok-clause-ok c body told =
     let sized : size ≡ rounded c.args.align (8 + length v) - 8 = ap (λ n. n - 8) (c.next_multiple_of-size.ensures.value ∙ ap (λ n. next_multiple_of (8 + n) c.args.align) bytes ∙ next_multiple c.args.align (8 + length v) c.requires.some) in
     let head = c.in-Ok.ensures.ok ∙ ap (λ (u : List _). ((old ++ prefix_bytes size) ++ u) ++ replicate (size - length u) 0) c.deref.ensures.value in
     let more = ap (λ (r : List _). r ++ body) head in
-    appended_parts c.args.align m body v size old (c.put_metadata.new.out.items ++ body) c.requires.some c.requires.few c.in_ok-metadata.ensures.typed c.in_ok-metadata.ensures.bytes (sym c.in_ok-metadata.ensures.size) told sized more
+    appended_parts c.args.align m body v size old (c.put_metadata-answer.new.out.items ++ body) c.requires.some c.requires.few c.in_ok-metadata.ensures.typed c.in_ok-metadata.ensures.bytes (sym c.in_ok-metadata.ensures.size) told sized more

@@ -12,14 +12,14 @@ use Rattle.arrow_meta_writer.specs.Written.{message_tree}
 use Rattle.arrow_meta_writer.proofs.Sizing.{some_from}
 use Rattle.arrow_meta_writer.proofs.WrittenMeans.{sized, written_length, written_aligned}
 use Rattle.arrow_meta_writer.proofs.WrittenMeans.{written_means}
-use Rattle.arrow_meta_writer.proofs.writing.encode.Goals as goal
+use Rattle.arrow_meta_writer.proofs.writing.encode_in.Goals as goal
 
 pub write_message-requires : goal.write_message-requires
 write_message-requires c =
     let m = message_view c.args.message.now in
     let some = some_from (size_of m) c.requires in
     let is = sized m some.0 some.1 in
-    let four = buffer_begun (message_node m) c.in_ok-writer.writer c.offset.new.self c.table_place.result c.in_ok-writer.ensures c.in_ok-offset.ensures.ok in
+    let four = buffer_begun (message_node m) c.in_room-writer.result c.offset.new.self c.table_place.result c.in_room-writer.ensures c.in_ok-offset.ensures.ok in
     record { room = omega (arith, ap (λ (n : ℕ). after n (message_node m)) four, is.small); body = is.body }
 
 pub returns : goal.returns
@@ -27,8 +27,8 @@ returns c =
     let m = message_view c.args.message.now in
     let some = some_from (size_of m) c.requires in
     let bytes : c.into_bytes.result.items ≡ metadata m =
-    c.into_bytes.ensures ∙ buffer_written (message_node m) c.in_ok-writer.writer c.offset.new.self c.write_message.new.writer c.pad.new.self c.table_place.result
-    c.in_ok-writer.ensures c.table_place.ensures.value c.in_ok-offset.ensures.ok c.in_ok-write_message.ensures.bytes c.in_ok-pad.ensures.ok in
+    c.into_bytes.ensures ∙ buffer_written (message_node m) c.in_room-writer.result c.offset.new.self c.write_message.new.writer c.pad.new.self c.table_place.result
+    c.in_room-writer.ensures c.table_place.ensures.value c.in_ok-offset.ensures.ok c.in_ok-write_message.ensures.bytes c.in_ok-pad.ensures.ok in
     let header = c.in_ok-write_message.ensures.typed in
     record {
       bytes = bytes;
