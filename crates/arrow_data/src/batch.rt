@@ -133,6 +133,13 @@ impl Batch {
         }
     }
 
+    /// The schema, where it can be shared.
+    pub fn shared_schema(&self) -> &Rc<Schema>
+        ensures { result.now.value ≡ self.now.schema }
+    {
+        &self.schema
+    }
+
     /// The schema.
     pub fn schema(&self) -> &Schema
         ensures same { result.now ≡ self.now.schema }

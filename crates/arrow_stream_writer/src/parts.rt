@@ -123,6 +123,7 @@ impl PartBuilder {
         if !same {
             return Err(WriteFault::SchemaDiffers);
         }
+        self.settings.schema = batch.shared_schema().clone()?;
         put_updates(&self.settings, batch, &mut self.tracker, &mut self.part)?;
         self.settings.put_record(batch, &mut self.part)?;
         if self.part.len() as u64 > Limits::LAST_PLACE - place {
