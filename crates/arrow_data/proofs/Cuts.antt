@@ -1,10 +1,10 @@
 -- Where a text may be cut.
 use Rattle.std.proofs.Common.{◌≡◌, ◌↔◌, ℕ, zero, suc, refl, ◌+◌, ◌-◌, ◌<◌, ◌≤◌, Bool, IsTrue, List, length, take, drop, get_or, ap, sym, ◌∙◌, subst, arith}
-use Rattle.std.specs.Prelude.{slice_range, IsUtf8, IsCharBoundary}
+use Rattle.std.specs.Prelude.{slice_range, IsAscii, IsUtf8, IsCharBoundary}
 use Rattle.std.specs.List.Sorted.{IsNonDecreasing}
 use Rattle.std.proofs.Math.Seq.{take-add}
 use Rattle.std.proofs.lemmas.List.{drop-drop, drop-take, take-take, length-take, length-drop, places}
-use Rattle.std.proofs.lemmas.Str.{IsCharBoundary-from_take, IsCharBoundary-start, IsUtf8-append, IsUtf8-between, IsUtf8-take}
+use Rattle.std.proofs.lemmas.Str.{IsAscii-drop, IsAscii-take, IsCharBoundary-from_take, IsCharBoundary-start, IsUtf8-append, IsUtf8-between, IsUtf8-from_ascii, IsUtf8-take}
 use Rattle.arrow_bits.specs.Offsets.{plain_list}
 use Rattle.arrow_bits.proofs.Rising.{length_offsets, length_large_offsets, offset_found, large_offset_found}
 use Rattle.arrow_data.specs.Form.{offset_bytes}
@@ -80,15 +80,30 @@ cut_before width offsets text len (suc k) utf8 cuts below =
     let next : k + 1 ≡ suc k = omega arith in
     subst (λ n. IsCharBoundary text (place_of width offsets n - place_of width offsets 0)) next (cuts k (omega (arith, below)))
 
+-- the bytes of a slot are a part of those of all
+slot_of_all : (width : OffsetWidth) (len j : ℕ) (offsets bytes text : List ℕ) → IsNonDecreasing (plain_list (offset_bytes width) len offsets)
+    → text ≡ slice_range bytes (place_of width offsets 0) (place_of width offsets len) → j < len
+    → slice_range text (place_of width offsets j - place_of width offsets 0) (place_of width offsets (j + 1) - place_of width offsets 0) ≡ range_of width offsets bytes j
+slot_of_all width len j offsets bytes text rises whole below =
+    let before = places_order width offsets len 0 j rises (omega arith) (omega (arith, below)) in
+    let order = places_order width offsets len j (j + 1) rises (omega arith) (omega (arith, below)) in
+    let after = places_order width offsets len (j + 1) len rises (omega (arith, below)) (omega arith) in
+    slot_in width offsets bytes text len j (place_of width offsets j - place_of width offsets 0) (place_of width offsets (j + 1) - place_of width offsets 0) whole before order after refl refl
+
+-- where the bytes of all slots are ASCII each of them is a text
+pub ascii_texts : (width : OffsetWidth) (len : ℕ) (validity offsets bytes text : List ℕ) → IsNonDecreasing (plain_list (offset_bytes width) len offsets)
+    → text ≡ slice_range bytes (place_of width offsets 0) (place_of width offsets len) → IsAscii text → AreTexts width len validity offsets bytes
+ascii_texts width len validity offsets bytes text rises whole ascii j below valid =
+    let start = place_of width offsets j - place_of width offsets 0 in
+    let stop = place_of width offsets (j + 1) - place_of width offsets 0 in
+    subst IsUtf8 (slot_of_all width len j offsets bytes text rises whole below) (IsUtf8-from_ascii _ (IsAscii-take (drop start text) (stop - start) (IsAscii-drop text start ascii)))
+
 -- then each slot is a text, valid or not
 pub cuts_texts : (width : OffsetWidth) (len : ℕ) (validity offsets bytes text : List ℕ) → IsNonDecreasing (plain_list (offset_bytes width) len offsets)
     → text ≡ slice_range bytes (place_of width offsets 0) (place_of width offsets len) → IsUtf8 text → AreCuts width len offsets text
     → AreTexts width len validity offsets bytes
 cuts_texts width len validity offsets bytes text rises whole utf8 cuts j below valid =
-    let before = places_order width offsets len 0 j rises (omega arith) (omega (arith, below)) in
     let order = places_order width offsets len j (j + 1) rises (omega arith) (omega (arith, below)) in
-    let after = places_order width offsets len (j + 1) len rises (omega (arith, below)) (omega arith) in
     let start = place_of width offsets j - place_of width offsets 0 in
     let stop = place_of width offsets (j + 1) - place_of width offsets 0 in
-    let part = slot_in width offsets bytes text len j start stop whole before order after refl refl in
-    subst IsUtf8 part (IsUtf8-between text start stop utf8 (omega (arith, order)) (cut_before width offsets text len j utf8 cuts below) (cuts j below))
+    subst IsUtf8 (slot_of_all width len j offsets bytes text rises whole below) (IsUtf8-between text start stop utf8 (omega (arith, order)) (cut_before width offsets text len j utf8 cuts below) (cuts j below))

@@ -1,9 +1,9 @@
 //! Whether slots hold texts.
 //!
-//! The bytes of all slots are looked at together. Where they are a text, a slot of them is one
-//! exactly where it begins and ends between characters: mostly all slots do, which is looked at
-//! first, null or not. Where the bytes are no text, as null slots may hide any bytes, each slot is
-//! looked at by itself.
+//! The bytes of all slots are looked at together. Where they are ASCII, each slot is a text,
+//! wherever it begins. Where they are another text, a slot of them is one exactly where it begins
+//! and ends between characters: mostly all slots do, which is looked at first, null or not. Where
+//! the bytes are no text, as null slots may hide any bytes, each slot is looked at by itself.
 
 ghost use Rattle.std.specs.Prelude.{◌≡◌, ◌↔◌, ◌-◌, ◌+◌, ◌≤◌, ◌<◌, length, slice_range, true};
 ghost use Rattle.std.specs.Prelude.{IsTrue, IsUtf8, IsCharBoundary};
@@ -28,7 +28,11 @@ pub(crate) fn are_slots_utf8(strings: StringBuffers<'_>, len: usize) -> bool
     if len == 0 {
         return true;
     }
-    match simdutf8::basic::from_utf8(all_slots(strings, len)) {
+    let bytes = all_slots(strings, len);
+    if bytes.is_ascii() {
+        return true;
+    }
+    match simdutf8::basic::from_utf8(bytes) {
         Ok(text) => are_cuts(strings.ranges(len), text) || are_parts(strings, len, text),
         Err(_) => are_utf8_one_by_one(strings, len),
     }

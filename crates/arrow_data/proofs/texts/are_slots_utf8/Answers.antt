@@ -1,7 +1,14 @@
 use Rattle.std.proofs.Common.{◌≡◌, IsUtf8, rules, slice_range}
+use Rattle.std.proofs.lemmas.Bool.{MatchBool-at_true}
 use Rattle.arrow_data.specs.Slots.{place_of}
-use Rattle.arrow_data.proofs.Cuts.{cuts_texts}
+use Rattle.arrow_data.proofs.Cuts.{ascii_texts, cuts_texts}
 use Rattle.arrow_data.proofs.texts.are_slots_utf8.Goals as goal
+
+-- where all bytes are ASCII each slot is a text
+pub returns-then-is_ascii : goal.returns-then-is_ascii
+returns-then-is_ascii c =
+    let s = c.args.strings in
+    (λ _. ascii_texts s.width c.args.len s.validity.now s.offsets.now s.bytes.now c.all_slots-bytes.result.now c.all_slots-bytes.ensures.rising c.all_slots-bytes.ensures.same (MatchBool-at_true _ _ c.if-is_ascii.true c.is_ascii.ensures.cases), λ _. search rules)
 
 pub returns-then-are_cuts : goal.returns-then-are_cuts
 returns-then-are_cuts c =
@@ -10,4 +17,4 @@ returns-then-are_cuts c =
     let utf8 : IsUtf8 c.in-Ok.text.now = search rules in
     let of = c.ranges-in-Ok.ensures in
     let cuts = rw (of.width, of.len, of.bytes) at (c.are_cuts.ensures.0 c.if-are_cuts.true) in
-    (λ _. cuts_texts s.width c.args.len s.validity.now s.offsets.now s.bytes.now c.in-Ok.text.now c.all_slots.ensures.rising whole utf8 cuts, λ _. c.if-are_cuts.true)
+    (λ _. cuts_texts s.width c.args.len s.validity.now s.offsets.now s.bytes.now c.in-Ok.text.now c.all_slots-bytes.ensures.rising whole utf8 cuts, λ _. c.if-are_cuts.true)
