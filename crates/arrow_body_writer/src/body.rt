@@ -27,7 +27,7 @@ use crate::counts::{Counted, count_sent};
 use crate::forms::{are_countable, nodes_in_all, nodes_in_rest};
 use crate::measured::{body_size, rest_size};
 use crate::part::{Part, part_of};
-use crate::sizes::{MOST_SLOTS, is_small};
+use crate::sizes::is_small;
 use crate::slots::full_form;
 use crate::source::Source;
 use crate::store_fault::StoreFault;
@@ -161,9 +161,6 @@ fn put_own(body: &mut Body, align: Align, array: &Array) -> Result<(), StoreFaul
     ensures large { IfErr result (λ fault. fault ≡ TooLarge
         → IsSmall (node_form array.now.data_type.tag array.now.encoding) array.now.raw → ⊥) }
 {
-    if array.len() as u64 > MOST_SLOTS {
-        return Err(StoreFault::TooLarge);
-    }
     match full_form(array) {
         Some(Form::Structs) => Ok(put_full(body, align, array)?),
         Some(Form::Numbers { .. }) => {
@@ -298,9 +295,9 @@ pub fn store(alloc: Global, arrays: &[Array], align: Align) -> Result<Body, Allo
 }
 
 /// Makes a body that of `store`, in the room of what it was, in one walk over the columns. Nodes,
-/// buffers and bytes grow only where this room is too small for them. `TooLarge` just where
-/// `body_size` answers no number whatever the most bytes of a body; `Memory` where a growth was
-/// refused. After a fault nothing is said of the body.
+/// buffers and bytes grow only where this room is too small for them. `TooLarge` only where the
+/// columns cannot be told, whatever the most bytes of a body; `Memory` where a growth was refused.
+/// After a fault nothing is said of the body.
 pub fn store_in(body: &mut Body, arrays: &[Array], align: Align) -> Result<(), StoreFault>
     ensures told { OnOk result (AreTold arrays.now) }
     ensures raws { OnOk result (AreRaws (fields_of_columns arrays.now) (raws_of arrays.now)) }

@@ -15,7 +15,7 @@ use arrow_data::form::{Form, number_width};
 
 // The most slots that a node can have (`Schema.fbs`, where lengths go; `Message.fbs`, struct
 // `FieldNode`).
-pub(crate) const MOST_SLOTS: u64 = 2_147_483_647;
+const MOST_SLOTS: u64 = 2_147_483_647;
 
 // The greatest that the offsets of a node of the form can tell.
 fn offset_limit(form: Form) -> u64

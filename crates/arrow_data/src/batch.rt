@@ -133,7 +133,7 @@ impl Batch {
         }
     }
 
-    /// The schema, where it can be shared.
+    /// The schema in the memory that holds it, of which a clone takes none.
     pub fn shared_schema(&self) -> &Rc<Schema>
         ensures { result.now.value ≡ self.now.schema }
     {
@@ -145,7 +145,7 @@ impl Batch {
         ensures same { result.now ≡ self.now.schema }
         ensures known { IsTable self.now }
     {
-        &self.schema
+        &*self.schema
     }
 
     /// How many rows there are.
