@@ -123,6 +123,7 @@ impl PartBuilder {
         if !same {
             return Err(WriteFault::SchemaDiffers);
         }
+        // The next batch mostly shares the schema of this one: then one memory is compared.
         self.settings.schema = batch.shared_schema().clone()?;
         put_updates(&self.settings, batch, &mut self.tracker, &mut self.part)?;
         self.settings.put_record(batch, &mut self.part)?;

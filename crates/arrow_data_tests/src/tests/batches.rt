@@ -1,11 +1,12 @@
-// Batches, and why columns make none.
+// Batches, and why columns make none; the body that columns share.
 
 use super::making::plain;
 use super::told::is_text;
 use arrow_data::BatchFault::{ColumnCount, ColumnLength, ColumnType, IndexRange, Memory};
-use arrow_data::{Array, Batch, BatchFault};
+use arrow_data::{Array, Batch, BatchFault, SharedBody};
 use arrow_test_fields::schema_of;
 use arrow_types::Schema;
+use bytes::Bytes;
 use std::process::Abort;
 use std::rc::Rc;
 
@@ -37,6 +38,7 @@ fn is_count(rt: &impl Abort, count: usize, want: usize) {
 fn is_of(rt: &impl Abort, batch: &Batch, schema: &Schema, count: usize) {
     is_count(rt, batch.rows(), 3);
     assert!(rt; *batch.schema() == *schema);
+    assert!(rt; **batch.shared_schema() == *schema);
     is_count(rt, batch.columns().len(), count);
     for k in 0..batch.columns().len() {
         is_count(rt, batch.column(k).len(), 3);
@@ -125,4 +127,13 @@ fn faults_have_their_numbers(rt: HostRuntime) {
         let words = format!(in rt.alloc(); "{} {fault}", fault.number()).expect(&rt, "memory");
         is_text(&rt, "fault", &words, want);
     }
+}
+
+#[test]
+fn a_body_that_is_shared_has_its_bytes(rt: HostRuntime) {
+    let bytes = Bytes::copy_from_slice(rt.alloc(), b"body").expect(&rt, "memory");
+    let body = SharedBody::new(rt.alloc(), bytes).expect(&rt, "memory");
+    let share = body.clone().expect(&rt, "memory");
+    assert!(rt; body.as_slice() == b"body".as_slice());
+    assert!(rt; share.as_slice() == b"body".as_slice());
 }

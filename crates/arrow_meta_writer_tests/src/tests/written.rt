@@ -2,7 +2,7 @@
 
 use crate::vectors::EXTREMES;
 use arrow_meta_reader::{Header, Message, MetadataVersion, decode};
-use arrow_meta_writer::{encode, encoded_size};
+use arrow_meta_writer::{encode, encode_in, encoded_size};
 use arrow_test_streams::parts::Source::{Bytes, Growing, OneBatch};
 use arrow_test_streams::parts::{Edit, Part, joined};
 use arrow_types::{BitWidth, DataType, Field, Limits, Schema};
@@ -35,13 +35,17 @@ fn is_same(rt: &(impl Abort + AllocGlobal), one: &Message, other: &Message) {
     }
 }
 
-// What a message is written as: in as many bytes as were told before, and it is read out of them.
+// What a message is written as: in as many bytes as were told before, and it is read out of them. In
+// the room of other bytes it is written as the same.
 fn written(rt: &(impl Abort + AllocGlobal), message: &Message) -> Vec<u8> {
     let size = encoded_size(message);
     assert!(rt; size.is_some());
     let bytes = encode(rt.alloc(), message).expect(rt, MEMORY);
     assert_eq!(rt; Some(bytes.len() as u64), size);
     is_same(rt, &decoded(rt, &bytes), message);
+    let room = Vec::from_slice(rt.alloc(), b"what was there").expect(rt, MEMORY);
+    let again = encode_in(room, message).expect(rt, MEMORY);
+    assert!(rt; again.as_slice() == bytes.as_slice());
     bytes
 }
 
