@@ -57,8 +57,8 @@ impl Bools {
 }
 
 // Numbers of `width` bytes: those of a column of numbers, or of indices into a dictionary. Width and
-// sign lie in one word: a sign with a word of its own lies beside seven bytes of nothing, which an
-// array that is moved takes along in two parts that overlap.
+// sign lie in one word: a sign in a word of its own leaves seven bytes that are moved with the array
+// in two parts which overlap, and each such move waits for the one before.
 #[derive(Clone, Copy)]
 pub(crate) struct Ints {
     pub(crate) width: u32,

@@ -9,8 +9,8 @@ use std::rc::Rc;
 
 /// The bytes of a body, which the arrays of its nodes share. A clause sees them as a list.
 ///
-/// The arrays of a thread count their shares here, and not in the [`Bytes`], whose count every
-/// thread may change: so it takes a fifth of the time to make an array and to drop it.
+/// Shares are counted here, within one thread, and not by [`Bytes`]: a count that all threads may
+/// change costs an array more than all else that it keeps.
 #[derive(Drop)]
 pub struct SharedBody {
     bytes: Rc<Bytes>,
