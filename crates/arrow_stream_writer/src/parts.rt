@@ -1,6 +1,6 @@
 //! The part of a batch, built whole before a byte of it is sent.
 
-ghost use Rattle.std.specs.Prelude.{◌≡◌, ◌≤◌, ◌^◌, [], IfOk};
+ghost use Rattle.std.specs.Prelude.{◌≡◌, ◌≤◌, ◌^◌, [], IfOk, OnErr};
 ghost use Rattle.arrow_body_writer.specs.Align.{alignment_of};
 ghost use Rattle.arrow_meta_reader.specs.Means.{schema};
 ghost use Rattle.arrow_types.specs.Schema.{IsNoted};
@@ -96,7 +96,8 @@ impl PartBuilder {
     pub(crate) fn build(&mut self, place: u64, batch: &Batch) -> Result<(), WriteFault>
         requires near { place ≤ 2 ^ 62 }
         requires committed { self.old.tracker.next ≡ self.old.tracker.sent }
-        ensures settings { self.new.settings ≡ self.old.settings }
+        ensures settings { terms_of self.new.settings ≡ terms_of self.old.settings }
+        ensures unchanged { OnErr result (self.new.settings ≡ self.old.settings) }
         ensures built { BuildsOrDrops (terms_of self.old.settings) place batch.now
             self.old.tracker.sent result (part_bytes self.new.part) self.new.tracker }
     {
@@ -114,7 +115,8 @@ impl PartBuilder {
     fn put_frames(&mut self, place: u64, batch: &Batch) -> Result<(), WriteFault>
         requires near { place ≤ 2 ^ 62 }
         requires committed { self.old.tracker.next ≡ self.old.tracker.sent }
-        ensures settings { self.new.settings ≡ self.old.settings }
+        ensures settings { terms_of self.new.settings ≡ terms_of self.old.settings }
+        ensures unchanged { OnErr result (self.new.settings ≡ self.old.settings) }
         ensures built { BuildsPart (terms_of self.old.settings) place batch.now
             self.old.tracker.sent result (part_bytes self.new.part) self.new.tracker }
     {
@@ -123,13 +125,12 @@ impl PartBuilder {
         if !same {
             return Err(WriteFault::SchemaDiffers);
         }
-        // The next batch mostly shares the schema of this one: then one memory is compared.
-        self.settings.schema = batch.shared_schema().clone()?;
         put_updates(&self.settings, batch, &mut self.tracker, &mut self.part)?;
         self.settings.put_record(batch, &mut self.part)?;
         if self.part.len() as u64 > Limits::LAST_PLACE - place {
             return Err(WriteFault::TooLarge);
         }
+        self.settings.share_schema(batch);
         Ok(())
     }
 }
