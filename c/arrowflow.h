@@ -51,8 +51,8 @@ enum arrowflow_kind {
     ARROWFLOW_HEADER = 5,        /* no header, or none that is read */
     ARROWFLOW_BODY_LENGTH = 6,   /* the body's length is below 0 or above the limit */
     ARROWFLOW_ORDER = 7,         /* a second schema, or a batch before the schema */
-    ARROWFLOW_UNSUPPORTED = 8,   /* big-endian, or a type that is not read */
-    ARROWFLOW_SCHEMA = 9,        /* a width, unit or number of children that there is not */
+    ARROWFLOW_UNSUPPORTED = 8,   /* big-endian, or a type that is not read or not asked for */
+    ARROWFLOW_SCHEMA = 9,        /* a width, unit, precision or number of children that there is not */
     ARROWFLOW_COMPRESSED = 10,   /* the body is compressed */
     ARROWFLOW_UNKNOWN_ID = 11,   /* a dictionary that no field has */
     ARROWFLOW_NO_BASE = 12,      /* a delta of no dictionary */
@@ -63,7 +63,7 @@ enum arrowflow_kind {
     ARROWFLOW_NO_SCHEMA = 17,    /* the stream ended before a schema */
     ARROWFLOW_TRUNCATED = 18,    /* the stream ended inside a message */
     ARROWFLOW_MEMORY = 19,       /* malloc gave NULL: nothing is said of the stream */
-    ARROWFLOW_BAD_LIMITS = 20,   /* a limit is above its ceiling: nothing was read */
+    ARROWFLOW_BAD_LIMITS = 20,   /* a limit is above its ceiling, or `types` is no set: nothing was read */
     ARROWFLOW_NO_READER = 21,    /* the handle has no reader */
     /* arrowflow_copy alone: the stream is sound, and written again it would be past a limit */
     ARROWFLOW_SCHEMA_TOO_LARGE = 32,
@@ -85,16 +85,24 @@ static inline const char *arrowflow_kind_name(uint32_t kind) {
                                                : "Unknown";
 }
 
-/* How much a stranger's stream may ask for. */
+/* Which types are read. A stream with another one is ARROWFLOW_UNSUPPORTED. */
+enum arrowflow_types {
+    ARROWFLOW_CORE_TYPES = 0, /* Null, Bool, Int, Binary, Utf8 and these Large, FixedSizeBinary, Date,
+                               * Time, Timestamp, Duration, List, LargeList, Struct: never others */
+    ARROWFLOW_ALL_TYPES = 1   /* also FloatingPoint, and what later versions of the library read */
+};
+
+/* How much a stranger's stream may ask for, and which types it may have. */
 typedef struct {
     uint64_t max_metadata; /* bytes of a message's metadata, at most 2^30 */
     uint64_t max_body;     /* bytes of a message's body, at most 2^40 */
     uint64_t max_rows;     /* rows of a batch, values of a dictionary, at most 2^31 - 1 */
+    uint32_t types;        /* enum arrowflow_types */
 } arrowflow_limits;
 
-/* The limits of the program: 64 MiB, 64 GiB, 2^31 - 1. */
+/* The limits of the program: 64 MiB, 64 GiB, 2^31 - 1, the core of the types. */
 static inline arrowflow_limits arrowflow_standard_limits(void) {
-    arrowflow_limits limits = {UINT64_C(1) << 26, UINT64_C(1) << 36, INT32_MAX};
+    arrowflow_limits limits = {UINT64_C(1) << 26, UINT64_C(1) << 36, INT32_MAX, ARROWFLOW_CORE_TYPES};
     return limits;
 }
 
@@ -131,9 +139,9 @@ typedef struct {
 } arrowflow_options;
 
 /* Writes a stream again: with ARROWFLOW_FINE the bytes are a valid stream with this one's schema and
- * batches, end marker included. No byte of what came is passed on but values, names and custom
- * metadata of schema and fields: padding, what stands under a null, what no offset reaches and what
- * no value refers to are not. */
+ * batches, end marker included. No byte of what came is passed on but values, those of dictionaries
+ * that no index refers to among them, names and custom metadata of schema and fields: padding, what
+ * is under a null and what no offset reaches are not. */
 arrowflow_text arrowflow_copy(const uint8_t *bytes, size_t len, arrowflow_limits limits,
                               arrowflow_options options, uint8_t *out, size_t room);
 
@@ -197,7 +205,9 @@ enum arrowflow_cell_kind {
     ARROWFLOW_LIST = 5,   /* not told here */
     ARROWFLOW_STRUCT = 6, /* not told here */
     ARROWFLOW_LARGE = 7,  /* `large`, a number above INT64_MAX */
-    ARROWFLOW_NO_CELL = 8 /* no batch, or no such column or row */
+    ARROWFLOW_NO_CELL = 8, /* no batch, or no such column or row */
+    ARROWFLOW_HUGE = 9,    /* a number that takes more than 64 bits: no type has one yet */
+    ARROWFLOW_FLOAT = 10   /* `real`, a floating-point number */
 };
 
 /* A value of a batch. */
@@ -206,6 +216,7 @@ typedef struct {
     bool truth;
     int64_t number;
     uint64_t large;
+    double real;   /* one of 16 or 32 bits as the same number; a NaN is some NaN: its bits are in the column */
     uint64_t size; /* of a byte string or a text, whether it fits or not */
 } arrowflow_cell;
 
@@ -216,7 +227,8 @@ uint32_t arrowflow_reader_open(arrowflow_limits limits, arrowflow_reader *reader
 /* Gives the reader a piece, of which it takes the bytes up to the end of one message, or all where
  * none is whole. Where a stream was cut changes no answer. After a fault of the stream it takes
  * nothing and answers the same again; after the end marker it takes nothing. After ARROWFLOW_MEMORY
- * nothing has changed, and the same call may be made again. */
+ * the reader has lost the batch that it gave last, and nothing else has changed: the same call may
+ * be made again. */
 arrowflow_step arrowflow_reader_read(arrowflow_reader *reader, const uint8_t *piece, size_t len);
 
 /* What a stream answers that ends here: ARROWFLOW_NO_SCHEMA, ARROWFLOW_TRUNCATED, the fault that
@@ -240,7 +252,9 @@ enum arrowflow_layout {
     ARROWFLOW_FIXED_BYTES = 6, /* slot i is the `width` bytes at byte width * i */
     ARROWFLOW_LISTS = 7,       /* slot i are the child's slots from offset i up to offset i + 1 */
     ARROWFLOW_STRUCTS = 8,     /* slot i is slot i of each child */
-    ARROWFLOW_INDICES = 9      /* slot i is the number of a value of the dictionary, as NUMBERS */
+    ARROWFLOW_INDICES = 9,     /* slot i is the number of a value of the dictionary, as NUMBERS */
+    ARROWFLOW_FLOATS = 10      /* slot i is the floating-point number (IEEE 754) of `width` bytes, 2, 4 or
+                                * 8, at byte width * i, bit for bit as it came */
 };
 
 /* A column as its buffers. Numbers and offsets are little-endian, and may lie at any address: they

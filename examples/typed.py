@@ -1,6 +1,6 @@
 """Schemas of types in each form, laid out by frames.py: what vectors/ROWS changes, and what examples have."""
-from frames import (BINARY, BOOL, INT32, LARGE_BINARY, LARGE_LIST, LARGE_UTF8, LIST, NULL, STRUCT, UTF8, batch, bools, date,
-                    dictionary, dictionary_batch, duration, field, fixed_size_binary, integer, lists, numbers, schema, strings,
+from frames import (BINARY, BOOL, END_MARKER, INT32, LARGE_BINARY, LARGE_LIST, LARGE_UTF8, LIST, NULL, STRUCT, UTF8, batch, bools, date,
+                    dictionary, dictionary_batch, duration, field, fixed_size_binary, floating, integer, lists, numbers, schema, strings,
                     structs, time, timestamp)
 from streams import four_fields
 
@@ -35,6 +35,27 @@ def later_types():
     listed = [field("item", duration(1))]
     columns.append(field("large listed", LARGE_LIST, listed, encoding=dictionary(-1, 64), nullable=False))
     return columns
+
+
+def floats():
+    """Floating-point numbers of each precision, by their bits: plain, in structs below lists, and by a dictionary that grows."""
+    points = LIST, [field("item", STRUCT, [field("x", floating(2)), field("y", floating(1))])]
+    columns = schema(field("half", floating(0)), field("single", floating(1), nullable=False), field("double", floating(2)),
+                     field("points", *points), field("level", floating(1), encoding=dictionary(7, 8)))
+    def halves(values):
+        return numbers(values, "H")
+    def singles(values):
+        return numbers(values, "I")
+    def doubles(values):
+        return numbers(values, "Q")
+    below = structs([(), None, ()], doubles([0x3fe0 << 48, None, 0x444b1ae4d6e2ef50]), singles([0x3dcccccd, None, 0x7f800000]))
+    first = batch(halves([0x3c00, None, 0x2e66, 0x7e01]), singles([0x3dcccccd, 1 << 31, 0x7f7fffff, 0x7fc00001]),
+                  doubles([0x3ff8 << 48, 0x7e37e43c8800759c, 1, None]), lists([[1, 2], [], None, [3]], lambda _: below),
+                  numbers([1, None, 0, 1], "b"))
+    more = batch(halves([0xfc00, 1]), singles([0x4b800000, 0x33d6bf95]), doubles([1 << 63, 0x4341c37937e08000]),
+                 lists([None, None], lambda _: structs([], doubles([]), singles([]))), numbers([2, 0], "b"))
+    return b"".join([columns, dictionary_batch(7, singles([0x3e800000, 0x33d6bf95])), first,
+                     dictionary_batch(7, singles([0x7fffffff]), True), more, END_MARKER])
 
 
 def shared_columns():

@@ -2,7 +2,8 @@
 language, with no code and no definition of the crates. It reads a whole list of bytes at once and keeps no state.
 
 `answer(bytes)` gives standard output, standard error and the exit status; `first_schema(bytes)` gives what stands behind
-them, custom metadata as well, which no text shows. Limits are the defaults.
+them, custom metadata as well, which no text shows. Limits are the defaults; of the sets of types it is the core, or the one that is
+given.
 """
 import collections
 import functools
@@ -14,13 +15,17 @@ MAX_LEVELS = 32
 MAX_FIELDS = 65_536
 MAX_PAIRS = 65_536
 READ_VERSIONS = (3, 4)
-INT, DATE, TIME, TIMESTAMP, LIST, STRUCT = 2, 8, 9, 10, 12, 13
+CORE, ALL = "core", "all"
+INT, FLOATING, DATE, TIME, TIMESTAMP, LIST, STRUCT = 2, 3, 8, 9, 10, 12, 13
 FIXED_SIZE, DURATION, LARGE_LIST = 15, 18, 21
-WITH_TABLE = (INT, DATE, TIME, TIMESTAMP, FIXED_SIZE, DURATION)
-NAMES = {1: "null", INT: "int", 4: "binary", 5: "utf8", 6: "bool", DATE: "date", TIME: "time",
+WITH_TABLE = (INT, FLOATING, DATE, TIME, TIMESTAMP, FIXED_SIZE, DURATION)
+# Types that the core leaves out.
+LATE = (FLOATING,)
+NAMES = {1: "null", INT: "int", FLOATING: "floating", 4: "binary", 5: "utf8", 6: "bool", DATE: "date", TIME: "time",
          TIMESTAMP: "timestamp", LIST: "list", STRUCT: "struct", FIXED_SIZE: "fixed_size_binary",
          DURATION: "duration", 19: "large_binary", 20: "large_utf8", LARGE_LIST: "large_list"}
 UNITS = ("s", "ms", "us", "ns")
+PRECISIONS = ("halffloat", "float", "double")
 WIDTHS = (8, 16, 32, 64)
 
 Schema = collections.namedtuple("Schema", "endianness fields pairs")
@@ -35,15 +40,20 @@ class Refused(Exception):
     """The kind by which a message is refused."""
 
 
+def is_taken(code, types):
+    """Whether a set has the type of this code."""
+    return code in NAMES and (types == ALL or code not in LATE)
+
+
 def signed(number, width):
     return number - (1 << 8 * width) if number >> (8 * width - 1) else number
 
 
 class Metadata:
-    """A FlatBuffer, read by places."""
+    """A FlatBuffer, read by places; of the types of a set the tables are opened."""
 
-    def __init__(self, held):
-        self.held = held
+    def __init__(self, held, types=CORE):
+        self.held, self.types = held, types
         self.fields_seen = 0
         self.pairs_seen = 0
         self.text_bytes = 0
@@ -125,7 +135,7 @@ class Metadata:
 
 def type_of(metadata, table, code):
     """What the table of a type says, None where it is absent or not opened."""
-    if code not in WITH_TABLE:
+    if code not in WITH_TABLE or not is_taken(code, metadata.types):
         return None
     opened = metadata.child(table, 3)
     if opened is None:
@@ -134,6 +144,8 @@ def type_of(metadata, table, code):
         return signed(metadata.scalar(opened, 0, 4, 0), 4), metadata.scalar(opened, 1, 1, 0) != 0
     if code == FIXED_SIZE:
         return (signed(metadata.scalar(opened, 0, 4, 0), 4),)
+    if code == FLOATING:
+        return (signed(metadata.scalar(opened, 0, 2, 0), 2),)
     if code in (DATE, DURATION):
         return (signed(metadata.scalar(opened, 0, 2, 1), 2),)
     if code == TIME:
@@ -214,9 +226,9 @@ def header_of(metadata, header, code):
 
 
 @functools.lru_cache(maxsize=16)
-def read_message(held):
+def read_message(held, types=CORE):
     """What a metadata says: of its header the place, and the schema where it is one."""
-    metadata = Metadata(held)
+    metadata = Metadata(held, types)
     root = metadata.table(metadata.target(0))
     version = metadata.scalar(root, 0, 2, 0)
     code = metadata.scalar(root, 1, 1, 0)
@@ -224,15 +236,15 @@ def read_message(held):
     header = metadata.child(root, 2) if code in (1, 2, 3) else None
     schema = header_of(metadata, header, code) if header is not None else None
     every = all_fields(schema.fields) if schema else []
-    if any(field["code"] in WITH_TABLE and field["type"] is None for field in every):
+    if any(field["code"] in WITH_TABLE and is_taken(field["code"], types) and field["type"] is None for field in every):
         raise Unreadable
     return Message(version, code, header, body, schema)
 
 
-def is_unsupported(schema):
+def is_unsupported(schema, types=CORE):
     every = list(all_fields(schema.fields))
     nested = any(field["encoding"] and any(below["encoding"] for below in all_fields(field["children"])) for field in every)
-    return (schema.endianness != 0 or nested or any(field["code"] not in NAMES for field in every)
+    return (schema.endianness != 0 or nested or not all(is_taken(field["code"], types) for field in every)
             or any(field["encoding"] and field["encoding"][3] != 0 for field in every))
 
 
@@ -243,7 +255,7 @@ def fits(field):
         return False
     if code == INT and kind[0] not in WIDTHS or code == DATE and kind[0] not in (0, 1):
         return False
-    if code in (TIME, TIMESTAMP, DURATION) and kind[0] not in range(4):
+    if code in (TIME, TIMESTAMP, DURATION) and kind[0] not in range(4) or code == FLOATING and kind[0] not in range(3):
         return False
     if code == FIXED_SIZE and kind[0] < 0:
         return False
@@ -264,7 +276,7 @@ def has_one_type_an_id(fields):
                for field in all_fields(fields) if field["encoding"])
 
 
-def first_schema(stream):
+def first_schema(stream, types=CORE):
     """The schema at the front, None where the bytes are less than a message."""
     if len(stream) < 8:
         return None
@@ -278,14 +290,14 @@ def first_schema(stream):
     if len(stream) < 8 + size:
         return None
     try:
-        message = read_message(stream[8:8 + size])
+        message = read_message(stream[8:8 + size], types)
     except Unreadable:
         raise Refused("Metadata") from None
-    judge(message, 8 + size + message.body)
+    judge(message, 8 + size + message.body, types)
     return message.schema if len(stream) >= 8 + size + message.body else None
 
 
-def judge(message, end):
+def judge(message, end, types=CORE):
     """Refuses what is no first message, by the kind with the least number."""
     if message.version not in READ_VERSIONS:
         raise Refused("Version")
@@ -295,7 +307,7 @@ def judge(message, end):
         raise Refused("BodyLength")
     if message.code != 1:
         raise Refused("Order")
-    if is_unsupported(message.schema):
+    if is_unsupported(message.schema, types):
         raise Refused("Unsupported")
     fields = message.schema.fields
     if not all(map(fits, all_fields(fields))) or not has_one_type_an_id(fields):
@@ -314,6 +326,8 @@ def type_name(field):
     code, kind = field["code"], field["type"]
     if code == INT:
         return int_name(*kind)
+    if code == FLOATING:
+        return PRECISIONS[kind[0]].encode()
     if code == DATE:
         return b"date[ms]" if kind[0] else b"date[day]"
     if code == FIXED_SIZE:
@@ -340,9 +354,9 @@ def lines(fields, level=0):
     return text
 
 
-def answer(stream):
+def answer(stream, types=CORE):
     try:
-        schema = first_schema(stream)
+        schema = first_schema(stream, types)
     except Refused as refused:
         return b"", b"fault at byte 0: %s\n" % str(refused).encode(), 1
     if schema is None:

@@ -1,6 +1,6 @@
 """Schemas with custom metadata as chance will have them, and the bytes of messages that say them.
 
-A schema is what the model reads: a model.Schema, whose fields are dicts. It is laid out by examples/frames.py, and what the
+With the set of all types, floating-point numbers are among them. A schema is what the model reads: a model.Schema, whose fields are dicts. It is laid out by examples/frames.py, and what the
 standard lets a writer choose is chosen here by chance: what has its default may be left out, what means the same may stand
 once and be named by many offsets, the message may be of V4, and what no reader looks at may lead anywhere.
 """
@@ -29,24 +29,26 @@ def any_pairs(chance):
     return pairs + pairs[:1] if chance.random() < 0.2 else pairs
 
 
-def any_type(chance, levels):
-    """The code of a type, what its table says, and how many children it has."""
-    code = chance.choice(PLAIN + [2, 2, 8, 9, 10, 15, 18] + ([12, 13, 13, 21] if levels > 1 else []))
+def any_type(chance, levels, types):
+    """The code of a type of a set, what its table says, and how many children it has."""
+    late = [*model.LATE] * 3 if types == model.ALL else []
+    code = chance.choice(PLAIN + [2, 2, 8, 9, 10, 15, 18] + late + ([12, 13, 13, 21] if levels > 1 else []))
     unit = chance.randrange(4)
     said = {2: (chance.choice(WIDTHS), chance.random() < 0.5), 8: (unit % 2,), 9: (unit, 32 if unit < 2 else 64),
-            10: (unit, chance.choice([None, b"", b"UTC"])), 15: (chance.choice([0, 7, 2 ** 31 - 1]),), 18: (unit,)}
+            10: (unit, chance.choice([None, b"", b"UTC"])), 15: (chance.choice([0, 7, 2 ** 31 - 1]),), 18: (unit,),
+            model.FLOATING: (unit % 3,)}
     return code, said.get(code), {12: 1, 21: 1, 13: chance.randrange(4)}.get(code, 0)
 
 
-def any_field(chance, levels, ids, may_encode=True):
+def any_field(chance, levels, ids, may_encode=True, types=model.CORE):
     """A field; `ids` are the numbers of dictionaries that no field has yet."""
-    code, said, count = any_type(chance, levels)
+    code, said, count = any_type(chance, levels, types)
     encoding = None
     if may_encode and chance.random() < 0.2:
         index = (chance.choice(WIDTHS), chance.random() < 0.7)
         encoding, may_encode = (next(ids), index, chance.random() < 0.3, 0), False
     return {"name": chance.choice(NAMES).encode(), "nullable": chance.random() < 0.5, "code": code, "type": said,
-            "encoding": encoding, "children": [any_field(chance, levels - 1, ids, may_encode) for _ in range(count)],
+            "encoding": encoding, "children": [any_field(chance, levels - 1, ids, may_encode, types) for _ in range(count)],
             "pairs": any_pairs(chance)}
 
 
@@ -55,12 +57,12 @@ def noted_anew(chance, field):
     return {**field, "pairs": any_pairs(chance), "children": [noted_anew(chance, below) for below in field["children"]]}
 
 
-def any_schema(chance):
+def any_schema(chance, types=model.CORE):
     """A schema: fields come twice, some of them with other pairs, and so do the ids of their dictionaries."""
     ids = iter([0, -1, *range(3, 1000)])
     fields = []
     for _ in range(chance.randrange(5)):
-        fields.append(any_field(chance, chance.randint(1, 4), ids))
+        fields.append(any_field(chance, chance.randint(1, 4), ids, types=types))
         if chance.random() < 0.4:
             known = chance.choice(fields)
             fields.append(known if chance.random() < 0.5 else noted_anew(chance, known))
@@ -147,6 +149,8 @@ class Straight:
             return self.integer(*said)
         if code == model.FIXED_SIZE:
             return self.table(self.unless(said[0] == 0, scalar("i", said[0])))
+        if code == model.FLOATING:
+            return self.table(self.unless(said[0] == 0, scalar("h", said[0])))
         if code in (model.DATE, model.DURATION):
             return self.table(self.unless(said[0] == 1, scalar("h", said[0])))
         if code == model.TIME:
@@ -207,9 +211,9 @@ class ByChance(Straight):
         return super().pairs(pairs) if pairs or self.chance.random() < 0.5 else vector([])
 
 
-def any_frame(chance):
+def any_frame(chance, types=model.CORE):
     """A random schema and a frame of it, now and then of a version that is not read."""
-    schema = any_schema(chance)
+    schema = any_schema(chance, types)
     return schema, ByChance(chance).frame(schema, chance.choice([V4] * 4 + [V5] * 8 + [0, 2, 5]))
 
 

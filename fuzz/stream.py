@@ -1,13 +1,15 @@
 """What `arrowflow check` and `arrowflow show` have to print of a stream, by a model of its own: written from docs/FORMAT.md, in
 another language, with no code and no definition of the crates. It reads a whole list of bytes, message by message.
 
-`answers(bytes)` gives of each command standard output, standard error and the exit status. Limits are the defaults. What stands
-in metadata is read by model.py.
+`answers(bytes)` gives of each command standard output, standard error and the exit status. Limits are the defaults; of the sets of
+types it is the core, or the one that is given. What stands in metadata is read by model.py, what is shown of a floating-point
+number floats.py says.
 """
 import struct
 
+import floats
 import model
-from model import FIXED_SIZE, LARGE_LIST, LIST, STRUCT, Refused, Unreadable, signed
+from model import CORE, FIXED_SIZE, FLOATING, LARGE_LIST, LIST, STRUCT, Refused, Unreadable, signed
 
 MAX_ROWS = 2 ** 31 - 1
 NULL, BINARY, UTF8, BOOL, LARGE_BINARY, LARGE_UTF8 = 1, 4, 5, 6, 19, 20
@@ -73,6 +75,10 @@ class Column:
         width, is_signed = self.field["encoding"][1]
         return self.number(at, width // 8, is_signed)
 
+    def bits(self, at):
+        """The bits of a floating-point number."""
+        return self.number(at, *number_of(self.field))
+
     def span(self, at):
         """From where to where a slot's values go."""
         width = OFFSETS[self.field["code"]]
@@ -110,6 +116,8 @@ class Column:
             return self.held[0][kind[0] * at:kind[0] * (at + 1)].hex()
         if code == STRUCT:
             return "{" + ";".join(f"{it.field['name'].decode()}={it.inside(at)}" for it in self.children) + "}"
+        if code == FLOATING:
+            return floats.text(kind[0], self.bits(at))
         if code in OFFSETS:
             start, end = self.span(at)
             if code in (LIST, LARGE_LIST):
@@ -125,6 +133,8 @@ def number_of(field):
     code, kind = field["code"], field["type"]
     if code == model.INT:
         return kind[0] // 8, kind[1]
+    if code == FLOATING:
+        return floats.BYTES[kind[0]], False
     if code == model.DATE:
         return (8 if kind[0] else 4), True
     if code == model.TIME:
@@ -233,7 +243,8 @@ def quoted(field):
 class Reader:
     """What stands at the front of a stream: the lines of `check`, and the records of `show`."""
 
-    def __init__(self, stream):
+    def __init__(self, stream, types=CORE):
+        self.types = types
         self.stream, self.place, self.schema, self.dictionaries, self.batches = stream, 0, None, {}, 0
         self.lines, self.records, self.is_done = [], [], False
 
@@ -274,7 +285,7 @@ class Reader:
             return False
         held = stream[place + 8:start]
         try:
-            message = model.read_message(held)
+            message = model.read_message(held, self.types)
         except Unreadable:
             raise Refused("Metadata") from None
         batch = self.judge(message, held, start)
@@ -287,7 +298,7 @@ class Reader:
     def judge(self, message, held, start):
         """Refuses metadata by the least kind; the batch, where it is one."""
         if self.schema is None:
-            model.judge(message, start + message.body)
+            model.judge(message, start + message.body, self.types)
             return None
         if message.version not in model.READ_VERSIONS:
             raise Refused("Version")
@@ -348,9 +359,9 @@ class Reader:
         return "".join(",".join(map(quoted, it)) + "\n" for it in found).encode()
 
 
-def answers(stream, most_rows=100_000):
+def answers(stream, most_rows=100_000, types=CORE):
     """What `check` has to answer, and `show`, or None where that has more rows than this."""
-    reader = Reader(stream)
+    reader = Reader(stream, types)
     kind = reader.run()
     fault, status = (f"fault at byte {reader.place}: {kind}\n".encode(), 1) if kind else (b"", 0)
     checked = "".join(it + "\n" for it in reader.lines).encode(), fault, status

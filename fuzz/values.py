@@ -1,5 +1,5 @@
 """Columns, dictionaries and batches as chance will have them: streams of all types, laid out by examples/frames.py, and the rows
-that `arrowflow show` has to print of them, by docs/FORMAT.md alone.
+that `arrowflow show` has to print of them, by docs/FORMAT.md alone. With the set of all types, floating-point numbers are among them.
 
 A kind is a type, with what stands below it, and perhaps the dictionary by which its values are told. A value is None where it
 is null, else a truth, a number, bytes, a text, a list, or a tuple of the fields of a struct; by a dictionary it is an index.
@@ -10,11 +10,15 @@ import sys
 sys.dont_write_bytecode = True
 sys.path.insert(0, str(pathlib.Path(__file__).resolve().parent.parent / "examples"))
 import bodies
+import floats
 import frames
+from model import ALL, CORE
 
 TEXTS = ["", "a", "b,c", 'say "no"', "é€", "line\nbreak", "return\r", "a;b", "x" * 40, "null", "0"]
 NAMES = ["n", "column", "", "ä", "a b", 'q"', "c,d"]
 WIDTHS = {8: "b", 16: "h", 32: "i", 64: "q"}
+# How the bits of a floating-point number are laid out.
+FORMS = {floats.HALF: "H", floats.SINGLE: "I", floats.DOUBLE: "Q"}
 
 
 class Kind:
@@ -37,6 +41,25 @@ def number(of, bits, signed=True):
                 lambda values: frames.numbers(values, form), str)
 
 
+def floating(precision):
+    """Floating-point numbers, told by their bits: of each kind, of few digits, and any."""
+    width, size = floats.FRACTION[precision], 8 * floats.BYTES[precision]
+    infinite = (1 << size - 1) - (1 << width)
+    known = [0, 1, (1 << width) - 1, 1 << width, infinite - 1, infinite, infinite + 1, infinite | 1 << width - 1, (1 << size - 1) - 1]
+
+    def any_bits(chance):
+        sign, what = chance.randrange(2) << size - 1, chance.randrange(4)
+        if what == 0:
+            return sign | chance.choice(known)
+        if what == 1:
+            return sign | floats.nearest(precision, round(chance.random() * 10 ** chance.randrange(5), chance.randrange(4)))
+        if what == 2:
+            return sign | floats.nearest(precision, float(f"{chance.randrange(1, 1000)}e{chance.randrange(-20, 20)}"))
+        return chance.getrandbits(size)
+    return Kind(frames.floating(precision), any_bits, lambda values: frames.numbers(values, FORMS[precision]),
+                lambda bits: floats.text(precision, bits))
+
+
 def any_bytes(chance):
     return bytes(chance.randrange(256) for _ in range(chance.choice([0, 1, 3, 20])))
 
@@ -46,8 +69,10 @@ def fixed(width):
                 lambda values: bodies.fixed(values, width), bytes.hex)
 
 
-def any_plain(chance):
-    """A kind without children."""
+def any_plain(chance, types):
+    """A kind without children, of a set of types."""
+    if types == ALL and chance.random() < 0.4:
+        return floating(chance.randrange(3))
     unit = chance.randrange(4)
     return chance.choice([
         lambda: Kind(frames.NULL, lambda chance: None, lambda values: frames.nulls(len(values)), str),
@@ -139,7 +164,7 @@ class Encoded:
         return self.kind.shown(held[self.number][value], held)
 
 
-def any_kind(chance, levels, known, may_encode=True):
+def any_kind(chance, levels, known, may_encode=True, types=CORE):
     """A kind of at most so many levels; `known` are those with dictionaries, by their numbers."""
     if may_encode and chance.random() < 0.3:
         bits, signed = chance.choice([*WIDTHS]), chance.random() < 0.5
@@ -147,14 +172,14 @@ def any_kind(chance, levels, known, may_encode=True):
             other = chance.choice([*known.values()])
             return Encoded(other.number, other.kind, bits, signed)
         number = chance.choice([it for it in (0, 1, 7, -1, 2 ** 63 - 1, -2 ** 63, *range(100, 140)) if it not in known])
-        known[number] = Encoded(number, any_kind(chance, levels, known, False), bits, signed)
+        known[number] = Encoded(number, any_kind(chance, levels, known, False, types), bits, signed)
         return known[number]
     if levels > 1 and chance.random() < 0.4:
         if chance.random() < 0.5:
-            return Lists(any_kind(chance, levels - 1, known, may_encode), chance.random() < 0.5)
+            return Lists(any_kind(chance, levels - 1, known, may_encode, types), chance.random() < 0.5)
         count = chance.randrange(4)
-        return Structs([(chance.choice(NAMES), any_kind(chance, levels - 1, known, may_encode)) for _ in range(count)])
-    return any_plain(chance)
+        return Structs([(chance.choice(NAMES), any_kind(chance, levels - 1, known, may_encode, types)) for _ in range(count)])
+    return any_plain(chance, types)
 
 
 def quoted(field):
@@ -164,10 +189,11 @@ def quoted(field):
 class Table:
     """A stream that grows by chance, and the rows that are shown of it."""
 
-    def __init__(self, chance, levels=4):
+    def __init__(self, chance, levels=4, types=CORE):
         chance.nulls = chance.choice([0, 0.1, 0.5, 1])
         self.chance, self.known, self.held, self.batches = chance, {}, {}, 0
-        self.columns = [(chance.choice(NAMES), any_kind(chance, chance.randint(1, levels), self.known)) for _ in range(chance.randrange(5))]
+        self.columns = [(chance.choice(NAMES), any_kind(chance, chance.randint(1, levels), self.known, types=types))
+                        for _ in range(chance.randrange(5))]
         self.frames = [frames.schema(*(kind.field(name) for name, kind in self.columns))]
         self.rows = [",".join(quoted(it) for it in ["batch", *(name for name, _ in self.columns)])]
 
@@ -202,8 +228,8 @@ class Table:
         return "".join(it + "\n" for it in self.rows).encode()
 
 
-def any_table(chance):
-    table = Table(chance)
+def any_table(chance, types=CORE):
+    table = Table(chance, types=types)
     for _ in range(chance.randrange(6)):
         table.add_batch()
     if chance.random() < 0.8:

@@ -194,6 +194,7 @@ void tell(std::ostream &out, const Field *field) {
     tell(out, field->name());
     out << " " << field->nullable() << " type " << int(field->type_type()) << " ";
     if (auto type = field->type_as_Int()) tell(out, type);
+    if (auto type = field->type_as_FloatingPoint()) out << "precision " << type->precision();
     if (auto type = field->type_as_Date()) out << "unit " << type->unit();
     if (auto type = field->type_as_Time()) out << "unit " << type->unit() << " of " << type->bitWidth();
     if (auto type = field->type_as_Timestamp()) {

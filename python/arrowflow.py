@@ -14,8 +14,10 @@ for C (c/arrowflow.h) over ctypes. `c/build` makes the shared library; ARROWFLOW
                     print(sum(ages.values.cast("i")))
         reader.end()
 
+A stream with floating-point columns is read by who asks for it: check(data, arrowflow.ALL_TYPES), Reader(arrowflow.ALL_TYPES).
+
 `data` and `piece` are bytes, or anything that `bytes` takes, which is copied first. With arguments it is a program:
-arrowflow.py schema|check|show IN, arrowflow.py sanitize IN OUT.
+arrowflow.py [--types core|all] schema|check|show IN, arrowflow.py [--types core|all] sanitize IN OUT.
 """
 import ctypes
 import enum
@@ -67,6 +69,13 @@ class Layout(enum.IntEnum):
     LISTS = 7
     STRUCTS = 8
     INDICES = 9
+    FLOATS = 10
+
+
+class Types(enum.IntEnum):
+    """Which types are read: those that have always been there, or also floating point and what later versions read."""
+    CORE = 0
+    ALL = 1
 
 
 class Fault(Exception):
@@ -83,8 +92,9 @@ class Fault(Exception):
 
 class Limits(ctypes.Structure):
     """How much a stranger's stream may ask for: bytes of a message's metadata (at most 2^30) and of its body (at most 2^40),
-    rows of a batch and values of a dictionary (at most 2^31 - 1)."""
-    _fields_ = [("max_metadata", ctypes.c_uint64), ("max_body", ctypes.c_uint64), ("max_rows", ctypes.c_uint64)]
+    rows of a batch and values of a dictionary (at most 2^31 - 1); and which types it may have (Types)."""
+    _fields_ = [("max_metadata", ctypes.c_uint64), ("max_body", ctypes.c_uint64), ("max_rows", ctypes.c_uint64),
+                ("types", ctypes.c_uint32)]
 
 
 class Options(ctypes.Structure):
@@ -121,7 +131,7 @@ class _End(ctypes.Structure):
 
 class _Cell(ctypes.Structure):
     _fields_ = [("what", ctypes.c_uint32), ("truth", ctypes.c_bool), ("number", ctypes.c_int64), ("large", ctypes.c_uint64),
-                ("size", ctypes.c_uint64)]
+                ("real", ctypes.c_double), ("size", ctypes.c_uint64)]
 
 
 class _Column(ctypes.Structure):
@@ -160,7 +170,8 @@ def _loaded(place):
 
 
 _c = _loaded(os.environ.get("ARROWFLOW_LIBRARY") or f"{_TOP}/c/out/libarrowflow.so")
-STANDARD = Limits(1 << 26, 1 << 36, (1 << 31) - 1)
+STANDARD = Limits(1 << 26, 1 << 36, (1 << 31) - 1, Types.CORE)
+ALL_TYPES = Limits(1 << 26, 1 << 36, (1 << 31) - 1, Types.ALL)
 _NONE = ctypes.c_ubyte()
 
 
@@ -254,7 +265,7 @@ class Batch:
 
     def cell(self, column, row):
         """The value in a column and a row, both from 0, with indices looked up: None, a bool, an int (of a date, a time, a
-        timestamp or a duration its units), bytes, a str, or a Nested."""
+        timestamp or a duration its units), a float, bytes, a str, or a Nested."""
         if not (0 <= column < self.columns and 0 <= row < self.rows):
             raise IndexError(f"no column {column} and row {row} in {self.columns} columns of {self.rows} rows")
         self._ask()
@@ -330,7 +341,7 @@ class Reader:
                 break
             size = cell.size
         text = ctypes.string_at(room, cell.size)
-        values = {0: None, 1: cell.truth, 2: cell.number, 3: text, 7: cell.large}
+        values = {0: None, 1: cell.truth, 2: cell.number, 3: text, 7: cell.large, 10: cell.real}
         return text.decode() if cell.what == 4 else values[cell.what] if cell.what in values else Nested()
 
     def end(self):
@@ -356,7 +367,9 @@ class Reader:
 
 
 def main(words):
-    calls = {"schema": schema, "check": messages, "show": show}
+    calls, limits = {"schema": schema, "check": messages, "show": show}, STANDARD
+    if words[:1] == ["--types"] and words[1:2] in (["core"], ["all"]):
+        limits, words = (ALL_TYPES if words[1] == "all" else STANDARD), words[2:]
     if len(words) != (3 if words[:1] == ["sanitize"] else 2) or words[0] not in [*calls, "sanitize"]:
         print(__doc__.splitlines()[-1], file=sys.stderr)
         return 2
@@ -364,7 +377,7 @@ def main(words):
         data = file.read()
     text, status = b"", 0
     try:
-        text = sanitize(data) if words[0] == "sanitize" else calls[words[0]](data).encode()
+        text = sanitize(data, limits) if words[0] == "sanitize" else calls[words[0]](data, limits).encode()
     except Fault as fault:
         print(fault, file=sys.stderr)
         text, status = fault.text, 1

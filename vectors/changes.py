@@ -12,7 +12,7 @@ import streams
 from frames import END_MARKER, LARGE_UTF8, NULL, UTF8, batch, dictionary, dictionary_batch, field, integer, schema, strings
 from laying import NODE, ONE, column
 from places import Stream
-from told import ending
+from told import CORE, ending
 
 # So many texts of one letter, and so many numbers of which the validity is A5 again and again.
 LETTERS, SLOTS = 130, 200
@@ -73,10 +73,10 @@ def bases():
 # ---- lines
 
 
-def line(of, settings):
+def line(of, settings, types=CORE):
     """The line of some changes at once."""
     told = ", ".join(f"{name} at {of.place(name)} := {words}" for name, words in settings.items())
-    return f"{told} -> {ending(of.changed(settings))}"
+    return f"{told} -> {ending(of.changed(settings), types)}"
 
 
 def ranges(answers, told):
@@ -92,17 +92,17 @@ def ranges(answers, told):
     return [*lines, f"{told(first, last)} -> {known}"]
 
 
-def cuts(held, bounds):
+def cuts(held, bounds, types=CORE):
     """The stream cut to each length: those at the end of a message are sound, all others end too early."""
     def told(first, last):
         return f"length {first}" if first == last else f"length {first}..{last}"
-    lines = ranges([(length, ending(held[:length])) for length in range(len(held) + 1)], told)
+    lines = ranges([(length, ending(held[:length], types)) for length in range(len(held) + 1)], told)
     sound = [it for it in lines if it.endswith("end clean")]
     assert len(sound) == bounds
     return ["binds standard", *sound, "binds malformed", *(it for it in lines if it not in sound)]
 
 
-def each_byte(of, frames=None, values=range(256)):
+def each_byte(of, frames=None, values=range(256), types=CORE):
     """Each byte of a stream, or of some of its frames, set to each of these values that it has not."""
     held, lines = of.held(), []
     for place, name in enumerate(of.names()):
@@ -110,7 +110,7 @@ def each_byte(of, frames=None, values=range(256)):
             return f"{name} at {place} := {first:02x}" if first == last else f"{name} at {place} := {first:02x}..{last:02x}"
         if frames is None or name.split(".")[0] in frames:
             others = [it for it in values if it != held[place]]
-            lines += ranges([(it, ending(held[:place] + bytes([it]) + held[place + 1:])) for it in others], told)
+            lines += ranges([(it, ending(held[:place] + bytes([it]) + held[place + 1:], types)) for it in others], told)
     return ["binds own", *lines]
 
 

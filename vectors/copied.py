@@ -7,7 +7,7 @@ import frames
 import stream
 from bodies import fixed
 from frames import END_MARKER
-from model import FIXED_SIZE, LARGE_LIST, LIST, STRUCT
+from model import CORE, FIXED_SIZE, LARGE_LIST, LIST, STRUCT
 from worked import split
 
 FORMS = {(width, signed): form if signed else form.upper() for width, form in ((1, "b"), (2, "h"), (4, "i"), (8, "q"))
@@ -74,8 +74,8 @@ def values_of(field, columns):
 class Copier(stream.Reader):
     """A reader that writes what it reads."""
 
-    def __init__(self, held, way):
-        super().__init__(held)
+    def __init__(self, held, way, types):
+        super().__init__(held, types)
         self.has_deltas, self.align = WAYS[way]
         self.written, self.sent = [aligned(next(split(held)), self.align)], {}
 
@@ -99,8 +99,8 @@ class Copier(stream.Reader):
         self.sent[number] = values
 
 
-def copy(held, way):
+def copy(held, way, types=CORE):
     """What is written of a stream that ends well."""
-    copier = Copier(held, way)
+    copier = Copier(held, way, types)
     assert copier.run() is None
     return b"".join(copier.written) + (END_MARKER if copier.is_done else b"")

@@ -4,7 +4,7 @@ import frames
 from frames import Column, batch
 from laying import FAR_BEFORE, i32, raw_batch
 from places import Stream
-from told import ending
+from told import CORE, ending
 
 SLOTS = 9
 FF = "ff" * 8
@@ -66,15 +66,15 @@ def untold(columns):
 
 
 class Conditions:
-    """Changes of the batch of nine slots, a frame `nine` of a stream."""
+    """Changes of the batch of nine slots, a frame `nine` of a stream that is read with a set of types."""
 
-    def __init__(self, nine, around):
-        self.nine, self.of, self.lines = nine, Stream(**around), []
+    def __init__(self, nine, around, types=CORE):
+        self.nine, self.of, self.types, self.lines = nine, Stream(**around), types, []
         self.nodes, self.places, self.body = frames.laid([nine.column])
 
     def add(self, settings):
         told = ", ".join(f"{name} at {self.of.place(name)} := {words}" for name, words in settings.items())
-        self.lines.append(f"{told} -> {ending(self.of.changed(settings))}")
+        self.lines.append(f"{told} -> {ending(self.of.changed(settings), self.types)}")
 
     def buffer(self, at, offset=None, length=None):
         name = f"nine.header.buffers.{at}"

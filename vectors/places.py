@@ -18,12 +18,12 @@ TABLES = {
     "DictionaryEncoding": "id:8 index_type:Int is_ordered:1 dictionary_kind:2",
     "RecordBatch": "length:8 nodes:length,null_count buffers:offset,length",
     "DictionaryBatch": "id:8 data:RecordBatch is_delta:1",
-    "Int": "bit_width:4 is_signed:1", "Date": "unit:2", "Time": "unit:2 bit_width:4", "Timestamp": "unit:2 timezone:text",
+    "Int": "bit_width:4 is_signed:1", "FloatingPoint": "precision:2", "Date": "unit:2", "Time": "unit:2 bit_width:4", "Timestamp": "unit:2 timezone:text",
     "FixedSizeBinary": "byte_width:4", "Duration": "unit:2", "": "",
 }
 FIELDS = {name: [tuple(it.split(":")) for it in words.split()] for name, words in TABLES.items()}
 UNIONS = {"header": {1: "Schema", 2: "DictionaryBatch", 3: "RecordBatch"},
-          "type": {2: "Int", 8: "Date", 9: "Time", 10: "Timestamp", 15: "FixedSizeBinary", 18: "Duration"}}
+          "type": {2: "Int", 3: "FloatingPoint", 8: "Date", 9: "Time", 10: "Timestamp", 15: "FixedSizeBinary", 18: "Duration"}}
 
 
 class Parts:

@@ -9,7 +9,20 @@ TOP = pathlib.Path(__file__).resolve().parent.parent
 sys.path[:0] = [str(TOP / "fuzz"), str(TOP / "examples")]
 import model
 import stream
-from model import FIXED_SIZE, LARGE_LIST, LIST, STRUCT
+from model import ALL, CORE, FIXED_SIZE, FLOATING, LARGE_LIST, LIST, STRUCT
+
+# What the names of the vectors begin with that are read with all types.
+OF_ALL = "all/"
+
+
+def types_of(name):
+    """The set of types with which a vector, or a family, is read."""
+    return ALL if folder_of(name) == OF_ALL else CORE
+
+
+def folder_of(name):
+    """The folder of a vector, or of a family."""
+    return OF_ALL if name.startswith(OF_ALL) else ""
 
 
 def value(column, at):
@@ -27,6 +40,8 @@ def value(column, at):
         return f'x"{column.text(at)}"'
     if code in (LIST, LARGE_LIST):
         return "[" + ", ".join(value(column.children[0], it) for it in range(*column.span(at))) + "]"
+    if code == FLOATING:
+        return f"0x{column.bits(at):0{2 * stream.number_of(column.field)[0]}x}={column.text(at)}"
     if code == STRUCT:
         names = (json.dumps(it.field["name"].decode(), ensure_ascii=False) for it in column.children)
         return "{" + ", ".join(f"{name}: {value(it, at)}" for name, it in zip(names, column.children)) + "}"
@@ -49,8 +64,8 @@ def columns(fields, level=1):
 class Teller(stream.Reader):
     """A reader that tells each message as it is taken."""
 
-    def __init__(self, held):
-        super().__init__(held)
+    def __init__(self, held, types):
+        super().__init__(held, types)
         self.told = []
 
     def take(self, message, batch, body):
@@ -82,9 +97,9 @@ class Teller(stream.Reader):
                 yield ("  row " + ", ".join(value(it, at) for it in self.records[-1][2])).rstrip()
 
 
-def answers(held):
-    """The lines of all calls of `read` in one piece and of `end`."""
-    teller = Teller(held)
+def answers(held, types=CORE):
+    """The lines of all calls of `read` in one piece and of `end`, with a set of types."""
+    teller = Teller(held, types)
     kind = teller.run()
     left = len(held) - teller.place
     if teller.is_done:
@@ -96,9 +111,9 @@ def answers(held):
     return "".join(it + "\n" for it in [*teller.told, *ending])
 
 
-def ending(held):
-    """How many batches and rows all calls hand out, and how the stream ends."""
-    reader = stream.Reader(held)
+def ending(held, types=CORE):
+    """How many batches and rows all calls hand out, and how the stream ends, with a set of types."""
+    reader = stream.Reader(held, types)
     kind = reader.run()
     return f"batches {reader.batches} rows {reader.rows()} end {f'{kind} at {reader.place}' if kind else 'clean'}"
 

@@ -3,6 +3,7 @@ any Arrow library reads, and a line for each, whose numbers are counted here."""
 import re
 
 import copied
+import floating
 import kinds
 import laid
 import rows
@@ -33,18 +34,19 @@ def count(line):
 def listed(vectors):
     """All that is walked, by its name: its text, and its bytes, of which changes have none."""
     found = {}
-    for name in vectors["LIST"].decode().split():
+    for name in (vectors["LIST"] + vectors["all/LIST"]).decode().split():
         found[name] = (vectors[name], b"") if name.endswith(".changes") else (vectors[f"{name}.txt"], vectors[f"{name}.arrows"])
-    return found | rows.texts() | {name: (b"", held) for name, held in copies().items()}
+    return found | floating.with_the_core() | rows.texts() | {name: (b"", held) for name, held in copies().items()}
 
 
 def copies():
     """What is written of the vectors, by names NAME.copyWAY: of those that hold more than their values in two ways, of each type in
-    one, as copied.py lays it out."""
+    one, as copied.py lays it out, and what floating.py says."""
     held, more = streams.written(), laid.all_of()
     found = {f"{name}.copy{way}": held[word][1] for name, ways in COPIES.items() for way, word in ways.items()}
     found |= {f"{name}.copy{way}": copied.copy(its, way) for name, (_, its) in more.items() for way in (0, 3)}
-    return found | {f"{name}.copy{at % 4}": copied.copy(its, at % 4) for at, (name, (_, its)) in enumerate(kinds.vectors().items())}
+    found |= {f"{name}.copy{at % 4}": copied.copy(its, at % 4) for at, (name, (_, its)) in enumerate(kinds.vectors().items())}
+    return found | floating.copies()
 
 
 def files(vectors):

@@ -3,6 +3,7 @@ vectors would not be written. docs/TESTING.md shows which vectors and which test
 import re
 
 import noted
+from frames import field, floating, schema
 from laying import FIELD, ONE, split
 from places import Parts
 
@@ -24,6 +25,7 @@ def rows(*values):
 LETTERS_SHOWN = ['  row 0 -> "a"', '  row 1 -> "b"', '  row 2 -> "c"', '  row 4 -> "e"', '  row 0 -> "a"', '  row 1 -> "c"',
     '  row 3 -> "e"']
 THREE = rows("1", "null", "3")
+ONE_AND_A_HALF = rows("0x3ff8000000000000=1.5", "null")
 FOUR_FIELDS = ["  column k: dictionary<int32, utf8> id 0", "  column l: list not null", "    column item: int32",
     "  column s: struct", "    column m: uint8 not null", "  column t: timestamp[us, UTC]"]
 CUT = ["length 200 -> batches 0 rows 0 end clean", "length 592 -> batches 1 rows 3 end clean",
@@ -214,6 +216,32 @@ EXAMPLES = {
             "features_of_the_schema": CLEAN, "unreadable_features": THREE, "fields_of_a_later_standard": CLEAN,
             "pairs_over_the_limit": refused("Metadata", 0),
         "pairs_at_the_limit.changes": ["* -> batches 0 rows 0 end clean"]}),
+    "floating point in a schema, byte by byte": ([], {
+        "all/doubles_and_no_batch": ["take 144 schema", *column("d: double"), "take 8 end", *CLEAN],
+        "all/singles_and_no_batch": column("d: float"), "all/halves_and_no_batch": column("d: halffloat"),
+        "all/precision_of_3": refused("Schema", 0), "all/precision_of_minus_1": refused("Schema", 0),
+        "all/no_precision": column("d: halffloat"), "all/type_table_outside": refused("Metadata", 0),
+        "all/no_type_table": refused("Metadata", 0), "all/decimals": refused("Unsupported", 0),
+        "all/precision_outside": refused("Metadata", 0), "all/second_schema": ["take 144 schema", *refused("Order", 144)],
+        "all/child_of_doubles": refused("Schema", 0)}),
+    "floating point in a batch, byte by byte": ([], {
+        "all/doubles": ["take 144 schema", "take 176 batch of 2", *ONE_AND_A_HALF],
+        "all/singles": ["take 160 batch of 2", *rows("0x3dcccccd=0.1", "0x80000000=-0.0")],
+        "all/halves": ["take 168 batch of 3", *rows("0x3c00=1.0", "0x7e01=NaN", "null")],
+        "all/ends_of_doubles": rows("*=0.0", "*=-0.0", "*=5e-324", "*=2.225073858507201e-308", "*=2.2250738585072014e-308",
+            "*=1.7976931348623157e308"),
+        "all/no_numbers": rows("0x7ff0000000000000=inf", "0xfff0000000000000=-inf", "0x7ff8000000000000=NaN",
+            "0x7ff0000000000001=NaN", "0xffffffffffffffff=NaN"),
+        "all/doubles_too_short": refused("Layout", 144), "all/bit_under_a_null": ONE_AND_A_HALF,
+        "all/null_count_wrong": refused("Layout", 144), "all/doubles_for_singles": rows("0x00000000=0.0", "null"),
+        "all/ends_of_halves": rows("0x0001=5.9604645e-8", "0x03ff=0.00006097555", "0x0400=0.000061035156", "0x7bff=65504.0",
+            "0x8001=-5.9604645e-8", "0x7c00=inf", "0xfc00=-inf"),
+        "all/not_nullable_doubles": [*column("d: double not null"), *ONE_AND_A_HALF]}),
+    "floating point below others and by a dictionary": ([], {
+        "all/lists_of_doubles": [*column("l: list"), "    column item: double", *rows("[*=1.0, *=0.5]", "[*=1e21]")],
+        "all/struct_of_a_single_and_a_double": rows('{"x": 0x3dcccccd=0.1, "y": 0x3fb999999999999a=0.1}'),
+        "all/dictionary_of_doubles": [*column("c: dictionary<int8, double> id 7"), "take * dictionary 7 of 2", "  value *=0.25",
+            "  value *=1e-7", *rows("1 -> *=1e-7", "null", "0 -> *=0.25")]}),
 }
 
 # The rules of a body: of each the vectors that keep it at its edge, and those that break it, with the kind that they are refused by.
@@ -240,8 +268,9 @@ RULES = {
     "an empty buffer may stand anywhere": (["empty_buffer_outside", "empty_buffer_before_the_body"], "", []),
     "a validity that is not empty has a bit for each slot": (["validity_of_all_bits", "spare_bit", "nulls_of_a5"], "Layout",
         ["validity_too_short"]),
-    "values and indices have all their slots": (["spare_bits_and_slots", "fixed_bytes_of_width_0"], "Layout", [
-        "values_too_short", "truths_too_short", "fixed_bytes_too_short", "durations_too_short", "indices_too_short"]),
+    "values and indices have all their slots": (["spare_bits_and_slots", "fixed_bytes_of_width_0", "all/doubles_for_singles"], "Layout", [
+        "values_too_short", "truths_too_short", "fixed_bytes_too_short", "durations_too_short", "indices_too_short",
+        "all/doubles_too_short", "all/singles_for_doubles"]),
     "there is one offset more than slots, or there are no slots": (["one_offset", "no_offsets", "no_large_offsets"], "Layout", [
         "offsets_too_short", "large_offsets_too_short", "no_offsets_for_a_slot", "two_bytes_of_offsets", "three_bytes_of_offsets"]),
     "the first offset is not negative": (["first_offset_above_zero", "text_behind_two_bytes"], "Layout", [
@@ -271,7 +300,7 @@ KINDS = ("Continuation MetadataSize Metadata Version Header BodyLength Order Uns
 
 # How many bytes some streams have.
 SIZES = {"growing_dictionary": 1376, "resent_dictionary": 1384, "int32_column": 336, "int32_column_64": 520,
-    "second_batch_left_out": 992, "dictionary_of_no_values": 1128}
+    "second_batch_left_out": 992, "dictionary_of_no_values": 1128, "all/doubles_and_no_batch": 152, "all/doubles": 328}
 
 # Of some batches, by the number of their frame, the first nodes, the first buffers, and the bytes with which the body begins.
 BODIES = {
@@ -288,11 +317,16 @@ BODIES = {
     ("text_behind_two_bytes", 1): ([(1, 0)], [(0, 0), (0, 8), (8, 3)], "02 00 00 00 03 00 00 00 78 78 61"),
     ("text_under_a_null_struct", 1): ([(1, 1), (1, 0)], [(0, 1), (8, 0), (8, 8), (16, 1)],
         "00 00 00 00 00 00 00 00 00 00 00 00 01 00 00 00 ff"),
+    ("all/doubles", 1): ([(2, 1)], [(0, 1), (8, 16)], "01 00 00 00 00 00 00 00 00 00 00 00 00 00 f8 3f 00 00 00 00 00 00 00 00"),
+    ("all/singles", 1): ([(2, 0)], [(0, 0), (0, 8)], "cd cc cc 3d 00 00 00 80"),
+    ("all/halves", 1): ([(3, 1)], [(0, 1), (8, 6)], "03 00 00 00 00 00 00 00 00 3c 01 7e 00 00 00 00"),
+    ("all/ends_of_halves", 1): ([(7, 0)], [(0, 0), (0, 14)], "01 00 ff 03 00 04 ff 7b 01 80 00 7c 00 fc 00 00"),
     ("large_texts", 1): ([(3, 1)], [(0, 1), (8, 32), (40, 3)], "05"),
     ("fixed_bytes", 1): ([(2, 1)], [(0, 1), (8, 6)], "01 00 00 00 00 00 00 00 00 01 ff 00 00 00"),
 }
 
-# Where parts stand in the schema and in the batch of the one batch, and in the schema with one pair, each from its frame's first byte.
+# Where parts stand in the schema and in the batch of the one batch, in the schema with one pair, and in that of doubles, each from its
+# frame's first byte.
 PLACES = {
     "schema": {"version": 28, "header_type": 30, "body_length": 40, "header.endianness": 60, "header.fields.0.nullable": 104,
         "header.fields.0.type_type": 105, "header.fields.0.name.bytes": 120, "header.fields.0.type.vtable.size": 122,
@@ -301,6 +335,10 @@ PLACES = {
     "batch": {"root": 8, "version": 28, "body_length": 40, "header.length": 72, "header.nodes.count": 92,
         "header.nodes.0.length": 96, "header.nodes.0.null_count": 104, "header.buffers.count": 116, "header.buffers.0.length": 128,
         "header.buffers.1.offset": 136, "body.0": 152},
+    "doubles": {"header.fields.0.vtable.size": 76, "header.fields.0.vtable.type": 86, "header.fields.0.to_vtable": 96,
+        "header.fields.0.type_type": 105, "header.fields.0.type": 108, "header.fields.0.name.count": 116,
+        "header.fields.0.type.vtable.size": 122, "header.fields.0.type.vtable.precision": 126,
+        "header.fields.0.type.to_vtable": 128, "header.fields.0.type.precision": 132, "header.fields.0.children.count": 136},
     "paired": {"header.to_vtable": 64, "header.custom_metadata.count": 160, "header.custom_metadata.0.to_vtable": 176},
 }
 
@@ -341,7 +379,8 @@ def wrong_bytes(files):
         wanted = bytes.fromhex(body)
         if (found[0][:len(nodes)], found[1][:len(buffers)], found[2][:len(wanted)]) != (nodes, buffers, wanted):
             yield f"{name}: another body: {found}"
-    its = {"schema": ONE.frames["schema"], "batch": ONE.frames["batch"], "paired": noted.numbers_with(noted.PAIR)}
+    its = {"schema": ONE.frames["schema"], "batch": ONE.frames["batch"], "paired": noted.numbers_with(noted.PAIR),
+        "doubles": schema(field("d", floating(2)))}
     for frame, places in PLACES.items():
         found = Parts(its[frame]).found
         yield from (f"{frame}.{name}: stands at {found[name].start}" for name,
@@ -366,7 +405,9 @@ def wrong(files):
 
 
 def quoted(names):
-    return ", ".join(f"`vectors/{it}`" if it.endswith(".changes") else f"`{it}`" for it in names)
+    """Names of vectors and of families, those of a folder with their places."""
+    places = ((f"vectors/{it}" if it.endswith(".changes") else f"vectors/{it}.txt" if "/" in it else it) for it in names)
+    return ", ".join(f"`{it}`" for it in places)
 
 
 def rules():

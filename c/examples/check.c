@@ -1,4 +1,4 @@
-/* usage: check schema|check|show FILE, check --bad [FILE..]
+/* usage: check [--types core|all] schema|check|show FILE, check --bad [FILE..]
  *
  * Prints what `arrowflow schema`, `check` and `show` print of a stream, and ends as they do. Before
  * that the stream is checked, and read again in pieces, which has to give the same, and each value
@@ -6,9 +6,19 @@
  */
 #include "arrowflow.h"
 
+#include <math.h>
 #include <stdio.h>
 #include <stdlib.h>
 #include <string.h>
+
+/* The types that are read: enum arrowflow_types. */
+static uint32_t types = ARROWFLOW_CORE_TYPES;
+
+static arrowflow_limits wanted_limits(void) {
+    arrowflow_limits limits = arrowflow_standard_limits();
+    limits.types = types;
+    return limits;
+}
 
 /* All of a file, which the caller frees, or NULL. */
 static uint8_t *read_file(const char *name, size_t *len) {
@@ -41,6 +51,27 @@ static uint64_t number_of(const arrowflow_column *of, size_t i) {
     return is_negative ? number | UINT64_MAX << 8 * of->width : number;
 }
 
+/* The floating-point number of two bytes (IEEE 754, binary16). */
+static double half_at(uint64_t bits) {
+    int exponent = bits >> 10 & 31;
+    double digits = (double)(bits & 1023), size = ldexp(exponent == 0 ? digits : digits + 1024, (exponent ? exponent : 1) - 25);
+    if (exponent == 31) size = digits > 0 ? (double)NAN : (double)INFINITY;
+    return bits >> 15 ? -size : size;
+}
+
+/* Whether a cell has the floating-point number of slot i, a zero's sign included; of NaNs, any. */
+static bool has_float(const arrowflow_column *of, size_t i, arrowflow_cell cell) {
+    uint64_t bits = number_at(of->values + of->width * i, of->width);
+    uint32_t single_bits = (uint32_t)bits;
+    float single;
+    double real;
+    memcpy(&single, &single_bits, sizeof single);
+    memcpy(&real, &bits, sizeof real);
+    if (of->width < 8) real = of->width == 4 ? (double)single : half_at(bits);
+    if (cell.what != ARROWFLOW_FLOAT || isnan(real)) return cell.what == ARROWFLOW_FLOAT && isnan(cell.real);
+    return memcmp(&real, &cell.real, sizeof real) == 0;
+}
+
 static bool bit_at(const uint8_t *bits, size_t i) { return bits[i / 8] >> i % 8 & 1; }
 
 /* Whether a cell has just these bytes, which the call put into the room. */
@@ -65,6 +96,7 @@ static bool is_in_column(arrowflow_reader *reader, size_t *path, size_t depth, s
     case ARROWFLOW_NUMBERS:
         return cell.what == ARROWFLOW_NUMBER ? (uint64_t)cell.number == number_of(&of, i)
                                              : cell.what == ARROWFLOW_LARGE && cell.large == number_of(&of, i);
+    case ARROWFLOW_FLOATS: return has_float(&of, i, cell);
     case ARROWFLOW_BINARIES: return has_bytes(cell, ARROWFLOW_BYTES, room, of.values + start, end - start);
     case ARROWFLOW_TEXTS: return has_bytes(cell, ARROWFLOW_UTF8, room, of.values + start, end - start);
     case ARROWFLOW_FIXED_BYTES: return has_bytes(cell, ARROWFLOW_BYTES, room, of.values + of.width * i, of.width);
@@ -97,7 +129,7 @@ static arrowflow_report in_pieces(const uint8_t *bytes, size_t len, size_t piece
     arrowflow_reader reader = ARROWFLOW_CLOSED;
     arrowflow_report found = {0, false, 0, 0, 0};
     arrowflow_step step = {0, 0, 0, 0, 0, 0, 0};
-    found.kind = arrowflow_reader_open(arrowflow_standard_limits(), &reader);
+    found.kind = arrowflow_reader_open(wanted_limits(), &reader);
     for (size_t at = 0; at < len && found.kind == ARROWFLOW_FINE && !found.ended; at += step.taken) {
         size_t given = len - at < piece ? len - at : piece;
         step = arrowflow_reader_read(&reader, bytes + at, given);
@@ -133,7 +165,7 @@ static call named(const char *command) {
 
 /* Prints the text that a call gives of the stream: the first call measures, the second fills. */
 static arrowflow_text print(call give, const uint8_t *bytes, size_t len) {
-    arrowflow_limits limits = arrowflow_standard_limits();
+    arrowflow_limits limits = wanted_limits();
     uint8_t none;
     arrowflow_text told = give(bytes, len, limits, &none, 0);
     uint8_t *text = malloc(told.size + 1);
@@ -152,7 +184,7 @@ static int tell(const char *command, const char *name) {
         fprintf(stderr, "cannot read %s\n", name);
         return 2;
     }
-    arrowflow_report report = arrowflow_check(bytes, len, arrowflow_standard_limits());
+    arrowflow_report report = arrowflow_check(bytes, len, wanted_limits());
     bool same = is_same(report, in_pieces(bytes, len, 7)) && is_same(report, in_pieces(bytes, len, len));
     arrowflow_text told = print(give, bytes, len);
     free(bytes);
@@ -184,11 +216,14 @@ static void bad_streams(void) {
     const arrowflow_options options = {false, false};
     arrowflow_limits fine = arrowflow_standard_limits(), high = fine;
     high.max_metadata = UINT64_MAX;
+    arrowflow_limits other = fine;
+    other.types = 2;
     uint8_t room[4] = {9, 9, 9, 9};
     WANT(arrowflow_check(NULL, 0, fine).kind == ARROWFLOW_NO_SCHEMA);
     WANT(arrowflow_check(junk, 0, fine).kind == ARROWFLOW_NO_SCHEMA);
     WANT(arrowflow_check(junk, 8, fine).kind == ARROWFLOW_CONTINUATION);
     WANT(arrowflow_check(junk, 8, high).kind == ARROWFLOW_BAD_LIMITS);
+    WANT(arrowflow_check(junk, 8, other).kind == ARROWFLOW_BAD_LIMITS);
     WANT(arrowflow_copy(NULL, 0, fine, options, NULL, 0).kind == ARROWFLOW_NO_SCHEMA);
     WANT(arrowflow_copy(junk, 8, fine, options, room, 4).kind == ARROWFLOW_CONTINUATION);
     WANT(arrowflow_copy(junk, 8, high, options, room, 4).kind == ARROWFLOW_BAD_LIMITS);
@@ -198,6 +233,7 @@ static void bad_streams(void) {
     for (size_t i = 0; i < sizeof calls / sizeof *calls; i++) {
         WANT(calls[i](junk, 8, fine, room, 4).kind == ARROWFLOW_CONTINUATION);
         WANT(calls[i](junk, 8, high, room, 4).kind == ARROWFLOW_BAD_LIMITS);
+        WANT(calls[i](junk, 8, other, room, 4).kind == ARROWFLOW_BAD_LIMITS);
         WANT(calls[i](junk, 8, fine, room, 4).size == 0);
     }
     WANT(room[0] == 9 && room[3] == 9);
@@ -273,7 +309,12 @@ int main(int argc, char **argv) {
         }
         return failed;
     }
+    if (argc == 5 && strcmp(argv[1], "--types") == 0) {
+        types = strcmp(argv[2], "all") == 0 ? ARROWFLOW_ALL_TYPES : ARROWFLOW_CORE_TYPES;
+        argv += 2;
+        argc -= 2;
+    }
     if (argc == 3) return tell(argv[1], argv[2]);
-    fprintf(stderr, "usage: check schema|check|show FILE, check --bad [FILE..]\n");
+    fprintf(stderr, "usage: check [--types core|all] schema|check|show FILE, check --bad [FILE..]\n");
     return 2;
 }

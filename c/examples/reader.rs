@@ -1,4 +1,4 @@
-//! usage: reader FILE PIECE, reader --bad
+//! usage: reader [--types core|all] FILE PIECE, reader --bad
 //!
 //! Reads a stream in pieces of so many bytes, and prints the number of the batch and the values of
 //! each row, as `arrowflow show` does below its first line; `...` stands for a list or a struct. Texts
@@ -17,6 +17,7 @@ mod c {
         pub max_metadata: u64,
         pub max_body: u64,
         pub max_rows: u64,
+        pub types: u32,
     }
 
     #[repr(C)]
@@ -51,6 +52,7 @@ mod c {
         pub truth: bool,
         pub number: i64,
         pub large: u64,
+        pub real: f64,
         pub size: u64,
     }
 
@@ -81,7 +83,7 @@ mod c {
     }
 }
 
-const STANDARD: c::Limits = c::Limits { max_metadata: 1 << 26, max_body: 1 << 36, max_rows: i32::MAX as u64 };
+const STANDARD: c::Limits = c::Limits { max_metadata: 1 << 26, max_body: 1 << 36, max_rows: i32::MAX as u64, types: 0 };
 
 /// A column of the batch that came last, as its buffers.
 struct Column<'a> {
@@ -210,6 +212,7 @@ fn shown(cell: c::Cell, bytes: &[u8]) -> String {
         4 => quoted(str::from_utf8(bytes).expect("UTF-8, as was checked")),
         7 => cell.large.to_string(),
         8 => "no cell".to_string(),
+        10 => format!("{:?}", cell.real),
         _ => "...".to_string(),
     }
 }
@@ -223,8 +226,8 @@ fn quoted(text: &str) -> String {
 }
 
 /// Prints the rows of a stream in pieces, and answers how it ends.
-fn print(stream: &[u8], size: usize, out: &mut impl Write) -> io::Result<c::Fault> {
-    let mut reader = Reader::new(STANDARD).expect("a reader");
+fn print(stream: &[u8], size: usize, types: u32, out: &mut impl Write) -> io::Result<c::Fault> {
+    let mut reader = Reader::new(c::Limits { types, ..STANDARD }).expect("a reader");
     let mut number = 0;
     for mut piece in stream.chunks(size) {
         loop {
@@ -259,6 +262,7 @@ fn bad() -> bool {
     let again = reader.read(b"more of it");
     let end = reader.end();
     Reader::new(high).is_err_and(|kind| kind == 20)
+        && Reader::new(c::Limits { types: 2, ..STANDARD }).is_err_and(|kind| kind == 20)
         && (nothing.kind, nothing.what, nothing.taken) == (0, 0, 0)
         && (fault.kind, fault.place, fault.taken) == (1, 0, 0)
         && again == fault
@@ -270,14 +274,16 @@ fn bad() -> bool {
 fn main() -> ExitCode {
     let words: Vec<String> = env::args().skip(1).collect();
     let words: Vec<&str> = words.iter().map(String::as_str).collect();
-    let (name, size) = match words[..] {
+    let (name, size, types) = match words[..] {
         ["--bad"] => return if bad() { ExitCode::SUCCESS } else { ExitCode::FAILURE },
-        [name, size] => (name, size.parse().expect("a number of bytes")),
-        _ => panic!("usage: reader FILE PIECE, reader --bad"),
+        [name, size] | ["--types", "core", name, size] => (name, size, 0),
+        ["--types", "all", name, size] => (name, size, 1),
+        _ => panic!("usage: reader [--types core|all] FILE PIECE, reader --bad"),
     };
     let stream = fs::read(name).expect("a file");
+    let size = size.parse().expect("a number of bytes");
     let mut out = BufWriter::new(io::stdout().lock());
-    let fault = print(&stream, size, &mut out).expect("an output");
+    let fault = print(&stream, size, types, &mut out).expect("an output");
     out.flush().expect("an output");
     if fault.kind == 0 {
         return ExitCode::SUCCESS;

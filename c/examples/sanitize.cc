@@ -1,4 +1,4 @@
-// usage: sanitize IN OUT, sanitize --bad IN
+// usage: sanitize [--types core|all] IN OUT, sanitize --bad IN
 //
 // Writes a stream again as `arrowflow copy` does, before another Arrow library reads it, and ends as
 // that does. With --bad the call is given less than the stream, no room, or bad limits.
@@ -22,12 +22,14 @@ struct Clean {
 
 /// Writes a stream again. The copy of a stream is mostly about as long: one call is enough where it
 /// fits into what was guessed, and else a second one gets the room that the first one told.
-Clean sanitize(const Bytes &stream, arrowflow_options options = {false, false}) {
+Clean sanitize(const Bytes &stream, std::uint32_t types = ARROWFLOW_CORE_TYPES) {
+    const arrowflow_options options = {false, false};
+    arrowflow_limits limits = arrowflow_standard_limits();
+    limits.types = types;
     Clean clean{Bytes(stream.size() + stream.size() / 4), {}};
     while (true) {
         std::size_t room = clean.bytes.size();
-        clean.told = arrowflow_copy(stream.data(), stream.size(), arrowflow_standard_limits(), options,
-                                    clean.bytes.data(), room);
+        clean.told = arrowflow_copy(stream.data(), stream.size(), limits, options, clean.bytes.data(), room);
         clean.bytes.resize(clean.told.size);
         if (clean.told.size <= room) return clean;
     }
@@ -40,8 +42,8 @@ bool read_file(const char *name, Bytes &bytes) {
     return static_cast<bool>(input);
 }
 
-int copy(const Bytes &stream, const char *out) {
-    Clean clean = sanitize(stream);
+int copy(const Bytes &stream, const char *out, std::uint32_t types) {
+    Clean clean = sanitize(stream, types);
     std::ofstream output(out, std::ios::binary);
     output.write(reinterpret_cast<const char *>(clean.bytes.data()), static_cast<std::streamsize>(clean.bytes.size()));
     output.close();
@@ -78,6 +80,7 @@ void bad(const Bytes &stream) {
     want(small == Bytes({0xff, 0xff, 0xff, 0xff, 7}), "and holds its front alone");
     told = arrowflow_copy(stream.data(), stream.size(), high, plain, small.data(), 4);
     want(told.kind == ARROWFLOW_BAD_LIMITS, "limits have ceilings");
+    want(sanitize(stream, 2).told.kind == ARROWFLOW_BAD_LIMITS, "there are two sets of types");
     arrowflow_reader reader = ARROWFLOW_CLOSED;
     const std::size_t path = 0;
     want(arrowflow_reader_open(limits, &reader) == ARROWFLOW_FINE, "a reader is opened");
@@ -92,17 +95,23 @@ void bad(const Bytes &stream) {
 } // namespace
 
 int main(int argc, char **argv) {
+    std::uint32_t types = ARROWFLOW_CORE_TYPES;
+    if (argc == 5 && std::strcmp(argv[1], "--types") == 0) {
+        types = std::strcmp(argv[2], "all") == 0 ? ARROWFLOW_ALL_TYPES : ARROWFLOW_CORE_TYPES;
+        argv += 2;
+        argc -= 2;
+    }
     bool is_bad = argc == 3 && std::strcmp(argv[1], "--bad") == 0;
     Bytes stream;
     if (argc != 3) {
-        std::cerr << "usage: sanitize IN OUT, sanitize --bad IN\n";
+        std::cerr << "usage: sanitize [--types core|all] IN OUT, sanitize --bad IN\n";
         return 2;
     }
     if (!read_file(argv[is_bad ? 2 : 1], stream)) {
         std::cerr << "cannot read " << argv[is_bad ? 2 : 1] << "\n";
         return 2;
     }
-    if (!is_bad) return copy(stream, argv[2]);
+    if (!is_bad) return copy(stream, argv[2], types);
     bad(stream);
     return failed;
 }

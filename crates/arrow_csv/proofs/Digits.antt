@@ -10,7 +10,7 @@ use Rattle.hex.specs.Hex.{encode_lower, encode_with, lower_digits}
 use Rattle.csv.specs.Writing.{default_writer, needs_byte, needs_quotes}
 
 -- a byte above the comma calls for none
-byte_plain : (b : ℕ) → 44 < b → needs_byte default_writer b ≡ false
+pub byte_plain : (b : ℕ) → 44 < b → needs_byte default_writer b ≡ false
 byte_plain b h = rw (ne_eqb b 44 (λ e. omega (arith, e, h)), ne_eqb b 34 (λ e. omega (arith, e, h)), ne_eqb b 13 (λ e. omega (arith, e, h)), ne_eqb b 10 (λ e. omega (arith, e, h))) refl
 
 -- no natural number calls for any

@@ -1,13 +1,16 @@
 -- Texts that are put together one by one.
-use Rattle.std.proofs.Common.{◌≡◌, ◌<◌, ◌≤◌, ◌+◌, ◌-◌, ℕ, zero, suc, List, [], ◌∷◌, ◌++◌, length, map, take, get_or, codes, refl, sym, ap, ◌∙◌, arith, append_assoc, append-nil}
-use Rattle.arrow_types.specs.Field.{Fields, none, more}
+use Rattle.std.proofs.Common.{◌≡◌, ◌<◌, ◌≤◌, ◌+◌, ◌-◌, ℕ, ℤ, zero, suc, List, [], ◌∷◌, ◌++◌, length, take, drop, get_or, codes, refl, sym, ap, ◌∙◌, subst, arith, append_assoc, append-nil}
+use Rattle.std.proofs.Math.Seq.{take-suc}
+use Rattle.std.proofs.lemmas.List.{get_or-drop, length-drop, take_all}
+use Rattle.arrow_types.specs.Field.{Head, Fields, none, more, TypeShape}
 use Rattle.arrow_types.specs.View.{field_view, fields_view}
 use Rattle.arrow_types.specs.declared.field.Field.{Field}
-use Rattle.arrow_data.specs.PlainValue.{PlainValue, value_at, values_of}
+use Rattle.arrow_data.specs.PlainValue.{PlainValue, int_value, list_value, struct_value, null_value, value_at, values_of}
 use Rattle.arrow_data.specs.Column.{Column, AreOf, resolved_row_of, values_from}
 use Rattle.arrow_data.specs.Shown.{ListsItems}
-use Rattle.arrow_data.proofs.Sameness.{at_values_from, length-values_from}
-use Rattle.arrow_csv.specs.Texts.{behind, joined, value_text, item_text, item_texts, part_texts}
+use Rattle.arrow_data.proofs.Sameness.{length-values_from}
+use Rattle.arrow_csv.specs.Floats.{IsNumberText}
+use Rattle.arrow_csv.specs.Texts.{Appends, ArePartTexts, AreItemTexts, Each, IsItemText, IsListOf, IsStructOf, IsText, behind, joined}
 
 -- one text more, behind others that each have their semicolon
 behind_next : (xs : List (List ℕ)) (y : List ℕ) → behind (xs ++ y ∷ []) ≡ behind xs ++ codes ";" ++ y
@@ -37,51 +40,101 @@ joined_next [] y = append-nil y
 joined_next (x ∷ xs) y =
     ap (λ t. x ++ t) (behind_next xs y) ∙ sym (append_assoc x (behind xs ++ codes ";") y) ∙ ap (λ t. t ++ y) (sym (append_assoc x (behind xs) (codes ";")))
 
--- the first k + 1 texts are the first k and text k
-take_next : (xs : List (List ℕ)) (k : ℕ) → k < length xs → (take (suc k) xs ≡ take k xs ++ get_or xs k [] ∷ []) × (length (take k xs) ≡ k)
-take_next [] k h = absurd (omega arith)
-take_next (x ∷ xs) zero h = (refl, refl)
-take_next (x ∷ xs) (suc k) h = let n = take_next xs k (omega arith) in (ap (λ t. x ∷ t) n.0, ap suc n.1)
+-- one text more, after what is there
+joined_behind : (xs : List (List ℕ)) (y old : List ℕ) (k : ℕ) → length xs ≡ k → old ++ joined xs ++ separator k ++ y ≡ old ++ joined (xs ++ y ∷ [])
+joined_behind xs y old k h =
+    let j = joined xs in
+    ap (λ t. t ++ y) (append_assoc old j (separator k)) ∙ append_assoc old (j ++ separator k) y ∙ ap (λ t. old ++ t) (ap (λ m. j ++ separator m ++ y) (sym h) ∙ sym (joined_next xs y))
 
--- one text more behind what stands there
-pub joined_more : (xs : List (List ℕ)) (k : ℕ) (old : List ℕ) → k < length xs → old ++ joined (take k xs) ++ separator k ++ get_or xs k [] ≡ old ++ joined (take (suc k) xs)
-joined_more xs k old h =
-    let n = take_next xs k h in
-    let j = joined (take k xs) in
-    let text = get_or xs k [] in
-    ap (λ t. t ++ text) (append_assoc old j (separator k)) ∙ append_assoc old (j ++ separator k) text
-    ∙ ap (λ t. old ++ t) (sym (ap joined n.0 ∙ joined_next (take k xs) text ∙ ap (λ m. j ++ separator m ++ text) n.1))
+-- one element more of each list
+pub each_more : {A B : Type 0} (R : A → B → Type 0) (xs : List A) (ys : List B) (x : A) (y : B) → Each R xs ys → R x y → Each R (xs ++ x ∷ []) (ys ++ y ∷ [])
+each_more R [] [] x y h one = (one, tt)
+each_more R [] (z ∷ ys) x y h one = absurd h
+each_more R (w ∷ xs) [] x y h one = absurd h
+each_more R (w ∷ xs) (z ∷ ys) x y h one = (h.0, each_more R xs ys x y h.1 one)
 
--- the texts of items
-items_of_list : (head_children : Fields) (fields : Fields) (vs : List PlainValue) → ((v : PlainValue) (rest : List PlainValue) → item_texts fields (values_of (v ∷ rest)) ≡ item_text head_children v ∷ item_texts fields (values_of rest))
-    → item_texts fields (values_of []) ≡ [] → item_texts fields (values_of vs) ≡ map (item_text head_children) vs
-items_of_list children fields [] step stop = stop
-items_of_list children fields (v ∷ vs) step stop = step v vs ∙ ap (λ ts. item_text children v ∷ ts) (items_of_list children fields vs step stop)
+-- the lists are equally long
+each_long : {A B : Type 0} (R : A → B → Type 0) (xs : List A) (ys : List B) → Each R xs ys → length xs ≡ length ys
+each_long R [] [] h = refl
+each_long R [] (z ∷ ys) h = absurd h
+each_long R (w ∷ xs) [] h = absurd h
+each_long R (w ∷ xs) (z ∷ ys) h = ap suc (each_long R xs ys h.1)
 
--- the texts of a list's items are those of its values, each by the child's type
-pub items_shown : (fields : Fields) (child : Column) (vs : List PlainValue) → AreOf fields (child ∷ []) → item_texts fields (values_of vs) ≡ map (item_text child.data_type.children) vs
-items_shown none child vs typed = absurd typed
-items_shown (more head children rest) child vs typed =
-    items_of_list children (more head children rest) vs (λ v r. refl) refl ∙ ap (λ f. map (item_text f) vs) (sym (ap (λ t. t.children) typed.0))
+-- ---- the items of a list
 
--- the text of one item
-pub item_at : (f : PlainValue → List ℕ) (vs : List PlainValue) (start end k : ℕ) → end ≤ length vs → start ≤ k → k < end
-    → (get_or (map f (values_from vs start end)) (k - start) [] ≡ f (value_at vs k)) × (k - start < length (map f (values_from vs start end)))
-item_at f vs start end k inside low high =
-    let long = length-values_from vs start end inside in
-    let l : k - start < length (values_from vs start end) = omega (arith, long) in
+-- texts of the values from `start` up to k come after what was there
+abbrev pub ItemsStand : TypeShape → List PlainValue → ℕ → ℕ → List ℕ → List ℕ → Type 0
+ItemsStand type vs start k old out = (texts : List (List ℕ)) × Each (IsItemText type) (values_from vs start k) texts × (out ≡ old ++ joined texts)
+
+values_next : (vs : List PlainValue) (start k : ℕ) → start ≤ k → k < length vs → values_from vs start (k + 1) ≡ values_from vs start k ++ value_at vs k ∷ []
+values_next vs start k low high =
+    let rest = drop start vs in
+    let inside : k - start < length rest = omega (arith, low, high, length-drop start vs) in
+    let next : k + 1 - start ≡ suc (k - start) = omega (arith, low) in
     let place : start + (k - start) ≡ k = omega (arith, low) in
-    let at : value_at (values_from vs start end) (k - start) ≡ value_at vs k = at_values_from vs start end (k - start) (omega arith) ∙ ap (value_at vs) place in
-    (get_map f (values_from vs start end) (k - start) l ∙ ap f at, omega (arith, length_map f (values_from vs start end)))
-  where
-    get_map : (f : PlainValue → List ℕ) (xs : List PlainValue) (j : ℕ) → j < length xs → get_or (map f xs) j [] ≡ f (value_at xs j)
-    get_map f [] j h = absurd (omega arith)
-    get_map f (x ∷ xs) zero h = refl
-    get_map f (x ∷ xs) (suc j) h = get_map f xs j (omega arith)
+    ap (λ n. take n rest) next ∙ take-suc rest (k - start) null_value inside
+    ∙ ap (λ v. take (k - start) rest ++ v ∷ []) (get_or-drop start vs (k - start) null_value ∙ ap (value_at vs) place)
 
-    length_map : (f : PlainValue → List ℕ) (xs : List PlainValue) → length (map f xs) ≡ length xs
-    length_map f [] = refl
-    length_map f (x ∷ xs) = ap suc (length_map f xs)
+-- of no values there are none
+pub items_none : (type : TypeShape) (vs : List PlainValue) (start : ℕ) (old : List ℕ) → ItemsStand type vs start start old old
+items_none type vs start old =
+    let none : 0 ≡ start - start = omega arith in
+    ([], subst (λ n. Each (IsItemText type) (take n (drop start vs)) []) none tt, sym (append-nil old))
+
+-- one item more
+pub items_more : (type : TypeShape) (vs : List PlainValue) (start k : ℕ) (old out before new : List ℕ) → start ≤ k → k < length vs → ItemsStand type vs start k old out → before ≡ out ++ separator (k - start)
+    → Appends (IsItemText type (value_at vs k)) before new → ItemsStand type vs start (k + 1) old new
+items_more type vs start k old out before new low high stand parted put =
+    let texts = stand.0 in
+    let text = put.0 in
+    let long : length texts ≡ k - start = sym (each_long (IsItemText type) (values_from vs start k) texts stand.1) ∙ length-values_from vs start k (omega (arith, high)) in
+    let each = subst (λ xs. Each (IsItemText type) xs (texts ++ text ∷ [])) (sym (values_next vs start k low high)) (each_more (IsItemText type) (values_from vs start k) texts (value_at vs k) text stand.1 put.1) in
+    (texts ++ text ∷ [], each, put.2 ∙ ap (λ t. t ++ text) (parted ∙ ap (λ t. t ++ separator (k - start)) stand.2) ∙ joined_behind texts text old (k - start) long)
+
+-- what is between two brackets
+between : (old first inner last out new : List ℕ) → out ≡ old ++ first ++ inner → new ≡ out ++ last → new ≡ old ++ (first ++ inner ++ last)
+between old first inner last out new is all =
+    all ∙ ap (λ t. t ++ last) (is ∙ append_assoc old first inner) ∙ append_assoc old (first ++ inner) last
+
+-- all items
+pub items_done : (type : TypeShape) (vs : List PlainValue) (start k end : ℕ) (old out new : List ℕ) → k ≡ end → ItemsStand type vs start k (old ++ codes "[") out → new ≡ out ++ codes "]"
+    → Appends (IsListOf type (values_from vs start end)) old new
+items_done type vs start k end old out new at stand all =
+    let texts = stand.0 in
+    let each = subst (λ n. Each (IsItemText type) (values_from vs start n) texts) at stand.1 in
+    (codes "[" ++ joined texts ++ codes "]", (texts, each, refl), between old (codes "[") (joined texts) (codes "]") out new stand.2 all)
+
+-- texts of a list's items are those of its values, each by the child's type
+items_are : (fields : Fields) (child : Column) (vs : List PlainValue) (texts : List (List ℕ)) → AreOf fields (child ∷ []) → Each (IsItemText child.data_type) vs texts → AreItemTexts fields (values_of vs) texts
+items_are none child vs texts typed h = absurd typed
+items_are (more head children rest) child [] [] typed h = refl
+items_are (more head children rest) child [] (t ∷ texts) typed h = absurd h
+items_are (more head children rest) child (v ∷ vs) [] typed h = absurd h
+items_are (more head children rest) child (v ∷ vs) (t ∷ texts) typed h = (subst (λ type. IsItemText type v t) typed.0 h.0, items_are (more head children rest) child vs texts typed h.1)
+
+-- a text of the items is one of the list
+pub list_text : (c child : Column) (i start stop : ℕ) (null text : List ℕ) → ListsItems c i start stop child → IsListOf child.data_type (values_from child.resolved start stop) text → IsText null c.data_type (value_at c.resolved i) text
+list_text c child i start stop null text h list =
+    let is : IsText null c.data_type (list_value (values_of (values_from child.resolved start stop))) text =
+    (list.0, items_are c.data_type.children child (values_from child.resolved start stop) list.0 h.typed list.1, list.2) in
+    subst (λ v. IsText null c.data_type v text) (sym h.same) is
+
+-- a text of the number is one of the value
+pub number_text : (null : List ℕ) (type from : TypeShape) (v : PlainValue) (z : ℤ) (text : List ℕ) → v ≡ int_value z → from ≡ type → IsNumberText from.tag z text → IsText null type v text
+number_text null type from v z text holds same is =
+    subst (λ w. IsText null type w text) (sym holds) (subst (λ (x : TypeShape). IsNumberText x.tag z text) same is)
+
+-- a text of the parts is one of the struct
+pub struct_text : (null : List ℕ) (type : TypeShape) (fields : Fields) (values : List PlainValue) (v : PlainValue) (text : List ℕ) → v ≡ struct_value (values_of values) → fields ≡ type.children → IsStructOf fields values text → IsText null type v text
+struct_text null type fields values v text holds same is =
+    let own : IsText null type (struct_value (values_of values)) text = (is.0, subst (λ fs. ArePartTexts fs (values_of values) is.0) same is.1, is.2) in
+    subst (λ w. IsText null type w text) (sym holds) own
+
+-- more is known of what was appended
+pub appends_weaker : (P Q : List ℕ → Type 0) (old new : List ℕ) → ((text : List ℕ) → P text → Q text) → Appends P old new → Appends Q old new
+appends_weaker P Q old new f h = (h.0, f h.0 h.1, h.2)
+
+-- ---- the values of a struct
 
 -- there are as many fields as columns
 pub as_many : (fs : List Field) (cs : List Column) → AreOf (fields_view fs) cs → length fs ≡ length cs
@@ -90,31 +143,65 @@ as_many [] (c ∷ cs) h = absurd h
 as_many (f ∷ fs) [] h = absurd h
 as_many (f ∷ fs) (c ∷ cs) h = ap suc (as_many fs cs h.2)
 
--- the text of one field
-pub part_at : (fs : List Field) (cs : List Column) (place k : ℕ) (f : Field) (c : Column) → AreOf (fields_view fs) cs → k < length cs → f ≡ get_or fs k f → c ≡ get_or cs k c
-    → (get_or (part_texts (fields_view fs) (values_of (resolved_row_of cs place))) k [] ≡ (field_view f).head.name ++ codes "=" ++ item_text c.data_type.children (value_at c.resolved place))
-part_at [] [] place k f c typed h p q = absurd (omega arith)
-part_at [] (d ∷ ds) place k f c typed h p q = absurd typed
-part_at (g ∷ gs) [] place k f c typed h p q = absurd typed
-part_at (g ∷ gs) (d ∷ ds) place zero f c typed h p q =
-    ap (λ children. (field_view g).head.name ++ codes "=" ++ item_text children (value_at d.resolved place)) (sym (ap (λ t. t.children) typed.0))
-    ∙ sym (ap (λ x. (field_view x).head.name ++ codes "=" ++ item_text d.data_type.children (value_at d.resolved place)) p)
-    ∙ sym (ap (λ x. (field_view f).head.name ++ codes "=" ++ item_text x.data_type.children (value_at x.resolved place)) q)
-part_at (g ∷ gs) (d ∷ ds) place (suc k) f c typed h p q = part_at gs ds place k f c typed.2 (omega arith) p q
+-- texts of the first k fields come after what was there
+abbrev pub PartsStand : List Field → List Column → ℕ → ℕ → List ℕ → List ℕ → Type 0
+PartsStand fs cs place k old out = (texts : List (List ℕ)) × ArePartTexts (fields_view (take k fs)) (values_of (resolved_row_of (take k cs) place)) texts × (out ≡ old ++ joined texts)
 
--- a struct has as many texts as columns
-pub length-parts : (fs : List Field) (cs : List Column) (place : ℕ) → AreOf (fields_view fs) cs → length (part_texts (fields_view fs) (values_of (resolved_row_of cs place))) ≡ length cs
-length-parts [] [] place h = refl
-length-parts [] (c ∷ cs) place h = absurd h
-length-parts (f ∷ fs) [] place h = absurd h
-length-parts (f ∷ fs) (c ∷ cs) place h = ap suc (length-parts fs cs place h.2)
+part_text : (head : Head) (children : Fields) (d c : Column) (place : ℕ) (own text : List ℕ) → d.data_type ≡ record { tag = head.tag; children = children } → c ≡ d → IsItemText c.data_type (value_at c.resolved place) own → text ≡ head.name ++ codes "=" ++ own
+    → (w : List ℕ) × IsText (codes "null") (record { tag = head.tag; children = children }) (value_at d.resolved place) w × (text ≡ head.name ++ codes "=" ++ w)
+part_text head children d c place own text typed same is named =
+    (own, subst (λ type. IsItemText type (value_at d.resolved place) own) typed (subst (λ (x : Column). IsItemText x.data_type (value_at x.resolved place) own) same is), named)
 
--- the text of a list is that of its items
-pub list_shown : (c child : Column) (i start stop : ℕ) (null old : List ℕ) → ListsItems c i start stop child
-    → old ++ codes "[" ++ joined (map (item_text child.data_type.children) (values_from child.resolved start stop)) ++ codes "]" ≡ old ++ value_text null c.data_type.children (value_at c.resolved i)
-list_shown c child i start stop null old h =
-    let vs = values_from child.resolved start stop in
-    let texts = map (item_text child.data_type.children) vs in
-    ap (λ t. t ++ codes "]") (append_assoc old (codes "[") (joined texts)) ∙ append_assoc old (codes "[" ++ joined texts) (codes "]")
-    ∙ ap (λ ts. old ++ (codes "[" ++ joined ts ++ codes "]")) (sym (items_shown c.data_type.children child vs h.typed))
-    ∙ ap (λ v. old ++ value_text null c.data_type.children v) (sym h.same)
+parts_next : (fs : List Field) (cs : List Column) (place k : ℕ) (f : Field) (c : Column) (texts : List (List ℕ)) (own text : List ℕ) → AreOf (fields_view fs) cs → k < length cs → f ≡ get_or fs k f → c ≡ get_or cs k c
+    → ArePartTexts (fields_view (take k fs)) (values_of (resolved_row_of (take k cs) place)) texts
+    → IsItemText c.data_type (value_at c.resolved place) own → text ≡ (field_view f).head.name ++ codes "=" ++ own
+    → ArePartTexts (fields_view (take (suc k) fs)) (values_of (resolved_row_of (take (suc k) cs) place)) (texts ++ text ∷ [])
+parts_next [] [] place k f c texts own text typed h p q stand is named = absurd (omega arith)
+parts_next [] (d ∷ ds) place k f c texts own text typed h p q stand is named = absurd typed
+parts_next (g ∷ gs) [] place k f c texts own text typed h p q stand is named = absurd typed
+parts_next (g ∷ gs) (d ∷ ds) place zero f c [] own text typed h p q stand is named =
+    (part_text (field_view g).head (field_view g).children d c place own text typed.0 q is (named ∙ ap (λ x. (field_view x).head.name ++ codes "=" ++ own) p), refl)
+parts_next (g ∷ gs) (d ∷ ds) place zero f c (t ∷ texts) own text typed h p q stand is named = absurd (cc stand)
+parts_next (g ∷ gs) (d ∷ ds) place (suc k) f c [] own text typed h p q stand is named = absurd stand
+parts_next (g ∷ gs) (d ∷ ds) place (suc k) f c (t ∷ texts) own text typed h p q stand is named =
+    (stand.0, parts_next gs ds place k f c texts own text typed.2 (omega (arith, h)) p q stand.1 is named)
+
+parts_long : (fs : List Field) (cs : List Column) (place k : ℕ) (texts : List (List ℕ)) → AreOf (fields_view fs) cs → k ≤ length cs → ArePartTexts (fields_view (take k fs)) (values_of (resolved_row_of (take k cs) place)) texts → length texts ≡ k
+parts_long fs cs place zero texts typed h stand = ap length stand
+parts_long [] [] place (suc k) texts typed h stand = absurd (omega (arith, h))
+parts_long [] (d ∷ ds) place (suc k) texts typed h stand = absurd typed
+parts_long (g ∷ gs) [] place (suc k) texts typed h stand = absurd typed
+parts_long (g ∷ gs) (d ∷ ds) place (suc k) [] typed h stand = absurd stand
+parts_long (g ∷ gs) (d ∷ ds) place (suc k) (t ∷ texts) typed h stand = ap suc (parts_long gs ds place k texts typed.2 (omega (arith, h)) stand.1)
+
+-- of no fields there are none
+pub parts_none : (fs : List Field) (cs : List Column) (place : ℕ) (old : List ℕ) → PartsStand fs cs place 0 old old
+parts_none fs cs place old = ([], refl, sym (append-nil old))
+
+-- one field more: its name, and a text of its value
+pub parts_more : (fs : List Field) (cs : List Column) (place k : ℕ) (f : Field) (c : Column) (old out before named new : List ℕ) → AreOf (fields_view fs) cs → k < length cs → f ≡ get_or fs k f → c ≡ get_or cs k c → PartsStand fs cs place k old out
+    → before ≡ out ++ separator k → named ≡ before ++ (field_view f).head.name ++ codes "=" → Appends (IsItemText c.data_type (value_at c.resolved place)) named new → PartsStand fs cs place (k + 1) old new
+parts_more fs cs place k f c old out before named new typed h p q stand parted has put =
+    let texts = stand.0 in
+    let own = put.0 in
+    let name = (field_view f).head.name in
+    let text = name ++ codes "=" ++ own in
+    let long = parts_long fs cs place k texts typed (omega (arith, h)) stand.1 in
+    let next : suc k ≡ k + 1 = omega arith in
+    let start = old ++ joined texts ++ separator k in
+    let all = subst (λ n. ArePartTexts (fields_view (take n fs)) (values_of (resolved_row_of (take n cs) place)) (texts ++ text ∷ [])) next (parts_next fs cs place k f c texts own text typed h p q stand.1 put.1 refl) in (
+      texts ++ text ∷ [],
+      all,
+      put.2 ∙ ap (λ t. t ++ own) (has ∙ ap (λ t. t ++ name ++ codes "=") (parted ∙ ap (λ t. t ++ separator k) stand.2))
+          ∙ ap (λ t. t ++ own) (append_assoc start name (codes "=")) ∙ append_assoc start (name ++ codes "=") own ∙ joined_behind texts text old k long,
+    )
+
+-- all fields
+pub parts_done : (fs : List Field) (cs : List Column) (place k : ℕ) (old out new : List ℕ) → AreOf (fields_view fs) cs → length cs ≤ k → PartsStand fs cs place k (old ++ codes "{") out → new ≡ out ++ codes "}"
+    → Appends (IsStructOf (fields_view fs) (resolved_row_of cs place)) old new
+parts_done fs cs place k old out new typed h stand all =
+    let texts = stand.0 in
+    let fields = take_all k fs (omega (arith, h, as_many fs cs typed)) in
+    let columns = take_all k cs h in
+    let are = subst (λ ds. ArePartTexts (fields_view fs) (values_of (resolved_row_of ds place)) texts) columns (subst (λ gs. ArePartTexts (fields_view gs) (values_of (resolved_row_of (take k cs) place)) texts) fields stand.1) in
+    (codes "{" ++ joined texts ++ codes "}", (texts, are, refl), between old (codes "{") (joined texts) (codes "}") out new stand.2 all)

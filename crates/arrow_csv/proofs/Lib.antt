@@ -2,5 +2,8 @@ pub mod Joining
 pub mod Written
 mod Chunked
 mod Digits
+mod Numerals
+mod FloatTexts
 mod Making
 pub mod Naming
+pub mod Some

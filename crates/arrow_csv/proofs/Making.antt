@@ -1,15 +1,14 @@
 -- Fields of a dictionary's values, made one by one.
-use Rattle.std.proofs.Common.{◌≡◌, ◌<◌, ◌≤◌, ◌+◌, ◌-◌, ℕ, List, [], ◌∷◌, ◌++◌, inl, inr, length, take, get_or, slice_range, sym, ap, ap₂, ◌∙◌, subst, arith}
+use Rattle.std.proofs.Common.{◌≡◌, ◌<◌, ◌≤◌, ◌+◌, ◌-◌, ℕ, List, [], ◌∷◌, ◌++◌, inl, inr, length, take, get_or, slice_range, sym, ap, ◌∙◌, subst, arith}
 use Rattle.std.proofs.Math.Seq.{take-append_seam, drop-append_seam, get_or-append_seam}
 use Rattle.std.proofs.lemmas.Bool.{cases_lt}
 use Rattle.std.proofs.lemmas.List.{get_or_append_left, length-append, take_all}
 use Rattle.bytes.proofs.Ranges.{slice_range_front}
-use Rattle.csv.specs.Writing.{default_writer, field_text}
 use Rattle.arrow_types.specs.Schema.{has_encoding}
 use Rattle.arrow_data.specs.Column.{Column, HasValue, IsColumn, IsValueList, ValueList}
 use Rattle.arrow_data.specs.PlainValue.{value_at}
-use Rattle.arrow_csv.specs.Made.{AreFirst, IsField, field_of}
-use Rattle.arrow_csv.specs.Texts.{value_text}
+use Rattle.arrow_csv.specs.Made.{AreFirst, IsEntryField, IsField}
+use Rattle.arrow_csv.specs.Texts.{IsFieldOf}
 
 -- a field that stood there still does behind which more was put
 kept : (d : ValueList) (bytes places field : List ℕ) (place n : ℕ) → n + 1 < length places → IsField d bytes places n → IsField d (bytes ++ field) (places ++ place ∷ []) n
@@ -22,7 +21,7 @@ kept d bytes places field place n h f =
     record {
       ordered = rw (from, to) f.ordered;
       inside = rw to (omega (arith, long, f.inside));
-      same = rw (from, to) (sym (slice_range_front bytes (bytes ++ field) start end (length bytes) (take-append_seam bytes field) f.inside) ∙ f.same);
+      same = rw (from, to) (subst (IsEntryField d n) (slice_range_front bytes (bytes ++ field) start end (length bytes) (take-append_seam bytes field) f.inside) f.same);
     }
 
 -- what was put behind all of a list is its end
@@ -32,7 +31,7 @@ seam bytes field =
     ap (take (length (bytes ++ field) - length bytes)) (drop-append_seam bytes field) ∙ take_all (length (bytes ++ field) - length bytes) field long
 
 -- one field more
-pub first_more : (d : ValueList) (bytes places field : List ℕ) (count : ℕ) → AreFirst d bytes places count → field ≡ field_of d count
+pub first_more : (d : ValueList) (bytes places field : List ℕ) (count : ℕ) → AreFirst d bytes places count → IsEntryField d count field
     → AreFirst d (bytes ++ field) (places ++ length (bytes ++ field) ∷ []) (count + 1)
 first_more d bytes places field count h is =
     let place = length (bytes ++ field) in
@@ -42,7 +41,7 @@ first_more d bytes places field count h is =
     let new : IsField d (bytes ++ field) (places ++ place ∷ []) count = record {
       ordered = rw (before, last) (omega (arith, length-append bytes field));
       inside = rw last (omega arith);
-      same = rw (before, last) (seam bytes field ∙ is);
+      same = rw (before, last) (subst (IsEntryField d count) (sym (seam bytes field)) is);
     } in
     let each : (n : ℕ) → n < count + 1 → IsField d (bytes ++ field) (places ++ place ∷ []) n = λ n less. elim (cases_lt n count) [
       | inl lower ↦ kept d bytes places field place n (omega (arith, at, lower)) (h.each n lower)
@@ -58,11 +57,11 @@ first_more d bytes places field count h is =
 pub none_yet : (d : ValueList) → AreFirst d [] (0 ∷ []) 0
 none_yet d = record { long = omega arith; last = omega arith; each = λ n h. absurd (omega (arith, h)) }
 
--- the field of a value is that of the slot where it stands
-pub entry_field : (d : ValueList) (n : ℕ) (values : Column) (place : ℕ) → IsValueList d → IsColumn values → HasValue d n values place
-    → field_text default_writer (value_text [] values.data_type.children (value_at values.resolved place)) ≡ field_of d n
-entry_field d n values place known column has =
+-- a field of the slot where a value stands is one of the value
+pub entry_field : (d : ValueList) (n : ℕ) (values : Column) (place : ℕ) (field : List ℕ) → IsValueList d → IsColumn values → HasValue d n values place
+    → IsFieldOf values.data_type (value_at values.resolved place) field → IsEntryField d n field
+entry_field d n values place field known column has is =
     let children = ap (λ t. t.children) has.typed in
     let plain = column.plain has.plain (ap has_encoding children ∙ known.flat) in
     let value : value_at values.resolved place ≡ value_at d.values n = ap (λ vs. value_at vs place) plain ∙ sym has.same in
-    ap₂ (λ f v. field_text default_writer (value_text [] f v)) children value
+    subst (λ type. IsFieldOf type (value_at d.values n) field) has.typed (subst (λ v. IsFieldOf values.data_type v field) value is)

@@ -1,4 +1,5 @@
 pub mod Texts
+pub mod Floats
 pub mod Records
 pub mod Chunks
 pub mod Made

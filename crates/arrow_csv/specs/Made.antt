@@ -1,20 +1,19 @@
 -- Fields that are made before the rows which they stand in. Only the crate's private clauses cite these.
-use Rattle.std.specs.Prelude.{◌≡◌, ◌≤◌, ◌<◌, ◌+◌, ℕ, List, [], length, get_or, slice_range, ⊤, Option, None, Some}
-use Rattle.csv.specs.Writing.{default_writer, field_text}
+use Rattle.std.specs.Prelude.{◌≡◌, ◌≤◌, ◌<◌, ◌+◌, ℕ, List, length, get_or, slice_range, ⊤, Option, None, Some}
 use Rattle.arrow_data.specs.Column.{Column, HasDictionary, ValueList}
 use Rattle.arrow_data.specs.PlainValue.{value_at}
-use Rattle.arrow_csv.specs.Texts.{value_text}
+use Rattle.arrow_csv.specs.Texts.{IsFieldOf}
 use Rattle.arrow_csv.specs.declared.column_text.EntryFields.{EntryFields}
 
--- the field of value n of a dictionary
-abbrev pub field_of : ValueList → ℕ → List ℕ
-field_of d n = field_text default_writer (value_text [] d.data_type.children (value_at d.values n))
+-- a field of value n of a dictionary
+abbrev pub IsEntryField : ValueList → ℕ → List ℕ → Type 0
+IsEntryField d n field = IsFieldOf d.data_type (value_at d.values n) field
 
 -- field n lies between place n and the next one
 pub record IsField (d : ValueList) (bytes places : List ℕ) (n : ℕ) : Type 0 where
   pub ordered : get_or places n 0 ≤ get_or places (n + 1) 0
   pub inside : get_or places (n + 1) 0 ≤ length bytes
-  pub same : slice_range bytes (get_or places n 0) (get_or places (n + 1) 0) ≡ field_of d n
+  pub same : IsEntryField d n (slice_range bytes (get_or places n 0) (get_or places (n + 1) 0))
 
 -- the first `count` fields do, and the last of them ends with the bytes
 pub record AreFirst (d : ValueList) (bytes places : List ℕ) (count : ℕ) : Type 0 where

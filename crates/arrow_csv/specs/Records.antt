@@ -1,15 +1,15 @@
 -- The records of a schema and of rows (RFC 4180, with line feeds; the quoting is that of the crate `csv` by default).
-use Rattle.std.specs.Prelude.{◌+◌, ◌-◌, ◌++◌, ℕ, List, [], ◌∷◌, map, codes, Option, None, Some, refl}
+use Rattle.std.specs.Prelude.{◌≡◌, ◌+◌, ◌-◌, ◌++◌, ℕ, List, [], ◌∷◌, codes, Option, None, Some, refl}
 use Rattle.std.specs.Coded.{Coded, code_by, coded×, coded_ℕ}
 use Rattle.std.specs.Fmt.{decimal}
 use Rattle.std.specs.List.{flat_map, range_with_len}
-use Rattle.csv.specs.Writing.{default_writer, row_text}
+use Rattle.csv.specs.Writing.{default_writer, fields_text, row_text}
 use Rattle.arrow_types.specs.Field.{Fields, none, more}
 use Rattle.arrow_types.specs.Notes.{SchemaShape}
 use Rattle.arrow_data.specs.Batch.{Table, table_code}
 use Rattle.arrow_data.specs.Column.{Column}
 use Rattle.arrow_data.specs.PlainValue.{value_at}
-use Rattle.arrow_csv.specs.Texts.{value_text}
+use Rattle.arrow_csv.specs.Texts.{Each, IsText}
 
 -- one record of these fields, with its line feed
 abbrev pub record_of : List (List ℕ) → List ℕ
@@ -24,21 +24,26 @@ names (more head children rest) = head.name ∷ names rest
 abbrev pub header_record : Fields → List ℕ
 header_record schema = record_of (codes "batch" ∷ names schema)
 
--- the texts of the columns' values in slot i, indices looked up; a null is empty
-abbrev pub column_texts : List Column → ℕ → List (List ℕ)
-column_texts columns i = map (λ (c : Column). value_text [] c.data_type.children (value_at c.resolved i)) columns
+-- texts of the columns' values in slot i, indices looked up; a null is empty
+abbrev pub AreColumnTexts : ℕ → List Column → List (List ℕ) → Type 0
+AreColumnTexts i columns texts = Each (λ (c : Column) text. IsText [] c.data_type (value_at c.resolved i) text) columns texts
 
--- the record of row i of the batch of this number
-abbrev pub row_record : ℕ → Table → ℕ → List ℕ
-row_record number batch i = record_of (decimal number ∷ column_texts batch.columns i)
+-- a row whose first field is given: texts of the values after it, each after a comma, and a line feed
+abbrev pub IsRowBehind : List ℕ → List Column → ℕ → List ℕ → Type 0
+IsRowBehind head columns i text = (texts : List (List ℕ)) × AreColumnTexts i columns texts × (text ≡ head ++ (fields_text default_writer texts ++ codes "\n"))
 
--- the records of the rows from `start` up to `end` of these columns
-abbrev pub column_rows : ℕ → List Column → ℕ → ℕ → List ℕ
-column_rows number columns start end = flat_map (λ i. record_of (decimal number ∷ column_texts columns i)) (range_with_len start (end - start))
+-- the records of rows whose values have these texts, in the batch of this number
+abbrev pub rows_text : ℕ → List (List (List ℕ)) → List ℕ
+rows_text number rows = flat_map (λ texts. record_of (decimal number ∷ texts)) rows
 
--- the same of a batch
-abbrev pub batch_rows : ℕ → Table → ℕ → ℕ → List ℕ
-batch_rows number batch start end = flat_map (row_record number batch) (range_with_len start (end - start))
+-- records of so many rows of these columns from `start` on
+abbrev pub AreRows : ℕ → List Column → ℕ → ℕ → List ℕ → Type 0
+AreRows number columns start count text =
+    (rows : List (List (List ℕ))) × Each (λ i texts. AreColumnTexts i columns texts) (range_with_len start count) rows × (text ≡ rows_text number rows)
+
+-- records of the rows from `start` up to `end` of a batch
+abbrev pub AreBatchRows : ℕ → Table → ℕ → ℕ → List ℕ → Type 0
+AreBatchRows number batch start end text = AreRows number batch.columns start (end - start) text
 
 -- a batch, and its number in the stream
 pub record NumberedBatch : Type 0 where
@@ -49,12 +54,13 @@ pub record NumberedBatch : Type 0 where
 abbrev pub numbered_code : Coded NumberedBatch
 numbered_code = code_by (ℕ × Table) (coded× coded_ℕ table_code) (λ r. (r.number, r.batch)) (λ p. record { number = p.0; batch = p.1 }) (λ _. refl)
 
--- the records of batches, the first of which has this number
-abbrev pub batches_text : ℕ → List Table → List ℕ
-batches_text number [] = []
-batches_text number (batch ∷ batches) = batch_rows number batch 0 batch.rows ++ batches_text (number + 1) batches
+-- records of batches, the first of which has this number
+abbrev pub AreBatches : ℕ → List Table → List ℕ → Type 0
+AreBatches number [] text = text ≡ []
+AreBatches number (batch ∷ batches) text =
+    (first : List ℕ) × (others : List ℕ) × AreBatchRows number batch 0 batch.rows first × AreBatches (number + 1) batches others × (text ≡ first ++ others)
 
--- the records of a stream: those of its schema and of its batches, none without a schema
-abbrev pub stream_text : Option SchemaShape → List Table → List ℕ
-stream_text None batches = []
-stream_text (Some shape) batches = header_record shape.fields ++ batches_text 0 batches
+-- records of a stream: those of its schema and of its batches, none without a schema
+abbrev pub IsStreamText : Option SchemaShape → List Table → List ℕ → Type 0
+IsStreamText None batches text = text ≡ []
+IsStreamText (Some shape) batches text = (records : List ℕ) × AreBatches 0 batches records × (text ≡ header_record shape.fields ++ records)

@@ -1,9 +1,10 @@
 -- The text of a value. (This project's own: the standard gives none.)
-use Rattle.std.specs.Prelude.{ℕ, true, false, List, [], ◌∷◌, ◌++◌, codes}
-use Rattle.std.specs.Fmt.{signed_decimal}
+use Rattle.std.specs.Prelude.{◌≡◌, ℕ, true, false, List, [], ◌∷◌, ◌++◌, codes, ⊤}
 use Rattle.hex.specs.Hex.{encode_lower}
-use Rattle.arrow_types.specs.Field.{Fields, none, more}
-use Rattle.arrow_data.specs.PlainValue.{PlainValue, PlainValues, null_value, bool_value, int_value, binary_value, utf8_value, list_value, struct_value, no_values, more_values}
+use Rattle.csv.specs.Writing.{default_writer, field_text, needs_quotes}
+use Rattle.arrow_csv.specs.Floats.{IsNumberText}
+use Rattle.arrow_types.specs.Field.{Fields, none, more, TypeShape}
+use Rattle.arrow_data.specs.PlainValue.{PlainValue, PlainValues, null_value, bool_value, int_value, binary_value, utf8_value, list_value, struct_value, no_values, more_values, values_of}
 
 -- texts after the first, each behind a semicolon
 abbrev pub behind : List (List ℕ) → List ℕ
@@ -15,32 +16,64 @@ abbrev pub joined : List (List ℕ) → List ℕ
 joined [] = []
 joined (text ∷ texts) = text ++ behind texts
 
+-- the relation holds of the first elements of two lists, of the second ones, and so on, and they are equally long
+abbrev pub Each : {A B : Type 0} → (A → B → Type 0) → List A → List B → Type 0
+Each R [] [] = ⊤
+Each R [] (y ∷ ys) = ⊥
+Each R (x ∷ xs) [] = ⊥
+Each R (x ∷ xs) (y ∷ ys) = R x y × Each R xs ys
+
 abbrev mutual
-  -- The text of a value whose type has these child fields. A null shows as the given text; inside of lists and structs it
-  -- is `null`. Numbers are decimal, bytes are hexadecimal digits, a text is itself.
-  pub value_text : List ℕ → Fields → PlainValue → List ℕ
-  value_text null fields null_value = null
-  value_text null fields (bool_value true) = codes "true"
-  value_text null fields (bool_value false) = codes "false"
-  value_text null fields (int_value z) = signed_decimal z
-  value_text null fields (binary_value bytes) = encode_lower bytes
-  value_text null fields (utf8_value bytes) = bytes
-  value_text null fields (list_value items) = codes "[" ++ joined (item_texts fields items) ++ codes "]"
-  value_text null fields (struct_value parts) = codes "{" ++ joined (part_texts fields parts) ++ codes "}"
+  -- A text of a value of this type. A null shows as the given text; inside of lists and structs it is `null`. Numbers are
+  -- decimal; of a floating-point number it is one of the texts that read back as it. Bytes are hexadecimal digits, a text is
+  -- itself.
+  pub IsText : List ℕ → TypeShape → PlainValue → List ℕ → Type 0
+  IsText null type null_value text = text ≡ null
+  IsText null type (bool_value true) text = text ≡ codes "true"
+  IsText null type (bool_value false) text = text ≡ codes "false"
+  IsText null type (int_value z) text = IsNumberText type.tag z text
+  IsText null type (binary_value bytes) text = text ≡ encode_lower bytes
+  IsText null type (utf8_value bytes) text = text ≡ bytes
+  IsText null type (list_value items) text = (texts : List (List ℕ)) × AreItemTexts type.children items texts × (text ≡ codes "[" ++ joined texts ++ codes "]")
+  IsText null type (struct_value parts) text = (texts : List (List ℕ)) × ArePartTexts type.children parts texts × (text ≡ codes "{" ++ joined texts ++ codes "}")
 
-  -- the items of a list, by its one child field
-  pub item_texts : Fields → PlainValues → List (List ℕ)
-  item_texts none items = []
-  item_texts (more head children rest) no_values = []
-  item_texts (more head children rest) (more_values item items) = value_text (codes "null") children item ∷ item_texts (more head children rest) items
+  -- texts of the items of a list, by its one child field
+  pub AreItemTexts : Fields → PlainValues → List (List ℕ) → Type 0
+  AreItemTexts none items texts = texts ≡ []
+  AreItemTexts (more head children rest) no_values texts = texts ≡ []
+  AreItemTexts (more head children rest) (more_values item items) [] = ⊥
+  AreItemTexts (more head children rest) (more_values item items) (text ∷ texts) =
+      IsText (codes "null") (record { tag = head.tag; children = children }) item text × AreItemTexts (more head children rest) items texts
 
-  -- the values of a struct, each behind the name of its field
-  pub part_texts : Fields → PlainValues → List (List ℕ)
-  part_texts none parts = []
-  part_texts (more head children rest) no_values = []
-  part_texts (more head children rest) (more_values part parts) =
-      (head.name ++ codes "=" ++ value_text (codes "null") children part) ∷ part_texts rest parts
+  -- texts of the values of a struct, each after the name of its field
+  pub ArePartTexts : Fields → PlainValues → List (List ℕ) → Type 0
+  ArePartTexts none parts texts = texts ≡ []
+  ArePartTexts (more head children rest) no_values texts = texts ≡ []
+  ArePartTexts (more head children rest) (more_values part parts) [] = ⊥
+  ArePartTexts (more head children rest) (more_values part parts) (text ∷ texts) =
+      ((own : List ℕ) × IsText (codes "null") (record { tag = head.tag; children = children }) part own × (text ≡ head.name ++ codes "=" ++ own))
+      × ArePartTexts rest parts texts
 
--- the text of an item of a list whose items' type has these child fields
-abbrev pub item_text : Fields → PlainValue → List ℕ
-item_text children item = value_text (codes "null") children item
+-- a text of an item of a list whose items have this type
+abbrev pub IsItemText : TypeShape → PlainValue → List ℕ → Type 0
+IsItemText type item text = IsText (codes "null") type item text
+
+-- a text of a list of these values
+abbrev pub IsListOf : TypeShape → List PlainValue → List ℕ → Type 0
+IsListOf type values text = (texts : List (List ℕ)) × Each (IsItemText type) values texts × (text ≡ codes "[" ++ joined texts ++ codes "]")
+
+-- a text of a struct of these values
+abbrev pub IsStructOf : Fields → List PlainValue → List ℕ → Type 0
+IsStructOf fields values text = (texts : List (List ℕ)) × ArePartTexts fields (values_of values) texts × (text ≡ codes "{" ++ joined texts ++ codes "}")
+
+-- a field of a record: a text of the value, between quotes where it calls for them
+abbrev pub IsFieldOf : TypeShape → PlainValue → List ℕ → Type 0
+IsFieldOf type value field = (text : List ℕ) × IsText [] type value text × (field ≡ field_text default_writer text)
+
+-- such a text that calls for no quotes
+abbrev pub IsPlain : (List ℕ → Type 0) → List ℕ → Type 0
+IsPlain P text = P text × (needs_quotes default_writer text ≡ false)
+
+-- a text of which this is known was appended
+abbrev pub Appends : (List ℕ → Type 0) → List ℕ → List ℕ → Type 0
+Appends P old new = (text : List ℕ) × P text × (new ≡ old ++ text)

@@ -1,10 +1,9 @@
 //! A column on its way into text: what is the same for its slots is looked up, or made, once.
 
-ghost use Rattle.std.specs.Prelude.{◌≡◌, ◌<◌, ◌++◌, [], IfOk, IfSome, OnOk, length};
+ghost use Rattle.std.specs.Prelude.{◌≡◌, ◌<◌, IfOk, IfSome, OnOk, length};
 ghost use Rattle.arrow_data.specs.PlainValue.{value_at};
-ghost use Rattle.csv.specs.Writing.{default_writer, field_text};
 ghost use Rattle.arrow_csv.specs.Made.{AreFieldsOf};
-ghost use Rattle.arrow_csv.specs.Texts.{value_text};
+ghost use Rattle.arrow_csv.specs.Texts.{Appends, IsFieldOf};
 
 use crate::records::push_field;
 use arrow_data::{Array, Dictionary, Slots};
@@ -89,8 +88,9 @@ impl<'a> ColumnText<'a> {
     #[inline(always)]
     pub(crate) fn push(&self, out: &mut Vec<u8>, i: usize) -> Result<(), AllocError>
         requires { i < length self.now.raw }
-        ensures { OnOk result (out.new.items ≡ out.old.items ++ field_text default_writer
-            (value_text [] self.now.data_type.children (value_at self.now.resolved i))) }
+        ensures { OnOk result (Appends
+            (IsFieldOf self.now.data_type (value_at self.now.resolved i))
+            out.old.items out.new.items) }
     {
         match &self.entries {
             Some(fields) => match self.slots.entry(i) {

@@ -8,10 +8,14 @@
 //! rows are appended to one text, without a record of their own before. Bytes that call for quotes
 //! are looked for sixteen at a time, sixty-four in long fields (`src/chunks.rt`).
 //!
-//! What a value's text is, is said by `value_text` (`specs/Texts.antt`), over plain values:
-//! [`header`], [`rows`] and [`BatchRows::push`] give the records of the definition for every schema and
-//! every batch. The standard gives no such text; this one is the project's own, and it is not
-//! claimed that it can be read back.
+//! Which texts a value has, is said by `IsText` (`specs/Texts.antt`), over plain values: one, but
+//! where a floating-point number is in it, which shows as a text that reads back as the same number.
+//! The one that is written is short: `1.5`, `-0.0`, `1e300`, `inf` and `NaN`, by the crate `ryu`. A
+//! number of 16 bits shows as the number of 32 bits that it equals. No number calls for quotes.
+//!
+//! [`header`], [`rows`] and [`BatchRows::push`] give records of such texts for every schema and every
+//! batch. The standard gives no such text; this one is the project's own, and it is not claimed that
+//! it can be read back as a whole.
 //!
 //! Who writes the rows of a batch in parts keeps its [`BatchRows`]: where each column's values lie is
 //! looked up once, and of a dictionary that has few values beside the rows the field of each value is
@@ -19,9 +23,10 @@
 //!
 //! | Notion | Definition |
 //! |---|---|
-//! | the text of a value | `specs/Texts.antt`: `value_text` |
-//! | the record of a row, of a schema | `specs/Records.antt`: `row_record`, `header_record` |
-//! | the records of a batch, of a stream | `specs/Records.antt`: `batch_rows`, `stream_text` |
+//! | a text of a value | `specs/Texts.antt`: `IsText` |
+//! | a text of a number | `specs/Floats.antt`: `IsNumberText`, `IsFloatText` |
+//! | texts of a row, the record of a schema | `specs/Records.antt`: `AreColumnTexts`, `header_record` |
+//! | records of a batch, of a stream | `specs/Records.antt`: `AreBatchRows`, `IsStreamText` |
 //! | columns chosen by their names | `specs/Named.antt`: `chosen`, `chosen_shape`, `lacking` |
 //! | fields of a dictionary's values, made before the rows | `specs/Made.antt`: `AreFieldsOf` |
 //! | bytes that call for no quotes, seen by chunks | `specs/Chunks.antt`: `AreAllPlain`, `is_mark` |
@@ -30,6 +35,7 @@
 mod chunks;
 mod column_text;
 mod fields;
+mod floats;
 mod named;
 mod records;
 mod texts;

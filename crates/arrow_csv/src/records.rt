@@ -1,21 +1,21 @@
 //! The records of a schema and of the rows of batches.
 
-ghost use Rattle.std.specs.Prelude.{◌≡◌, ◌≤◌, ◌<◌, ◌++◌, [], IfOk, IfSome, OnErr, OnOk, codes, length, map};
+ghost use Rattle.std.specs.Prelude.{◌≡◌, ◌≤◌, ◌<◌, ◌-◌, ◌++◌, [], IfOk, IfSome, OnErr, OnOk, length, map};
 ghost use Rattle.arrow_data.specs.PlainValue.{value_at};
 ghost use Rattle.arrow_data.specs.Same.{HaveSlot};
 ghost use Rattle.arrow_data.specs.Shown.{HoldsValue};
-ghost use Rattle.csv.specs.Writing.{default_writer, field_text, fields_text};
-ghost use Rattle.arrow_csv.specs.Texts.{value_text};
+ghost use Rattle.arrow_csv.specs.Texts.{Appends, IsFieldOf};
 ghost use Rattle.csv.specs.Records.{fields_of, partial_of};
 ghost use Rattle.arrow_types.specs.Field.{none};
 ghost use Rattle.arrow_types.specs.View.{fields_view};
 ghost use Rattle.arrow_csv.specs.Named.{HaveSlots, choice_by, chosen, chosen_shape, fields_named, with_field};
-ghost use Rattle.arrow_csv.specs.Records.{batch_rows, column_rows, column_texts, header_record, names};
+ghost use Rattle.arrow_csv.specs.Records.{AreBatchRows, AreRows, IsRowBehind, header_record, names};
 
 use crate::column_text::ColumnText;
 use crate::fields::{push_field_text, quote_from};
+use crate::floats::push_int;
 use crate::named::{columns_named, place_of};
-use crate::texts::{push_bytes, push_items, push_number, push_parts};
+use crate::texts::{push_bytes, push_items, push_parts};
 use arrow_data::{Array, Batch, SlotValue};
 use arrow_types::{Field, Schema};
 use csv::{ByteRecord, WriterBuilder};
@@ -107,7 +107,8 @@ pub fn rows(
 ) -> Result<Vec<u8>, AllocError>
     requires order { rows.start ≤ rows.end }
     requires inside { rows.end ≤ batch.now.rows }
-    ensures { IfOk result (λ text. text.items ≡ batch_rows number batch.now rows.start rows.end) }
+    ensures { IfOk result
+        (λ text. AreBatchRows number batch.now rows.start rows.end text.items) }
 {
     let mut out = Vec::new(alloc);
     BatchRows::new(alloc, number, batch)?.push(&mut out, rows)?;
@@ -178,8 +179,9 @@ impl<'a> BatchRows<'a> {
     pub fn push(&self, out: &mut Vec<u8>, rows: Range<usize>) -> Result<(), AllocError>
         requires order { rows.start ≤ rows.end }
         requires inside { rows.end ≤ self.now.batch.rows }
-        ensures ok { OnOk result (out.new.items
-            ≡ out.old.items ++ batch_rows self.now.number self.now.batch rows.start rows.end) }
+        ensures ok { OnOk result (Appends
+            (AreBatchRows self.now.number self.now.batch rows.start rows.end)
+            out.old.items out.new.items) }
         ensures err { OnErr result (out.new.items ≡ out.old.items) }
     {
         if out.is_empty() {
@@ -196,7 +198,7 @@ impl<'a> BatchRows<'a> {
         requires inside { rows.end ≤ self.now.batch.rows }
         requires empty { out.old.items ≡ [] }
         ensures ok { OnOk result
-            (out.new.items ≡ batch_rows self.now.number self.now.batch rows.start rows.end) }
+            (AreBatchRows self.now.number self.now.batch rows.start rows.end out.new.items) }
         ensures err { OnErr result (out.new.items ≡ []) }
     {
         // Called for what it says of every batch.
@@ -229,8 +231,9 @@ fn push_records(
 ) -> Result<(), AllocError>
     requires order { rows.start ≤ rows.end }
     requires inside { HaveSlots rows.end columns.now }
-    ensures { OnOk result (out.new.items
-        ≡ out.old.items ++ column_rows number columns.now rows.start rows.end) }
+    ensures { OnOk result (Appends
+        (AreRows number columns.now rows.start (rows.end - rows.start))
+        out.old.items out.new.items) }
 {
     let mut buffer = Buffer::new();
     let head = buffer.format(number);
@@ -249,8 +252,8 @@ fn push_row(
     i: usize,
 ) -> Result<(), AllocError>
     requires { HaveSlot i columns.now }
-    ensures { OnOk result (out.new.items ≡ out.old.items ++ (head.now
-        ++ (fields_text default_writer (column_texts columns.now i) ++ codes "\n"))) }
+    ensures { OnOk result (Appends (IsRowBehind head.now columns.now i)
+        out.old.items out.new.items) }
 {
     out.extend_from_slice(head)?;
     for column in columns {
@@ -272,14 +275,15 @@ pub(crate) fn push_field(
 ) -> Result<(), AllocError>
     requires inside { i < length column.now.raw }
     requires holds { HoldsValue column.now i value }
-    ensures { OnOk result (out.new.items ≡ out.old.items ++ field_text default_writer
-        (value_text [] column.now.data_type.children (value_at column.now.resolved i))) }
+    ensures { OnOk result (Appends
+        (IsFieldOf column.now.data_type (value_at column.now.resolved i))
+        out.old.items out.new.items) }
 {
     match value {
         SlotValue::Null => Ok(()),
         SlotValue::Bool(true) => out.extend_from_slice(b"true"),
         SlotValue::Bool(false) => out.extend_from_slice(b"false"),
-        SlotValue::Int(number) => push_number(out, number),
+        SlotValue::Int(number) => push_int(out, column.data_type(), number),
         SlotValue::Bytes(bytes) => push_bytes(out, bytes),
         SlotValue::Text(text) => push_field_text(out, text.as_bytes()),
         SlotValue::List(start, end, items) => {

@@ -1,16 +1,17 @@
 //! The texts of values.
 
-ghost use Rattle.std.specs.Prelude.{◌≡◌, ◌≤◌, ◌<◌, ◌+◌, ◌*◌, ◌++◌, IfSome, OnOk, codes, false, length, map};
+ghost use Rattle.std.specs.Prelude.{◌≡◌, ◌≤◌, ◌<◌, ◌+◌, ◌*◌, ◌++◌, IfSome, OnOk, false, length};
 ghost use Rattle.std.specs.Fmt.{signed_decimal};
 ghost use Rattle.hex.specs.Hex.{encode_lower};
 ghost use Rattle.csv.specs.Writing.{default_writer, needs_quotes};
 ghost use Rattle.arrow_data.specs.Column.{AreOf, resolved_row_of, values_from};
-ghost use Rattle.arrow_data.specs.PlainValue.{value_at, values_of};
+ghost use Rattle.arrow_data.specs.PlainValue.{value_at};
 ghost use Rattle.arrow_data.specs.Same.{HaveSlot};
 ghost use Rattle.arrow_data.specs.Shown.{HoldsValue};
 ghost use Rattle.arrow_types.specs.View.{fields_view};
-ghost use Rattle.arrow_csv.specs.Texts.{item_text, joined, part_texts};
+ghost use Rattle.arrow_csv.specs.Texts.{Appends, IsItemText, IsListOf, IsStructOf};
 
+use crate::floats::push_int;
 use arrow_data::{Array, SlotValue};
 use arrow_types::Field;
 use itoa::{Buffer, Integer};
@@ -28,14 +29,15 @@ fn push_value(
 ) -> Result<(), AllocError>
     requires inside { i < length column.now.raw }
     requires holds { HoldsValue column.now i value }
-    ensures { OnOk result (out.new.items ≡ out.old.items
-        ++ item_text column.now.data_type.children (value_at column.now.resolved i)) }
+    ensures { OnOk result (Appends
+        (IsItemText column.now.data_type (value_at column.now.resolved i))
+        out.old.items out.new.items) }
 {
     match value {
         SlotValue::Null => out.extend_from_slice(b"null"),
         SlotValue::Bool(true) => out.extend_from_slice(b"true"),
         SlotValue::Bool(false) => out.extend_from_slice(b"false"),
-        SlotValue::Int(number) => push_number(out, number),
+        SlotValue::Int(number) => push_int(out, column.data_type(), number),
         SlotValue::Bytes(bytes) => push_bytes(out, bytes),
         SlotValue::Text(text) => out.extend_from_slice(text.as_bytes()),
         SlotValue::List(start, end, items) => push_items(out, items, start, end),
@@ -104,9 +106,9 @@ pub(crate) fn push_items(
     requires order { start ≤ end }
     requires inside { end ≤ length items.now.raw }
     requires long { length items.now.resolved ≡ length items.now.raw }
-    ensures { OnOk result (out.new.items ≡ out.old.items ++ codes "["
-        ++ joined (map (item_text items.now.data_type.children)
-        (values_from items.now.resolved start end)) ++ codes "]") }
+    ensures { OnOk result (Appends
+        (IsListOf items.now.data_type (values_from items.now.resolved start end))
+        out.old.items out.new.items) }
 {
     out.push(b'[')?;
     for k in start..end {
@@ -130,9 +132,9 @@ pub(crate) fn push_parts(
 ) -> Result<(), AllocError>
     requires typed { AreOf (fields_view fields.now) children.now }
     requires inside { HaveSlot place children.now }
-    ensures { OnOk result (out.new.items ≡ out.old.items ++ codes "{"
-        ++ joined (part_texts (fields_view fields.now)
-        (values_of (resolved_row_of children.now place))) ++ codes "}") }
+    ensures { OnOk result (Appends
+        (IsStructOf (fields_view fields.now) (resolved_row_of children.now place))
+        out.old.items out.new.items) }
 {
     out.push(b'{')?;
     for k in 0..children.len() {

@@ -22,3 +22,4 @@ pub mod Ids
 pub mod Lists
 mod Blocks
 mod OnlyChild
+mod Widened

@@ -1,7 +1,7 @@
 -- The layouts of nodes, and which of them each type has (Columnar Format, "Physical Memory Layout" and "Buffer Listing for
 -- Each Layout"; Schema.fbs, union "Type"). All that is said of buffers and slots goes by this one table.
-use Rattle.std.specs.Prelude.{◌≡◌, ◌-◌, ◌/◌, ◌^◌, ℕ, true, Option, Some, None, ⊤}
-use Rattle.arrow_types.specs.DataType.{Tag, null, boolean, int, binary, large_binary, fixed_size_binary, utf8, large_utf8, date, time, timestamp, duration, list, large_list, struct, bits_of, date_width_of, time_width_of}
+use Rattle.std.specs.Prelude.{◌≡◌, ◌-◌, ◌/◌, ◌^◌, ℕ, true, false, Option, Some, None, ⊤}
+use Rattle.arrow_types.specs.DataType.{Tag, null, boolean, int, floating_point, binary, large_binary, fixed_size_binary, utf8, large_utf8, date, time, timestamp, duration, list, large_list, struct, bits_of, date_width_of, float_width_of, time_width_of}
 use Rattle.arrow_types.specs.Field.{Fields, none, more}
 use Rattle.arrow_types.specs.declared.data_type.BitWidth.{BitWidth}
 use Rattle.arrow_types.specs.declared.data_type.BitWidth.TheVariants.{SixtyFour}
@@ -11,11 +11,12 @@ use Rattle.arrow_data.specs.declared.form.Form.TheVariants as forms
 use Rattle.arrow_data.specs.declared.form.OffsetWidth.{OffsetWidth}
 use Rattle.arrow_data.specs.declared.form.OffsetWidth.TheVariants.{Small, Large}
 
--- the form of the values of a type
+-- the form of the values of a type; a floating-point number is the number of its bits
 abbrev pub form_of : Tag → Form
 form_of null = forms.Nulls
 form_of boolean = forms.Bits
 form_of (int bits signed) = forms.Numbers bits signed
+form_of (floating_point precision) = forms.Numbers (float_width_of precision) false
 form_of (date unit) = forms.Numbers (date_width_of unit) true
 form_of (time unit) = forms.Numbers (time_width_of unit) true
 form_of (timestamp unit text) = forms.Numbers SixtyFour true

@@ -20,3 +20,5 @@ pub mod Value
 pub mod Batch
 pub mod FullSlots
 pub mod Laws
+pub mod Half
+pub mod Floats

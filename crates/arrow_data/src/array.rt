@@ -8,6 +8,7 @@ ghost use Rattle.arrow_data.specs.Column.{HasFields, IsStruct, type_of_field};
 ghost use Rattle.arrow_data.specs.PlainValue.{value_at, is_null_value, bool_in, int_in, binary_in};
 ghost use Rattle.arrow_data.specs.PlainValue.{utf8_in, items_in};
 ghost use Rattle.arrow_data.specs.Column.{values_from};
+ghost use Rattle.arrow_data.specs.Floats.{float_shown};
 ghost use Rattle.arrow_data.specs.Form.{node_form};
 ghost use Rattle.arrow_data.specs.FullSlots.{AreFull, IsFirstNull, value_bytes};
 ghost use Rattle.arrow_data.specs.Node.{validity_in};
@@ -17,6 +18,7 @@ ghost use Rattle.std.specs.List.{flat_map};
 use crate::buffers::{Bools, Fixed, Ints, SlotRange, Strings};
 use crate::byte_range::{ByteRange, bytes_in};
 use crate::dictionary::Dictionary;
+use crate::floats::number_of;
 use crate::form::OffsetWidth;
 use crate::offsets::OffsetBuffer;
 use crate::shared_body::SharedBody;
@@ -292,9 +294,9 @@ impl Array {
         }
     }
 
-    /// The number in slot `i` of a column of type Int, Date, Time, Timestamp or Duration, or the
-    /// index in slot `i` of a dictionary-encoded column of any type. None where the slot is null or
-    /// holds something else.
+    /// The number in slot `i` of a column of type Int, Date, Time, Timestamp or Duration, the bits of
+    /// one of type FloatingPoint, or the index in slot `i` of a dictionary-encoded column of any
+    /// type. None where the slot is null or holds something else.
     #[inline(always)]
     pub fn int_at(&self, i: usize) -> Option<i128>
         requires { i < length self.now.raw }
@@ -302,6 +304,21 @@ impl Array {
     {
         match self.seen(i) {
             Seen::Number(number) => Some(number),
+            _ => None,
+        }
+    }
+
+    /// The floating-point number in slot `i`, one of 16 or 32 bits widened, of what is no number a NaN.
+    /// (Its own bits are at hand by [`Array::int_at`].) None where the slot is null, or the column of
+    /// another type or dictionary-encoded.
+    pub fn float_at(&self, i: usize) -> Option<f64>
+        requires { i < length self.now.raw }
+        ensures { result ≡ float_shown self.now i }
+    {
+        match self.data_type() {
+            DataType::FloatingPoint(precision) if self.encoding().is_none() => {
+                Some(number_of(*precision, self.int_at(i)?))
+            }
             _ => None,
         }
     }

@@ -1,7 +1,7 @@
 //! The layouts of nodes, and which of them each type has: the one table that buffers, their tests
 //! and slots go by.
 
-ghost use Rattle.std.specs.Prelude.{◌≡◌, ◌↔◌, IsTrue, true};
+ghost use Rattle.std.specs.Prelude.{false, ◌≡◌, ◌↔◌, IsTrue, true};
 ghost use Rattle.arrow_bits.specs.Numbers.{IsWidth};
 ghost use Rattle.arrow_types.specs.View.{type_view};
 ghost use Rattle.arrow_data.specs.Form.{buffers_of, form_of, greatest_offset, node_form};
@@ -102,6 +102,7 @@ pub fn form_of(data_type: &DataType) -> Form
             bits: *bits,
             signed: *signed,
         },
+        DataType::FloatingPoint(precision) => unsigned(precision.width()),
         DataType::Date(unit) => signed(unit.width()),
         DataType::Time(unit) => signed(unit.time_width()),
         DataType::Timestamp(..) | DataType::Duration(_) => signed(BitWidth::SixtyFour),
@@ -122,6 +123,17 @@ fn signed(bits: BitWidth) -> Form
     ensures { result ≡ forms.Numbers bits true }
 {
     Form::Numbers { bits, signed: true }
+}
+
+// Numbers of this width without a sign.
+#[inline(always)]
+fn unsigned(bits: BitWidth) -> Form
+    ensures { result ≡ forms.Numbers bits false }
+{
+    Form::Numbers {
+        bits,
+        signed: false,
+    }
 }
 
 /// The form of a node of this type and encoding: a dictionary-encoded one has that of its indices.

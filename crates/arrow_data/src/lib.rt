@@ -19,6 +19,7 @@
 //! | the layout of a type, and of a node | `specs/Form.antt`: `form_of`, `node_form` |
 //! | what buffers hold at a slot | `specs/Slots.antt`: `int_slot`, `range_of` .. |
 //! | where the bytes of all texts may be cut | `specs/Cuts.antt`: `AreCuts` |
+//! | the floating-point number of a slot | `specs/Floats.antt`: `float_shown`; of 16 bits `specs/Half.antt` |
 //! | when buffers hold a node's slots | `specs/Layout.antt`: `IsLaid`, `IsText`, `IsIndexed` |
 //! | the column of a node | `specs/Parts.antt`: `node_column` |
 //! | the type that columns share | `specs/Shared.antt`: `NodeType`, `node_types` |
@@ -42,7 +43,9 @@ mod batch;
 mod buffers;
 mod byte_range;
 mod dictionary;
+pub mod floats;
 pub mod form;
+pub mod half;
 pub mod laws;
 pub mod layout;
 mod listed;

@@ -1,13 +1,17 @@
 //! Values by themselves, outside of any column.
 
 ghost use Rattle.std.specs.Prelude.{◌≡◌, ◌↔◌, IsTrue, IfOk};
+ghost use Rattle.arrow_data.specs.Floats.{IsFloatValue};
 ghost use Rattle.arrow_data.specs.Stored.{value_code};
 ghost use Rattle.arrow_data.specs.Value.{value_view, values_view};
 ghost use Rattle.arrow_types.specs.Equality.{is_equal, is_equal_equivalence};
 ghost use Rattle.std.specs.Cmp.{on_per, on_equiv, partial_equiv_from_equiv};
 ghost use Rattle.std.specs.Ordering.{on};
 
+use crate::half;
+use arrow_types::Precision;
 use std::alloc::{AllocError, Global};
+use std::num::{f32_to_bits_with_nan, f64_to_bits_with_nan, nearest_f64_to_f32_with_nan};
 
 /// The value of one slot (Columnar Format, "Terminology").
 ///
@@ -19,7 +23,8 @@ pub enum Value {
     Null,
     /// A truth value.
     Bool(bool),
-    /// A number of type Int, Date, Time, Timestamp or Duration, or an index.
+    /// A number of type Int, Date, Time, Timestamp or Duration, the bits of one of type
+    /// FloatingPoint (see [`Value::float`]), or an index.
     Int(i128),
     /// A byte string.
     Bytes(Vec<u8>),
@@ -32,6 +37,21 @@ pub enum Value {
 }
 
 impl Value {
+    /// The value of a number in a column of this precision: the nearest number that it has, of two
+    /// the one with an even last digit. All that is no number is one value; who has bits to keep
+    /// makes a `Value::Int` of them.
+    pub fn float(precision: Precision, number: f64) -> Value
+        ensures { IsFloatValue precision number (value_view result) }
+    {
+        Value::Int(match precision {
+            Precision::Half => i128::from(half::nearest(number)),
+            Precision::Single => {
+                i128::from(f32_to_bits_with_nan(nearest_f64_to_f32_with_nan(number)))
+            }
+            Precision::Double => i128::from(f64_to_bits_with_nan(number)),
+        })
+    }
+
     /// An equal value in memory of its own, or `AllocError` where a growth was refused.
     #[cycle(copy)]
     pub fn copy(&self, alloc: Global) -> Result<Value, AllocError>

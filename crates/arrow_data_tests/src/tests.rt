@@ -4,6 +4,7 @@ mod batches;
 mod buffers;
 mod columns;
 mod dictionaries;
+mod floats;
 mod full;
 mod indices;
 mod making;

@@ -1,9 +1,11 @@
-//! Two callers of `arrowflow`, as README shows them: one reads a stream and uses its columns, the
-//! other builds a batch and writes it. They are built with their tests alone.
+//! Callers of `arrowflow`, two of them as README shows them: two read a stream and use its columns,
+//! the other builds a batch and writes it. They are built with their tests alone.
 #![tactic(auto)]
 
 #[cfg(test)]
 mod reading;
+#[cfg(test)]
+mod summing;
 #[cfg(test)]
 mod tests;
 #[cfg(test)]

@@ -3,14 +3,21 @@
 mod outside;
 
 use crate::reading::{ReadError, longest};
+use crate::summing::sum;
 use crate::writing::write_numbers;
-use outside::{NUMBERS, WORDS};
+use outside::{DOUBLES, NUMBERS, WORDS};
 use std::process::Abort;
 
 #[test]
 fn the_longest_word(rt: HostRuntime) {
     let found = longest(rt.alloc(), &WORDS);
     assert!(rt; matches!(found, Ok(3)));
+}
+
+#[test]
+fn the_sum_of_a_column(rt: HostRuntime) {
+    let found = sum(rt.alloc(), &DOUBLES);
+    assert!(rt; matches!(found, Ok(total) if total == -6.25));
 }
 
 #[test]

@@ -11,12 +11,12 @@ use Rattle.arrow_meta_reader.specs.Trees.{Tree}
 use Rattle.arrow_meta_reader.proofs.OneAnswer.{one_tree}
 
 -- the counts of one tree are those of every other
-counts_any : (limits : LimitNumbers) (bytes : List ℕ) (x : Tree) (work : Work) → IsTreeOf bytes limits.max_metadata x → Counts work x →
+counts_any : (limits : LimitNumbers) (bytes : List ℕ) (x : Tree) (work : Work) → IsTreeOf bytes limits x → Counts work x →
     CountsTree limits bytes work
-counts_any limits bytes x work is counts y also = subst (Counts work) (one_tree bytes limits.max_metadata x y is also) counts
+counts_any limits bytes x work is counts y also = subst (Counts work) (one_tree bytes limits x y is also) counts
 
 -- a tree that is bare has nothing to count
-pub counts_nothing : (limits : LimitNumbers) (bytes : List ℕ) (x : Tree) → IsTreeOf bytes limits.max_metadata x → IsBare x →
+pub counts_nothing : (limits : LimitNumbers) (bytes : List ℕ) (x : Tree) → IsTreeOf bytes limits x → IsBare x →
     CountsTree limits bytes (record { fields = 0; pairs = 0; bytes = 0 })
 counts_nothing limits bytes x is bare =
     counts_any limits bytes x (record { fields = 0; pairs = 0; bytes = 0 }) is
@@ -24,6 +24,6 @@ counts_nothing limits bytes x is bare =
 
 -- with an answer, the counts are those of the tree
 pub counted : (r : Result Message MetaFault) (limits : LimitNumbers) (bytes : List ℕ) (x : Tree) (work : Work) →
-    IsTreeOf bytes limits.max_metadata x → Counts work x → IfOk r (λ _. CountsTree limits bytes work)
+    IsTreeOf bytes limits x → Counts work x → IfOk r (λ _. CountsTree limits bytes work)
 counted (Ok m) limits bytes x work is counts = counts_any limits bytes x work is counts
 counted (Err e) limits bytes x work is counts = tt

@@ -13,15 +13,15 @@ use Rattle.arrow_meta_reader.proofs.Layers.{element_layer}
 use Rattle.arrow_meta_reader.proofs.Roots.{leads}
 
 -- Reading the bytes of a message asks for memory: its version is kept.
-tree_grows : (bytes : List ℕ) (max_metadata : ℕ) (x : Tree) → IsTreeOf bytes max_metadata x →
-    GrowsAtRoot bytes max_metadata
-tree_grows bytes max_metadata (leaf a) h = absurd h.lies.2
-tree_grows bytes max_metadata (tables xs) h = absurd h.lies.2
-tree_grows bytes max_metadata (table kind none) h = absurd h.lies.2.3
-tree_grows bytes max_metadata (table kind (more y ys)) h =
+tree_grows : (limits : LimitNumbers) (bytes : List ℕ) (x : Tree) → IsTreeOf bytes limits x →
+    GrowsAtRoot limits bytes
+tree_grows limits bytes (leaf a) h = absurd h.lies.2
+tree_grows limits bytes (tables xs) h = absurd h.lies.2
+tree_grows limits bytes (table kind none) h = absurd h.lies.2.3
+tree_grows limits bytes (table kind (more y ys)) h =
     let there = h.lies.2 in
-    let at = element_layer bytes kinds.Message 0 there.1 (leads bytes 0 h.lies.0 there.1 h.lies.1 there.2) in
-    let kept : RowGrows bytes (spots_of kinds.Message there.1) 32 (whole max_metadata) = first_kept y there.3.0 (record {
+    let at = element_layer bytes (kinds.Message limits.types) 0 there.1 (leads bytes 0 h.lies.0 there.1 h.lies.1 there.2) in
+    let kept : RowGrows bytes (spots_of (kinds.Message limits.types) there.1) 32 (whole limits.max_metadata) = first_kept y there.3.0 (record {
       levels_fit = omega (arith, h.within.shallow.levels_within);
       visits_fit = omega (arith, h.within.shallow.visits_within);
       entries_fit = omega (arith, h.within.shallow.entries_within);
@@ -31,7 +31,7 @@ tree_grows bytes max_metadata (table kind (more y ys)) h =
 
 -- an answer to the tree
 pub decoded : (r : Result Message MetaFault) (limits : LimitNumbers) (bytes : List ℕ) (x : Tree) →
-    IsTreeOf bytes limits.max_metadata x → Judges r limits.max_body x → Decodes r limits bytes
+    IsTreeOf bytes limits x → Judges r limits.max_body x → Decodes r limits bytes
 decoded (Ok m) limits bytes x h judged = (x, h, judged)
-decoded (Err Memory) limits bytes x h judged = tree_grows bytes limits.max_metadata x h
+decoded (Err Memory) limits bytes x h judged = tree_grows limits bytes x h
 decoded (Err fault) limits bytes x h judged = inr (x, h, judged)

@@ -4,6 +4,7 @@ use Rattle.std.proofs.lemmas.List.{length-append}
 use Rattle.arrow_types.specs.Field.{Fields, none, more, FieldShape, fields_of, width}
 use Rattle.arrow_types.specs.Notes.{FieldNotes, notes_of}
 use Rattle.arrow_types.specs.Schema.{has_encoding}
+use Rattle.arrow_types.specs.declared.type_set.TypeSet.{TypeSet}
 use Rattle.arrow_meta_reader.specs.declared.kinds.TableKind.TheVariants as kinds
 use Rattle.arrow_meta_reader.specs.declared.message_tree.Tree.{Tree as Built}
 use Rattle.arrow_meta_reader.specs.SchemaMeaning.{with_field, fields_from, field_of, with_notes, notes_from, notes_of_field}
@@ -13,7 +14,7 @@ use Rattle.arrow_meta_reader.specs.Views.{plain, plain_all}
 -- the field of a Field table, none of anything else
 abbrev pub shape_in : Tree → List FieldShape
 shape_in (leaf x) = []
-shape_in (table kinds.Field xs) = field_of xs ∷ []
+shape_in (table (kinds.Field types) xs) = field_of xs ∷ []
 shape_in (table kind xs) = []
 shape_in (tables xs) = []
 
@@ -24,7 +25,7 @@ shapes_in (t ∷ ts) = shape_in (plain t) ++ shapes_in ts
 
 before : (x : Tree) (ss : List FieldShape) → fields_of (shape_in x ++ ss) ≡ with_field x (fields_of ss)
 before (leaf x) ss = refl
-before (table kinds.Field xs) ss = refl
+before (table (kinds.Field types) xs) ss = refl
 before (table kind xs) ss = refl
 before (tables xs) ss = refl
 
@@ -36,7 +37,7 @@ shapes_from (t ∷ ts) = before (plain t) (shapes_in ts) ∙ ap (with_field (pla
 -- what is noted at the field of a Field table, nothing at anything else
 abbrev pub noted_shape : Tree → List FieldNotes
 noted_shape (leaf x) = []
-noted_shape (table kinds.Field xs) = notes_of_field xs ∷ []
+noted_shape (table (kinds.Field types) xs) = notes_of_field xs ∷ []
 noted_shape (table kind xs) = []
 noted_shape (tables xs) = []
 
@@ -47,7 +48,7 @@ noted_shapes (t ∷ ts) = noted_shape (plain t) ++ noted_shapes ts
 
 before_notes : (x : Tree) (ns : List FieldNotes) → notes_of (noted_shape x ++ ns) ≡ with_notes x (notes_of ns)
 before_notes (leaf x) ns = refl
-before_notes (table kinds.Field xs) ns = refl
+before_notes (table (kinds.Field types) xs) ns = refl
 before_notes (table kind xs) ns = refl
 before_notes (tables xs) ns = refl
 
@@ -62,9 +63,9 @@ width-fields_of [] = refl
 width-fields_of (s ∷ ss) = omega (arith, width-fields_of ss)
 
 -- a row in which a Field table comes behind others has a field
-pub one_field : (ss : List FieldShape) (x : Built) (xs : Trees) (rest ts : List Built) → plain x ≡ table kinds.Field xs
+pub one_field : (ss : List FieldShape) (x : Built) (types : TypeSet) (xs : Trees) (rest ts : List Built) → plain x ≡ table (kinds.Field types) xs
     → ss ++ shapes_in (x ∷ rest) ≡ shapes_in ts → 0 < width (fields_from (plain_all ts))
-one_field ss x xs rest ts is all =
+one_field ss x types xs rest ts is all =
     let here : shapes_in (x ∷ rest) ≡ field_of xs ∷ shapes_in rest = ap (λ y. shape_in y ++ shapes_in rest) is in
     omega (arith, ap width (shapes_from ts), width-fields_of (shapes_in ts), ap length all, length-append ss (shapes_in (x ∷ rest)), ap length here)
 

@@ -1,6 +1,7 @@
 -- The first Field table of some tables, and how large what it leads to is.
 use Rattle.std.proofs.Common.{◌≡◌, ℕ, zero, suc, ◌+◌, ◌-◌, ◌<◌, ◌≤◌, List, [], ◌∷◌, length, take, drop, get_or, sym, ap, ◌∙◌, arith}
 use Rattle.std.proofs.lemmas.List.{length-drop, take_all}
+use Rattle.arrow_types.specs.declared.type_set.TypeSet.{TypeSet}
 use Rattle.arrow_meta_reader.specs.declared.kinds.TableKind.TheVariants as kinds
 use Rattle.arrow_meta_reader.specs.declared.message_tree.Tree.{Tree as Built}
 use Rattle.arrow_meta_reader.specs.Builds.{size, size_all}
@@ -26,9 +27,9 @@ size_from [] (suc i) = omega arith
 size_from (t ∷ ts) (suc i) = omega (arith, size_from ts i)
 
 -- The fields of a table and the trees behind it have fewer nodes than all.
-pub smaller_at : (ts : List Built) (i : ℕ) (t : Built) (xs : Trees) → i < length ts → t ≡ get_or ts i t → plain t ≡ table kinds.Field xs
+pub smaller_at : (ts : List Built) (i : ℕ) (t : Built) (types : TypeSet) (xs : Trees) → i < length ts → t ≡ get_or ts i t → plain t ≡ table (kinds.Field types) xs
     → size_all xs + size_all (plain_all (take (length ts - (i + 1)) (drop (i + 1) ts))) + 1 < size_all (plain_all ts)
-smaller_at ts i t xs h at is =
+smaller_at ts i t types xs h at is =
     let rest : take (length ts - (i + 1)) (drop (i + 1) ts) ≡ drop (i + 1) ts = take_all (length ts - (i + 1)) (drop (i + 1) ts) (omega (arith, length-drop (i + 1) ts)) in
     omega (arith, size_from ts i, ap size_all (drop_at ts i t h at), ap size is, ap (λ us. size_all (plain_all us)) rest)
 

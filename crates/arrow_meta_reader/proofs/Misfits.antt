@@ -2,6 +2,7 @@
 use Rattle.std.proofs.Common.{◌≡◌, ℕ, zero, suc, Bool, true, not, sym, true≢false, List, Option, ◌≤◌, arith}
 use Rattle.arrow_types.specs.Field.{field_by, width, TypeShape}
 use Rattle.arrow_types.specs.declared.field.Encoding.{Encoding}
+use Rattle.arrow_types.specs.declared.type_set.TypeSet.TheVariants.{All}
 use Rattle.arrow_meta_reader.specs.declared.kinds.TableKind.{TableKind}
 use Rattle.arrow_meta_reader.specs.declared.kinds.TableKind.TheVariants as kinds
 use Rattle.arrow_meta_reader.specs.declared.fields.FieldFault.{FieldFault}
@@ -26,12 +27,12 @@ refuses_more Misfit a b f h = f h
 refuses_more Memory a b f h = tt
 
 -- A Field table with another number of children than its type has is a misfit.
-pub misfit_here : (xs : Trees) → not (children_fit (type_code (number_at 2 0 xs)) (width (fields_in (nth 5 xs)))) ≡ true → any is_misfit (table kinds.Field xs) ≡ true
-misfit_here xs h = or_left (is_misfit kinds.Field xs) (any_in is_misfit xs) h
+pub misfit_here : (xs : Trees) → not (children_fit (type_code (number_at 2 0 xs)) (width (fields_in (nth 5 xs)))) ≡ true → any is_misfit (table (kinds.Field All) xs) ≡ true
+misfit_here xs h = or_left (is_misfit (kinds.Field All) xs) (any_in is_misfit xs) h
 
 -- A Field table is a misfit where what stands in one of its fields is.
-pub misfit_below : (xs : Trees) (i : ℕ) → any is_misfit (nth i xs) ≡ true → any is_misfit (table kinds.Field xs) ≡ true
-misfit_below xs i h = or_right (is_misfit kinds.Field xs) (any_in is_misfit xs) (any_nth is_misfit i xs h)
+pub misfit_below : (xs : Trees) (i : ℕ) → any is_misfit (nth i xs) ≡ true → any is_misfit (table (kinds.Field All) xs) ≡ true
+misfit_below xs i h = or_right (is_misfit (kinds.Field All) xs) (any_in is_misfit xs) (any_nth is_misfit i xs h)
 
 -- What stands in a field has no more nodes than the row.
 pub size_nth : (i : ℕ) (xs : Trees) → size (nth i xs) ≤ size_all xs

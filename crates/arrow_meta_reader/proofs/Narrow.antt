@@ -21,6 +21,7 @@ narrow_tag : (code : Option TypeCode) (xs : Trees) → is_wide (tag_by code xs) 
 narrow_tag None xs = refl
 narrow_tag (Some codes.Null) xs = refl
 narrow_tag (Some codes.Int) xs = refl
+narrow_tag (Some codes.FloatingPoint) xs = refl
 narrow_tag (Some codes.Binary) xs = refl
 narrow_tag (Some codes.Utf8) xs = refl
 narrow_tag (Some codes.Bool) xs = refl
@@ -48,7 +49,7 @@ mutual
 
   narrow_with : (x : Tree) (rest : Fields) → is_too_wide rest ≡ false → is_too_wide (with_field x rest) ≡ false
   narrow_with (leaf x) rest h = h
-  narrow_with (table kinds.Field xs) rest h =
+  narrow_with (table (kinds.Field types) xs) rest h =
       or_from _ _ (or_from _ _ (narrow_tag (type_code (number_at 2 0 xs)) (parts (nth 3 xs))) (narrow_at 5 xs)) h
   narrow_with (table kind xs) rest h = h
   narrow_with (tables xs) rest h = h

@@ -17,6 +17,7 @@ abbrev code_of : Tag → TypeCode
 code_of tags.null = codes.Null
 code_of tags.boolean = codes.Bool
 code_of (tags.int bits signed) = codes.Int
+code_of (tags.floating_point precision) = codes.FloatingPoint
 code_of tags.binary = codes.Binary
 code_of tags.large_binary = codes.LargeBinary
 code_of (tags.fixed_size_binary width) = codes.FixedSizeBinary
@@ -34,6 +35,7 @@ code_of tags.struct = codes.Struct
 kept : (code : TypeCode) (xs : Trees) → code_of (tag_by (Some code) xs) ≡ code
 kept codes.Null xs = refl
 kept codes.Int xs = refl
+kept codes.FloatingPoint xs = refl
 kept codes.Binary xs = refl
 kept codes.Utf8 xs = refl
 kept codes.Bool xs = refl

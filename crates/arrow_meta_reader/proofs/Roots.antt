@@ -2,6 +2,7 @@
 use Rattle.std.proofs.Common.{◌≡◌, ℕ, List, Option, Some, None, option_map, refl, sym, ap, subst, ◌∙◌}
 use Rattle.arrow_flatbuf.specs.Place.{◌>>=◌, target_at, behind}
 use Rattle.arrow_flatbuf.specs.Table.{TableAt, table_at}
+use Rattle.arrow_types.specs.declared.type_set.TypeSet.{TypeSet}
 use Rattle.arrow_meta_reader.specs.declared.kinds.TableKind.{TableKind}
 use Rattle.arrow_meta_reader.specs.declared.kinds.TableKind.TheVariants as kinds
 use Rattle.arrow_meta_reader.specs.declared.kinds.FieldForm.TheVariants as forms
@@ -63,9 +64,9 @@ stands_there bytes kind p q (table k xs) e h =
     (spots_of kind h.1, cc, h.3)
 
 -- A tree that stands at the spot of the message lies at the root.
-pub root_lies : (bytes : List ℕ) (x : Tree) → Stands bytes root x → LiesAtRoot x bytes
-root_lies bytes x h = lies_there bytes kinds.Message 0 x h
+pub root_lies : (types : TypeSet) (bytes : List ℕ) (x : Tree) → Stands bytes (root types) x → LiesAtRoot types x bytes
+root_lies types bytes x h = lies_there bytes (kinds.Message types) 0 x h
 
 -- A tree that lies at the root stands at the spot of the message.
-pub root_stands : (bytes : List ℕ) (x : Tree) → LiesAtRoot x bytes → Stands bytes root x
-root_stands bytes x h = stands_there bytes kinds.Message 0 h.0 x h.1 h.2
+pub root_stands : (types : TypeSet) (bytes : List ℕ) (x : Tree) → LiesAtRoot types x bytes → Stands bytes (root types) x
+root_stands types bytes x h = stands_there bytes (kinds.Message types) 0 h.0 x h.1 h.2

@@ -22,7 +22,7 @@ mutual
 
   levels_with : (x : Tree) (rest : Fields) → columns.levels (with_field x rest) ≤ max (levels x) (columns.levels rest)
   levels_with (leaf x) rest = omega arith
-  levels_with (table kinds.Field xs) rest = omega (arith, levels_at 5 xs)
+  levels_with (table (kinds.Field types) xs) rest = omega (arith, levels_at 5 xs)
   levels_with (table kind xs) rest = omega arith
   levels_with (tables xs) rest = omega arith
 
@@ -43,7 +43,7 @@ mutual
 
   count_with : (x : Tree) (rest : Fields) → count (with_field x rest) ≤ visits x + count rest
   count_with (leaf x) rest = omega arith
-  count_with (table kinds.Field xs) rest = omega (arith, count_at 5 xs)
+  count_with (table (kinds.Field types) xs) rest = omega (arith, count_at 5 xs)
   count_with (table kind xs) rest = omega arith
   count_with (tables xs) rest = omega arith
 
@@ -127,7 +127,7 @@ mutual
 
   noted_with : (x : Tree) (rest : Notes) → noted_count (with_notes x rest) ≤ entries x + noted_count rest
   noted_with (leaf x) rest = omega arith
-  noted_with (table kinds.Field xs) rest = omega (arith, noted_both 5 xs, pairs_in (nth 6 xs))
+  noted_with (table (kinds.Field types) xs) rest = omega (arith, noted_both 5 xs, pairs_in (nth 6 xs))
   noted_with (table kind xs) rest = omega arith
   noted_with (tables xs) rest = omega arith
 

@@ -26,6 +26,7 @@ use Rattle.arrow_meta_reader.specs.Parts.{leaf_number_or, pairs_in}
 use Rattle.arrow_meta_reader.specs.Straight.{IsBare, HasNumber, HasPairs, IsHeader, MeansBare}
 use Rattle.arrow_meta_reader.specs.Trees.{Leaf, absent, number, pairs, leaf, table, Trees, none, more}
 use Rattle.arrow_meta_reader.specs.Within.{text_length}
+use Rattle.arrow_types.specs.declared.type_set.TypeSet.TheVariants.{Core}
 use Rattle.arrow_types.specs.Limits.{LimitNumbers}
 use Rattle.arrow_meta_reader.proofs.Layers.{element_layer, layer_there}
 use Rattle.arrow_meta_reader.proofs.Roots.{root_lies}
@@ -67,7 +68,7 @@ batch_there t says n nodes buffers length first second absent_3 e f g =
     let d = absent_there t.bytes forms.Presence (field_place t 3) absent_3 in
     record {
       opened = kinds.RecordBatch;
-      opens = refl;
+      opens = λ types. refl;
       fields = more (leaf a.0) (more (leaf b.0) (more (leaf c.0) (more (leaf absent) none)));
       stand = (a.1, (b.1, (c.1, (d, tt))));
       bare = record { levels_none = refl; visits_none = refl; entries_none = refl; text_none = rw (a.3, b.3, c.3) refl };
@@ -94,7 +95,7 @@ pub dictionary_there : (t rows : TableAt) (says : PlainBatch) (p id flag : ℕ) 
 dictionary_there t rows says p id flag z is_delta first last at there same of e f =
     let a = number_there t forms.Long 8 0 id (λ q. refl) first in
     let c = number_there t forms.Byte 1 2 flag (λ q. refl) last in
-    let kind : kinds.RecordBatch ≡ of.opened = let opens = of.opens in cc in
+    let kind : kinds.RecordBatch ≡ of.opened = let opens = of.opens Core in cc in
     let stand = subst (λ k. AllStand rows.bytes (spots_of k rows) of.fields) (sym kind) of.stand in
     let bare = subst (λ k. IsBare (table k of.fields)) (sym kind) of.bare in
     let whole = subst (λ k. any lacks_table (table k of.fields) ≡ false) (sym kind) of.whole in
@@ -102,7 +103,7 @@ dictionary_there t rows says p id flag z is_delta first last at there same of e 
     let rows_say : batch_of of.fields ≡ says = let h = of.says in cc in
     record {
       opened = kinds.DictionaryBatch;
-      opens = refl;
+      opens = λ types. refl;
       fields = more (leaf a.0) (more (table kinds.RecordBatch of.fields) (more (leaf c.0) none));
       stand = (a.1, (table_there t.bytes kinds.RecordBatch (field_place t 1) p rows of.fields at there same stand, (c.1, tt)));
       bare = record { levels_none = rw bare.levels_none refl; visits_none = rw bare.visits_none refl; entries_none = rw bare.entries_none refl; text_none = rw (a.3, bare.text_none, c.3) refl };
@@ -136,20 +137,20 @@ message_there limits bytes t inner p told code body_len version kind h there sam
     let b = number_there t forms.Byte 1 1 code (λ q. refl) coded in
     let d = number_there t forms.Long 8 3 body_len (λ q. refl) length in
     let xs = more (leaf a.0) (more (leaf b.0) (more (table of.opened of.fields) (more (leaf d.0) none))) in
-    let opens : header_table (code_at t 1) ≡ Some of.opened = ap header_table (code_there t 1 code coded) ∙ ap table_of_header named ∙ of.opens in
-    let header_stands : Stands t.bytes (opened (header_table (code_at t 1)) (field_place t 2)) (table of.opened of.fields) =
+    let opens : header_table limits.types (code_at t 1) ≡ Some of.opened = ap (header_table limits.types) (code_there t 1 code coded) ∙ ap (table_of_header limits.types) named ∙ of.opens limits.types in
+    let header_stands : Stands t.bytes (opened (header_table limits.types (code_at t 1)) (field_place t 2)) (table of.opened of.fields) =
     rw opens (table_there t.bytes of.opened (field_place t 2) p inner of.fields at inside same_bytes of.stand) in
-    let stand : AllStand t.bytes (spots_of kinds.Message t) xs = (a.1, (b.1, (header_stands, (d.1, tt)))) in
-    let root_stands : Stands bytes root (table kinds.Message xs) = (spots_of kinds.Message t, element_layer bytes kinds.Message 0 t there, subst (λ bs. AllStand bs (spots_of kinds.Message t) xs) same stand) in
+    let stand : AllStand t.bytes (spots_of (kinds.Message limits.types) t) xs = (a.1, (b.1, (header_stands, (d.1, tt)))) in
+    let root_stands : Stands bytes (root limits.types) (table (kinds.Message limits.types) xs) = (spots_of (kinds.Message limits.types) t, element_layer bytes (kinds.Message limits.types) 0 t there, subst (λ bs. AllStand bs (spots_of (kinds.Message limits.types) t) xs) same stand) in
     let in_version : version_in xs ≡ Some version = rw a.2 read in
     let in_header : header_in xs ≡ Some kind = rw b.2 named in
     let own : least (header_conditions (header_in xs) (body_of xs) (header_of xs)) ≡ None = rw in_header (of.sound (body_of xs)) in
     let sound : fault_of limits.max_body xs ≡ None =
     passed (any_in lacks_table xs) (not (is_some (version_in xs))) (not (is_some (header_in xs))) (is_bad_length limits.max_body (body_of xs)) (header_conditions (header_in xs) (body_of xs) (header_of xs))
     (rw of.whole refl) (rw in_version refl) (rw in_header refl) (rw d.2 (good_length limits.max_body body_len low high)) own in (
-      table kinds.Message xs,
+      table (kinds.Message limits.types) xs,
       record {
-        lies = root_lies bytes (table kinds.Message xs) root_stands;
+        lies = root_lies limits.types bytes (table (kinds.Message limits.types) xs) root_stands;
         within = record {
           shallow = record { levels_within = rw of.bare.levels_none (omega arith); visits_within = rw of.bare.visits_none (omega arith); entries_within = rw of.bare.entries_none (omega arith) };
           text_within = rw (a.3, b.3, of.bare.text_none, d.3) (omega arith);

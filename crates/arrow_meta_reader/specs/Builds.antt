@@ -9,6 +9,7 @@ use Rattle.arrow_types.specs.Schema.{fault_of as schema_fault_of}
 use Rattle.arrow_types.specs.View.{field_view, fields_view, type_view, field_notes, notes_view, type_notes}
 use Rattle.arrow_types.specs.declared.data_type.DataType.{DataType}
 use Rattle.arrow_types.specs.declared.field.Field.{Field}
+use Rattle.arrow_types.specs.declared.type_set.TypeSet.TheVariants.{All}
 use Rattle.arrow_types.specs.declared.schema.SchemaFault.{SchemaFault}
 use Rattle.arrow_types.specs.declared.schema.SchemaFault.TheVariants as schema_faults
 use Rattle.arrow_meta_reader.specs.declared.kinds.TableKind.TheVariants as kinds
@@ -38,10 +39,10 @@ Refuses Memory misfit = Unit {0}
 abbrev pub leaf_type : Tag → TypeShape
 leaf_type tag = record { tag = tag; children = columns.none }
 
--- The field was built that a Field table with these fields says, or the table is a misfit.
+-- The field was built that a Field table with these fields says, or the table is a misfit, whatever the set of types.
 abbrev pub Builds : Result Field FieldFault → Trees → Type 0
 Builds (Ok f) xs = (field_view f ≡ field_of xs) × (field_notes f ≡ notes_of_field xs)
-Builds (Err e) xs = Refuses e (any is_misfit (table kinds.Field xs))
+Builds (Err e) xs = Refuses e (any is_misfit (table (kinds.Field All) xs))
 
 -- These fields were built, with these notes, or there is a misfit.
 abbrev pub BuildsAll : Result (Vec Field Global) FieldFault → Fields → Notes → Bool → Type 0

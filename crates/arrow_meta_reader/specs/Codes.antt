@@ -4,6 +4,10 @@ use Rattle.arrow_types.specs.declared.data_type.BitWidth.{BitWidth}
 use Rattle.arrow_types.specs.declared.data_type.BitWidth.TheVariants as widths
 use Rattle.arrow_types.specs.declared.data_type.DateUnit.{DateUnit}
 use Rattle.arrow_types.specs.declared.data_type.DateUnit.TheVariants as dates
+use Rattle.arrow_types.specs.declared.data_type.Precision.{Precision}
+use Rattle.arrow_types.specs.declared.data_type.Precision.TheVariants as precisions
+use Rattle.arrow_types.specs.declared.type_set.TypeSet.{TypeSet}
+use Rattle.arrow_types.specs.declared.type_set.TypeSet.TheVariants.{Core, All}
 use Rattle.arrow_types.specs.declared.data_type.TimeUnit.{TimeUnit}
 use Rattle.arrow_types.specs.declared.data_type.TimeUnit.TheVariants as times
 use Rattle.arrow_meta_reader.specs.declared.codes.HeaderKind.{HeaderKind}
@@ -45,11 +49,13 @@ header_kind n =
     (if n == dictionary_code then Some headers.DictionaryBatch else
     (if n == batch_code then Some headers.RecordBatch else None))
 
--- The type that a code names (Schema.fbs, union "Type"). There is none for the types that this project leaves out.
+-- The type that a code names (Schema.fbs, union "Type"). There is none for the types that this project leaves out,
+-- whatever the set.
 abbrev pub type_code : ℕ → Option TypeCode
 type_code n =
     if n == 1 then Some codes.Null else
     (if n == 2 then Some codes.Int else
+    (if n == 3 then Some codes.FloatingPoint else
     (if n == 4 then Some codes.Binary else
     (if n == 5 then Some codes.Utf8 else
     (if n == 6 then Some codes.Bool else
@@ -62,7 +68,35 @@ type_code n =
     (if n == 18 then Some codes.Duration else
     (if n == 19 then Some codes.LargeBinary else
     (if n == 20 then Some codes.LargeUtf8 else
-    (if n == 21 then Some codes.LargeList else None))))))))))))))
+    (if n == 21 then Some codes.LargeList else None)))))))))))))))
+
+-- The type, where a set has it: the core has no FloatingPoint.
+abbrev pub taken : TypeSet → Option TypeCode → Option TypeCode
+taken types None = None
+taken types (Some codes.Null) = Some codes.Null
+taken types (Some codes.Int) = Some codes.Int
+taken Core (Some codes.FloatingPoint) = None
+taken All (Some codes.FloatingPoint) = Some codes.FloatingPoint
+taken types (Some codes.Binary) = Some codes.Binary
+taken types (Some codes.Utf8) = Some codes.Utf8
+taken types (Some codes.Bool) = Some codes.Bool
+taken types (Some codes.Date) = Some codes.Date
+taken types (Some codes.Time) = Some codes.Time
+taken types (Some codes.Timestamp) = Some codes.Timestamp
+taken types (Some codes.List) = Some codes.List
+taken types (Some codes.Struct) = Some codes.Struct
+taken types (Some codes.FixedSizeBinary) = Some codes.FixedSizeBinary
+taken types (Some codes.Duration) = Some codes.Duration
+taken types (Some codes.LargeBinary) = Some codes.LargeBinary
+taken types (Some codes.LargeUtf8) = Some codes.LargeUtf8
+taken types (Some codes.LargeList) = Some codes.LargeList
+
+-- the precision of a floating-point number (Schema.fbs, enum "Precision")
+abbrev pub precision : ℕ → Option Precision
+precision n =
+    if n == 0 then Some precisions.Half else
+    (if n == 1 then Some precisions.Single else
+    (if n == 2 then Some precisions.Double else None))
 
 -- the width of an Int (Schema.fbs, table "Int", field "bitWidth")
 abbrev pub bit_width : ℕ → Option BitWidth

@@ -10,7 +10,7 @@ use Rattle.arrow_meta_reader.specs.declared.codes.TypeCode.{TypeCode}
 use Rattle.arrow_meta_reader.specs.declared.codes.TypeCode.TheVariants as codes
 use Rattle.arrow_meta_reader.specs.declared.conditions.Test.{Test}
 use Rattle.arrow_meta_reader.specs.declared.conditions.Test.TheVariants as tests
-use Rattle.arrow_meta_reader.specs.Codes.{type_code, bit_width, byte_width, date_unit, time_unit}
+use Rattle.arrow_meta_reader.specs.Codes.{type_code, taken, bit_width, byte_width, precision, date_unit, time_unit}
 use Rattle.arrow_meta_reader.specs.Kinds.{type_table}
 use Rattle.arrow_meta_reader.specs.Parts.{nth, number_at, is_table}
 use Rattle.arrow_meta_reader.specs.SchemaMeaning.{fields_in}
@@ -29,16 +29,17 @@ abbrev mutual
   any_in test none = false
   any_in test (more x xs) = any test x || any_in test xs
 
--- Metadata: the table of an Int, a Date, a Time, a Timestamp, a FixedSizeBinary or a Duration, or the data of a dictionary
--- batch, is absent.
+-- Metadata: the table of an Int, a FloatingPoint, a Date, a Time, a Timestamp, a FixedSizeBinary or a Duration, where the
+-- type is one of the set, or the data of a dictionary batch, is absent.
 abbrev pub lacks_table : TableKind → Trees → Bool
-lacks_table kinds.Message xs = false
-lacks_table kinds.Schema xs = false
-lacks_table kinds.Field xs = is_some (type_table (number_at slots.field_type_type 0 xs)) && not (is_table (nth slots.field_type xs))
+lacks_table (kinds.Message types) xs = false
+lacks_table (kinds.Schema types) xs = false
+lacks_table (kinds.Field types) xs = is_some (type_table types (number_at slots.field_type_type 0 xs)) && not (is_table (nth slots.field_type xs))
 lacks_table kinds.DictionaryEncoding xs = false
 lacks_table kinds.RecordBatch xs = false
 lacks_table kinds.DictionaryBatch xs = not (is_table (nth slots.dictionary_batch_data xs))
 lacks_table kinds.Int xs = false
+lacks_table kinds.FloatingPoint xs = false
 lacks_table kinds.Date xs = false
 lacks_table kinds.Time xs = false
 lacks_table kinds.Timestamp xs = false
@@ -46,15 +47,16 @@ lacks_table kinds.FixedSizeBinary xs = false
 lacks_table kinds.Duration xs = false
 lacks_table kinds.KeyValue xs = false
 
--- Unsupported: an endianness other than Little, a type outside the profile, a dictionary kind other than DenseArray.
+-- Unsupported: an endianness other than Little, a type outside of the set, a dictionary kind other than DenseArray.
 abbrev pub is_unsupported : TableKind → Trees → Bool
-is_unsupported kinds.Message xs = false
-is_unsupported kinds.Schema xs = not (number_at slots.schema_endianness 0 xs == 0)
-is_unsupported kinds.Field xs = is_none (type_code (number_at slots.field_type_type 0 xs))
+is_unsupported (kinds.Message types) xs = false
+is_unsupported (kinds.Schema types) xs = not (number_at slots.schema_endianness 0 xs == 0)
+is_unsupported (kinds.Field types) xs = is_none (taken types (type_code (number_at slots.field_type_type 0 xs)))
 is_unsupported kinds.DictionaryEncoding xs = not (number_at slots.dictionary_encoding_dictionary_kind 0 xs == 0)
 is_unsupported kinds.RecordBatch xs = false
 is_unsupported kinds.DictionaryBatch xs = false
 is_unsupported kinds.Int xs = false
+is_unsupported kinds.FloatingPoint xs = false
 is_unsupported kinds.Date xs = false
 is_unsupported kinds.Time xs = false
 is_unsupported kinds.Timestamp xs = false
@@ -73,6 +75,7 @@ abbrev pub children_fit : Option TypeCode → ℕ → Bool
 children_fit None n = n == 0
 children_fit (Some codes.Null) n = n == 0
 children_fit (Some codes.Int) n = n == 0
+children_fit (Some codes.FloatingPoint) n = n == 0
 children_fit (Some codes.Binary) n = n == 0
 children_fit (Some codes.Utf8) n = n == 0
 children_fit (Some codes.Bool) n = n == 0
@@ -90,13 +93,14 @@ children_fit (Some codes.LargeList) n = n == 1
 -- Schema: a width or a unit outside its list, a time's width that is not its unit's, a number of children that the
 -- type does not have.
 abbrev pub is_misfit : TableKind → Trees → Bool
-is_misfit kinds.Message xs = false
-is_misfit kinds.Schema xs = false
-is_misfit kinds.Field xs = not (children_fit (type_code (number_at slots.field_type_type 0 xs)) (width (fields_in (nth slots.field_children xs))))
+is_misfit (kinds.Message types) xs = false
+is_misfit (kinds.Schema types) xs = false
+is_misfit (kinds.Field types) xs = not (children_fit (type_code (number_at slots.field_type_type 0 xs)) (width (fields_in (nth slots.field_children xs))))
 is_misfit kinds.DictionaryEncoding xs = false
 is_misfit kinds.RecordBatch xs = false
 is_misfit kinds.DictionaryBatch xs = false
 is_misfit kinds.Int xs = is_none (bit_width (number_at slots.int_bit_width 0 xs))
+is_misfit kinds.FloatingPoint xs = is_none (precision (number_at slots.floating_point_precision 0 xs))
 is_misfit kinds.Date xs = is_none (date_unit (number_at slots.date_unit 1 xs))
 is_misfit kinds.Time xs = not (is_time (time_unit (number_at slots.time_unit 1 xs)) (number_at slots.time_bit_width 32 xs))
 is_misfit kinds.Timestamp xs = is_none (time_unit (number_at slots.timestamp_unit 0 xs))

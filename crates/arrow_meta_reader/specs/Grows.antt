@@ -1,5 +1,7 @@
 -- Where reading asks for memory: what it is asked for is readable, and within the limits.
 use Rattle.std.specs.Prelude.{◌≡◌, ◌≤◌, ◌<◌, ◌+◌, ℕ, List, ◌∷◌, length, Some}
+use Rattle.arrow_types.specs.Limits.{LimitNumbers}
+use Rattle.arrow_types.specs.declared.type_set.TypeSet.{TypeSet}
 use Rattle.arrow_meta_reader.specs.declared.kinds.TableKind.{TableKind}
 use Rattle.arrow_meta_reader.specs.declared.kinds.TableKind.TheVariants as kinds
 use Rattle.arrow_meta_reader.specs.declared.kinds.FieldForm.TheVariants as forms
@@ -38,13 +40,13 @@ mutual
         Stands bytes s x → Fits room most (levels x) (visits x) (entries x) (text_bytes x) → RowGrows bytes (s ∷ rest) most room
 
 -- the spot of a message: place 0, where the offset to its table stands
-abbrev pub root : Spot
-root = record { form = forms.Table kinds.Message; place = Some 0 }
+abbrev pub root : TypeSet → Spot
+root types = record { form = forms.Table (kinds.Message types); place = Some 0 }
 
 -- the room for the Field tables, the KeyValue tables, and the texts and strings of one message
 abbrev pub whole : ℕ → Room
 whole max_metadata = record { visits = 65536; entries = 65536; text = max_metadata }
 
 -- Reading the message whose metadata the bytes are asks for memory.
-abbrev pub GrowsAtRoot : List ℕ → ℕ → Type 0
-GrowsAtRoot bytes max_metadata = Grows bytes root 32 (whole max_metadata)
+abbrev pub GrowsAtRoot : LimitNumbers → List ℕ → Type 0
+GrowsAtRoot limits bytes = Grows bytes (root limits.types) 32 (whole limits.max_metadata)

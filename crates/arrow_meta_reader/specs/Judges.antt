@@ -53,25 +53,25 @@ LengthFits (Err (Compressed batch body_len)) max_body = body_len ≤ max_body
 LengthFits (Err Memory) max_body = Unit {0}
 
 -- the tree of a metadata: it lies at the root, and keeps to the limits
-pub record IsTreeOf (bytes : List ℕ) (max_metadata : ℕ) (x : Tree) : Type 0 where
-  pub lies : LiesAtRoot x bytes
-  pub within : IsWithin max_metadata x
+pub record IsTreeOf (bytes : List ℕ) (limits : LimitNumbers) (x : Tree) : Type 0 where
+  pub lies : LiesAtRoot limits.types x bytes
+  pub within : IsWithin limits.max_metadata x
 
 -- The bytes of a metadata mean this message.
 abbrev pub MetadataMeans : LimitNumbers → List ℕ → PlainMessage → Type 0
-MetadataMeans limits bytes m = (x : Tree) × IsTreeOf bytes limits.max_metadata x × Means limits.max_body x m
+MetadataMeans limits bytes m = (x : Tree) × IsTreeOf bytes limits x × Means limits.max_body x m
 
 -- The bytes of a metadata have this fault, and none with a lower number: there is no tree, or its least fault is this.
 abbrev pub MetadataFails : LimitNumbers → List ℕ → MetaFault → Type 0
 MetadataFails limits bytes fault =
-    ((fault ≡ Metadata) × ((x : Tree) → IsTreeOf bytes limits.max_metadata x → ⊥)) ⊎
-    ((x : Tree) × IsTreeOf bytes limits.max_metadata x × (fault_of limits.max_body (parts x) ≡ Some fault))
+    ((fault ≡ Metadata) × ((x : Tree) → IsTreeOf bytes limits x → ⊥)) ⊎
+    ((x : Tree) × IsTreeOf bytes limits x × (fault_of limits.max_body (parts x) ≡ Some fault))
 
 -- An answer to the bytes of a metadata. Want of memory is told only of bytes that ask for it: at least the root's
 -- table is readable there, with its first field.
 abbrev pub Decodes : Result Message MetaFault → LimitNumbers → List ℕ → Type 0
 Decodes (Ok m) limits bytes = MetadataMeans limits bytes (message_view m)
-Decodes (Err Memory) limits bytes = GrowsAtRoot bytes limits.max_metadata
+Decodes (Err Memory) limits bytes = GrowsAtRoot limits bytes
 Decodes (Err fault) limits bytes = MetadataFails limits bytes fault
 
 -- The work that was done keeps to the limits, whatever the answer is.
@@ -89,4 +89,4 @@ pub record Counts (work : Work) (x : Tree) : Type 0 where
 
 -- The work counts just what the tree of a metadata has.
 abbrev pub CountsTree : LimitNumbers → List ℕ → Work → Type 0
-CountsTree limits bytes work = (x : Tree) → IsTreeOf bytes limits.max_metadata x → Counts work x
+CountsTree limits bytes work = (x : Tree) → IsTreeOf bytes limits x → Counts work x

@@ -3,7 +3,8 @@ use Rattle.std.specs.Prelude.{ℕ, ◌+◌, ◌-◌, List, [], ◌∷◌, Option
 use Rattle.std.specs.Option.{option_and_then, unwrap_or}
 use Rattle.arrow_flatbuf.specs.Place.{number_at}
 use Rattle.arrow_flatbuf.specs.Table.{TableAt, field_place}
-use Rattle.arrow_meta_reader.specs.Codes.{header_kind, type_code}
+use Rattle.arrow_types.specs.declared.type_set.TypeSet.{TypeSet}
+use Rattle.arrow_meta_reader.specs.Codes.{header_kind, taken, type_code}
 use Rattle.arrow_meta_reader.specs.declared.codes.HeaderKind.{HeaderKind}
 use Rattle.arrow_meta_reader.specs.declared.codes.HeaderKind.TheVariants as headers
 use Rattle.arrow_meta_reader.specs.declared.codes.TypeCode.{TypeCode}
@@ -17,12 +18,12 @@ use Rattle.arrow_meta_reader.specs.declared.kinds.FieldForm.TheVariants as forms
 -- fields behind the last one are not looked at.
 abbrev pub forms_of : TableKind → List FieldForm
 -- version, header's code, header, bodyLength
-forms_of kinds.Message = forms.Short ∷ forms.Byte ∷ forms.Header ∷ forms.Long ∷ []
+forms_of (kinds.Message types) = forms.Short ∷ forms.Byte ∷ forms.Header types ∷ forms.Long ∷ []
 -- endianness, fields, custom_metadata
-forms_of kinds.Schema = forms.Short ∷ forms.Tables kinds.Field ∷ forms.Tables kinds.KeyValue ∷ []
+forms_of (kinds.Schema types) = forms.Short ∷ forms.Tables (kinds.Field types) ∷ forms.Tables kinds.KeyValue ∷ []
 -- name, nullable, type's code, type, dictionary, children, custom_metadata
-forms_of kinds.Field =
-    forms.Text ∷ forms.Byte ∷ forms.Byte ∷ forms.Type ∷ forms.Table kinds.DictionaryEncoding ∷ forms.Tables kinds.Field ∷ forms.Tables kinds.KeyValue ∷ []
+forms_of (kinds.Field types) =
+    forms.Text ∷ forms.Byte ∷ forms.Byte ∷ forms.Type types ∷ forms.Table kinds.DictionaryEncoding ∷ forms.Tables (kinds.Field types) ∷ forms.Tables kinds.KeyValue ∷ []
 -- id, indexType, isOrdered, dictionaryKind
 forms_of kinds.DictionaryEncoding = forms.Long ∷ forms.Table kinds.Int ∷ forms.Byte ∷ forms.Short ∷ []
 -- length, nodes, buffers, compression
@@ -31,6 +32,8 @@ forms_of kinds.RecordBatch = forms.Long ∷ forms.Pairs ∷ forms.Pairs ∷ form
 forms_of kinds.DictionaryBatch = forms.Long ∷ forms.Table kinds.RecordBatch ∷ forms.Byte ∷ []
 -- bitWidth, is_signed
 forms_of kinds.Int = forms.Int ∷ forms.Byte ∷ []
+-- precision
+forms_of kinds.FloatingPoint = forms.Short ∷ []
 -- unit
 forms_of kinds.Date = forms.Short ∷ []
 -- unit, bitWidth
@@ -45,21 +48,22 @@ forms_of kinds.Duration = forms.Short ∷ []
 forms_of kinds.KeyValue = forms.Bytes ∷ forms.Bytes ∷ []
 
 -- the table of a header (Message.fbs, union "MessageHeader")
-abbrev pub table_of_header : Option HeaderKind → Option TableKind
-table_of_header None = None
-table_of_header (Some headers.Schema) = Some kinds.Schema
-table_of_header (Some headers.DictionaryBatch) = Some kinds.DictionaryBatch
-table_of_header (Some headers.RecordBatch) = Some kinds.RecordBatch
+abbrev pub table_of_header : TypeSet → Option HeaderKind → Option TableKind
+table_of_header types None = None
+table_of_header types (Some headers.Schema) = Some (kinds.Schema types)
+table_of_header types (Some headers.DictionaryBatch) = Some kinds.DictionaryBatch
+table_of_header types (Some headers.RecordBatch) = Some kinds.RecordBatch
 
 -- The table that a header's code opens. No other header is looked at.
-abbrev pub header_table : ℕ → Option TableKind
-header_table code = table_of_header (header_kind code)
+abbrev pub header_table : TypeSet → ℕ → Option TableKind
+header_table types code = table_of_header types (header_kind code)
 
 -- The table of a type (Schema.fbs, union "Type"), none where nothing in it is looked at.
 abbrev pub table_of : Option TypeCode → Option TableKind
 table_of None = None
 table_of (Some codes.Null) = None
 table_of (Some codes.Int) = Some kinds.Int
+table_of (Some codes.FloatingPoint) = Some kinds.FloatingPoint
 table_of (Some codes.Binary) = None
 table_of (Some codes.Utf8) = None
 table_of (Some codes.Bool) = None
@@ -74,9 +78,9 @@ table_of (Some codes.LargeBinary) = None
 table_of (Some codes.LargeUtf8) = None
 table_of (Some codes.LargeList) = None
 
--- the table that a type's code opens
-abbrev pub type_table : ℕ → Option TableKind
-type_table code = table_of (type_code code)
+-- the table that a type's code opens, where a set has the type
+abbrev pub type_table : TypeSet → ℕ → Option TableKind
+type_table types code = table_of (taken types (type_code code))
 
 -- where something of a form stands, or that it is absent
 pub record Spot : Type 0 where
@@ -100,8 +104,8 @@ standing form t i = record { form = form; place = field_place t i }
 
 -- field i of a table, where the form of a header and of a type is told by the code before it
 abbrev pub spot : FieldForm → TableAt → ℕ → Spot
-spot forms.Header t i = opened (header_table (code_at t (i - 1))) (field_place t i)
-spot forms.Type t i = opened (type_table (code_at t (i - 1))) (field_place t i)
+spot (forms.Header types) t i = opened (header_table types (code_at t (i - 1))) (field_place t i)
+spot (forms.Type types) t i = opened (type_table types (code_at t (i - 1))) (field_place t i)
 spot forms.Byte t i = standing forms.Byte t i
 spot forms.Short t i = standing forms.Short t i
 spot forms.Int t i = standing forms.Int t i

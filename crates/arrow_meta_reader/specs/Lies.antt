@@ -5,6 +5,7 @@ use Rattle.arrow_flatbuf.specs.Place.{number_at, target_at, behind}
 use Rattle.arrow_flatbuf.specs.Table.{TableAt, table_at}
 use Rattle.arrow_flatbuf.specs.Text.{bytes_at, text_at}
 use Rattle.arrow_flatbuf.specs.Vector.{vector_at}
+use Rattle.arrow_types.specs.declared.type_set.TypeSet.{TypeSet}
 use Rattle.arrow_meta_reader.specs.declared.kinds.TableKind.{TableKind}
 use Rattle.arrow_meta_reader.specs.declared.kinds.TableKind.TheVariants as kinds
 use Rattle.arrow_meta_reader.specs.declared.kinds.FieldForm.{FieldForm}
@@ -53,8 +54,8 @@ layer_at bytes (forms.Tables kind) p =
 layer_at bytes forms.Pairs p =
     option_map (λ v. leaf_layer (pairs (pairs_from bytes v.place v.count))) (behind (vector_at 16) bytes p)
 layer_at bytes forms.Presence p = Some (leaf_layer present)
-layer_at bytes forms.Header p = None
-layer_at bytes forms.Type p = None
+layer_at bytes (forms.Header types) p = None
+layer_at bytes (forms.Type types) p = None
 
 -- What stands at a spot. An absent one holds nothing, and is readable.
 unfoldable pub layer : List ℕ → Spot → Option Layer
@@ -84,5 +85,5 @@ Lies kind (table k xs) bytes p =
     (k ≡ kind) × (t : TableAt) × (table_at bytes p ≡ Some t) × AllStand bytes (spots_of kind t) xs
 
 -- A message's tree lies at the root: where the offset at place 0 leads (FlatBuffers internals, "Encoding").
-abbrev pub LiesAtRoot : Tree → List ℕ → Type 0
-LiesAtRoot x bytes = (p : ℕ) × (target_at bytes 0 ≡ Some p) × Lies kinds.Message x bytes p
+abbrev pub LiesAtRoot : TypeSet → Tree → List ℕ → Type 0
+LiesAtRoot types x bytes = (p : ℕ) × (target_at bytes 0 ≡ Some p) × Lies (kinds.Message types) x bytes p

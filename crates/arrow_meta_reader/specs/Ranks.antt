@@ -7,13 +7,14 @@ use Rattle.arrow_meta_reader.specs.declared.kinds.FieldForm.TheVariants as forms
 
 -- Below a table stand tables of lower rank, save below a field.
 abbrev pub rank : TableKind → ℕ
-rank kinds.Message = 5
-rank kinds.Schema = 4
-rank kinds.Field = 3
+rank (kinds.Message types) = 5
+rank (kinds.Schema types) = 4
+rank (kinds.Field types) = 3
 rank kinds.DictionaryEncoding = 2
 rank kinds.RecordBatch = 1
 rank kinds.DictionaryBatch = 2
 rank kinds.Int = 1
+rank kinds.FloatingPoint = 1
 rank kinds.Date = 1
 rank kinds.Time = 1
 rank kinds.Timestamp = 1
@@ -33,18 +34,19 @@ form_rank forms.Pairs = 0
 form_rank forms.Presence = 0
 form_rank (forms.Table kind) = rank kind
 form_rank (forms.Tables kind) = rank kind
-form_rank forms.Header = 4
-form_rank forms.Type = 1
+form_rank (forms.Header types) = 4
+form_rank (forms.Type types) = 1
 
 -- above the rank of each field of a table
 abbrev pub inner : TableKind → ℕ
-inner kinds.Message = rank kinds.Message
-inner kinds.Schema = rank kinds.Schema
-inner kinds.Field = 7
+inner (kinds.Message types) = rank (kinds.Message types)
+inner (kinds.Schema types) = rank (kinds.Schema types)
+inner (kinds.Field types) = 7
 inner kinds.DictionaryEncoding = rank kinds.DictionaryEncoding
 inner kinds.RecordBatch = rank kinds.RecordBatch
 inner kinds.DictionaryBatch = rank kinds.DictionaryBatch
 inner kinds.Int = rank kinds.Int
+inner kinds.FloatingPoint = rank kinds.FloatingPoint
 inner kinds.Date = rank kinds.Date
 inner kinds.Time = rank kinds.Time
 inner kinds.Timestamp = rank kinds.Timestamp

@@ -12,6 +12,8 @@ use Rattle.arrow_types.specs.declared.data_type.BitWidth.{BitWidth}
 use Rattle.arrow_types.specs.declared.data_type.BitWidth.TheVariants as widths
 use Rattle.arrow_types.specs.declared.data_type.DateUnit.{DateUnit}
 use Rattle.arrow_types.specs.declared.data_type.DateUnit.TheVariants as dates
+use Rattle.arrow_types.specs.declared.data_type.Precision.{Precision}
+use Rattle.arrow_types.specs.declared.data_type.Precision.TheVariants as precisions
 use Rattle.arrow_types.specs.declared.data_type.TimeUnit.{TimeUnit}
 use Rattle.arrow_types.specs.declared.data_type.TimeUnit.TheVariants as times
 use Rattle.arrow_types.specs.declared.field.IndexType.{IndexType}
@@ -19,7 +21,7 @@ use Rattle.arrow_types.specs.declared.field.Encoding.{Encoding}
 use Rattle.arrow_meta_reader.specs.declared.kinds.TableKind.TheVariants as kinds
 use Rattle.arrow_meta_reader.specs.declared.codes.TypeCode.{TypeCode}
 use Rattle.arrow_meta_reader.specs.declared.codes.TypeCode.TheVariants as codes
-use Rattle.arrow_meta_reader.specs.Codes.{type_code, bit_width, byte_width, date_unit, time_unit}
+use Rattle.arrow_meta_reader.specs.Codes.{type_code, bit_width, byte_width, precision, date_unit, time_unit}
 use Rattle.arrow_meta_reader.specs.Trees.{Tree, leaf, table, tables, Trees, none, more}
 use Rattle.arrow_meta_reader.specs.Parts.{nth, parts, number_at, flag_at, text_in, some_text_in, bytes_in}
 use Rattle.arrow_meta_reader.specs.Slots as slots
@@ -27,6 +29,10 @@ use Rattle.arrow_meta_reader.specs.Slots as slots
 -- the width of an Int table, whose default 0 is no width
 abbrev pub width_in : Trees → BitWidth
 width_in xs = unwrap_or (bit_width (number_at slots.int_bit_width 0 xs)) widths.Eight
+
+-- the precision of a FloatingPoint table, whose default is HALF
+abbrev pub precision_in : Trees → Precision
+precision_in xs = unwrap_or (precision (number_at slots.floating_point_precision 0 xs)) precisions.Half
 
 -- the unit of a Date table, whose default is MILLISECOND
 abbrev pub date_in : Trees → DateUnit
@@ -57,12 +63,13 @@ encoding_in (table kind xs) =
     })
 encoding_in (tables xs) = None
 
--- The type of a code, by its table. The defaults: MILLISECOND for a Date, a Time and a Duration, SECOND for a Timestamp, 0
+-- The type of a code, by its table. The defaults: HALF for a FloatingPoint, MILLISECOND for a Date, a Time and a Duration, SECOND for a Timestamp, 0
 -- bytes for a FixedSizeBinary.
 abbrev pub tag_by : Option TypeCode → Trees → Tag
 tag_by None xs = tags.null
 tag_by (Some codes.Null) xs = tags.null
 tag_by (Some codes.Int) xs = tags.int (width_in xs) (flag_at slots.int_is_signed xs)
+tag_by (Some codes.FloatingPoint) xs = tags.floating_point (precision_in xs)
 tag_by (Some codes.Binary) xs = tags.binary
 tag_by (Some codes.Utf8) xs = tags.utf8
 tag_by (Some codes.Bool) xs = tags.boolean
@@ -89,7 +96,7 @@ head_of xs = record {
 -- whether it is a Field table
 abbrev pub is_field : Tree → Bool
 is_field (leaf x) = false
-is_field (table kinds.Field xs) = true
+is_field (table (kinds.Field types) xs) = true
 is_field (table kind xs) = false
 is_field (tables xs) = false
 
@@ -108,7 +115,7 @@ abbrev mutual
   -- the fields behind the one of a Field table, whose children stand in its field 5
   pub with_field : Tree → Fields → Fields
   with_field (leaf x) rest = rest
-  with_field (table kinds.Field xs) rest = columns.more (head_of xs) (fields_at slots.field_children xs) rest
+  with_field (table (kinds.Field types) xs) rest = columns.more (head_of xs) (fields_at slots.field_children xs) rest
   with_field (table kind xs) rest = rest
   with_field (tables xs) rest = rest
 
@@ -171,7 +178,7 @@ abbrev mutual
   -- the notes behind those of the field of a Field table, whose children stand in its field 5
   pub with_notes : Tree → Notes → Notes
   with_notes (leaf x) rest = rest
-  with_notes (table kinds.Field xs) rest = noted (field_pairs xs) (notes_at slots.field_children xs) rest
+  with_notes (table (kinds.Field types) xs) rest = noted (field_pairs xs) (notes_at slots.field_children xs) rest
   with_notes (table kind xs) rest = rest
   with_notes (tables xs) rest = rest
 

@@ -110,6 +110,10 @@ int_bit_width = 0
 abbrev pub int_is_signed : ℕ
 int_is_signed = 1
 
+-- precision (Schema.fbs, table "FloatingPoint")
+abbrev pub floating_point_precision : ℕ
+floating_point_precision = 0
+
 -- unit (Schema.fbs, table "Date")
 abbrev pub date_unit : ℕ
 date_unit = 0

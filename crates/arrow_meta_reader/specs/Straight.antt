@@ -13,6 +13,7 @@ use Rattle.arrow_meta_reader.specs.Lies.{AllStand, pairs_from}
 use Rattle.arrow_meta_reader.specs.Judges.{IsTreeOf}
 use Rattle.arrow_meta_reader.specs.Means.{PlainHeader, PlainMessage, Means, header_by}
 use Rattle.arrow_types.specs.Limits.{LimitNumbers}
+use Rattle.arrow_types.specs.declared.type_set.TypeSet.{TypeSet}
 use Rattle.arrow_meta_reader.specs.Trees.{Tree, Trees, table}
 use Rattle.arrow_meta_reader.specs.Within.{levels, entries, text_bytes, visits}
 
@@ -37,7 +38,7 @@ pub record IsBare (x : Tree) : Type 0 where
 -- a table is the header of this kind, has none of its faults, and says this
 pub record IsHeader (kind : HeaderKind) (t : TableAt) (h : PlainHeader) : Type 0 where
   pub opened : TableKind
-  pub opens : table_of_header (Some kind) ≡ Some opened
+  pub opens : (types : TypeSet) → table_of_header types (Some kind) ≡ Some opened
   pub fields : Trees
   pub stand : AllStand t.bytes (spots_of opened t) fields
   pub bare : IsBare (table opened fields)
@@ -47,4 +48,4 @@ pub record IsHeader (kind : HeaderKind) (t : TableAt) (h : PlainHeader) : Type 0
 
 -- The bytes of a metadata mean this message, by a tree that is bare.
 abbrev pub MeansBare : LimitNumbers → List ℕ → PlainMessage → Type 0
-MeansBare limits bytes m = (x : Tree) × IsTreeOf bytes limits.max_metadata x × Means limits.max_body x m × IsBare x
+MeansBare limits bytes m = (x : Tree) × IsTreeOf bytes limits x × Means limits.max_body x m × IsBare x

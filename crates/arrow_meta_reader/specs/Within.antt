@@ -6,13 +6,14 @@ use Rattle.arrow_meta_reader.specs.Trees.{Leaf, absent, number, text, byte_strin
 
 -- 1 for a Field table, 0 for every other
 abbrev pub visit : TableKind → ℕ
-visit kinds.Message = 0
-visit kinds.Schema = 0
-visit kinds.Field = 1
+visit (kinds.Message types) = 0
+visit (kinds.Schema types) = 0
+visit (kinds.Field types) = 1
 visit kinds.DictionaryEncoding = 0
 visit kinds.RecordBatch = 0
 visit kinds.DictionaryBatch = 0
 visit kinds.Int = 0
+visit kinds.FloatingPoint = 0
 visit kinds.Date = 0
 visit kinds.Time = 0
 visit kinds.Timestamp = 0
@@ -22,13 +23,14 @@ visit kinds.KeyValue = 0
 
 -- 1 for a KeyValue table, 0 for every other
 abbrev pub entry : TableKind → ℕ
-entry kinds.Message = 0
-entry kinds.Schema = 0
-entry kinds.Field = 0
+entry (kinds.Message types) = 0
+entry (kinds.Schema types) = 0
+entry (kinds.Field types) = 0
 entry kinds.DictionaryEncoding = 0
 entry kinds.RecordBatch = 0
 entry kinds.DictionaryBatch = 0
 entry kinds.Int = 0
+entry kinds.FloatingPoint = 0
 entry kinds.Date = 0
 entry kinds.Time = 0
 entry kinds.Timestamp = 0

@@ -1,10 +1,10 @@
 //! The numbers that stand for versions, headers, types, widths and units (`Message.fbs`, `Schema.fbs`).
 ghost use Rattle.std.specs.Prelude.{◌≡◌};
 ghost use Rattle.arrow_meta_reader.specs.Codes.{metadata_version, header_kind, type_code};
-ghost use Rattle.arrow_meta_reader.specs.Codes.{bit_width, byte_width, date_unit, time_unit};
+ghost use Rattle.arrow_meta_reader.specs.Codes.{bit_width, byte_width, date_unit, precision, taken, time_unit};
 
 use crate::message::MetadataVersion;
-use arrow_types::{BitWidth, DateUnit, Schema, TimeUnit};
+use arrow_types::{BitWidth, DateUnit, Precision, Schema, TimeUnit, TypeSet};
 
 /// The version of this number, None outside the profile: 0 is V1, 1 is V2 and 2 is V3.
 pub(crate) fn metadata_version(number: u64) -> Option<MetadataVersion>
@@ -45,6 +45,7 @@ pub(crate) fn header_kind(code: u64) -> Option<HeaderKind>
 pub(crate) enum TypeCode {
     Null,
     Int,
+    FloatingPoint,
     Binary,
     Utf8,
     Bool,
@@ -67,6 +68,7 @@ pub(crate) fn type_code(code: u64) -> Option<TypeCode>
     match code {
         1 => Some(TypeCode::Null),
         2 => Some(TypeCode::Int),
+        3 => Some(TypeCode::FloatingPoint),
         4 => Some(TypeCode::Binary),
         5 => Some(TypeCode::Utf8),
         6 => Some(TypeCode::Bool),
@@ -81,6 +83,29 @@ pub(crate) fn type_code(code: u64) -> Option<TypeCode>
         20 => Some(TypeCode::LargeUtf8),
         21 => Some(TypeCode::LargeList),
         // a number that is no type's of the profile
+        _ => None,
+    }
+}
+
+/// The type, where a set has it.
+pub(crate) fn taken(types: TypeSet, code: Option<TypeCode>) -> Option<TypeCode>
+    ensures code { result ≡ taken types code }
+{
+    match (code, types) {
+        (Some(TypeCode::FloatingPoint), TypeSet::Core) => None,
+        (code, _) => code,
+    }
+}
+
+/// The precision of a floating-point number.
+pub(crate) fn precision(number: u64) -> Option<Precision>
+    ensures precision { result ≡ precision number }
+{
+    match number {
+        0 => Some(Precision::Half),
+        1 => Some(Precision::Single),
+        2 => Some(Precision::Double),
+        // a number that is no precision
         _ => None,
     }
 }

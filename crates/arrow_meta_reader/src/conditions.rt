@@ -7,7 +7,9 @@ ghost use Rattle.arrow_meta_reader.specs.SchemaMeaning.{fields_in, fields_from, 
 ghost use Rattle.arrow_meta_reader.specs.Views.{plain, plain_all};
 ghost use Rattle.arrow_types.specs.Field.{width};
 
-use crate::codes::{TypeCode, bit_width, byte_width, date_unit, time_unit, type_code};
+use crate::codes::{
+    TypeCode, bit_width, byte_width, date_unit, precision, taken, time_unit, type_code,
+};
 use crate::kinds::{TableKind, type_table};
 use crate::message_tree::Tree;
 use crate::parts::{has_table, number_at, part};
@@ -66,8 +68,10 @@ fn lacks_table(kind: TableKind, parts: &[Tree]) -> bool
     ensures lacks { result ≡ lacks_table kind (plain_all parts.now) }
 {
     match kind {
-        TableKind::Field => type_table(number_at(parts, slots::field::TYPE_TYPE, 0)).is_some()
-            && !has_table(parts, slots::field::TYPE),
+        TableKind::Field(types) => {
+            type_table(types, number_at(parts, slots::field::TYPE_TYPE, 0)).is_some()
+                && !has_table(parts, slots::field::TYPE)
+        }
         TableKind::DictionaryBatch => !has_table(parts, slots::dictionary_batch::DATA),
         _ => false,
     }
@@ -78,8 +82,14 @@ fn is_unsupported(kind: TableKind, parts: &[Tree]) -> bool
     ensures unsupported { result ≡ is_unsupported kind (plain_all parts.now) }
 {
     match kind {
-        TableKind::Schema => number_at(parts, slots::schema::ENDIANNESS, 0) != 0,
-        TableKind::Field => type_code(number_at(parts, slots::field::TYPE_TYPE, 0)).is_none(),
+        TableKind::Schema(_) => number_at(parts, slots::schema::ENDIANNESS, 0) != 0,
+        TableKind::Field(types) => {
+            taken(
+                types,
+                type_code(number_at(parts, slots::field::TYPE_TYPE, 0)),
+            )
+            .is_none()
+        }
         TableKind::DictionaryEncoding => number_at(
             parts,
             slots::dictionary_encoding::DICTIONARY_KIND,
@@ -94,11 +104,14 @@ fn is_misfit(kind: TableKind, parts: &[Tree]) -> bool
     ensures misfit { result ≡ is_misfit kind (plain_all parts.now) }
 {
     match kind {
-        TableKind::Field => !children_fit(
+        TableKind::Field(_) => !children_fit(
             type_code(number_at(parts, slots::field::TYPE_TYPE, 0)),
             fields_at(parts, slots::field::CHILDREN),
         ),
         TableKind::Int => bit_width(number_at(parts, slots::int::BIT_WIDTH, 0)).is_none(),
+        TableKind::FloatingPoint => {
+            precision(number_at(parts, slots::floating_point::PRECISION, 0)).is_none()
+        }
         TableKind::Date => date_unit(number_at(parts, slots::date::UNIT, 1)).is_none(),
         TableKind::Time => !is_time(
             time_unit(number_at(parts, slots::time::UNIT, 1)),
@@ -134,6 +147,7 @@ fn children_fit(code: Option<TypeCode>, count: usize) -> bool
         Some(
             TypeCode::Null
             | TypeCode::Int
+            | TypeCode::FloatingPoint
             | TypeCode::Binary
             | TypeCode::Utf8
             | TypeCode::Bool
@@ -181,7 +195,7 @@ fn is_field(tree: &Tree) -> bool
 {
     match tree {
         Tree::Leaf(_) => false,
-        Tree::Table(TableKind::Field, _) => true,
+        Tree::Table(TableKind::Field(_), _) => true,
         Tree::Table(_, _) => false,
         Tree::Tables(_) => false,
     }

@@ -23,8 +23,8 @@ pub enum BatchKind {
 #[derive(Clone, Copy, Debug, PartialEq, Eq, Error)]
 pub enum MetaFault {
     /// Something that is looked at is not readable, a limit of the tree is passed, or a table that
-    /// must be there is absent: that of an Int, a Date, a Time, a Timestamp, a FixedSizeBinary or a
-    /// Duration, or the data of a dictionary batch.
+    /// must be there is absent: that of an Int, a FloatingPoint, a Date, a Time, a Timestamp, a
+    /// FixedSizeBinary or a Duration, or the data of a dictionary batch.
     #[error("the metadata are not readable")]
     Metadata,
     /// The version is neither V4 nor V5.
@@ -36,11 +36,11 @@ pub enum MetaFault {
     /// The body's length is negative or over the limit.
     #[error("the body's length is negative or over the limit")]
     BodyLength,
-    /// A schema is big-endian, or has a type outside the profile, a dictionary of an unknown kind,
-    /// or a dictionary below a dictionary.
+    /// A schema is big-endian, or has a type outside the set of the limits, a dictionary of an unknown
+    /// kind, or a dictionary below a dictionary.
     #[error("the schema has something that is not supported")]
     Unsupported { body_len: u64 },
-    /// A schema has a width or a unit outside its list, a negative number of bytes for a width, a
+    /// A schema has a width, a precision or a unit outside its list, a negative number of bytes for a width, a
     /// time of another unit's width, a type with another number of children, or one dictionary id
     /// with unequal value types.
     #[error("the schema contradicts itself")]

@@ -8,6 +8,7 @@ ghost use Rattle.arrow_meta_reader.specs.Trees.{table};
 ghost use Rattle.arrow_meta_reader.specs.Views.{plain, plain_all};
 ghost use Rattle.arrow_meta_reader.specs.declared.kinds.TableKind.TheVariants as kinds;
 ghost use Rattle.arrow_types.specs.Field.{none as no_fields};
+ghost use Rattle.arrow_types.specs.declared.type_set.TypeSet.{TypeSet};
 
 use crate::kinds::TableKind;
 use crate::message_tree::Tree;
@@ -44,11 +45,12 @@ pub(crate) fn first_field(tables: &[Tree]) -> Option<FirstField<'_>>
 /// The fields of a Field table, None of anything else.
 fn field_parts(tree: &Tree) -> Option<&[Tree]>
     ensures parts { MatchOption result (is_field (plain tree.now) ≡ false)
-        (λ p. plain tree.now ≡ table kinds.Field (plain_all p.now)) }
+        (λ p. (types : TypeSet)
+        × (plain tree.now ≡ table (kinds.Field types) (plain_all p.now))) }
 {
     match tree {
         Tree::Leaf(_) => None,
-        Tree::Table(TableKind::Field, parts) => Some(parts),
+        Tree::Table(TableKind::Field(_), parts) => Some(parts),
         Tree::Table(_, _) => None,
         Tree::Tables(_) => None,
     }

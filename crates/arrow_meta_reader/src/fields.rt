@@ -9,7 +9,7 @@ ghost use Rattle.arrow_types.specs.Field.{field_by};
 ghost use Rattle.arrow_meta_reader.specs.Conditions.{any, any_in, is_misfit};
 ghost use Rattle.arrow_meta_reader.specs.Parts.{nth};
 ghost use Rattle.arrow_meta_reader.specs.SchemaMeaning.{date_in, encoding_in, fixed_size_in, index_in};
-ghost use Rattle.arrow_meta_reader.specs.SchemaMeaning.{fields_from, fields_in, is_field, tag_by, time_in};
+ghost use Rattle.arrow_meta_reader.specs.SchemaMeaning.{fields_from, fields_in, is_field, precision_in, tag_by, time_in};
 ghost use Rattle.arrow_meta_reader.specs.SchemaMeaning.{notes_from, notes_in};
 ghost use Rattle.arrow_meta_reader.specs.SchemaMeaning.{width_in};
 ghost use Rattle.arrow_meta_reader.specs.Slots as slots;
@@ -17,18 +17,19 @@ ghost use Rattle.arrow_meta_reader.specs.Trees.{none, table};
 ghost use Rattle.arrow_meta_reader.specs.Views.{plain, plain_all};
 ghost use Rattle.arrow_meta_reader.specs.declared.kinds.TableKind.TheVariants as kinds;
 ghost use Rattle.arrow_types.specs.DataType.{int};
+ghost use Rattle.arrow_types.specs.declared.type_set.TypeSet.{TypeSet};
 ghost use Rattle.arrow_types.specs.Field.{width, none as empty};
 ghost use Rattle.arrow_types.specs.Notes.{pairs_view, unnoted};
 ghost use Rattle.arrow_types.specs.View.{field_notes, field_view, fields_view, notes_view};
 ghost use Rattle.arrow_types.specs.View.{type_notes, type_view};
 
-use crate::codes::{TypeCode, bit_width, byte_width, date_unit, time_unit, type_code};
+use crate::codes::{TypeCode, bit_width, byte_width, date_unit, precision, time_unit, type_code};
 use crate::kinds::TableKind;
 use crate::message_tree::Tree;
 use crate::metadata::metadata;
 use crate::parts::{flag_at, into_parts, into_some_text, into_text, number_at, part, take};
 use crate::slots;
-use arrow_types::{BitWidth, DataType, DateUnit, Encoding, Field, IndexType, TimeUnit};
+use arrow_types::{BitWidth, DataType, DateUnit, Encoding, Field, IndexType, Precision, TimeUnit};
 use std::alloc::{AllocError, AllocFailed, Global};
 
 /// Why there are no fields.
@@ -139,11 +140,12 @@ fn joined(
 /// The fields of a Field table, None of anything else.
 fn into_field_parts(tree: Tree) -> Option<Vec<Tree>>
     ensures parts { MatchOption result (is_field (plain tree) ≡ false)
-        (λ v. plain tree ≡ table kinds.Field (plain_all v.items)) }
+        (λ v. (types : TypeSet)
+        × (plain tree ≡ table (kinds.Field types) (plain_all v.items))) }
 {
     match tree {
         Tree::Leaf(_) => None,
-        Tree::Table(TableKind::Field, parts) => Some(parts),
+        Tree::Table(TableKind::Field(_), parts) => Some(parts),
         Tree::Table(_, _) => None,
         Tree::Tables(_) => None,
     }
@@ -190,6 +192,7 @@ fn data_type(
         None => childless(DataType::Null, children),
         Some(TypeCode::Null) => childless(DataType::Null, children),
         Some(TypeCode::Int) => childless(int_type(&parts), children),
+        Some(TypeCode::FloatingPoint) => childless(float_type(&parts), children),
         Some(TypeCode::Binary) => childless(DataType::Binary, children),
         Some(TypeCode::Utf8) => childless(DataType::Utf8, children),
         Some(TypeCode::Bool) => childless(DataType::Bool, children),
@@ -260,6 +263,14 @@ fn int_type(parts: &[Tree]) -> DataType
     }
 }
 
+fn float_type(parts: &[Tree]) -> DataType
+    ensures float { type_view result
+        ≡ leaf_type (tag_by (Some TypeCode.FloatingPoint) (plain_all parts.now)) }
+    ensures notes { type_notes result ≡ unnoted }
+{
+    DataType::FloatingPoint(precision_in(parts))
+}
+
 fn date_type(parts: &[Tree]) -> DataType
     ensures date { type_view result
         ≡ leaf_type (tag_by (Some TypeCode.Date) (plain_all parts.now)) }
@@ -307,6 +318,13 @@ pub(crate) fn width_in(parts: &[Tree]) -> BitWidth
     ensures width { result ≡ width_in (plain_all parts.now) }
 {
     bit_width(number_at(parts, slots::int::BIT_WIDTH, 0)).unwrap_or(BitWidth::Eight)
+}
+
+/// The precision that a FloatingPoint table with these fields says.
+pub(crate) fn precision_in(parts: &[Tree]) -> Precision
+    ensures precision { result ≡ precision_in (plain_all parts.now) }
+{
+    precision(number_at(parts, slots::floating_point::PRECISION, 0)).unwrap_or(Precision::Half)
 }
 
 /// The unit that a Date table with these fields says.

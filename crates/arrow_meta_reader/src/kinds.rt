@@ -2,18 +2,21 @@
 ghost use Rattle.std.specs.Prelude.{◌≡◌, ◌≤◌, length};
 ghost use Rattle.arrow_meta_reader.specs.Kinds.{forms_of, header_table, type_table};
 
-use crate::codes::{HeaderKind, TypeCode, header_kind, type_code};
+use crate::codes::{HeaderKind, TypeCode, header_kind, taken, type_code};
+use arrow_types::TypeSet;
 
-/// A table of the standard's `Message.fbs` or `Schema.fbs`, under its name there.
+/// A table of the standard's `Message.fbs` or `Schema.fbs`, under its name there. Those that have
+/// types come with the set of the types whose tables are opened.
 #[derive(Clone, Copy, Debug)]
 pub(crate) enum TableKind {
-    Message,
-    Schema,
-    Field,
+    Message(TypeSet),
+    Schema(TypeSet),
+    Field(TypeSet),
     DictionaryEncoding,
     RecordBatch,
     DictionaryBatch,
     Int,
+    FloatingPoint,
     Date,
     Time,
     Timestamp,
@@ -54,9 +57,9 @@ pub enum FieldForm {
     /// A vector of offsets to tables.
     Tables(TableKind),
     /// A message's header, whose table the code in the field before it tells.
-    Header,
+    Header(TypeSet),
     /// A field's type, whose table the code in the field before it tells.
-    Type,
+    Type(TypeSet),
 }
 
 /// The fields of a table that are looked at, in order of their numbers from 0.
@@ -66,22 +69,37 @@ pub(crate) fn forms(kind: TableKind) -> &'static [FieldForm]
 {
     use FieldForm::{Byte, Bytes, Header, Int, Long, Pairs, Presence, Short};
     use FieldForm::{Table, Tables, Text, Type};
+    use TableKind::{Field, KeyValue};
+    use TypeSet::{All, Core};
     match kind {
-        TableKind::Message => &[Short, Byte, Header, Long],
-        TableKind::Schema => &[Short, Tables(TableKind::Field), Tables(TableKind::KeyValue)],
-        TableKind::Field => &[
+        TableKind::Message(Core) => &[Short, Byte, Header(Core), Long],
+        TableKind::Message(All) => &[Short, Byte, Header(All), Long],
+        TableKind::Schema(Core) => &[Short, Tables(Field(Core)), Tables(KeyValue)],
+        TableKind::Schema(All) => &[Short, Tables(Field(All)), Tables(KeyValue)],
+        TableKind::Field(Core) => &[
+            Text, // name
+            Byte, // nullable
+            Byte, // type_type
+            Type(Core),
+            Table(TableKind::DictionaryEncoding), // dictionary
+            Tables(Field(Core)), // children
+            Tables(KeyValue), // custom_metadata
+        ],
+        // the same fields
+        TableKind::Field(All) => &[
             Text,
             Byte,
             Byte,
-            Type,
+            Type(All),
             Table(TableKind::DictionaryEncoding),
-            Tables(TableKind::Field),
-            Tables(TableKind::KeyValue),
+            Tables(Field(All)),
+            Tables(KeyValue),
         ],
         TableKind::DictionaryEncoding => &[Long, Table(TableKind::Int), Byte, Short],
         TableKind::RecordBatch => &[Long, Pairs, Pairs, Presence],
         TableKind::DictionaryBatch => &[Long, Table(TableKind::RecordBatch), Byte],
         TableKind::Int => &[Int, Byte],
+        TableKind::FloatingPoint => &[Short],
         TableKind::Date => &[Short],
         TableKind::Time => &[Short, Int],
         TableKind::Timestamp => &[Short, Text],
@@ -92,22 +110,24 @@ pub(crate) fn forms(kind: TableKind) -> &'static [FieldForm]
 }
 
 /// The table that a header's code opens. Of any other code not even the offset is looked at.
-pub(crate) fn header_table(code: u64) -> Option<TableKind>
-    ensures table { result ≡ header_table code }
+pub(crate) fn header_table(types: TypeSet, code: u64) -> Option<TableKind>
+    ensures table { result ≡ header_table types code }
 {
     match header_kind(code) {
-        Some(HeaderKind::Schema) => Some(TableKind::Schema),
+        Some(HeaderKind::Schema) => Some(TableKind::Schema(types)),
         Some(HeaderKind::DictionaryBatch) => Some(TableKind::DictionaryBatch),
         Some(HeaderKind::RecordBatch) => Some(TableKind::RecordBatch),
         None => None,
     }
 }
 
-/// The table that a type's code opens. Where it opens none, not even the offset is looked at.
-pub(crate) fn type_table(code: u64) -> Option<TableKind>
-    ensures table { result ≡ type_table code }
+/// The table that a type's code opens, of the types of a set. Where it opens none, not even the
+/// offset is looked at.
+pub(crate) fn type_table(types: TypeSet, code: u64) -> Option<TableKind>
+    ensures table { result ≡ type_table types code }
 {
-    match type_code(code) {
+    match taken(types, type_code(code)) {
+        Some(TypeCode::FloatingPoint) => Some(TableKind::FloatingPoint),
         Some(TypeCode::Int) => Some(TableKind::Int),
         Some(TypeCode::Date) => Some(TableKind::Date),
         Some(TypeCode::Time) => Some(TableKind::Time),

@@ -48,7 +48,7 @@ fn has_nested(table: &Tree) -> bool
 {
     match table {
         Tree::Leaf(_) => false,
-        Tree::Table(TableKind::Field, parts) => has_nested_parts(parts),
+        Tree::Table(TableKind::Field(_), parts) => has_nested_parts(parts),
         Tree::Table(_, _) => false,
         Tree::Tables(_) => false,
     }
@@ -127,7 +127,7 @@ fn is_or_has_encoded(table: &Tree) -> bool
 {
     match table {
         Tree::Leaf(_) => false,
-        Tree::Table(TableKind::Field, parts) => is_encoded(parts) || has_encoding_below(parts),
+        Tree::Table(TableKind::Field(_), parts) => is_encoded(parts) || has_encoding_below(parts),
         Tree::Table(_, _) => false,
         Tree::Tables(_) => false,
     }

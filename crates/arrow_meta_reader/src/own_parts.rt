@@ -11,7 +11,7 @@ ghost use Rattle.arrow_meta_reader.specs.Trees.{leaf as leaf_tree};
 ghost use Rattle.arrow_meta_reader.specs.Views.{plain_all, plain_leaf};
 
 use crate::codes::{TypeCode, type_code};
-use crate::fields::{date_in, encoding_at, fixed_size_in, time_in, width_in};
+use crate::fields::{date_in, encoding_at, fixed_size_in, precision_in, time_in, width_in};
 use crate::message_tree::{Leaf, Tree};
 use crate::parts::{flag_at, number_at, part};
 use crate::slots;
@@ -78,6 +78,7 @@ fn same_part(code: TypeCode, one: &[Tree], other: &[Tree]) -> bool
             width_in(one) == width_in(other)
                 && flag_at(one, slots::int::IS_SIGNED) == flag_at(other, slots::int::IS_SIGNED)
         }
+        TypeCode::FloatingPoint => precision_in(one) == precision_in(other),
         TypeCode::Date => date_in(one) == date_in(other),
         TypeCode::Time | TypeCode::Duration => time_in(one, 1) == time_in(other, 1),
         TypeCode::Timestamp => {

@@ -21,7 +21,7 @@ use crate::kinds::{FieldForm, TableKind};
 use crate::message_tree::{Leaf, MessageTree, Tree};
 use crate::work::Work;
 use arrow_flatbuf::{Root, Table, Vector};
-use arrow_types::Limits;
+use arrow_types::{Limits, TypeSet};
 use std::alloc::{AllocError, Global};
 
 /// The most levels of fields, where a column is level 1.
@@ -42,10 +42,12 @@ const MAX_PAIRS: u64 = 65_536;
 /// growth was refused, so only where the root's table is readable with its first field, since no
 /// memory is asked for before. How long the bytes may be is for the caller to say.
 pub fn tree(alloc: Global, bytes: &[u8], limits: &Limits) -> Result<MessageTree, MetaFault>
-    ensures found { IfOk result (λ t. LiesAtRoot t bytes.now × IsWithin limits.now.max_metadata t) }
+    ensures found { IfOk result (λ t. LiesAtRoot limits.now.types t bytes.now
+        × IsWithin limits.now.max_metadata t) }
     ensures none { IfErr result (λ e. Faulty e
-        ((x : PlainTree) → LiesAtRoot x bytes.now → ¬ (IsWithin limits.now.max_metadata x))
-        (GrowsAtRoot bytes.now limits.now.max_metadata)) }
+        ((x : PlainTree) → LiesAtRoot limits.now.types x bytes.now
+        → ¬ (IsWithin limits.now.max_metadata x))
+        (GrowsAtRoot limits.now bytes.now)) }
 {
     let mut work = Work::NONE;
     tree_counted(alloc, bytes, limits, &mut work)
@@ -61,10 +63,12 @@ pub fn tree_counted(
     limits: &Limits,
     work: &mut Work,
 ) -> Result<MessageTree, MetaFault>
-    ensures found { IfOk result (λ t. LiesAtRoot t bytes.now × IsWithin limits.now.max_metadata t) }
+    ensures found { IfOk result (λ t. LiesAtRoot limits.now.types t bytes.now
+        × IsWithin limits.now.max_metadata t) }
     ensures none { IfErr result (λ e. Faulty e
-        ((x : PlainTree) → LiesAtRoot x bytes.now → ¬ (IsWithin limits.now.max_metadata x))
-        (GrowsAtRoot bytes.now limits.now.max_metadata)) }
+        ((x : PlainTree) → LiesAtRoot limits.now.types x bytes.now
+        → ¬ (IsWithin limits.now.max_metadata x))
+        (GrowsAtRoot limits.now bytes.now)) }
     ensures within { IsWorkWithin limits.now work.new }
     ensures counted { IfOk result (λ t. Counts work.new t) }
 {
@@ -75,7 +79,7 @@ pub fn tree_counted(
             work: Work::NONE,
         },
     };
-    let found = reader.root(bytes);
+    let found = reader.root(limits.types(), bytes);
     *work = reader.counter.work;
     Ok(MessageTree { root: found? })
 }
@@ -90,13 +94,14 @@ struct Reader {
 
 impl Reader {
     /// Reads the tree of the message whose metadata the bytes are.
-    fn root(&mut self, bytes: &[u8]) -> Result<Tree, MetaFault>
-        ensures read { ReadsTree plain result bytes.now root 32 (room self.old) (room self.new) }
+    fn root(&mut self, types: TypeSet, bytes: &[u8]) -> Result<Tree, MetaFault>
+        ensures read { ReadsTree plain result bytes.now (root types) 32 (room self.old)
+            (room self.new) }
         ensures max { self.new.counter.max_bytes ≡ self.old.counter.max_bytes }
     {
         match Root::open(bytes) {
             None => Err(MetaFault::Metadata),
-            Some(table) => self.table(TableKind::Message, &table, MAX_LEVELS),
+            Some(table) => self.table(TableKind::Message(types), &table, MAX_LEVELS),
         }
     }
 
@@ -110,7 +115,7 @@ impl Reader {
         ensures max { self.new.counter.max_bytes ≡ self.old.counter.max_bytes }
     {
         match kind {
-            TableKind::Field => {
+            TableKind::Field(_) => {
                 if levels == 0 || self.counter.work.fields == MAX_FIELDS {
                     return Err(MetaFault::Metadata);
                 }
@@ -186,12 +191,12 @@ impl Reader {
             FieldForm::Presence => self.presence(table, field),
             FieldForm::Table(kind) => self.child(Some(kind), table, field, levels),
             FieldForm::Tables(kind) => self.children(kind, table, field, levels),
-            FieldForm::Header => {
-                let kind = kinds::header_table(code_at(table, field.saturating_sub(1)));
+            FieldForm::Header(types) => {
+                let kind = kinds::header_table(types, code_at(table, field.saturating_sub(1)));
                 self.child(kind, table, field, levels)
             }
-            FieldForm::Type => {
-                let kind = kinds::type_table(code_at(table, field.saturating_sub(1)));
+            FieldForm::Type(types) => {
+                let kind = kinds::type_table(types, code_at(table, field.saturating_sub(1)));
                 self.child(kind, table, field, levels)
             }
         }

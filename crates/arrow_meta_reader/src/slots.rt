@@ -77,6 +77,11 @@ pub(crate) mod int {
     pub(crate) const IS_SIGNED: u16 = 1;
 }
 
+/// Table `FloatingPoint` (`Schema.fbs`).
+pub(crate) mod floating_point {
+    pub(crate) const PRECISION: u16 = 0;
+}
+
 /// Table `Date` (`Schema.fbs`).
 pub(crate) mod date {
     pub(crate) const UNIT: u16 = 0;

@@ -1,6 +1,6 @@
 -- What a message is written as means the message again.
 use Rattle.std.proofs.Common.{◌≡◌, ℕ, ℤ, pos, negsuc, Bool, true, false, not, ◌||◌, ◌==◌, if◌then◌else◌, List, [], ◌∷◌}
-use Rattle.std.proofs.Common.{Option, Some, None, map, refl, ap}
+use Rattle.std.proofs.Common.{Option, Some, None, map, refl, ap, true≢false}
 use Rattle.std.specs.Int.{cast_signed, cast_unsigned, w64}
 use Rattle.std.specs.Option.{unwrap_or}
 use Rattle.std.proofs.lemmas.Bool.{or_parts}
@@ -11,10 +11,14 @@ use Rattle.arrow_types.specs.Field as columns
 use Rattle.arrow_types.specs.Field.{Head, Fields, width}
 use Rattle.arrow_types.specs.Notes.{KeyValue, Notes, unnoted, noted, SchemaShape}
 use Rattle.arrow_types.specs.Schema.{is_wide, is_too_wide}
+use Rattle.arrow_types.specs.TypeSet.{leaves_out, leaves_some_out}
+use Rattle.arrow_types.specs.declared.data_type.Precision.TheVariants as precisions
 use Rattle.arrow_types.specs.declared.data_type.BitWidth.{BitWidth}
 use Rattle.arrow_types.specs.declared.data_type.BitWidth.TheVariants as widths
 use Rattle.arrow_types.specs.declared.data_type.DateUnit.TheVariants as dates
 use Rattle.arrow_types.specs.declared.data_type.TimeUnit.TheVariants as times
+use Rattle.arrow_types.specs.declared.type_set.TypeSet.{TypeSet}
+use Rattle.arrow_types.specs.declared.type_set.TypeSet.TheVariants.{Core, All}
 use Rattle.arrow_types.specs.declared.field.Encoding.{Encoding}
 use Rattle.arrow_types.specs.declared.node.FieldNode.{FieldNode}
 use Rattle.arrow_types.specs.declared.node.Buffer.{Buffer}
@@ -29,7 +33,7 @@ use Rattle.arrow_meta_reader.specs.SchemaMeaning.{encoding_in, tag_by, head_of, 
 use Rattle.arrow_meta_reader.specs.SchemaMeaning.{metadata_from, metadata_in, notes_from, schema_in}
 use Rattle.arrow_meta_reader.specs.Trees.{Trees}
 use Rattle.arrow_meta_writer.specs.Writable.{IsLong, HasLongId, AreFields, AreNodes, AreBuffers}
-use Rattle.arrow_meta_writer.specs.Writable.{AreNotesOf, IsBatch, IsHeader}
+use Rattle.arrow_meta_writer.specs.Writable.{AreNotesOf, IsBatch, IsHeader, leaves_header_out}
 use Rattle.arrow_meta_writer.specs.Written.{type_tree, encoding_tree, field_parts, field_trees}
 use Rattle.arrow_meta_writer.specs.Written.{batch_parts, message_parts, pair_trees, metadata_tree, schema_parts}
 
@@ -51,36 +55,40 @@ width_again widths.ThirtyTwo = refl
 width_again widths.SixtyFour = refl
 
 -- a type
-tag_again : (tag : Tag) → is_wide tag ≡ false → tag_by (type_code (tag_code tag)) (parts (type_tree tag)) ≡ tag
-tag_again tags.null narrow = refl
-tag_again tags.boolean narrow = refl
-tag_again tags.binary narrow = refl
-tag_again tags.utf8 narrow = refl
-tag_again tags.list narrow = refl
-tag_again tags.struct narrow = refl
-tag_again tags.large_binary narrow = refl
-tag_again tags.large_utf8 narrow = refl
-tag_again tags.large_list narrow = refl
-tag_again (tags.int bits signed) narrow = λ i. tags.int (width_again bits i) (flag_again signed i)
-tag_again (tags.date dates.Day) narrow = refl
-tag_again (tags.date dates.Millisecond) narrow = refl
-tag_again (tags.time times.Second) narrow = refl
-tag_again (tags.time times.Millisecond) narrow = refl
-tag_again (tags.time times.Microsecond) narrow = refl
-tag_again (tags.time times.Nanosecond) narrow = refl
-tag_again (tags.timestamp times.Second None) narrow = refl
-tag_again (tags.timestamp times.Second (Some zone)) narrow = refl
-tag_again (tags.timestamp times.Millisecond None) narrow = refl
-tag_again (tags.timestamp times.Millisecond (Some zone)) narrow = refl
-tag_again (tags.timestamp times.Microsecond None) narrow = refl
-tag_again (tags.timestamp times.Microsecond (Some zone)) narrow = refl
-tag_again (tags.timestamp times.Nanosecond None) narrow = refl
-tag_again (tags.timestamp times.Nanosecond (Some zone)) narrow = refl
-tag_again (tags.fixed_size_binary width) narrow = ap (λ b. tags.fixed_size_binary (unwrap_or (if b then None else Some width) 0)) narrow
-tag_again (tags.duration times.Second) narrow = refl
-tag_again (tags.duration times.Millisecond) narrow = refl
-tag_again (tags.duration times.Microsecond) narrow = refl
-tag_again (tags.duration times.Nanosecond) narrow = refl
+tag_again : (types : TypeSet) (tag : Tag) → is_wide tag ≡ false → leaves_out types tag ≡ false → tag_by (type_code (tag_code tag)) (parts (type_tree types tag)) ≡ tag
+tag_again types tags.null narrow within = refl
+tag_again types tags.boolean narrow within = refl
+tag_again types tags.binary narrow within = refl
+tag_again types tags.utf8 narrow within = refl
+tag_again types tags.list narrow within = refl
+tag_again types tags.struct narrow within = refl
+tag_again types tags.large_binary narrow within = refl
+tag_again types tags.large_utf8 narrow within = refl
+tag_again types tags.large_list narrow within = refl
+tag_again types (tags.int bits signed) narrow within = λ i. tags.int (width_again bits i) (flag_again signed i)
+tag_again Core (tags.floating_point precision) narrow within = absurd (true≢false within)
+tag_again All (tags.floating_point precisions.Half) narrow within = refl
+tag_again All (tags.floating_point precisions.Single) narrow within = refl
+tag_again All (tags.floating_point precisions.Double) narrow within = refl
+tag_again types (tags.date dates.Day) narrow within = refl
+tag_again types (tags.date dates.Millisecond) narrow within = refl
+tag_again types (tags.time times.Second) narrow within = refl
+tag_again types (tags.time times.Millisecond) narrow within = refl
+tag_again types (tags.time times.Microsecond) narrow within = refl
+tag_again types (tags.time times.Nanosecond) narrow within = refl
+tag_again types (tags.timestamp times.Second None) narrow within = refl
+tag_again types (tags.timestamp times.Second (Some zone)) narrow within = refl
+tag_again types (tags.timestamp times.Millisecond None) narrow within = refl
+tag_again types (tags.timestamp times.Millisecond (Some zone)) narrow within = refl
+tag_again types (tags.timestamp times.Microsecond None) narrow within = refl
+tag_again types (tags.timestamp times.Microsecond (Some zone)) narrow within = refl
+tag_again types (tags.timestamp times.Nanosecond None) narrow within = refl
+tag_again types (tags.timestamp times.Nanosecond (Some zone)) narrow within = refl
+tag_again types (tags.fixed_size_binary width) narrow within = ap (λ b. tags.fixed_size_binary (unwrap_or (if b then None else Some width) 0)) narrow
+tag_again types (tags.duration times.Second) narrow within = refl
+tag_again types (tags.duration times.Millisecond) narrow within = refl
+tag_again types (tags.duration times.Microsecond) narrow within = refl
+tag_again types (tags.duration times.Nanosecond) narrow within = refl
 
 -- an encoding
 encoding_again : (e : Option Encoding) → HasLongId e → encoding_in (encoding_tree e) ≡ e
@@ -92,22 +100,24 @@ encoding_again (Some e) h = λ i. Some (record {
 })
 
 -- a field without its children
-head_again : (head : Head) (ps : List KeyValue) (below : Trees) → HasLongId head.encoding → is_wide head.tag ≡ false → head_of (field_parts head ps below) ≡ head
-head_again head ps below h narrow = λ i. record {
+head_again : (types : TypeSet) (head : Head) (ps : List KeyValue) (below : Trees) → HasLongId head.encoding → is_wide head.tag ≡ false → leaves_out types head.tag ≡ false → head_of (field_parts types head ps below) ≡ head
+head_again types head ps below h narrow within = λ i. record {
   name = head.name;
   nullable = flag_again head.nullable i;
-  tag = tag_again head.tag narrow i;
+  tag = tag_again types head.tag narrow within i;
   encoding = encoding_again head.encoding h i;
 }
 
 -- the fields of a vector
-pub fields_again : (fields : Fields) (n : Notes) → AreFields fields → is_too_wide fields ≡ false → fields_from (field_trees fields n) ≡ fields
-fields_again columns.none n h narrow = refl
-fields_again (columns.more head children rest) n h narrow =
+pub fields_again : (types : TypeSet) (fields : Fields) (n : Notes) → AreFields fields → is_too_wide fields ≡ false → leaves_some_out types fields ≡ false → fields_from (field_trees types fields n) ≡ fields
+fields_again types columns.none n h narrow within = refl
+fields_again types (columns.more head children rest) n h narrow within =
+    let in_all = or_parts (leaves_out types head.tag || leaves_some_out types children) (leaves_some_out types rest) within in
+    let in_own = or_parts (leaves_out types head.tag) (leaves_some_out types children) in_all.0 in
     let both = or_parts (is_wide head.tag || is_too_wide children) (is_too_wide rest) narrow in
     let own = or_parts (is_wide head.tag) (is_too_wide children) both.0 in
-    let below = field_trees children (first_below n) in
-    λ i. columns.more (head_again head (first_pairs n) below h.0.id own.0 i) (fields_again children (first_below n) h.1 own.1 i) (fields_again rest (first_rest n) h.2 both.1 i)
+    let below = field_trees types children (first_below n) in
+    λ i. columns.more (head_again types head (first_pairs n) below h.0.id own.0 in_own.0 i) (fields_again types children (first_below n) h.1 own.1 in_own.1 i) (fields_again types rest (first_rest n) h.2 both.1 in_all.1 i)
 
 -- the pairs of a vector
 pairs_again : (ps : List KeyValue) → metadata_from (pair_trees ps) ≡ ps
@@ -120,19 +130,19 @@ metadata_again [] = refl
 metadata_again (p ∷ ps) = pairs_again (p ∷ ps)
 
 -- what is noted at the fields of a vector
-notes_again : (fields : Fields) (n : Notes) → AreNotesOf fields n → notes_from (field_trees fields n) ≡ n
-notes_again columns.none unnoted h = refl
-notes_again columns.none (noted ps below later) h = absurd h
-notes_again (columns.more head children rest) unnoted h = absurd h
-notes_again (columns.more head children rest) (noted ps below later) h =
-    λ i. noted (metadata_again ps i) (notes_again children below h.0 i) (notes_again rest later h.1 i)
+notes_again : (types : TypeSet) (fields : Fields) (n : Notes) → AreNotesOf fields n → notes_from (field_trees types fields n) ≡ n
+notes_again types columns.none unnoted h = refl
+notes_again types columns.none (noted ps below later) h = absurd h
+notes_again types (columns.more head children rest) unnoted h = absurd h
+notes_again types (columns.more head children rest) (noted ps below later) h =
+    λ i. noted (metadata_again ps i) (notes_again types children below h.0 i) (notes_again types rest later h.1 i)
 
 -- a schema
-schema_again : (s : SchemaShape) → IsHeader (schema s) → schema_in (schema_parts s) ≡ s
-schema_again s h = λ i. record {
-  fields = fields_again s.fields s.notes h.1.fields_are h.0.schema.bounded.narrow i;
+schema_again : (types : TypeSet) (s : SchemaShape) → IsHeader (schema s) → leaves_some_out types s.fields ≡ false → schema_in (schema_parts types s) ≡ s
+schema_again types s h within = λ i. record {
+  fields = fields_again types s.fields s.notes h.1.fields_are h.0.schema.bounded.narrow within i;
   pairs = metadata_again s.pairs i;
-  notes = notes_again s.fields s.notes h.1.notes_are i;
+  notes = notes_again types s.fields s.notes h.1.notes_are i;
 }
 
 nodes_again : (ns : List FieldNode) → AreNodes ns → map node_of (map node_pair ns) ≡ ns
@@ -157,15 +167,15 @@ version_again versions.V4 = refl
 version_again versions.V5 = refl
 
 -- a message of this header
-pub message_again : (x : PlainHeader) (version : MetadataVersion) (body_len : ℕ) → IsHeader x
-    → meaning_of (message_parts (record { version = version; header = x; body_len = body_len })) ≡ Some (record { version = version; header = x; body_len = body_len })
-message_again (schema s) version body_len h =
-    rw (version_again version) (λ i. Some (record { version = version; header = schema (schema_again s h i); body_len = body_len }))
-message_again (dictionary id delta b) version body_len h =
+pub message_again : (types : TypeSet) (x : PlainHeader) (version : MetadataVersion) (body_len : ℕ) → IsHeader x → leaves_header_out types x ≡ false
+    → meaning_of (message_parts types (record { version = version; header = x; body_len = body_len })) ≡ Some (record { version = version; header = x; body_len = body_len })
+message_again types (schema s) version body_len h within =
+    rw (version_again version) (λ i. Some (record { version = version; header = schema (schema_again types s h within i); body_len = body_len }))
+message_again types (dictionary id delta b) version body_len h within =
     rw (version_again version) (λ i. Some (record {
       version = version;
       header = dictionary (long_again id h.0 i) (flag_again delta i) (batch_again b h.1 i);
       body_len = body_len;
     }))
-message_again (batch b) version body_len h =
+message_again types (batch b) version body_len h within =
     rw (version_again version) (λ i. Some (record { version = version; header = batch (batch_again b h i); body_len = body_len }))

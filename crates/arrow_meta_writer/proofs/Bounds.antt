@@ -10,6 +10,8 @@ use Rattle.arrow_types.specs.DataType.{Tag}
 use Rattle.arrow_types.specs.Field as columns
 use Rattle.arrow_types.specs.Field.{Head, Fields}
 use Rattle.arrow_types.specs.Notes.{KeyValue, Notes, unnoted, noted, noted_count}
+use Rattle.arrow_types.specs.declared.type_set.TypeSet.{TypeSet}
+use Rattle.arrow_types.specs.declared.type_set.TypeSet.TheVariants.{Core, All}
 use Rattle.arrow_types.specs.declared.field.Encoding.{Encoding}
 use Rattle.arrow_meta_writer.specs.Layouts.{type_cells, encoding_cells, with_encoding, field_cells}
 use Rattle.arrow_meta_writer.specs.Layouts.{field_nodes, schema_cells, header_cells, message_cells}
@@ -26,45 +28,49 @@ use Rattle.arrow_meta_writer.specs.Written.{message_tree, pair_trees, metadata_t
 
 -- A type and an encoding hold no fields.
 
-type_levels : (tag : Tag) → levels (type_tree tag) ≡ 0
-type_levels (tags.timestamp unit None) = refl
-type_levels (tags.timestamp unit (Some zone)) = refl
-type_levels tags.null = refl
-type_levels tags.boolean = refl
-type_levels (tags.int bits signed) = refl
-type_levels tags.binary = refl
-type_levels tags.utf8 = refl
-type_levels (tags.date unit) = refl
-type_levels (tags.time unit) = refl
-type_levels tags.list = refl
-type_levels tags.struct = refl
-type_levels tags.large_binary = refl
-type_levels tags.large_utf8 = refl
-type_levels tags.large_list = refl
-type_levels (tags.fixed_size_binary width) = refl
-type_levels (tags.duration unit) = refl
+type_levels : (types : TypeSet) (tag : Tag) → levels (type_tree types tag) ≡ 0
+type_levels types (tags.timestamp unit None) = refl
+type_levels types (tags.timestamp unit (Some zone)) = refl
+type_levels types tags.null = refl
+type_levels types tags.boolean = refl
+type_levels types (tags.int bits signed) = refl
+type_levels types tags.binary = refl
+type_levels types tags.utf8 = refl
+type_levels Core (tags.floating_point precision) = refl
+type_levels All (tags.floating_point precision) = refl
+type_levels types (tags.date unit) = refl
+type_levels types (tags.time unit) = refl
+type_levels types tags.list = refl
+type_levels types tags.struct = refl
+type_levels types tags.large_binary = refl
+type_levels types tags.large_utf8 = refl
+type_levels types tags.large_list = refl
+type_levels types (tags.fixed_size_binary width) = refl
+type_levels types (tags.duration unit) = refl
 
 encoding_levels : (e : Option Encoding) → levels (encoding_tree e) ≡ 0
 encoding_levels None = refl
 encoding_levels (Some e) = refl
 
-type_visits : (tag : Tag) → visits (type_tree tag) ≡ 0
-type_visits (tags.timestamp unit None) = refl
-type_visits (tags.timestamp unit (Some zone)) = refl
-type_visits tags.null = refl
-type_visits tags.boolean = refl
-type_visits (tags.int bits signed) = refl
-type_visits tags.binary = refl
-type_visits tags.utf8 = refl
-type_visits (tags.date unit) = refl
-type_visits (tags.time unit) = refl
-type_visits tags.list = refl
-type_visits tags.struct = refl
-type_visits tags.large_binary = refl
-type_visits tags.large_utf8 = refl
-type_visits tags.large_list = refl
-type_visits (tags.fixed_size_binary width) = refl
-type_visits (tags.duration unit) = refl
+type_visits : (types : TypeSet) (tag : Tag) → visits (type_tree types tag) ≡ 0
+type_visits types (tags.timestamp unit None) = refl
+type_visits types (tags.timestamp unit (Some zone)) = refl
+type_visits types tags.null = refl
+type_visits types tags.boolean = refl
+type_visits types (tags.int bits signed) = refl
+type_visits types tags.binary = refl
+type_visits types tags.utf8 = refl
+type_visits Core (tags.floating_point precision) = refl
+type_visits All (tags.floating_point precision) = refl
+type_visits types (tags.date unit) = refl
+type_visits types (tags.time unit) = refl
+type_visits types tags.list = refl
+type_visits types tags.struct = refl
+type_visits types tags.large_binary = refl
+type_visits types tags.large_utf8 = refl
+type_visits types tags.large_list = refl
+type_visits types (tags.fixed_size_binary width) = refl
+type_visits types (tags.duration unit) = refl
 
 encoding_visits : (e : Option Encoding) → visits (encoding_tree e) ≡ 0
 encoding_visits None = refl
@@ -74,23 +80,25 @@ encoding_text : (e : Option Encoding) → text_bytes (encoding_tree e) ≡ 0
 encoding_text None = refl
 encoding_text (Some e) = refl
 
-type_entries : (tag : Tag) → entries (type_tree tag) ≡ 0
-type_entries (tags.timestamp unit None) = refl
-type_entries (tags.timestamp unit (Some zone)) = refl
-type_entries tags.null = refl
-type_entries tags.boolean = refl
-type_entries (tags.int bits signed) = refl
-type_entries tags.binary = refl
-type_entries tags.utf8 = refl
-type_entries (tags.date unit) = refl
-type_entries (tags.time unit) = refl
-type_entries tags.list = refl
-type_entries tags.struct = refl
-type_entries tags.large_binary = refl
-type_entries tags.large_utf8 = refl
-type_entries tags.large_list = refl
-type_entries (tags.fixed_size_binary width) = refl
-type_entries (tags.duration unit) = refl
+type_entries : (types : TypeSet) (tag : Tag) → entries (type_tree types tag) ≡ 0
+type_entries types (tags.timestamp unit None) = refl
+type_entries types (tags.timestamp unit (Some zone)) = refl
+type_entries types tags.null = refl
+type_entries types tags.boolean = refl
+type_entries types (tags.int bits signed) = refl
+type_entries types tags.binary = refl
+type_entries types tags.utf8 = refl
+type_entries Core (tags.floating_point precision) = refl
+type_entries All (tags.floating_point precision) = refl
+type_entries types (tags.date unit) = refl
+type_entries types (tags.time unit) = refl
+type_entries types tags.list = refl
+type_entries types tags.struct = refl
+type_entries types tags.large_binary = refl
+type_entries types tags.large_utf8 = refl
+type_entries types tags.large_list = refl
+type_entries types (tags.fixed_size_binary width) = refl
+type_entries types (tags.duration unit) = refl
 
 encoding_entries : (e : Option Encoding) → entries (encoding_tree e) ≡ 0
 encoding_entries None = refl
@@ -124,45 +132,47 @@ metadata_entries (p ∷ ps) = pairs_entries (p ∷ ps)
 
 -- The tree has the levels and the number of the fields, and no more entries than pairs.
 
-field_levels : (fields : Fields) (n : Notes) → levels_all (field_trees fields n) ≡ columns.levels fields
-field_levels columns.none n = refl
-field_levels (columns.more head children rest) n =
-    omega (arith, type_levels head.tag, encoding_levels head.encoding, metadata_levels (first_pairs n), field_levels children (first_below n), field_levels rest (first_rest n))
+field_levels : (types : TypeSet) (fields : Fields) (n : Notes) → levels_all (field_trees types fields n) ≡ columns.levels fields
+field_levels types columns.none n = refl
+field_levels types (columns.more head children rest) n =
+    omega (arith, type_levels types head.tag, encoding_levels head.encoding, metadata_levels (first_pairs n), field_levels types children (first_below n), field_levels types rest (first_rest n))
 
-field_visits : (fields : Fields) (n : Notes) → visits_all (field_trees fields n) ≡ columns.count fields
-field_visits columns.none n = refl
-field_visits (columns.more head children rest) n =
-    omega (arith, type_visits head.tag, encoding_visits head.encoding, metadata_visits (first_pairs n), field_visits children (first_below n), field_visits rest (first_rest n))
+field_visits : (types : TypeSet) (fields : Fields) (n : Notes) → visits_all (field_trees types fields n) ≡ columns.count fields
+field_visits types columns.none n = refl
+field_visits types (columns.more head children rest) n =
+    omega (arith, type_visits types head.tag, encoding_visits head.encoding, metadata_visits (first_pairs n), field_visits types children (first_below n), field_visits types rest (first_rest n))
 
 -- the pairs of notes, part by part
 parts_count : (n : Notes) → length (first_pairs n) + noted_count (first_below n) + noted_count (first_rest n) ≡ noted_count n
 parts_count unnoted = refl
 parts_count (noted ps below rest) = refl
 
-field_entries : (fields : Fields) (n : Notes) → entries_all (field_trees fields n) ≤ noted_count n
-field_entries columns.none n = omega arith
-field_entries (columns.more head children rest) n =
-    omega (arith, parts_count n, type_entries head.tag, encoding_entries head.encoding, metadata_entries (first_pairs n), field_entries children (first_below n), field_entries rest (first_rest n))
+field_entries : (types : TypeSet) (fields : Fields) (n : Notes) → entries_all (field_trees types fields n) ≤ noted_count n
+field_entries types columns.none n = omega arith
+field_entries types (columns.more head children rest) n =
+    omega (arith, parts_count n, type_entries types head.tag, encoding_entries head.encoding, metadata_entries (first_pairs n), field_entries types children (first_below n), field_entries types rest (first_rest n))
 
 -- Its texts are not longer than the metadata.
 
-type_long : (q : ℕ) (tag : Tag) → q + text_bytes (type_tree tag) ≤ after q (laid.table (type_cells tag))
-type_long q (tags.timestamp unit (Some zone)) = omega arith
-type_long q (tags.timestamp unit None) = omega (arith, reaches q (laid.table (type_cells (tags.timestamp unit None))))
-type_long q tags.null = omega (arith, reaches q (laid.table last))
-type_long q tags.boolean = omega (arith, reaches q (laid.table last))
-type_long q tags.binary = omega (arith, reaches q (laid.table last))
-type_long q tags.utf8 = omega (arith, reaches q (laid.table last))
-type_long q tags.list = omega (arith, reaches q (laid.table last))
-type_long q tags.struct = omega (arith, reaches q (laid.table last))
-type_long q tags.large_binary = omega (arith, reaches q (laid.table last))
-type_long q tags.large_utf8 = omega (arith, reaches q (laid.table last))
-type_long q tags.large_list = omega (arith, reaches q (laid.table last))
-type_long q (tags.int bits signed) = omega (arith, reaches q (laid.table (type_cells (tags.int bits signed))))
-type_long q (tags.date unit) = omega (arith, reaches q (laid.table (type_cells (tags.date unit))))
-type_long q (tags.time unit) = omega (arith, reaches q (laid.table (type_cells (tags.time unit))))
-type_long q (tags.fixed_size_binary width) = omega (arith, reaches q (laid.table (type_cells (tags.fixed_size_binary width))))
-type_long q (tags.duration unit) = omega (arith, reaches q (laid.table (type_cells (tags.duration unit))))
+type_long : (types : TypeSet) (q : ℕ) (tag : Tag) → q + text_bytes (type_tree types tag) ≤ after q (laid.table (type_cells tag))
+type_long types q (tags.timestamp unit (Some zone)) = omega arith
+type_long types q (tags.timestamp unit None) = omega (arith, reaches q (laid.table (type_cells (tags.timestamp unit None))))
+type_long types q tags.null = omega (arith, reaches q (laid.table last))
+type_long types q tags.boolean = omega (arith, reaches q (laid.table last))
+type_long types q tags.binary = omega (arith, reaches q (laid.table last))
+type_long types q tags.utf8 = omega (arith, reaches q (laid.table last))
+type_long types q tags.list = omega (arith, reaches q (laid.table last))
+type_long types q tags.struct = omega (arith, reaches q (laid.table last))
+type_long types q tags.large_binary = omega (arith, reaches q (laid.table last))
+type_long types q tags.large_utf8 = omega (arith, reaches q (laid.table last))
+type_long types q tags.large_list = omega (arith, reaches q (laid.table last))
+type_long types q (tags.int bits signed) = omega (arith, reaches q (laid.table (type_cells (tags.int bits signed))))
+type_long Core q (tags.floating_point precision) = omega (arith, reaches q (laid.table (type_cells (tags.floating_point precision))))
+type_long All q (tags.floating_point precision) = omega (arith, reaches q (laid.table (type_cells (tags.floating_point precision))))
+type_long types q (tags.date unit) = omega (arith, reaches q (laid.table (type_cells (tags.date unit))))
+type_long types q (tags.time unit) = omega (arith, reaches q (laid.table (type_cells (tags.time unit))))
+type_long types q (tags.fixed_size_binary width) = omega (arith, reaches q (laid.table (type_cells (tags.fixed_size_binary width))))
+type_long types q (tags.duration unit) = omega (arith, reaches q (laid.table (type_cells (tags.duration unit))))
 
 -- the children begin behind the encoding
 encoding_long : (q : ℕ) (e : Option Encoding) (rest : Cells) → (r : ℕ) × (q ≤ r) × (after_cells q (with_encoding e rest) ≡ after_cells r rest)
@@ -182,9 +192,9 @@ metadata_long [] q = omega arith
 metadata_long (p ∷ ps) q = omega (arith, pairs_long (p ∷ ps) (up 4 q + 4 + 4 * count_nodes (pair_nodes (p ∷ ps))))
 
 -- the texts of a vector of fields
-fields_long : (fields : Fields) (n : Notes) (q : ℕ) → q + text_bytes_all (field_trees fields n) ≤ after_all q (field_nodes fields n)
-fields_long columns.none n q = omega arith
-fields_long (columns.more head children rest) n q =
+fields_long : (types : TypeSet) (fields : Fields) (n : Notes) (q : ℕ) → q + text_bytes_all (field_trees types fields n) ≤ after_all q (field_nodes fields n)
+fields_long types columns.none n q = omega arith
+fields_long types (columns.more head children rest) n q =
     let ps = first_pairs n in
     let nodes = field_nodes children (first_below n) in
     let cells = field_cells head ps nodes in
@@ -194,39 +204,39 @@ fields_long (columns.more head children rest) n q =
     let encoding = encoding_long type head.encoding (offset (laid.tables nodes) (metadata_cells ps)) in
     let below = up 4 encoding.0 + 4 + 4 * count_nodes nodes in
     let whole : after q (laid.table cells) ≡ after_cells (after_all below nodes) (metadata_cells ps) = encoding.2 in
-    omega (arith, encoding.1, whole, type_long name head.tag, encoding_text head.encoding, fields_long children (first_below n) below, metadata_long ps (after_all below nodes), fields_long rest (first_rest n) (after q (laid.table cells)))
+    omega (arith, encoding.1, whole, type_long types name head.tag, encoding_text head.encoding, fields_long types children (first_below n) below, metadata_long ps (after_all below nodes), fields_long types rest (first_rest n) (after q (laid.table cells)))
 
-header_text : (x : PlainHeader) (q : ℕ) → q + text_bytes (header_tree x) ≤ after q (laid.table (header_cells x))
-header_text (schema s) q =
+header_text : (types : TypeSet) (x : PlainHeader) (q : ℕ) → q + text_bytes (header_tree types x) ≤ after q (laid.table (header_cells x))
+header_text types (schema s) q =
     let nodes = field_nodes s.fields s.notes in
     let below = up 4 (cells_place q (schema_cells s)) + 4 + 4 * count_nodes nodes in
-    omega (arith, fields_long s.fields s.notes below, metadata_long s.pairs (after_all below nodes))
-header_text (dictionary id delta b) q = omega (arith, reaches q (laid.table (header_cells (dictionary id delta b))))
-header_text (batch b) q = omega (arith, reaches q (laid.table (header_cells (batch b))))
+    omega (arith, fields_long types s.fields s.notes below, metadata_long s.pairs (after_all below nodes))
+header_text types (dictionary id delta b) q = omega (arith, reaches q (laid.table (header_cells (dictionary id delta b))))
+header_text types (batch b) q = omega (arith, reaches q (laid.table (header_cells (batch b))))
 
 -- The names, zones, keys and values of a message are not longer than its metadata.
-pub text_short : (m : PlainMessage) → text_bytes (message_tree m) ≤ metadata_size m
-text_short m = omega (arith, header_text m.header (cells_place 4 (message_cells m)))
+pub text_short : (types : TypeSet) (m : PlainMessage) → text_bytes (message_tree types m) ≤ metadata_size m
+text_short types m = omega (arith, header_text types m.header (cells_place 4 (message_cells m)))
 
-header_levels : (x : PlainHeader) → IsHeader x → levels (header_tree x) ≤ 32
-header_levels (schema s) h = omega (arith, field_levels s.fields s.notes, metadata_levels s.pairs, h.0.schema.bounded.shallow)
-header_levels (dictionary id delta b) h = omega arith
-header_levels (batch b) h = omega arith
+header_levels : (types : TypeSet) (x : PlainHeader) → IsHeader x → levels (header_tree types x) ≤ 32
+header_levels types (schema s) h = omega (arith, field_levels types s.fields s.notes, metadata_levels s.pairs, h.0.schema.bounded.shallow)
+header_levels types (dictionary id delta b) h = omega arith
+header_levels types (batch b) h = omega arith
 
-header_visits : (x : PlainHeader) → IsHeader x → visits (header_tree x) ≤ 65536
-header_visits (schema s) h = omega (arith, field_visits s.fields s.notes, metadata_visits s.pairs, h.0.schema.bounded.few)
-header_visits (dictionary id delta b) h = omega arith
-header_visits (batch b) h = omega arith
+header_visits : (types : TypeSet) (x : PlainHeader) → IsHeader x → visits (header_tree types x) ≤ 65536
+header_visits types (schema s) h = omega (arith, field_visits types s.fields s.notes, metadata_visits s.pairs, h.0.schema.bounded.few)
+header_visits types (dictionary id delta b) h = omega arith
+header_visits types (batch b) h = omega arith
 
-header_entries : (x : PlainHeader) → IsHeader x → entries (header_tree x) ≤ 65536
-header_entries (schema s) h = omega (arith, field_entries s.fields s.notes, metadata_entries s.pairs, h.0.few_pairs)
-header_entries (dictionary id delta b) h = omega arith
-header_entries (batch b) h = omega arith
+header_entries : (types : TypeSet) (x : PlainHeader) → IsHeader x → entries (header_tree types x) ≤ 65536
+header_entries types (schema s) h = omega (arith, field_entries types s.fields s.notes, metadata_entries s.pairs, h.0.few_pairs)
+header_entries types (dictionary id delta b) h = omega arith
+header_entries types (batch b) h = omega arith
 
 -- A message that the program holds keeps to the limits of levels, fields and pairs.
-pub shallow : (m : PlainMessage) → IsHeader m.header → IsShallow (message_tree m)
-shallow m h = record {
-  levels_within = omega (arith, header_levels m.header h);
-  visits_within = omega (arith, header_visits m.header h);
-  entries_within = omega (arith, header_entries m.header h);
+pub shallow : (types : TypeSet) (m : PlainMessage) → IsHeader m.header → IsShallow (message_tree types m)
+shallow types m h = record {
+  levels_within = omega (arith, header_levels types m.header h);
+  visits_within = omega (arith, header_visits types m.header h);
+  entries_within = omega (arith, header_entries types m.header h);
 }

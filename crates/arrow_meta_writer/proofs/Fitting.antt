@@ -15,6 +15,7 @@ use Rattle.arrow_types.specs.Notes.{KeyValue, Notes}
 use Rattle.arrow_types.specs.Schema.{is_wide, is_too_wide}
 use Rattle.arrow_types.specs.declared.data_type.BitWidth.{BitWidth}
 use Rattle.arrow_types.specs.declared.data_type.BitWidth.TheVariants as widths
+use Rattle.arrow_types.specs.declared.data_type.Precision.TheVariants as precisions
 use Rattle.arrow_types.specs.declared.data_type.DateUnit.TheVariants as dates
 use Rattle.arrow_types.specs.declared.data_type.TimeUnit.TheVariants as times
 use Rattle.arrow_types.specs.declared.data_type.TimeUnit.{TimeUnit}
@@ -76,6 +77,9 @@ type_fits tags.large_binary h narrow = (omega arith, tt)
 type_fits tags.large_utf8 h narrow = (omega arith, tt)
 type_fits tags.large_list h narrow = (omega arith, tt)
 type_fits (tags.int bits signed) h narrow = int_fits bits signed
+type_fits (tags.floating_point precisions.Half) h narrow = (omega arith, (omega arith, tt))
+type_fits (tags.floating_point precisions.Single) h narrow = (omega arith, (omega arith, tt))
+type_fits (tags.floating_point precisions.Double) h narrow = (omega arith, (omega arith, tt))
 type_fits (tags.date dates.Day) h narrow = (omega arith, (omega arith, tt))
 type_fits (tags.date dates.Millisecond) h narrow = (omega arith, (omega arith, tt))
 type_fits (tags.time times.Second) h narrow = (omega arith, (omega arith, (omega arith, tt)))
@@ -98,6 +102,7 @@ code_fits tags.large_binary = omega arith
 code_fits tags.large_utf8 = omega arith
 code_fits tags.large_list = omega arith
 code_fits (tags.int bits signed) = omega arith
+code_fits (tags.floating_point precision) = omega arith
 code_fits (tags.date unit) = omega arith
 code_fits (tags.time unit) = omega arith
 code_fits (tags.timestamp unit place) = omega arith

@@ -15,6 +15,8 @@ use Rattle.arrow_types.specs.Field as columns
 use Rattle.arrow_types.specs.Field.{Head, Fields}
 use Rattle.arrow_types.specs.Notes.{KeyValue, Notes, SchemaShape}
 use Rattle.arrow_types.specs.declared.data_type.BitWidth.{BitWidth}
+use Rattle.arrow_types.specs.declared.type_set.TypeSet.{TypeSet}
+use Rattle.arrow_types.specs.declared.type_set.TypeSet.TheVariants.{Core, All}
 use Rattle.arrow_types.specs.declared.field.Encoding.{Encoding}
 use Rattle.arrow_meta_reader.specs.declared.kinds.TableKind.TheVariants as kinds
 use Rattle.arrow_meta_reader.specs.declared.kinds.FieldForm.TheVariants as forms
@@ -73,28 +75,31 @@ zone_stands b p None h = absent_spot b forms.Text (field_place (at b p) 1) (h 1 
 zone_stands b p (Some name) h = text_field b p 1 h.0 name h.1 h.2
 
 -- a type's table, where a reader opens it
-type_stands : (b : List ℕ) (p r : ℕ) (tag : Tag) → code_at (at b p) 2 ≡ tag_code tag → SlotStands (at b p) 3 (Target r) → NodeStands b r (laid.table (type_cells tag)) → StandsAligned b (spot forms.Type (at b p) 3) (type_tree tag)
-type_stands b p r tags.null e h k = closed_spot b (type_table (code_at (at b p) 2)) (field_place (at b p) 3) (ap type_table e)
-type_stands b p r tags.boolean e h k = closed_spot b (type_table (code_at (at b p) 2)) (field_place (at b p) 3) (ap type_table e)
-type_stands b p r tags.binary e h k = closed_spot b (type_table (code_at (at b p) 2)) (field_place (at b p) 3) (ap type_table e)
-type_stands b p r tags.utf8 e h k = closed_spot b (type_table (code_at (at b p) 2)) (field_place (at b p) 3) (ap type_table e)
-type_stands b p r tags.list e h k = closed_spot b (type_table (code_at (at b p) 2)) (field_place (at b p) 3) (ap type_table e)
-type_stands b p r tags.struct e h k = closed_spot b (type_table (code_at (at b p) 2)) (field_place (at b p) 3) (ap type_table e)
-type_stands b p r tags.large_binary e h k = closed_spot b (type_table (code_at (at b p) 2)) (field_place (at b p) 3) (ap type_table e)
-type_stands b p r tags.large_utf8 e h k = closed_spot b (type_table (code_at (at b p) 2)) (field_place (at b p) 3) (ap type_table e)
-type_stands b p r tags.large_list e h k = closed_spot b (type_table (code_at (at b p) 2)) (field_place (at b p) 3) (ap type_table e)
-type_stands b p r (tags.int bits signed) e h k =
-    opened_field b p 3 r (type_table (code_at (at b p) 2)) kinds.Int (int_parts bits signed) (ap type_table e) h k.0 (int_stands b r bits signed k.1)
-type_stands b p r (tags.date unit) e h k =
-    opened_field b p 3 r (type_table (code_at (at b p) 2)) kinds.Date (parts (type_tree (tags.date unit))) (ap type_table e) h k.0 (number_field Two b r 0 _ k.1.0, tt)
-type_stands b p r (tags.duration unit) e h k =
-    opened_field b p 3 r (type_table (code_at (at b p) 2)) kinds.Duration (parts (type_tree (tags.duration unit))) (ap type_table e) h k.0 (number_field Two b r 0 _ k.1.0, tt)
-type_stands b p r (tags.fixed_size_binary width) e h k =
-    opened_field b p 3 r (type_table (code_at (at b p) 2)) kinds.FixedSizeBinary (parts (type_tree (tags.fixed_size_binary width))) (ap type_table e) h k.0 (number_field Four b r 0 _ k.1.0, tt)
-type_stands b p r (tags.time unit) e h k =
-    opened_field b p 3 r (type_table (code_at (at b p) 2)) kinds.Time (parts (type_tree (tags.time unit))) (ap type_table e) h k.0 (number_field Two b r 0 _ k.1.0, (number_field Four b r 1 _ k.1.1.0, tt))
-type_stands b p r (tags.timestamp unit zone) e h k =
-    opened_field b p 3 r (type_table (code_at (at b p) 2)) kinds.Timestamp (parts (type_tree (tags.timestamp unit zone))) (ap type_table e) h k.0 (number_field Two b r 0 _ k.1.0, (zone_stands b r zone k.1.1, tt))
+type_stands : (types : TypeSet) (b : List ℕ) (p r : ℕ) (tag : Tag) → code_at (at b p) 2 ≡ tag_code tag → SlotStands (at b p) 3 (Target r) → NodeStands b r (laid.table (type_cells tag)) → StandsAligned b (spot (forms.Type types) (at b p) 3) (type_tree types tag)
+type_stands types b p r tags.null e h k = closed_spot b (type_table types (code_at (at b p) 2)) (field_place (at b p) 3) (ap (type_table types) e)
+type_stands types b p r tags.boolean e h k = closed_spot b (type_table types (code_at (at b p) 2)) (field_place (at b p) 3) (ap (type_table types) e)
+type_stands types b p r tags.binary e h k = closed_spot b (type_table types (code_at (at b p) 2)) (field_place (at b p) 3) (ap (type_table types) e)
+type_stands types b p r tags.utf8 e h k = closed_spot b (type_table types (code_at (at b p) 2)) (field_place (at b p) 3) (ap (type_table types) e)
+type_stands types b p r tags.list e h k = closed_spot b (type_table types (code_at (at b p) 2)) (field_place (at b p) 3) (ap (type_table types) e)
+type_stands types b p r tags.struct e h k = closed_spot b (type_table types (code_at (at b p) 2)) (field_place (at b p) 3) (ap (type_table types) e)
+type_stands types b p r tags.large_binary e h k = closed_spot b (type_table types (code_at (at b p) 2)) (field_place (at b p) 3) (ap (type_table types) e)
+type_stands types b p r tags.large_utf8 e h k = closed_spot b (type_table types (code_at (at b p) 2)) (field_place (at b p) 3) (ap (type_table types) e)
+type_stands types b p r tags.large_list e h k = closed_spot b (type_table types (code_at (at b p) 2)) (field_place (at b p) 3) (ap (type_table types) e)
+type_stands types b p r (tags.int bits signed) e h k =
+    opened_field b p 3 r (type_table types (code_at (at b p) 2)) kinds.Int (int_parts bits signed) (ap (type_table types) e) h k.0 (int_stands b r bits signed k.1)
+type_stands Core b p r (tags.floating_point precision) e h k = closed_spot b (type_table Core (code_at (at b p) 2)) (field_place (at b p) 3) (ap (type_table Core) e)
+type_stands All b p r (tags.floating_point precision) e h k =
+    opened_field b p 3 r (type_table All (code_at (at b p) 2)) kinds.FloatingPoint (parts (type_tree All (tags.floating_point precision))) (ap (type_table All) e) h k.0 (number_field Two b r 0 _ k.1.0, tt)
+type_stands types b p r (tags.date unit) e h k =
+    opened_field b p 3 r (type_table types (code_at (at b p) 2)) kinds.Date (parts (type_tree types (tags.date unit))) (ap (type_table types) e) h k.0 (number_field Two b r 0 _ k.1.0, tt)
+type_stands types b p r (tags.duration unit) e h k =
+    opened_field b p 3 r (type_table types (code_at (at b p) 2)) kinds.Duration (parts (type_tree types (tags.duration unit))) (ap (type_table types) e) h k.0 (number_field Two b r 0 _ k.1.0, tt)
+type_stands types b p r (tags.fixed_size_binary width) e h k =
+    opened_field b p 3 r (type_table types (code_at (at b p) 2)) kinds.FixedSizeBinary (parts (type_tree types (tags.fixed_size_binary width))) (ap (type_table types) e) h k.0 (number_field Four b r 0 _ k.1.0, tt)
+type_stands types b p r (tags.time unit) e h k =
+    opened_field b p 3 r (type_table types (code_at (at b p) 2)) kinds.Time (parts (type_tree types (tags.time unit))) (ap (type_table types) e) h k.0 (number_field Two b r 0 _ k.1.0, (number_field Four b r 1 _ k.1.1.0, tt))
+type_stands types b p r (tags.timestamp unit zone) e h k =
+    opened_field b p 3 r (type_table types (code_at (at b p) 2)) kinds.Timestamp (parts (type_tree types (tags.timestamp unit zone))) (ap (type_table types) e) h k.0 (number_field Two b r 0 _ k.1.0, (zone_stands b r zone k.1.1, tt))
 
 -- a DictionaryEncoding table
 encoding_parts_stand : (b : List ℕ) (p : ℕ) (e : Encoding) → CellsStand b p 0 (encoding_cells e) → AllAligned b (spots_of kinds.DictionaryEncoding (at b p)) (parts (encoding_tree (Some e)))
@@ -137,13 +142,13 @@ metadata_stands b p i (x ∷ xs) h =
     (pairs_stand b (x ∷ xs) (h.0 + 4) (omega (arith, h.2.0.aligned)) h.2.1)
 
 -- the Field tables of a vector at p stand as the fields' trees
-abbrev FieldsStand : List ℕ → Fields → Notes → Type 0
-FieldsStand b fields n = (p : ℕ) → p % 4 ≡ 0 → NodesStand b p (field_nodes fields n) → AllAligned b (elements kinds.Field p (count_nodes (field_nodes fields n))) (field_trees fields n)
+abbrev FieldsStand : (types : TypeSet) → List ℕ → Fields → Notes → Type 0
+FieldsStand types b fields n = (p : ℕ) → p % 4 ≡ 0 → NodesStand b p (field_nodes fields n) → AllAligned b (elements (kinds.Field types) p (count_nodes (field_nodes fields n))) (field_trees types fields n)
 
 -- a Field table, whose children do
-field_stands : (b : List ℕ) (p : ℕ) (head : Head) (ps : List KeyValue) (children : Fields) (n : Notes) → FieldsStand b children n → CellsStand b p 0 (field_cells head ps (field_nodes children n))
-    → AllAligned b (spots_of kinds.Field (at b p)) (field_parts head ps (field_trees children n))
-field_stands b p head ps children n children_stand h =
+field_stands : (types : TypeSet) (b : List ℕ) (p : ℕ) (head : Head) (ps : List KeyValue) (children : Fields) (n : Notes) → FieldsStand types b children n → CellsStand b p 0 (field_cells head ps (field_nodes children n))
+    → AllAligned b (spots_of (kinds.Field types) (at b p)) (field_parts types head ps (field_trees types children n))
+field_stands types b p head ps children n children_stand h =
     let nullable = h.3 in
     let code = nullable.1 in
     let type = code.1 in
@@ -155,11 +160,11 @@ field_stands b p head ps children n children_stand h =
         (
           number_field One b p 2 _ code.0,
           (
-            type_stands b p type.0 head.tag (code_there b p 2 (tag_code head.tag) code.0) type.1 type.2,
+            type_stands types b p type.0 head.tag (code_there b p 2 (tag_code head.tag) code.0) type.1 type.2,
             (
               encoding.0,
               (
-                tables_field b p 5 below.0 (count_nodes (field_nodes children n)) kinds.Field (field_trees children n) below.1 below.2.0
+                tables_field b p 5 below.0 (count_nodes (field_nodes children n)) (kinds.Field types) (field_trees types children n) below.1 below.2.0
                     (children_stand (below.0 + 4) (omega (arith, below.2.0.aligned)) below.2.1),
                 (metadata_stands b p 6 ps below.3, tt),
               ),
@@ -170,50 +175,50 @@ field_stands b p head ps children n children_stand h =
     )
 
 -- fields of any depth
-fields_stand : (b : List ℕ) (fields : Fields) (n : Notes) → FieldsStand b fields n
-fields_stand b columns.none n p aligned h = tt
-fields_stand b (columns.more head children rest) n p aligned h = (
-  table_spot b kinds.Field (Some p) p h.0 (field_parts head (first_pairs n) (field_trees children (first_below n))) refl aligned h.1 h.2.0
-      (field_stands b h.0 head (first_pairs n) children (first_below n) (fields_stand b children (first_below n)) h.2.1),
-  fields_stand b rest (first_rest n) (p + 4) (omega (arith, aligned)) h.3,
+fields_stand : (types : TypeSet) (b : List ℕ) (fields : Fields) (n : Notes) → FieldsStand types b fields n
+fields_stand types b columns.none n p aligned h = tt
+fields_stand types b (columns.more head children rest) n p aligned h = (
+  table_spot b (kinds.Field types) (Some p) p h.0 (field_parts types head (first_pairs n) (field_trees types children (first_below n))) refl aligned h.1 h.2.0
+      (field_stands types b h.0 head (first_pairs n) children (first_below n) (fields_stand types b children (first_below n)) h.2.1),
+  fields_stand types b rest (first_rest n) (p + 4) (omega (arith, aligned)) h.3,
 )
 
 -- a Schema table
-schema_stands : (b : List ℕ) (p : ℕ) (s : SchemaShape) → CellsStand b p 0 (schema_cells s) → AllAligned b (spots_of kinds.Schema (at b p)) (schema_parts s)
-schema_stands b p s h =
+schema_stands : (types : TypeSet) (b : List ℕ) (p : ℕ) (s : SchemaShape) → CellsStand b p 0 (schema_cells s) → AllAligned b (spots_of (kinds.Schema types) (at b p)) (schema_parts types s)
+schema_stands types b p s h =
     let vector = h.1 in (
       number_field Two b p 0 _ h.0,
       (
-        tables_field b p 1 vector.0 (count_nodes (field_nodes s.fields s.notes)) kinds.Field (field_trees s.fields s.notes) vector.1 vector.2.0
-            (fields_stand b s.fields s.notes (vector.0 + 4) (omega (arith, vector.2.0.aligned)) vector.2.1),
+        tables_field b p 1 vector.0 (count_nodes (field_nodes s.fields s.notes)) (kinds.Field types) (field_trees types s.fields s.notes) vector.1 vector.2.0
+            (fields_stand types b s.fields s.notes (vector.0 + 4) (omega (arith, vector.2.0.aligned)) vector.2.1),
         (metadata_stands b p 2 s.pairs vector.3, tt),
       ),
     )
 
 -- the header's table
-header_stands : (b : List ℕ) (p r : ℕ) (x : PlainHeader) → code_at (at b p) 1 ≡ header_code x → SlotStands (at b p) 2 (Target r) → NodeStands b r (laid.table (header_cells x)) → StandsAligned b (spot forms.Header (at b p) 2) (header_tree x)
-header_stands b p r (schema s) e h k =
-    opened_field b p 2 r (header_table (code_at (at b p) 1)) kinds.Schema (schema_parts s) (ap header_table e) h k.0 (schema_stands b r s k.1)
-header_stands b p r (dictionary id delta x) e h k =
-    opened_field b p 2 r (header_table (code_at (at b p) 1)) kinds.DictionaryBatch (dictionary_parts id delta x) (ap header_table e) h k.0 (dictionary_stands b r id delta x k.1)
-header_stands b p r (batch x) e h k =
-    opened_field b p 2 r (header_table (code_at (at b p) 1)) kinds.RecordBatch (batch_parts x) (ap header_table e) h k.0 (batch_stands b r x k.1)
+header_stands : (types : TypeSet) (b : List ℕ) (p r : ℕ) (x : PlainHeader) → code_at (at b p) 1 ≡ header_code x → SlotStands (at b p) 2 (Target r) → NodeStands b r (laid.table (header_cells x)) → StandsAligned b (spot (forms.Header types) (at b p) 2) (header_tree types x)
+header_stands types b p r (schema s) e h k =
+    opened_field b p 2 r (header_table types (code_at (at b p) 1)) (kinds.Schema types) (schema_parts types s) (ap (header_table types) e) h k.0 (schema_stands types b r s k.1)
+header_stands types b p r (dictionary id delta x) e h k =
+    opened_field b p 2 r (header_table types (code_at (at b p) 1)) kinds.DictionaryBatch (dictionary_parts id delta x) (ap (header_table types) e) h k.0 (dictionary_stands b r id delta x k.1)
+header_stands types b p r (batch x) e h k =
+    opened_field b p 2 r (header_table types (code_at (at b p) 1)) kinds.RecordBatch (batch_parts x) (ap (header_table types) e) h k.0 (batch_stands b r x k.1)
 
 -- a Message table
-message_parts_stand : (b : List ℕ) (p : ℕ) (m : PlainMessage) → CellsStand b p 0 (message_cells m) → AllAligned b (spots_of kinds.Message (at b p)) (message_parts m)
-message_parts_stand b p m h =
+message_parts_stand : (types : TypeSet) (b : List ℕ) (p : ℕ) (m : PlainMessage) → CellsStand b p 0 (message_cells m) → AllAligned b (spots_of (kinds.Message types) (at b p)) (message_parts types m)
+message_parts_stand types b p m h =
     let code = h.1 in
     let header = code.1 in (
       number_field Two b p 0 _ h.0,
       (
         number_field One b p 1 _ code.0,
         (
-          header_stands b p header.0 m.header (code_there b p 1 (header_code m.header) code.0) header.1 header.2,
+          header_stands types b p header.0 m.header (code_there b p 1 (header_code m.header) code.0) header.1 header.2,
           (number_field Eight b p 3 _ header.3.0, tt),
         ),
       ),
     )
 
 -- A message that was laid out stands where the offset at place 0 leads.
-pub message_stands : (b : List ℕ) (r : ℕ) (m : PlainMessage) → target_at b 0 ≡ Some r → NodeStands b r (message_node m) → LiesAligned (message_tree m) b
-message_stands b r m leads h = table_spot b kinds.Message (Some 0) 0 r (message_parts m) refl refl leads h.0 (message_parts_stand b r m h.1)
+pub message_stands : (types : TypeSet) (b : List ℕ) (r : ℕ) (m : PlainMessage) → target_at b 0 ≡ Some r → NodeStands b r (message_node m) → LiesAligned types (message_tree types m) b
+message_stands types b r m leads h = table_spot b (kinds.Message types) (Some 0) 0 r (message_parts types m) refl refl leads h.0 (message_parts_stand types b r m h.1)

@@ -6,6 +6,8 @@ use Rattle.std.proofs.lemmas.Bool.{and_parts, leb-true}
 use Rattle.arrow_flatbuf.specs.Nodes.{start, NodeStands}
 use Rattle.arrow_flatbuf.proofs.Buffers.{length_buffer, root_there, root_stands}
 use Rattle.arrow_types.specs.Limits.{LimitNumbers}
+use Rattle.arrow_types.specs.declared.type_set.TypeSet.{TypeSet}
+use Rattle.arrow_meta_reader.specs.Faults.{fault_of}
 use Rattle.arrow_meta_writer.specs.Aligned.{LiesAligned}
 use Rattle.arrow_meta_reader.specs.Grows.{root}
 use Rattle.arrow_meta_reader.specs.Judges.{MetadataMeans, Decodes}
@@ -22,11 +24,11 @@ use Rattle.arrow_meta_reader.specs.Lies.{LiesAtRoot}
 use Rattle.arrow_meta_reader.specs.Means.{PlainMessage, meaning_of, message_view}
 use Rattle.arrow_meta_writer.specs.Metadata.{metadata, metadata_size, is_sendable, is_written, size_of}
 use Rattle.arrow_meta_reader.specs.Within.{IsWithin}
-use Rattle.arrow_meta_writer.specs.Writable.{IsHeader, Allows}
+use Rattle.arrow_meta_writer.specs.Writable.{IsHeader, Allows, leaves_header_out}
 use Rattle.arrow_meta_writer.specs.Written.{message_parts, message_tree}
 use Rattle.arrow_meta_writer.proofs.Again.{message_again}
 use Rattle.arrow_meta_writer.proofs.Bounds.{shallow}
-use Rattle.arrow_meta_writer.proofs.Faultless.{sound}
+use Rattle.arrow_meta_writer.proofs.Faultless.{sound, within_types}
 use Rattle.arrow_meta_writer.proofs.Fitting.{message_fits}
 use Rattle.arrow_meta_writer.proofs.Sizing.{written_version}
 use Rattle.arrow_meta_reader.proofs.Least.{meaning_length}
@@ -72,30 +74,34 @@ written_stands m n behind x h =
     root_stands (message_node m) behind (message_fits m x (omega (arith, is.body))) (omega (arith, is.small))
 
 -- They lie as the message's tree, aligned.
-pub written_aligned : (m : PlainMessage) (n : ℕ) (behind : List ℕ) → IsHeader m.header → size_of m ≡ Some n → LiesAligned (message_tree m) (metadata m ++ behind)
-written_aligned m n behind x h =
+pub written_aligned : (types : TypeSet) (m : PlainMessage) (n : ℕ) (behind : List ℕ) → IsHeader m.header → size_of m ≡ Some n → LiesAligned types (message_tree types m) (metadata m ++ behind)
+written_aligned types m n behind x h =
     let is = sized m n h in
-    message_stands (metadata m ++ behind) (start 4 (message_node m)) m (root_there (message_node m) behind (omega (arith, is.small))) (written_stands m n behind x h)
+    message_stands types (metadata m ++ behind) (start 4 (message_node m)) m (root_there (message_node m) behind (omega (arith, is.small))) (written_stands m n behind x h)
 
-pub written_lies : (m : PlainMessage) (n : ℕ) (behind : List ℕ) → IsHeader m.header → size_of m ≡ Some n → LiesAtRoot (message_tree m) (metadata m ++ behind)
-written_lies m n behind x h = root_lies (metadata m ++ behind) (message_tree m) (stands (metadata m ++ behind) root (message_tree m) (written_aligned m n behind x h))
+pub written_lies : (types : TypeSet) (m : PlainMessage) (n : ℕ) (behind : List ℕ) → IsHeader m.header → size_of m ≡ Some n → LiesAtRoot types (message_tree types m) (metadata m ++ behind)
+written_lies types m n behind x h = root_lies types (metadata m ++ behind) (message_tree types m) (stands (metadata m ++ behind) (root types) (message_tree types m) (written_aligned types m n behind x h))
 
 -- The tree means the message.
-means_again : (m : PlainMessage) → IsHeader m.header → meaning_of (message_parts m) ≡ Some m
-means_again m x = message_again m.header m.version m.body_len x
+means_again : (types : TypeSet) (m : PlainMessage) → IsHeader m.header → leaves_header_out types m.header ≡ false → meaning_of (message_parts types m) ≡ Some m
+means_again types m x within = message_again types m.header m.version m.body_len x within
 
 pub written_means : (m : PlainMessage) (n : ℕ) (behind : List ℕ) → IsHeader m.header → size_of m ≡ Some n → (limits : LimitNumbers) → MetadataMeans limits (metadata m ++ behind) m ↔ Allows limits m
 written_means m n behind x h limits =
     let is = sized m n h in
-    let lies = written_lies m n behind x h in (
+    let lies = written_lies limits.types m n behind x h in (
       λ means.
-          let same : means.0 ≡ message_tree m = one_root (metadata m ++ behind) means.0 (message_tree m) means.1.lies lies in
-          let within : IsWithin limits.max_metadata (message_tree m) = subst (λ t. IsWithin limits.max_metadata t) same means.1.within in
-          record { text = within.text_within; body = meaning_length limits.max_body means.0 m means.2 },
+          let same : means.0 ≡ message_tree limits.types m = one_root limits.types (metadata m ++ behind) means.0 (message_tree limits.types m) means.1.lies lies in
+          let within : IsWithin limits.max_metadata (message_tree limits.types m) = subst (λ t. IsWithin limits.max_metadata t) same means.1.within in
+          record {
+            text = within.text_within;
+            body = meaning_length limits.max_body means.0 m means.2;
+            types = within_types limits.types limits.max_body m (subst (λ t. fault_of limits.max_body (parts t) ≡ None) same means.2.sound);
+          },
       λ allows. (
-        message_tree m,
-        record { lies = lies; within = record { shallow = shallow m x; text_within = allows.text } },
-        record { sound = sound limits.max_body m x allows.body (omega (arith, is.body)); same = means_again m x },
+        message_tree limits.types m,
+        record { lies = lies; within = record { shallow = shallow limits.types m x; text_within = allows.text } },
+        record { sound = sound limits.types limits.max_body m x allows.types allows.body (omega (arith, is.body)); same = means_again limits.types m x allows.types },
       ),
     )
 
@@ -114,8 +120,9 @@ read_again m n behind x h limits (Err (Compressed batch body)) allows fails = ab
 -- And no reader answers another message, whatever its limits.
 pub read_alone : (m : PlainMessage) (n : ℕ) (behind : List ℕ) → IsHeader m.header → size_of m ≡ Some n → (limits : LimitNumbers) (k : PlainMessage) → MetadataMeans limits (metadata m ++ behind) k → k ≡ m
 read_alone m n behind x h limits k means =
-    let lies = written_lies m n behind x h in
+    let lies = written_lies limits.types m n behind x h in
     let is = sized m n h in
-    let same : means.0 ≡ message_tree m = one_root (metadata m ++ behind) means.0 (message_tree m) means.1.lies lies in
-    let both : Some k ≡ Some m = sym means.2.same ∙ ap (λ t. meaning_of (parts t)) same ∙ means_again m x in
+    let same : means.0 ≡ message_tree limits.types m = one_root limits.types (metadata m ++ behind) means.0 (message_tree limits.types m) means.1.lies lies in
+    let within = within_types limits.types limits.max_body m (subst (λ t. fault_of limits.max_body (parts t) ≡ None) same means.2.sound) in
+    let both : Some k ≡ Some m = sym means.2.same ∙ ap (λ t. meaning_of (parts t)) same ∙ means_again limits.types m x within in
     cc

@@ -2,6 +2,7 @@
 -- (FlatBuffers internals, "Tables", "Strings", "Structs").
 use Rattle.std.specs.Prelude.{◌≡◌, ℕ, ◌+◌, ◌%◌, List, [], ◌∷◌, length, Some}
 use Rattle.arrow_flatbuf.specs.Place.{number_at, target_at}
+use Rattle.arrow_types.specs.declared.type_set.TypeSet.{TypeSet}
 use Rattle.arrow_meta_reader.specs.declared.kinds.FieldForm.{FieldForm}
 use Rattle.arrow_meta_reader.specs.declared.kinds.FieldForm.TheVariants as forms
 use Rattle.arrow_meta_reader.specs.Grows.{root}
@@ -22,8 +23,8 @@ form_size forms.Pairs = 4
 form_size forms.Presence = 4
 form_size (forms.Table kind) = 4
 form_size (forms.Tables kind) = 4
-form_size forms.Header = 4
-form_size forms.Type = 4
+form_size (forms.Header types) = 4
+form_size (forms.Type types) = 4
 
 -- What is at a spot stands at a multiple of its size.
 pub record IsPlaced (s : Spot) : Type 0 where
@@ -68,5 +69,5 @@ abbrev mutual
   AllAligned bytes (s ∷ ss) (more x xs) = StandsAligned bytes s x × AllAligned bytes ss xs
 
 -- A message's tree lies at the root, aligned.
-abbrev pub LiesAligned : Tree → List ℕ → Type 0
-LiesAligned x bytes = StandsAligned bytes root x
+abbrev pub LiesAligned : TypeSet → Tree → List ℕ → Type 0
+LiesAligned types x bytes = StandsAligned bytes (root types) x

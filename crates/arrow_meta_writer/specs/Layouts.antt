@@ -13,6 +13,8 @@ use Rattle.arrow_types.specs.Notes.{KeyValue, Notes, unnoted, noted, SchemaShape
 use Rattle.arrow_types.specs.declared.data_type.BitWidth.{BitWidth}
 use Rattle.arrow_types.specs.declared.data_type.DateUnit.{DateUnit}
 use Rattle.arrow_types.specs.declared.data_type.DateUnit.TheVariants as dates
+use Rattle.arrow_types.specs.declared.data_type.Precision.{Precision}
+use Rattle.arrow_types.specs.declared.data_type.Precision.TheVariants as precisions
 use Rattle.arrow_types.specs.declared.data_type.TimeUnit.{TimeUnit}
 use Rattle.arrow_types.specs.declared.data_type.TimeUnit.TheVariants as times
 use Rattle.arrow_types.specs.declared.field.Encoding.{Encoding}
@@ -30,6 +32,7 @@ flag false = 0
 abbrev pub tag_code : Tag → ℕ
 tag_code tags.null = 1
 tag_code (tags.int bits signed) = 2
+tag_code (tags.floating_point precision) = 3
 tag_code tags.binary = 4
 tag_code tags.utf8 = 5
 tag_code tags.boolean = 6
@@ -43,6 +46,12 @@ tag_code (tags.duration unit) = 18
 tag_code tags.large_binary = 19
 tag_code tags.large_utf8 = 20
 tag_code tags.large_list = 21
+
+-- the number of a precision (Schema.fbs, enum "Precision")
+abbrev pub precision_number : Precision → ℕ
+precision_number precisions.Half = 0
+precision_number precisions.Single = 1
+precision_number precisions.Double = 2
 
 -- the number of a date's unit (Schema.fbs, enum "DateUnit")
 abbrev pub date_number : DateUnit → ℕ
@@ -65,10 +74,11 @@ abbrev pub zone_cells : Option (List ℕ) → Cells
 zone_cells None = last
 zone_cells (Some name) = offset (text name) last
 
--- a type's table: of Date the unit, of Time the unit and bitWidth, of Timestamp the unit and the time zone, of
+-- a type's table: of FloatingPoint the precision, of Date the unit, of Time the unit and bitWidth, of Timestamp the unit and the time zone, of
 -- FixedSizeBinary the byteWidth, of Duration the unit. The types that no reader opens have a table without fields.
 abbrev pub type_cells : Tag → Cells
 type_cells (tags.int bits signed) = int_cells bits signed
+type_cells (tags.floating_point precision) = scalar Two (precision_number precision) last
 type_cells (tags.date unit) = scalar Two (date_number unit) last
 type_cells (tags.time unit) = scalar Two (time_number unit) (scalar Four (bits_of (time_width_of unit)) last)
 type_cells (tags.timestamp unit zone) = scalar Two (time_number unit) (zone_cells zone)

@@ -1,5 +1,5 @@
 -- What every message of the program is, by the types that hold it, and which limits it keeps to.
-use Rattle.std.specs.Prelude.{◌≡◌, ◌≤◌, ◌<◌, ◌^◌, ℤ, pos, negsuc, true, List, [], ◌∷◌, Option, Some}
+use Rattle.std.specs.Prelude.{◌≡◌, ◌≤◌, ◌<◌, ◌^◌, ℤ, pos, negsuc, Bool, true, false, List, [], ◌∷◌, Option, Some}
 use Rattle.std.specs.Prelude.{None}
 use Rattle.std.specs.Str.{is_utf8}
 use Rattle.arrow_types.specs.DataType as tags
@@ -9,6 +9,8 @@ use Rattle.arrow_types.specs.Field.{Head, Fields, width}
 use Rattle.arrow_types.specs.Limits.{LimitNumbers}
 use Rattle.arrow_types.specs.Notes.{Notes, unnoted, noted}
 use Rattle.arrow_types.specs.Schema.{IsNoted}
+use Rattle.arrow_types.specs.TypeSet.{leaves_some_out}
+use Rattle.arrow_types.specs.declared.type_set.TypeSet.{TypeSet}
 use Rattle.arrow_types.specs.declared.field.Encoding.{Encoding}
 use Rattle.arrow_types.specs.declared.node.FieldNode.{FieldNode}
 use Rattle.arrow_types.specs.declared.node.Buffer.{Buffer}
@@ -35,6 +37,7 @@ HasTextZone tags.utf8 = Unit {0}
 HasTextZone tags.list = Unit {0}
 HasTextZone tags.struct = Unit {0}
 HasTextZone (tags.int bits signed) = Unit {0}
+HasTextZone (tags.floating_point precision) = Unit {0}
 HasTextZone (tags.date unit) = Unit {0}
 HasTextZone (tags.time unit) = Unit {0}
 HasTextZone tags.large_binary = Unit {0}
@@ -98,7 +101,14 @@ IsHeader (schema s) = IsNoted s × AreNotedFields s.fields s.notes
 IsHeader (dictionary id delta b) = IsLong id × IsBatch b
 IsHeader (batch b) = IsBatch b
 
+-- whether a set leaves out the type of a field of a schema, on any level; other messages have none
+abbrev pub leaves_header_out : TypeSet → PlainHeader → Bool
+leaves_header_out types (schema s) = leaves_some_out types s.fields
+leaves_header_out types (dictionary id delta b) = false
+leaves_header_out types (batch b) = false
+
 -- The limits that a message has to keep to, so that a reader with them takes it.
 pub record Allows (limits : LimitNumbers) (m : PlainMessage) : Type 0 where
-  pub text : text_bytes (message_tree m) ≤ limits.max_metadata
+  pub text : text_bytes (message_tree limits.types m) ≤ limits.max_metadata
   pub body : m.body_len ≤ limits.max_body
+  pub types : leaves_header_out limits.types m.header ≡ false

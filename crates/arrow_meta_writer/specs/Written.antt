@@ -6,11 +6,13 @@ use Rattle.arrow_types.specs.DataType.{Tag, bits_of, time_width_of}
 use Rattle.arrow_types.specs.Field as columns
 use Rattle.arrow_types.specs.Field.{Head, Fields}
 use Rattle.arrow_types.specs.Notes.{KeyValue, Notes, SchemaShape}
+use Rattle.arrow_types.specs.declared.type_set.TypeSet.{TypeSet}
+use Rattle.arrow_types.specs.declared.type_set.TypeSet.TheVariants.{Core, All}
 use Rattle.arrow_types.specs.declared.data_type.BitWidth.{BitWidth}
 use Rattle.arrow_types.specs.declared.field.Encoding.{Encoding}
 use Rattle.arrow_meta_reader.specs.Codes.{number_of_version}
 use Rattle.arrow_meta_reader.specs.declared.kinds.TableKind.TheVariants as kinds
-use Rattle.arrow_meta_writer.specs.Layouts.{flag, tag_code, date_number, time_number, node_pair}
+use Rattle.arrow_meta_writer.specs.Layouts.{flag, tag_code, date_number, precision_number, time_number, node_pair}
 use Rattle.arrow_meta_writer.specs.Layouts.{buffer_pair, header_code, first_pairs, first_below, first_rest}
 use Rattle.arrow_meta_reader.specs.Means.{PlainBatch, PlainHeader, schema, dictionary, batch, PlainMessage}
 use Rattle.arrow_meta_reader.specs.Trees.{absent, number, text, byte_string, pairs, Tree, leaf, table, tables, Trees}
@@ -29,24 +31,26 @@ abbrev pub zone_tree : Option (List ℕ) → Tree
 zone_tree None = leaf absent
 zone_tree (Some zone) = leaf (text zone)
 
--- the table of a type that a reader opens
-abbrev pub type_tree : Tag → Tree
-type_tree (tags.int bits signed) = table kinds.Int (int_parts bits signed)
-type_tree (tags.date unit) = table kinds.Date (more (of_number (date_number unit)) none)
-type_tree (tags.time unit) =
+-- the table of a type that a reader of this set of types opens
+abbrev pub type_tree : TypeSet → Tag → Tree
+type_tree types (tags.int bits signed) = table kinds.Int (int_parts bits signed)
+type_tree Core (tags.floating_point precision) = leaf absent
+type_tree All (tags.floating_point precision) = table kinds.FloatingPoint (more (of_number (precision_number precision)) none)
+type_tree types (tags.date unit) = table kinds.Date (more (of_number (date_number unit)) none)
+type_tree types (tags.time unit) =
     table kinds.Time (more (of_number (time_number unit)) (more (of_number (bits_of (time_width_of unit))) none))
-type_tree (tags.timestamp unit zone) = table kinds.Timestamp (more (of_number (time_number unit)) (more (zone_tree zone) none))
-type_tree (tags.fixed_size_binary width) = table kinds.FixedSizeBinary (more (of_number width) none)
-type_tree (tags.duration unit) = table kinds.Duration (more (of_number (time_number unit)) none)
-type_tree tags.null = leaf absent
-type_tree tags.boolean = leaf absent
-type_tree tags.binary = leaf absent
-type_tree tags.utf8 = leaf absent
-type_tree tags.list = leaf absent
-type_tree tags.struct = leaf absent
-type_tree tags.large_binary = leaf absent
-type_tree tags.large_utf8 = leaf absent
-type_tree tags.large_list = leaf absent
+type_tree types (tags.timestamp unit zone) = table kinds.Timestamp (more (of_number (time_number unit)) (more (zone_tree zone) none))
+type_tree types (tags.fixed_size_binary width) = table kinds.FixedSizeBinary (more (of_number width) none)
+type_tree types (tags.duration unit) = table kinds.Duration (more (of_number (time_number unit)) none)
+type_tree types tags.null = leaf absent
+type_tree types tags.boolean = leaf absent
+type_tree types tags.binary = leaf absent
+type_tree types tags.utf8 = leaf absent
+type_tree types tags.list = leaf absent
+type_tree types tags.struct = leaf absent
+type_tree types tags.large_binary = leaf absent
+type_tree types tags.large_utf8 = leaf absent
+type_tree types tags.large_list = leaf absent
 
 -- a field's encoding, where it has one
 abbrev pub encoding_tree : Option Encoding → Tree
@@ -70,20 +74,20 @@ metadata_tree [] = leaf absent
 metadata_tree (p ∷ ps) = tables (pair_trees (p ∷ ps))
 
 -- the fields of a Field table with these pairs and children
-abbrev pub field_parts : Head → List KeyValue → Trees → Trees
-field_parts h ps children =
-    more (leaf (text h.name)) (more (of_number (flag h.nullable)) (more (of_number (tag_code h.tag)) (more (type_tree h.tag)
+abbrev pub field_parts : TypeSet → Head → List KeyValue → Trees → Trees
+field_parts types h ps children =
+    more (leaf (text h.name)) (more (of_number (flag h.nullable)) (more (of_number (tag_code h.tag)) (more (type_tree types h.tag)
     (more (encoding_tree h.encoding) (more (tables children) (more (metadata_tree ps) none))))))
 
 -- the Field tables of fields side by side, at which this is noted
-abbrev pub field_trees : Fields → Notes → Trees
-field_trees columns.none n = none
-field_trees (columns.more h children rest) n =
-    more (table kinds.Field (field_parts h (first_pairs n) (field_trees children (first_below n)))) (field_trees rest (first_rest n))
+abbrev pub field_trees : TypeSet → Fields → Notes → Trees
+field_trees types columns.none n = none
+field_trees types (columns.more h children rest) n =
+    more (table (kinds.Field types) (field_parts types h (first_pairs n) (field_trees types children (first_below n)))) (field_trees types rest (first_rest n))
 
 -- the fields of a Schema table
-abbrev pub schema_parts : SchemaShape → Trees
-schema_parts s = more (of_number 0) (more (tables (field_trees s.fields s.notes)) (more (metadata_tree s.pairs) none))
+abbrev pub schema_parts : TypeSet → SchemaShape → Trees
+schema_parts types s = more (of_number 0) (more (tables (field_trees types s.fields s.notes)) (more (metadata_tree s.pairs) none))
 
 -- the fields of a RecordBatch table
 abbrev pub batch_parts : PlainBatch → Trees
@@ -97,17 +101,17 @@ dictionary_parts id delta b =
     more (of_number (cast_unsigned w64 id)) (more (table kinds.RecordBatch (batch_parts b)) (more (of_number (flag delta)) none))
 
 -- the header's table
-abbrev pub header_tree : PlainHeader → Tree
-header_tree (schema s) = table kinds.Schema (schema_parts s)
-header_tree (dictionary id delta b) = table kinds.DictionaryBatch (dictionary_parts id delta b)
-header_tree (batch b) = table kinds.RecordBatch (batch_parts b)
+abbrev pub header_tree : TypeSet → PlainHeader → Tree
+header_tree types (schema s) = table (kinds.Schema types) (schema_parts types s)
+header_tree types (dictionary id delta b) = table kinds.DictionaryBatch (dictionary_parts id delta b)
+header_tree types (batch b) = table kinds.RecordBatch (batch_parts b)
 
 -- the fields of a Message table
-abbrev pub message_parts : PlainMessage → Trees
-message_parts m =
-    more (of_number (number_of_version m.version)) (more (of_number (header_code m.header)) (more (header_tree m.header)
+abbrev pub message_parts : TypeSet → PlainMessage → Trees
+message_parts types m =
+    more (of_number (number_of_version m.version)) (more (of_number (header_code m.header)) (more (header_tree types m.header)
     (more (of_number m.body_len) none)))
 
--- a message
-abbrev pub message_tree : PlainMessage → Tree
-message_tree m = table kinds.Message (message_parts m)
+-- a message, as a reader of this set of types finds it
+abbrev pub message_tree : TypeSet → PlainMessage → Tree
+message_tree types m = table (kinds.Message types) (message_parts types m)

@@ -18,20 +18,21 @@ ghost use Rattle.arrow_meta_writer.specs.Metadata.{metadata, metadata_size, size
 ghost use Rattle.arrow_meta_writer.specs.Writable.{IsHeader, Allows};
 ghost use Rattle.arrow_meta_writer.specs.Written.{message_tree};
 ghost use Rattle.arrow_types.specs.Limits.{LimitNumbers};
+ghost use Rattle.arrow_types.specs.declared.type_set.TypeSet.{TypeSet};
 
 /// The bytes that a message is written as, with any bytes after them: they lie as the message's
-/// tree, every number at a multiple of its size and a 0 byte after every text, and they mean the
-/// message for just those readers whose limits it keeps to. All that was laid out stands in them,
+/// tree, whatever set of types a reader has, every number at a multiple of its size and a 0 byte
+/// after every text, and they mean the message for just those readers whose limits it keeps to. All that was laid out stands in them,
 /// also what no reader looks at: the tables of types that have no fields, and vtables at even
 /// places. Their number is the message's size. What stands aligned stands, and the names, zones,
 /// keys and values of a message are no longer than its metadata.
 pub fn written()
-    ensures lies { (m : PlainMessage) (n : ℕ) (behind : List ℕ)
+    ensures lies { (types : TypeSet) (m : PlainMessage) (n : ℕ) (behind : List ℕ)
         → IsHeader m.header → size_of m ≡ Some n
-        → LiesAtRoot (message_tree m) (metadata m ++ behind) }
-    ensures aligned { (m : PlainMessage) (n : ℕ) (behind : List ℕ)
+        → LiesAtRoot types (message_tree types m) (metadata m ++ behind) }
+    ensures aligned { (types : TypeSet) (m : PlainMessage) (n : ℕ) (behind : List ℕ)
         → IsHeader m.header → size_of m ≡ Some n
-        → LiesAligned (message_tree m) (metadata m ++ behind) }
+        → LiesAligned types (message_tree types m) (metadata m ++ behind) }
     ensures means { (m : PlainMessage) (n : ℕ) (behind : List ℕ)
         → IsHeader m.header → size_of m ≡ Some n
         → (limits : LimitNumbers)
@@ -41,7 +42,8 @@ pub fn written()
         → NodeStands (metadata m ++ behind) (start 4 (message_node m)) (message_node m) }
     ensures size { (m : PlainMessage) (n : ℕ) → size_of m ≡ Some n → length (metadata m) ≡ n }
     ensures stands { (b : List ℕ) (s : Spot) (x : Tree) → StandsAligned b s x → Stands b s x }
-    ensures text { (m : PlainMessage) → text_bytes (message_tree m) ≤ metadata_size m }
+    ensures text { (types : TypeSet) (m : PlainMessage)
+        → text_bytes (message_tree types m) ≤ metadata_size m }
 {}
 
 /// What a message was written as is read as that message, with any bytes after it: by a reader

@@ -6,15 +6,16 @@ ghost use Rattle.std.specs.Prelude.{◌≡◌, ◌≤◌, option_map, string_byt
 ghost use Rattle.arrow_flatbuf.specs.Nodes.{after, table};
 ghost use Rattle.arrow_meta_writer.specs.Capped.{capped};
 ghost use Rattle.arrow_meta_writer.specs.Layouts.{int_cells, type_cells};
-ghost use Rattle.arrow_types.specs.DataType.{date, duration, fixed_size_binary, time};
-ghost use Rattle.arrow_types.specs.DataType.{timestamp};
+ghost use Rattle.arrow_types.specs.DataType.{date, duration, fixed_size_binary, floating_point};
+ghost use Rattle.arrow_types.specs.DataType.{time, timestamp};
 ghost use Rattle.arrow_types.specs.View.{type_view};
 
 use crate::tables::{table_after, text_after, zone_table_end};
 use crate::type_slots::{
-    date_slots, duration_slots, fixed_size_slots, int_slots, time_slots, timestamp_slots,
+    date_slots, duration_slots, fixed_size_slots, float_slots, int_slots, time_slots,
+    timestamp_slots,
 };
-use arrow_types::{BitWidth, DataType, DateUnit, TimeUnit};
+use arrow_types::{BitWidth, DataType, DateUnit, Precision, TimeUnit};
 
 /// The first place after a type's table and what belongs to it.
 pub(crate) fn type_end(place: usize, data_type: &DataType) -> usize
@@ -24,6 +25,7 @@ pub(crate) fn type_end(place: usize, data_type: &DataType) -> usize
 {
     match data_type {
         DataType::Int { bits, signed } => int_end(place, *bits, *signed),
+        DataType::FloatingPoint(precision) => float_end(place, *precision),
         DataType::Date(unit) => date_end(place, *unit),
         DataType::Time(unit) => time_end(place, *unit),
         DataType::Timestamp(unit, zone) => timestamp_end(place, *unit, zone),
@@ -45,6 +47,15 @@ fn timestamp_end(place: usize, unit: TimeUnit, zone: &Option<String>) -> usize
         None => table_after(place, &timestamp_slots(unit)),
         Some(zone) => text_after(zone_table_end(place), zone),
     }
+}
+
+/// The first place after the table of a floating-point type.
+fn float_end(place: usize, precision: Precision) -> usize
+    requires { place ≤ 1073741825 }
+    ensures end { result ≡ capped (after place (table (type_cells (floating_point precision)))) }
+    ensures near { result ≤ 1073741825 }
+{
+    table_after(place, &float_slots(precision))
 }
 
 /// The first place after a date's table.

@@ -3,13 +3,20 @@
 ghost use Rattle.std.specs.Prelude.{◌≡◌};
 ghost use Rattle.arrow_flatbuf.specs.Nodes.{slots};
 ghost use Rattle.arrow_meta_writer.specs.Layouts.{int_cells, type_cells};
-ghost use Rattle.arrow_types.specs.DataType.{date, duration, fixed_size_binary, time};
-ghost use Rattle.arrow_types.specs.DataType.{timestamp};
+ghost use Rattle.arrow_types.specs.DataType.{date, duration, fixed_size_binary, floating_point};
+ghost use Rattle.arrow_types.specs.DataType.{time, timestamp};
 
 use crate::tables::INT_FIELDS;
-use crate::types::{bit, date_number, time_number};
+use crate::types::{bit, date_number, precision_number, time_number};
 use arrow_flatbuf::{Slot, Width};
-use arrow_types::{BitWidth, DateUnit, TimeUnit};
+use arrow_types::{BitWidth, DateUnit, Precision, TimeUnit};
+
+/// The field of a FloatingPoint table.
+pub(crate) fn float_slots(precision: Precision) -> [Slot; 1]
+    ensures slots { result ≡ slots 0 (type_cells (floating_point precision)) }
+{
+    [Slot::Scalar(Width::Two, precision_number(precision))]
+}
 
 /// The field of a Date table.
 pub(crate) fn date_slots(unit: DateUnit) -> [Slot; 1]

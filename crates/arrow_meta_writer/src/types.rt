@@ -10,20 +10,21 @@ ghost use Rattle.arrow_meta_reader.specs.Codes.{type_code as code_named};
 ghost use Rattle.arrow_meta_reader.specs.Conditions.{children_fit};
 ghost use Rattle.arrow_meta_writer.specs.Appends.{HasRoom, Appends};
 ghost use Rattle.arrow_meta_writer.specs.Layouts.{int_cells, type_cells, flag, tag_code};
-ghost use Rattle.arrow_meta_writer.specs.Layouts.{date_number, time_number};
+ghost use Rattle.arrow_meta_writer.specs.Layouts.{date_number, precision_number, time_number};
 ghost use Rattle.arrow_meta_writer.specs.Writable.{HasTextZone};
-ghost use Rattle.arrow_types.specs.DataType.{date, duration, fixed_size_binary, time};
-ghost use Rattle.arrow_types.specs.DataType.{timestamp};
+ghost use Rattle.arrow_types.specs.DataType.{date, duration, fixed_size_binary, floating_point};
+ghost use Rattle.arrow_types.specs.DataType.{time, timestamp};
 ghost use Rattle.arrow_types.specs.Field.{width as field_width};
 ghost use Rattle.arrow_types.specs.View.{type_view};
 
 use crate::table_slots::zone_table;
 use crate::tables::{INT_FIELDS, zone_table_end};
 use crate::type_slots::{
-    date_slots, duration_slots, fixed_size_slots, int_slots, time_slots, timestamp_slots,
+    date_slots, duration_slots, fixed_size_slots, float_slots, int_slots, time_slots,
+    timestamp_slots,
 };
 use arrow_flatbuf::{TableWriter, Width, aligned};
-use arrow_types::{BitWidth, DataType, DateUnit, TimeUnit};
+use arrow_types::{BitWidth, DataType, DateUnit, Precision, TimeUnit};
 use std::alloc::AllocError;
 
 /// The code of a type (`Schema.fbs`, union `Type`). A value of the type has the children that it
@@ -37,6 +38,7 @@ pub(crate) fn type_code(data_type: &DataType) -> u64
     match data_type {
         DataType::Null => 1,
         DataType::Int { .. } => 2,
+        DataType::FloatingPoint(_) => 3,
         DataType::Binary => 4,
         DataType::Utf8 => 5,
         DataType::Bool => 6,
@@ -60,6 +62,7 @@ pub(crate) fn type_fields(data_type: &DataType) -> usize
 {
     match data_type {
         DataType::Int { .. } => INT_FIELDS,
+        DataType::FloatingPoint(_) => 1,
         DataType::Date(_) => 1,
         DataType::Time(_) => 2,
         DataType::Timestamp(unit, zone) => timestamp_fields(*unit, zone),
@@ -90,6 +93,7 @@ pub(crate) fn write_type(writer: &mut TableWriter, data_type: &DataType) -> Resu
 {
     match data_type {
         DataType::Int { bits, signed } => write_int(writer, *bits, *signed),
+        DataType::FloatingPoint(precision) => write_float(writer, *precision),
         DataType::Date(unit) => write_date(writer, *unit),
         DataType::Time(unit) => write_time(writer, *unit),
         DataType::Timestamp(unit, zone) => write_timestamp(writer, *unit, zone),
@@ -148,6 +152,14 @@ fn write_date(writer: &mut TableWriter, unit: DateUnit) -> Result<(), AllocError
     writer.table(&date_slots(unit))
 }
 
+/// Appends the table of a floating-point type.
+fn write_float(writer: &mut TableWriter, precision: Precision) -> Result<(), AllocError>
+    ensures { OnOk result
+        (Appends writer.old (table_node (type_cells (floating_point precision))) writer.new) }
+{
+    writer.table(&float_slots(precision))
+}
+
 /// Appends the table of byte strings of a fixed size.
 fn write_fixed_size(writer: &mut TableWriter, width: u32) -> Result<(), AllocError>
     ensures { OnOk result
@@ -181,6 +193,18 @@ pub(crate) fn bit(truth: bool) -> u64
     ensures small { result < 2 }
 {
     u64::from(truth)
+}
+
+/// The number of a precision (`Schema.fbs`, enum `Precision`).
+pub(crate) fn precision_number(precision: Precision) -> u64
+    ensures number { result ≡ precision_number precision }
+    ensures small { result < 256 }
+{
+    match precision {
+        Precision::Half => 0,
+        Precision::Single => 1,
+        Precision::Double => 2,
+    }
 }
 
 /// The number of a date's unit (`Schema.fbs`, enum `DateUnit`).

@@ -17,6 +17,7 @@ ghost use Rattle.arrow_meta_writer.specs.Metadata.{size_of, metadata};
 ghost use Rattle.arrow_meta_writer.specs.Writable.{IsHeader, Allows};
 ghost use Rattle.arrow_meta_writer.specs.Written.{message_tree};
 ghost use Rattle.arrow_types.specs.Limits.{LimitNumbers};
+ghost use Rattle.arrow_types.specs.declared.type_set.TypeSet.{TypeSet};
 
 use crate::batches::{write_batch, write_dictionary};
 use crate::fields::write_schema;
@@ -43,7 +44,8 @@ pub fn encode(alloc: Global, message: &Message) -> Result<Vec<u8>, AllocError>
     requires { IsSome (size_of (message_view message.now)) }
     ensures bytes { IfOk result (λ v. v.items ≡ metadata (message_view message.now)) }
     ensures lies { IfOk result
-        (λ v. LiesAligned (message_tree (message_view message.now)) v.items) }
+        (λ v. (types : TypeSet)
+        → LiesAligned types (message_tree types (message_view message.now)) v.items) }
     ensures means { IfOk result
         (λ v. (limits : LimitNumbers)
         → MetadataMeans limits v.items (message_view message.now)
@@ -61,7 +63,8 @@ pub fn encode_in(room: Vec<u8>, message: &Message) -> Result<Vec<u8>, AllocError
     requires { IsSome (size_of (message_view message.now)) }
     ensures bytes { IfOk result (λ v. v.items ≡ metadata (message_view message.now)) }
     ensures lies { IfOk result
-        (λ v. LiesAligned (message_tree (message_view message.now)) v.items) }
+        (λ v. (types : TypeSet)
+        → LiesAligned types (message_tree types (message_view message.now)) v.items) }
     ensures means { IfOk result
         (λ v. (limits : LimitNumbers)
         → MetadataMeans limits v.items (message_view message.now)

@@ -15,7 +15,8 @@ pub enum WriteFault {
     /// The schema of the batch is not the writer's.
     SchemaDiffers,
     /// A limit would be passed by a frame, by a dictionary after its update, or by the place where a
-    /// frame or the end marker ends; or an offset would not fit in 32 bits.
+    /// frame or the end marker ends; an offset would not fit in 32 bits; or a schema has a type that
+    /// is not in the set of the limits.
     TooLarge,
     /// Two columns of the batch have different dictionaries of one id.
     DictionariesDiffer,

@@ -8,7 +8,7 @@ use Rattle.arrow_flatbuf.specs.Layout.{gap}
 use Rattle.arrow_types.specs.DataType.{utf8}
 use Rattle.arrow_types.specs.Equality.{is_equal, is_equal_decides}
 use Rattle.arrow_types.specs.Field.{Fields, none, more, Head}
-use Rattle.arrow_types.specs.Limits.{LimitNumbers, standard_numbers}
+use Rattle.arrow_types.specs.Limits.{LimitNumbers, limit_numbers, standard_numbers}
 use Rattle.arrow_types.specs.Notes.{KeyValue, Notes, unnoted, noted, SchemaShape}
 use Rattle.arrow_types.specs.Stored.{schema_code}
 use Rattle.arrow_types.specs.declared.data_type.BitWidth.TheVariants.{ThirtyTwo}
@@ -288,7 +288,7 @@ third_admitted = by_tests standard_numbers (options modes.Delta) one (having abc
 
 -- at most four rows: the list of five values is refused, though only two of them would be sent
 abbrev four_rows : LimitNumbers
-four_rows = record { max_metadata = 2 ^ 26; max_body = 2 ^ 36; max_rows = 4 }
+four_rows = limit_numbers (2 ^ 26) (2 ^ 36) 4
 
 second_too_large : admission four_rows (options modes.Delta) one (having abc) 592 second ≡ Some TooLarge
 unfolding gap
@@ -322,7 +322,7 @@ schema_admitted : schema_admission standard_numbers (options modes.Delta) one �
 unfolding gap
 schema_admitted = refl
 
-schema_too_large : schema_admission (record { max_metadata = 191; max_body = 0; max_rows = 0 }) (options modes.Delta) one ≡ Some TooLarge
+schema_too_large : schema_admission (limit_numbers 191 0 0) (options modes.Delta) one ≡ Some TooLarge
 unfolding gap
 schema_too_large = refl
 

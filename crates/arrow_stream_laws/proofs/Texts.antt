@@ -1,6 +1,7 @@
 -- What a writer sends is a chain of frames that give the rows of its batches.
 use Rattle.std.proofs.Common.{◌≡◌, ℕ, ℤ, ◌+◌, ◌^◌, List, [], ◌∷◌, ◌++◌, length, map, refl, sym, ap, ◌∙◌, subst, arith, Bool, true, false, cond, leb, length-append, append_assoc, Some, None, Ok, is_some}
-use Rattle.std.specs.Prelude.{◌&&◌}
+use Rattle.std.specs.Prelude.{◌&&◌, not}
+use Rattle.arrow_types.specs.TypeSet.{leaves_some_out}
 use Rattle.std.proofs.lemmas.List.{append-nil, map-append}
 use Rattle.std.proofs.lemmas.Bool.{leb-true}
 use Rattle.arrow_types.specs.Field.{Fields}
@@ -136,10 +137,10 @@ pub record TextIs (l : LimitNumbers) (o : Options) (shape : SchemaShape) (parts 
   pub rows : rows_in frames ≡ map rows_of batches
   pub count : length parts ≡ 1 + length batches
 
-schema_fits : (a b : Bool) → cond (a && b) None (Some TooLarge) ≡ None → (a ≡ true) × (b ≡ true)
-schema_fits true true e = (refl, refl)
-schema_fits true false e = absurd (cc)
-schema_fits false b e = absurd (cc)
+schema_fits : (a b c : Bool) → cond (a && b && not c) None (Some TooLarge) ≡ None → (a ≡ true) × (b ≡ true)
+schema_fits true true c e = (refl, refl)
+schema_fits true false c e = absurd (cc)
+schema_fits false b c e = absurd (cc)
 
 -- the end marker stands where a text ends
 pub marker_first : (l : LimitNumbers) (shape : SchemaShape) (ds : List (ℤ × ValueList)) (s : StreamState) (p : ℕ) (b : List ℕ) → s ≡ state_of shape ds → IsMarker b → marker_fits p ≡ true → First l s p b marker
@@ -156,7 +157,7 @@ module _ {l : LimitNumbers} {o : Options} {shape : SchemaShape} where
   text_is (begins b known a f) =
       let s = state_of shape [] in
       let size = schema_size o.align shape in
-      let w = schema_fits (leb size l.max_metadata) (leb (8 + size) (2 ^ 62)) a in
+      let w = schema_fits (leb size l.max_metadata) (leb (8 + size) (2 ^ 62)) (leaves_some_out l.types shape.fields) a in
       let near = leb-true (8 + size) (2 ^ 62) w.1 in
       let len = frame_length f in
       record {

@@ -7,6 +7,7 @@ use Rattle.arrow_types.specs.Limits.{LimitNumbers}
 use Rattle.arrow_types.specs.Notes.{SchemaShape}
 use Rattle.arrow_types.specs.Schema.{dictionary_fields}
 use Rattle.arrow_types.specs.Stored.{schema_code}
+use Rattle.arrow_types.specs.TypeSet.{leaves_some_out}
 use Rattle.arrow_data.specs.Batch.{Table}
 use Rattle.arrow_data.specs.Column.{ValueList}
 use Rattle.arrow_data.specs.PlainValue.{PlainValue}
@@ -68,10 +69,11 @@ admission limits o shape ds place t =
     (if not (has_one_list t) then Some DictionariesDiffer else
     (if not (part_fits limits o shape.fields ds place t) then Some TooLarge else None))
 
--- the refusal of a schema, none where it is admitted: its frame is the first one and has no body
+-- the refusal of a schema, none where it is admitted: its frame is the first one and has no body, and its types are in the set
 abbrev pub schema_admission : LimitNumbers → Options → SchemaShape → Option WriteFault
 schema_admission limits o shape =
-    if nat_le (schema_size o.align shape) limits.max_metadata && nat_le (8 + schema_size o.align shape) (2 ^ 62) then None else Some TooLarge
+    if nat_le (schema_size o.align shape) limits.max_metadata && nat_le (8 + schema_size o.align shape) (2 ^ 62)
+    && not (leaves_some_out limits.types shape.fields) then None else Some TooLarge
 
 -- whether an end marker may begin at this place
 abbrev pub marker_fits : ℕ → Bool

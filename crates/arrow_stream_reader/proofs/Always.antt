@@ -58,7 +58,7 @@ message_said max xs h =
     with_both both (λ version kind read is. (message_by xs version kind, rw (read, is) refl))
 
 -- a tree means a message, or has a least fault
-tree_means : (l : LimitNumbers) (b : List ℕ) (x : Tree) (f : Option MetaFault) → IsTreeOf b l.max_metadata x → fault_of l.max_body (parts x) ≡ f →
+tree_means : (l : LimitNumbers) (b : List ℕ) (x : Tree) (f : Option MetaFault) → IsTreeOf b l x → fault_of l.max_body (parts x) ≡ f →
     (r : Result Message MetaFault) × Means l b r
 tree_means l b x (Some f) tree e = (Err f, inr (x, tree, e))
 tree_means l b x None tree e =
@@ -68,7 +68,7 @@ tree_means l b x None tree e =
 -- a metadata means something: by its tree, or as one without a tree
 some_meaning : (l : LimitNumbers) (b : List ℕ) → Surely ((r : Result Message MetaFault) × Means l b r)
 some_meaning l b =
-    apart ((x : Tree) × IsTreeOf b l.max_metadata x)
+    apart ((x : Tree) × IsTreeOf b l x)
     (λ t n. n (tree_means l b t.0 (fault_of l.max_body (parts t.0)) t.1 refl))
     (λ none n. n (Err faults.Metadata, inl (refl, λ x tree. none (x, tree))))
 

@@ -5,6 +5,8 @@ use Rattle.arrow_types.specs.Notes.{SchemaShape}
 use Rattle.arrow_types.specs.Stored.{schema_code}
 use Rattle.arrow_data.specs.Column.{ValueList, value_list_code}
 use Rattle.arrow_types.specs.Limits.{LimitNumbers}
+use Rattle.arrow_types.specs.declared.type_set.TypeSet.{TypeSet}
+use Rattle.arrow_types.specs.contracts.type_set.TypeSet.{the_row as types_row}
 use Rattle.arrow_stream_reader.specs.declared.reader.Verdict.{Verdict}
 use Rattle.arrow_stream_reader.specs.contracts.reader.Verdict.{the_row as verdict_row}
 use Rattle.arrow_stream_reader.specs.State.{StreamState}
@@ -13,9 +15,9 @@ use Rattle.arrow_stream_reader.specs.Stream.{ReaderView}
 
 -- how the logic stores limits
 abbrev limits_code : Coded LimitNumbers
-limits_code = code_by (ℕ × (ℕ × ℕ)) (coded× coded_ℕ (coded× coded_ℕ coded_ℕ))
-    (λ l. (l.max_metadata, (l.max_body, l.max_rows)))
-    (λ p. record { max_metadata = p.0; max_body = p.1.0; max_rows = p.1.1 })
+limits_code = code_by (ℕ × (ℕ × (ℕ × TypeSet))) (coded× coded_ℕ (coded× coded_ℕ (coded× coded_ℕ types_row.coded)))
+    (λ l. (l.max_metadata, (l.max_body, (l.max_rows, l.types))))
+    (λ p. record { max_metadata = p.0; max_body = p.1.0; max_rows = p.1.1.0; types = p.1.1.1 })
     (λ _. refl)
 
 -- a schema and dictionaries

@@ -81,7 +81,7 @@ abbrev pub MessageRead : LimitNumbers → StreamState → ℕ → List ℕ → R
 MessageRead limits s start metadata (Ok m) = MetadataSays limits s start metadata (Ok (message_of m))
 MessageRead limits s start metadata (Err (Refused k)) = MetadataSays limits s start metadata (Err k)
 MessageRead limits s start metadata (Err Memory) =
-    GrowsAtRoot metadata limits.max_metadata ⊎ ((m : Message) × MetadataSays limits s start metadata (Ok m))
+    GrowsAtRoot limits metadata ⊎ ((m : Message) × MetadataSays limits s start metadata (Ok m))
 
 -- Each dictionary has the type of the values of the fields that give its id.
 pub record IsFit (s : StreamState) : Type 0 where

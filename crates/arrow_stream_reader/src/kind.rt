@@ -50,10 +50,10 @@ pub enum Kind {
     BodyLength,
     /// 7: a second schema, or a batch before the schema.
     Order,
-    /// 8: the schema is big-endian, or has a type that is not read, a dictionary of an unknown
-    /// kind, or a dictionary below a dictionary.
+    /// 8: the schema is big-endian, or has a type that is not read or not in the set of the limits, a
+    /// dictionary of an unknown kind, or a dictionary below a dictionary.
     Unsupported,
-    /// 9: the schema has a width or a unit outside its list, a type with another number of
+    /// 9: the schema has a width, a precision or a unit outside its list, a type with another number of
     /// children, or one dictionary id with unequal value types.
     Schema,
     /// 10: the body is compressed.

@@ -1,5 +1,5 @@
 -- What is appended of a load: its frame.
-use Rattle.std.proofs.Common.{◌≡◌, ◌≤◌, ◌<◌, ◌^◌, ℕ, leb, ltb, pos, Bool, true, false, List, [], ◌∷◌, ◌++◌, length, map, refl, sym, ap, ◌∙◌, subst, arith}
+use Rattle.std.proofs.Common.{◌≡◌, ◌≤◌, ◌<◌, ◌^◌, ℕ, leb, ltb, pos, Bool, true, false, List, [], ◌∷◌, ◌++◌, length, map, refl, sym, ap, ◌∙◌, subst, true≢false, inl, inr, arith}
 use Rattle.std.specs.Prelude.{◌||◌, ◌&&◌, not, ℤ, nat_le, Result, Ok, Err}
 use Rattle.std.specs.List.{AllByRecursion, list_all, list_any}
 use Rattle.std.proofs.lemmas.Bool.{le-ltb, leb-false, leb-true, lt-ltb}
@@ -20,7 +20,9 @@ use Rattle.arrow_body_laws.proofs.Whole.{is_read}
 use Rattle.arrow_body_writer.specs.Storable.{AreTold}
 use Rattle.arrow_body_writer.specs.declared.store_fault.StoreFault.{StoreFault}
 use Rattle.arrow_body_writer.specs.declared.store_fault.StoreFault.TheVariants as stores
+use Rattle.arrow_types.specs.declared.type_set.TypeSet.{TypeSet}
 use Rattle.arrow_meta_reader.specs.Means.{PlainBatch, PlainHeader, PlainMessage}
+use Rattle.arrow_meta_writer.specs.Writable.{leaves_header_out}
 use Rattle.arrow_stream_reader.specs.Batch.{is_bad_length}
 use Rattle.arrow_stream_laws.specs.Admission.{frame_fits}
 use Rattle.arrow_stream_laws.specs.Built.{IsBuilt}
@@ -48,6 +50,11 @@ kind_sized align load b rb read nodes buffers =
       by_kind : (kind : BatchKind) → length rb.nodes ≡ taken_nodes load.fields → length rb.buffers ≡ taken_buffers load.fields → header_size align (header_of kind rb) ≡ metadata_of align kind load.fields
       by_kind Record n k = batch_sized align load.fields rb n k
       by_kind (Dictionary id is_delta) n k = dictionary_sized align load.fields id is_delta rb n k
+
+-- a batch has no types
+none_left_out : (types : TypeSet) (kind : BatchKind) (b : PlainBatch) → leaves_header_out types (header_of kind b) ≡ false
+none_left_out types Record b = refl
+none_left_out types (Dictionary id is_delta) b = refl
 
 bad_by : (max s : ℕ) (z : ℤ) → z ≡ pos s → is_bad_length max z ≡ not (leb s max)
 bad_by max s z e = ap (is_bad_length max) e ∙ by_test (leb s max) refl where
@@ -160,7 +167,9 @@ module _ (terms : Terms) (load : Load) (b : PlainBody) (s : IsStored terms.align
       → length b.bytes ≤ terms.limits.max_body → load.rows ≤ terms.limits.max_rows → list_all (λ n. nat_le n terms.limits.max_rows) (slots_in load.fields load.raws) ≡ true
       → PutsMessage terms header b.bytes old answer new → Puts terms load old answer new
   answers_load header (Ok done) old new kind body_fits rows_fit slots_fit x = puts_load header old new kind body_fits rows_fit slots_fit x
-  answers_load header (Err TooLarge) old new kind body_fits rows_fit slots_fit x =
+  answers_load header (Err TooLarge) old new kind body_fits rows_fit slots_fit (inr left) =
+      absurd (true≢false (sym left ∙ ap (leaves_header_out terms.limits.types) kind ∙ none_left_out terms.limits.types load.kind _))
+  answers_load header (Err TooLarge) old new kind body_fits rows_fit slots_fit (inl x) =
       let size = metadata_is (record { length = pos load.rows; nodes = b.nodes; buffers = b.buffers }) header refl kind in
       metadata_over (omega arith)
   answers_load header (Err Memory) old new kind body_fits rows_fit slots_fit x = x
@@ -171,12 +180,12 @@ module _ (terms : Terms) (load : Load) (b : PlainBody) (s : IsStored terms.align
   answers_load header (Err Finished) old new kind body_fits rows_fit slots_fit x = x
 
 -- what was appended by put_frame is the frame of a message within the limits
-pub appended_frame : (terms : Terms) (align : ℕ) (m : PlainMessage) (body old mid new : List ℕ) → align ≡ terms.align → header_size terms.align m.header ≤ terms.limits.max_metadata → length body ≤ terms.limits.max_body → mid ≡ old
+pub appended_frame : (terms : Terms) (align : ℕ) (m : PlainMessage) (body old mid new : List ℕ) → align ≡ terms.align → header_size terms.align m.header ≤ terms.limits.max_metadata → length body ≤ terms.limits.max_body → leaves_header_out terms.limits.types m.header ≡ false → mid ≡ old
     → AppendsFrame align m body mid new → PutsFrameOf terms m.header body old new
-appended_frame terms align m body old mid new is fits short same x =
+appended_frame terms align m body old mid new is fits short within same x =
     let y = subst (λ n. AppendsFrame n m body mid new) is x in
     let frame = framed m (header_size terms.align m.header) body in
-    record { frame = frame; fits_in = fits; is_frame = y.is_frame terms.limits fits short; appended = y.appended ∙ ap (λ (r : List ℕ). r ++ frame) same }
+    record { frame = frame; fits_in = fits; types_are_in = within; is_frame = y.is_frame terms.limits fits short within; appended = y.appended ∙ ap (λ (r : List ℕ). r ++ frame) same }
 
 -- WHAT IS STORED OF A BATCH
 

@@ -1,5 +1,5 @@
 -- Why what is appended is a frame.
-use Rattle.std.proofs.Common.{◌≡◌, ℕ, zero, suc, ◌+◌, ◌-◌, ◌*◌, ◌/◌, ◌%◌, ◌≤◌, ◌<◌, ◌^◌, min, List, ◌++◌, length, replicate, Some, refl, sym, ap, ◌∙◌, subst, arith, append_assoc, length-append}
+use Rattle.std.proofs.Common.{◌≡◌, ℕ, zero, suc, ◌+◌, ◌-◌, ◌*◌, ◌/◌, ◌%◌, ◌≤◌, ◌<◌, ◌^◌, false, min, List, ◌++◌, length, replicate, Some, refl, sym, ap, ◌∙◌, subst, arith, append_assoc, length-append}
 use Rattle.arrow_types.specs.Limits.{LimitNumbers}
 use Rattle.arrow_meta_reader.specs.declared.message.MetadataVersion.TheVariants as versions
 use Rattle.arrow_meta_reader.specs.Judges.{MetadataMeans}
@@ -14,7 +14,7 @@ use Rattle.std.proofs.lemmas.Nat.{div-add-mod'}
 use Rattle.std.specs.Int.{next_multiple_of}
 use Rattle.arrow_meta_writer.specs.Layouts.{message_node}
 use Rattle.arrow_meta_writer.specs.Metadata.{metadata, metadata_size, size_of}
-use Rattle.arrow_meta_writer.specs.Writable.{IsHeader, Allows}
+use Rattle.arrow_meta_writer.specs.Writable.{IsHeader, Allows, leaves_header_out}
 use Rattle.arrow_meta_writer.specs.Written.{message_tree}
 use Rattle.arrow_meta_writer.proofs.WrittenMeans.{sized, written_length, written_means}
 use Rattle.arrow_meta_writer.proofs.Bounds.{text_short}
@@ -64,13 +64,13 @@ module _ (align : ℕ) (m : PlainMessage) (body : List ℕ) (size n : ℕ) (some
   is_low : size < 2 ^ 32
   is_low = omega (arith, (div_ceil_times (8 + length (metadata m)) align some).1, is_size, few, (sized m n sends).small, (sized m n sends).size, written_length m n sends)
 
-  is_frame : (limits : LimitNumbers) → header_size align m.header ≤ limits.max_metadata → length body ≤ limits.max_body → IsFrameOf limits (header_size align m.header) m.header body (framed m size body)
-  is_frame limits metadata_fit body_fits =
+  is_frame : (limits : LimitNumbers) → header_size align m.header ≤ limits.max_metadata → length body ≤ limits.max_body → leaves_header_out limits.types m.header ≡ false → IsFrameOf limits (header_size align m.header) m.header body (framed m size body)
+  is_frame limits metadata_fit body_fits within =
       let high = rounded-le align (8 + length (metadata m)) some in
       let len = written_length m n sends in
       let s = sized m n sends in
-      let text : text_bytes (message_tree m) ≤ metadata_size m = text_short m in
-      let allows : Allows limits m = record { text = omega (arith, text, same_size, is_size, high, metadata_fit, s.size, len); body = omega (arith, told, body_fits) } in
+      let text : text_bytes (message_tree limits.types m) ≤ metadata_size m = text_short limits.types m in
+      let allows : Allows limits m = record { text = omega (arith, text, same_size, is_size, high, metadata_fit, s.size, len); body = omega (arith, told, body_fits); types = within } in
       let means = (written_means m n (replicate (size - length (metadata m)) 0) typed sends limits).1 allows in
       let v5 : MetadataMeans limits (padded m size) (record { version = versions.V5; header = m.header; body_len = length body }) =
       subst (λ v. MetadataMeans limits (padded m size) (record { version = v; header = m.header; body_len = length body })) s.version
@@ -91,7 +91,7 @@ module _ (align : ℕ) (m : PlainMessage) (body : List ℕ) (size n : ℕ) (some
   pub appends_frame : (old new : List ℕ) → new ≡ old ++ framed m size body → AppendsFrame align m body old new
   appends_frame old new more = record {
     appended = more ∙ ap (λ (n : ℕ). old ++ framed m n body) (sym same_size);
-    is_frame = λ limits metadata_fit body_fits. subst (λ (n : ℕ). IsFrameOf limits (header_size align m.header) m.header body (framed m n body)) (sym same_size) (is_frame limits metadata_fit body_fits);
+    is_frame = λ limits metadata_fit body_fits within. subst (λ (n : ℕ). IsFrameOf limits (header_size align m.header) m.header body (framed m n body)) (sym same_size) (is_frame limits metadata_fit body_fits within);
   }
 
 -- four parts that were appended one after another

@@ -1,9 +1,10 @@
 -- What a writer shows after its calls.
 use Rattle.std.specs.Prelude.{if◌then◌else◌}
-use Rattle.std.proofs.Common.{◌&&◌, ◌≡◌, ◌≤◌, ◌<◌, ◌+◌, ◌^◌, ℕ, ℤ, Bool, true, false, List, [], length, leb, Option, Some, None, Ok, Err, refl, sym, ap, ◌∙◌, subst, arith}
+use Rattle.std.proofs.Common.{◌&&◌, not, inl, inr, ◌≡◌, ◌≤◌, ◌<◌, ◌+◌, ◌^◌, ℕ, ℤ, Bool, true, false, List, [], length, leb, Option, Some, None, Ok, Err, refl, sym, ap, ◌∙◌, subst, arith}
 use Rattle.std.specs.Io.KnownBytes.{Appends}
 use Rattle.std.proofs.lemmas.Bool.{le-leb, lt-leb}
 use Rattle.arrow_types.specs.Schema.{IsNoted}
+use Rattle.arrow_types.specs.TypeSet.{leaves_some_out}
 use Rattle.arrow_data.specs.Batch.{Table}
 use Rattle.arrow_data.specs.Column.{ValueList}
 use Rattle.arrow_meta_reader.specs.Means.{schema}
@@ -153,19 +154,21 @@ module _ (old new : WriterView) (limits : new.limits ≡ old.limits) (options : 
 
 -- THE START
 
-admits_by : (a b : Bool) → a ≡ true → b ≡ true → (if a && b then None else Some TooLarge) ≡ None
-admits_by true true h g = refl
-admits_by true false h g = absurd (cc)
-admits_by false b h g = absurd (cc)
+admits_by : (a b c : Bool) → a ≡ true → b ≡ true → c ≡ false → (if a && b && not c then None else Some TooLarge) ≡ None
+admits_by a b c h g k = rw (h, g, k) refl
 
-refuses_by : (a b : Bool) → a ≡ false → (if a && b then None else Some TooLarge) ≡ Some TooLarge
-refuses_by false b h = refl
-refuses_by true b h = absurd (cc)
+refuses_by : (a b c : Bool) → a ≡ false → (if a && b && not c then None else Some TooLarge) ≡ Some TooLarge
+refuses_by a b c h = rw h refl
+
+leaves_by : (a b c : Bool) → c ≡ true → (if a && b && not c then None else Some TooLarge) ≡ Some TooLarge
+leaves_by true true c h = rw h refl
+leaves_by true false c h = refl
+leaves_by false b c h = refl
 
 module _ (terms : Terms) where
-  admits : schema_size terms.align terms.shape ≤ terms.limits.max_metadata → terms.limits.max_metadata ≤ 2 ^ 30 → schema_admission terms.limits (options_of terms) terms.shape ≡ None
-  admits small ceiling = admits_by (leb (schema_size terms.align terms.shape) terms.limits.max_metadata) (leb (8 + schema_size terms.align terms.shape) (2 ^ 62))
-      (le-leb (schema_size terms.align terms.shape) terms.limits.max_metadata small) (le-leb (8 + schema_size terms.align terms.shape) (2 ^ 62) (omega arith))
+  admits : schema_size terms.align terms.shape ≤ terms.limits.max_metadata → terms.limits.max_metadata ≤ 2 ^ 30 → leaves_some_out terms.limits.types terms.shape.fields ≡ false → schema_admission terms.limits (options_of terms) terms.shape ≡ None
+  admits small ceiling within = admits_by (leb (schema_size terms.align terms.shape) terms.limits.max_metadata) (leb (8 + schema_size terms.align terms.shape) (2 ^ 62)) (leaves_some_out terms.limits.types terms.shape.fields)
+      (le-leb (schema_size terms.align terms.shape) terms.limits.max_metadata small) (le-leb (8 + schema_size terms.align terms.shape) (2 ^ 62) (omega arith)) within
 
   -- the sink accepted the schema's frame
   pub starts : (base : Option (List ℕ)) (failures : ℕ) (part : List ℕ) (new : WriterView) → terms.limits.max_metadata ≤ 2 ^ 30 → IsNoted terms.shape → PutsMessage terms (schema terms.shape) [] [] (Ok tt) part
@@ -187,14 +190,14 @@ module _ (terms : Terms) where
       } in
       let same : first ≡ new = same_shows first new (sym is.limits) (sym is.options) (sym is.shape) (sym sent) (sym long ∙ sym place) (sym status) refl (sym same_failures) in
       subst (Starts terms.limits (options_of terms) terms.shape base failures) same
-      (starts_of terms.limits (options_of terms) terms.shape base new.contents failures part known (admits put.fits_in ceiling) frame more)
+      (starts_of terms.limits (options_of terms) terms.shape base new.contents failures part known (admits put.fits_in ceiling put.types_are_in) frame more)
 
   -- it failed in the schema's frame
   pub start_failed : (base contents : Option (List ℕ)) (failures now : ℕ) (part : List ℕ) → terms.limits.max_metadata ≤ 2 ^ 30 → IsNoted terms.shape → PutsMessage terms (schema terms.shape) [] [] (Ok tt) part
       → AcceptsBeginning base contents part → now ≡ failures + 1 → StartFails terms.limits (options_of terms) terms.shape base failures Sink contents now
   start_failed base contents failures now part ceiling known put some failed = record {
     known = known;
-    admitted = admits put.fits_in ceiling;
+    admitted = admits put.fits_in ceiling put.types_are_in;
     part = part;
     is_frame = subst (IsFrameOf terms.limits (schema_size terms.align terms.shape) (schema terms.shape) []) (sym put.appended) put.is_frame;
     accepted = some;
@@ -204,8 +207,13 @@ module _ (terms : Terms) where
   -- the schema was refused, and the sink was not touched
   pub start_refused : (base : Option (List ℕ)) (failures : ℕ) (fault : WriteFault) (part : List ℕ) → PutsMessage terms (schema terms.shape) [] [] (Err fault) part
       → StartFails terms.limits (options_of terms) terms.shape base failures fault base failures
-  start_refused base failures TooLarge part over = (
-    refuses_by (leb (schema_size terms.align terms.shape) terms.limits.max_metadata) (leb (8 + schema_size terms.align terms.shape) (2 ^ 62)) (lt-leb (schema_size terms.align terms.shape) terms.limits.max_metadata over),
+  start_refused base failures TooLarge part (inr left) = (
+    leaves_by (leb (schema_size terms.align terms.shape) terms.limits.max_metadata) (leb (8 + schema_size terms.align terms.shape) (2 ^ 62)) (leaves_some_out terms.limits.types terms.shape.fields) left,
+    refl,
+    refl,
+  )
+  start_refused base failures TooLarge part (inl over) = (
+    refuses_by (leb (schema_size terms.align terms.shape) terms.limits.max_metadata) (leb (8 + schema_size terms.align terms.shape) (2 ^ 62)) (leaves_some_out terms.limits.types terms.shape.fields) (lt-leb (schema_size terms.align terms.shape) terms.limits.max_metadata over),
     refl,
     refl,
   )

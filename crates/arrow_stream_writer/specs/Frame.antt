@@ -1,9 +1,10 @@
 -- What it is to append a frame, or the end marker (Columnar Format, "Encapsulated message format", "IPC Streaming Format").
-use Rattle.std.specs.Prelude.{◌≡◌, ◌≤◌, ℕ, ◌-◌, List, ◌∷◌, ◌++◌, length, replicate}
+use Rattle.std.specs.Prelude.{◌≡◌, ◌≤◌, ℕ, false, ◌-◌, List, ◌∷◌, ◌++◌, length, replicate}
 use Rattle.arrow_bits.specs.Numbers.{number_bytes}
 use Rattle.arrow_types.specs.Limits.{LimitNumbers}
 use Rattle.arrow_meta_reader.specs.Means.{PlainMessage}
 use Rattle.arrow_meta_writer.specs.Metadata.{metadata}
+use Rattle.arrow_meta_writer.specs.Writable.{leaves_header_out}
 use Rattle.arrow_stream_laws.specs.Frames.{IsFrameOf, IsMarker}
 use Rattle.arrow_stream_laws.specs.Sizes.{header_size}
 
@@ -23,7 +24,7 @@ framed m size body = prefix_bytes size ++ padded m size ++ body
 -- a multiple of the alignment: a frame to every reader whose limits it keeps to.
 pub record AppendsFrame (align : ℕ) (m : PlainMessage) (body old new : List ℕ) : Type 0 where
   pub appended : new ≡ old ++ framed m (header_size align m.header) body
-  pub is_frame : (limits : LimitNumbers) → header_size align m.header ≤ limits.max_metadata → length body ≤ limits.max_body →
+  pub is_frame : (limits : LimitNumbers) → header_size align m.header ≤ limits.max_metadata → length body ≤ limits.max_body → leaves_header_out limits.types m.header ≡ false →
       IsFrameOf limits (header_size align m.header) m.header body (framed m (header_size align m.header) body)
 
 -- Just the head of the message's frame was appended, all of it but the body: with any body of the length that the message tells

@@ -1,6 +1,6 @@
 -- Frames of batches whose columns were stored (Columnar Format, "Encapsulated message format"; Message.fbs, tables "RecordBatch" and
 -- "DictionaryBatch").
-use Rattle.std.specs.Prelude.{◌≡◌, ◌≤◌, ◌<◌, ℕ, false, true, List, [], ◌∷◌, ◌++◌, length, Result, Ok, Err}
+use Rattle.std.specs.Prelude.{◌≡◌, ◌≤◌, ◌<◌, ◌⊎◌, ℕ, false, true, List, [], ◌∷◌, ◌++◌, length, Result, Ok, Err}
 use Rattle.std.specs.List.{AllByRecursion}
 use Rattle.arrow_types.specs.Field.{Fields}
 use Rattle.arrow_data.specs.Batch.{Table}
@@ -9,6 +9,7 @@ use Rattle.arrow_body_laws.specs.Laws.{raws_of}
 use Rattle.arrow_body_laws.specs.Raws.{AreRaws, AreSmall}
 use Rattle.arrow_body_laws.specs.Stored.{PlainBody, stored}
 use Rattle.arrow_meta_reader.specs.Means.{PlainBatch, PlainHeader, PlainMessage, batch, dictionary}
+use Rattle.arrow_meta_writer.specs.Writable.{leaves_header_out}
 use Rattle.arrow_stream_laws.specs.Admission.{fields_for, frame_fits}
 use Rattle.arrow_stream_laws.specs.Built.{IsBuilt}
 use Rattle.arrow_stream_laws.specs.Frames.{IsFrameOf}
@@ -64,14 +65,16 @@ pub record IsStored (align : ℕ) (load : Load) (b : PlainBody) : Type 0 where
 pub record PutsFrameOf (terms : Terms) (header : PlainHeader) (body old new : List ℕ) : Type 0 where
   pub frame : List ℕ
   pub fits_in : header_size terms.align header ≤ terms.limits.max_metadata
+  pub types_are_in : leaves_header_out terms.limits.types header ≡ false
   pub is_frame : IsFrameOf terms.limits (header_size terms.align header) header body frame
   pub appended : new ≡ old ++ frame
 
--- an answer to a message with this header and this body: its frame was appended, or its metadata do not keep to the limits, or a
--- growth was refused
+-- an answer to a message with this header and this body: its frame was appended, or its metadata or the types
+-- in them do not keep to the limits, or a growth was refused
 abbrev pub PutsMessage : Terms → PlainHeader → List ℕ → List ℕ → Result (Unit {0}) WriteFault → List ℕ → Type 0
 PutsMessage terms header body old (Ok done) new = PutsFrameOf terms header body old new
-PutsMessage terms header body old (Err TooLarge) new = terms.limits.max_metadata < header_size terms.align header
+PutsMessage terms header body old (Err TooLarge) new =
+    (terms.limits.max_metadata < header_size terms.align header) ⊎ (leaves_header_out terms.limits.types header ≡ true)
 PutsMessage terms header body old (Err fault) new = fault ≡ Memory
 
 -- the same of the head of a message's frame, whatever body of the length that it tells stands behind it

@@ -9,6 +9,7 @@ ghost use Rattle.arrow_body_writer.specs.Align.{alignment_of};
 ghost use Rattle.arrow_body_writer.specs.Storing.{body_view};
 ghost use Rattle.arrow_meta_reader.specs.Means.{batch_view, header_view, message_view};
 ghost use Rattle.arrow_meta_writer.specs.Metadata.{size_of};
+ghost use Rattle.arrow_meta_writer.specs.Writable.{leaves_header_out};
 ghost use Rattle.arrow_stream_reader.specs.Batch.{is_bad_length};
 ghost use Rattle.arrow_stream_laws.specs.Sizes.{header_size};
 ghost use Rattle.arrow_stream_writer.specs.Framing.{AppendsBody, IsStored, Load, Puts, PutsHead};
@@ -23,7 +24,7 @@ use arrow_data::{Batch, Dictionary};
 use arrow_meta_reader::{Header, Message, MetadataVersion, RecordBatch};
 use arrow_meta_writer::encoded_size;
 use arrow_sink::WriteFault;
-use arrow_types::FieldNode;
+use arrow_types::{FieldNode, TypeSet};
 use std::alloc::AllocError;
 use std::mem;
 
@@ -154,6 +155,16 @@ fn metadata_len(align: Align, message: &Message) -> Option<u64>
     Some(align.round_up(8 + size) - 8)
 }
 
+// Whether a set leaves out the type of a field of the message.
+fn leaves_out(types: TypeSet, header: &Header) -> bool
+    ensures { result ≡ leaves_header_out types (header_view header.now) }
+{
+    match header {
+        Header::Schema(schema) => types.leaves_some_out(schema.fields()),
+        Header::Dictionary(..) | Header::Batch(_) => false,
+    }
+}
+
 impl Settings {
     /// Appends the head of the message's frame, whose metadata are laid out in a room.
     pub(crate) fn put_head(
@@ -170,6 +181,9 @@ impl Settings {
         let (_, max_metadata) = (self.limits.max_body(), self.limits.max_metadata());
         let len = metadata_len(self.align, message).ok_or(WriteFault::TooLarge)?;
         if len > max_metadata {
+            return Err(WriteFault::TooLarge);
+        }
+        if leaves_out(self.limits.types(), &message.header) {
             return Err(WriteFault::TooLarge);
         }
         // One growth makes room for all of it.

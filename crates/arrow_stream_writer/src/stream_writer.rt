@@ -65,8 +65,8 @@ impl<S: Sink> StreamWriter<S> {
 
     /// Sends the frame of the schema, and answers a writer of batches of this schema.
     ///
-    /// Faults: `TooLarge` where the metadata of the schema do not keep to the limits, `Memory` where
-    /// a growth was refused; then the sink comes back untouched. `Sink` where the sink failed: it
+    /// Faults: `TooLarge` where the metadata of the schema do not keep to the limits, or the type of a
+    /// field on any level is not in their set; `Memory` where a growth was refused; then the sink comes back untouched. `Sink` where the sink failed: it
     /// may have accepted a beginning of the frame.
     ///
     /// Condition: the sink has failed less than 2^64 - 1 times.

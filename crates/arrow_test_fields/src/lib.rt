@@ -5,7 +5,9 @@
 //! Each call answers `None` where a word is none of these, or memory is wanting.
 #![tactic(auto)]
 
-use arrow_types::{BitWidth, DataType, DateUnit, Encoding, Field, IndexType, Schema, TimeUnit};
+use arrow_types::{
+    BitWidth, DataType, DateUnit, Encoding, Field, IndexType, Precision, Schema, TimeUnit,
+};
 use std::alloc::Global;
 
 /// The fields of these words.
@@ -74,6 +76,9 @@ fn data_type(alloc: Global, word: &str, behind: &mut Vec<Field>) -> Option<DataT
         "binary" => DataType::Binary,
         "large_binary" => DataType::LargeBinary,
         "fixed_size_binary" => DataType::FixedSizeBinary(count(unit)?),
+        "halffloat" => DataType::FloatingPoint(Precision::Half),
+        "float" => DataType::FloatingPoint(Precision::Single),
+        "double" => DataType::FloatingPoint(Precision::Double),
         "utf8" => DataType::Utf8,
         "large_utf8" => DataType::LargeUtf8,
         "date" if unit == "day" => DataType::Date(DateUnit::Day),

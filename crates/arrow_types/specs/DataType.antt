@@ -4,6 +4,8 @@ use Rattle.arrow_types.specs.declared.data_type.BitWidth.{BitWidth}
 use Rattle.arrow_types.specs.declared.data_type.BitWidth.TheVariants.{Eight, Sixteen, ThirtyTwo, SixtyFour}
 use Rattle.arrow_types.specs.declared.data_type.DateUnit.{DateUnit}
 use Rattle.arrow_types.specs.declared.data_type.DateUnit.TheVariants as dates
+use Rattle.arrow_types.specs.declared.data_type.Precision.{Precision}
+use Rattle.arrow_types.specs.declared.data_type.Precision.TheVariants.{Half, Single, Double}
 use Rattle.arrow_types.specs.declared.data_type.TimeUnit.{TimeUnit}
 use Rattle.arrow_types.specs.declared.data_type.TimeUnit.TheVariants as times
 
@@ -12,6 +14,7 @@ pub data Tag : Type 0 where
   null : Tag
   boolean : Tag
   int : BitWidth → Bool → Tag
+  floating_point : Precision → Tag
   binary : Tag
   large_binary : Tag
   fixed_size_binary : ℕ → Tag
@@ -31,6 +34,12 @@ bits_of Eight = 8
 bits_of Sixteen = 16
 bits_of ThirtyTwo = 32
 bits_of SixtyFour = 64
+
+-- the width of a floating-point number (Schema.fbs, enum "Precision")
+abbrev pub float_width_of : Precision → BitWidth
+float_width_of Half = Sixteen
+float_width_of Single = ThirtyTwo
+float_width_of Double = SixtyFour
 
 -- the width of a date (Schema.fbs, table "Date")
 abbrev pub date_width_of : DateUnit → BitWidth

@@ -7,4 +7,5 @@ pub mod Notes
 pub mod Room
 pub mod Schema
 pub mod Stored
+pub mod TypeSet
 pub mod View

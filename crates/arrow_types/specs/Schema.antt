@@ -2,7 +2,7 @@
 use Rattle.std.specs.Prelude.{◌≡◌, ◌≤◌, ℕ, ℤ, Bool, true, false, not, ◌||◌, ◌&&◌, List, [], ◌∷◌, ◌++◌, map, filter, slice_get, Option, Some, None, is_some, Result, Ok, Err, nat_lt, if◌then◌else◌, codes}
 use Rattle.std.specs.List.{list_any}
 use Rattle.std.specs.Ordering.{int_eq}
-use Rattle.arrow_types.specs.DataType.{Tag, null, boolean, int, binary, large_binary, fixed_size_binary, utf8, large_utf8, date, time, timestamp, duration, list, large_list, struct}
+use Rattle.arrow_types.specs.DataType.{Tag, null, boolean, int, floating_point, binary, large_binary, fixed_size_binary, utf8, large_utf8, date, time, timestamp, duration, list, large_list, struct}
 use Rattle.arrow_types.specs.Equality.{is_equal}
 use Rattle.arrow_types.specs.Field.{Head, Fields, none, more, TypeShape, FieldShape, levels, count}
 use Rattle.arrow_types.specs.Notes.{SchemaShape, pair_count}
@@ -20,7 +20,7 @@ abbrev pub is_nested : Fields → Bool
 is_nested none = false
 is_nested (more head children rest) = (is_some head.encoding && has_encoding children) || is_nested children || is_nested rest
 
--- the same of one field and what stands below it
+-- the same of one field and those below it
 abbrev pub field_is_nested : FieldShape → Bool
 field_is_nested f = (is_some f.head.encoding && has_encoding f.children) || is_nested f.children
 
@@ -29,6 +29,7 @@ abbrev pub is_wide : Tag → Bool
 is_wide null = false
 is_wide boolean = false
 is_wide (int _ _) = false
+is_wide (floating_point _) = false
 is_wide binary = false
 is_wide large_binary = false
 is_wide (fixed_size_binary width) = nat_lt 2147483647 width
@@ -47,7 +48,7 @@ abbrev pub is_too_wide : Fields → Bool
 is_too_wide none = false
 is_too_wide (more head children rest) = is_wide head.tag || is_too_wide children || is_too_wide rest
 
--- the same of one field and what stands below it
+-- the same of one field and those below it
 abbrev pub field_is_too_wide : FieldShape → Bool
 field_is_too_wide f = is_wide f.head.tag || is_too_wide f.children
 

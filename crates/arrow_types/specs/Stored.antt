@@ -6,9 +6,10 @@ use base.Stored.{Gv, gnil, gnum, gcons}
 use Rattle.arrow_types.specs.declared.field.Encoding.{Encoding}
 use Rattle.arrow_types.specs.contracts.data_type.BitWidth.{the_row as width_row}
 use Rattle.arrow_types.specs.contracts.data_type.DateUnit.{the_row as date_row}
+use Rattle.arrow_types.specs.contracts.data_type.Precision.{the_row as precision_row}
 use Rattle.arrow_types.specs.contracts.data_type.TimeUnit.{the_row as time_row}
 use Rattle.arrow_types.specs.contracts.field.Encoding.{the_row as encoding_row}
-use Rattle.arrow_types.specs.DataType.{Tag, null, boolean, int, binary, large_binary, fixed_size_binary, utf8, large_utf8, date, time, timestamp, duration, list, large_list, struct}
+use Rattle.arrow_types.specs.DataType.{Tag, null, boolean, int, floating_point, binary, large_binary, fixed_size_binary, utf8, large_utf8, date, time, timestamp, duration, list, large_list, struct}
 use Rattle.arrow_types.specs.Field.{Head, Fields, none, more, TypeShape, FieldShape}
 use Rattle.arrow_types.specs.Notes.{KeyValue, Notes, unnoted, noted, FieldNotes, SchemaShape}
 
@@ -33,6 +34,7 @@ tag_gv (time unit) = gcons (gnum 2) (time_row.coded.code unit)
 tag_gv (timestamp unit zone) = gcons (gnum 3) (gcons (time_row.coded.code unit) (zone_code.code zone))
 tag_gv (duration unit) = gcons (gnum 4) (time_row.coded.code unit)
 tag_gv (fixed_size_binary width) = gcons (gnum 5) (coded_ℕ.code width)
+tag_gv (floating_point precision) = gcons (gnum 6) (precision_row.coded.code precision)
 
 -- own parts with one tree are equal
 pub tag_inj : (x y : Tag) → tag_gv x ≡ tag_gv y → x ≡ y
@@ -51,6 +53,7 @@ tag_inj (time u) (time v) p = ap time (time_row.coded.inj u v (cc))
 tag_inj (timestamp u x) (timestamp v y) p = λ i. timestamp (time_row.coded.inj u v (cc) i) (zone_code.inj x y (cc) i)
 tag_inj (duration u) (duration v) p = ap duration (time_row.coded.inj u v (cc))
 tag_inj (fixed_size_binary m) (fixed_size_binary n) p = ap fixed_size_binary (coded_ℕ.inj m n (cc))
+tag_inj (floating_point a) (floating_point b) p = ap floating_point (precision_row.coded.inj a b (cc))
 tag_inj x y p = cc
 
 -- so these trees tell types' own parts apart

@@ -1,6 +1,6 @@
 -- What a type, a field and some fields of the program say, level by level.
 use Rattle.std.specs.Prelude.{List, [], ◌∷◌, map, string_bytes, option_map}
-use Rattle.arrow_types.specs.DataType.{Tag, null, boolean, int, binary, large_binary, fixed_size_binary, utf8, large_utf8, date, time, timestamp, duration, list, large_list, struct}
+use Rattle.arrow_types.specs.DataType.{Tag, null, boolean, int, floating_point, binary, large_binary, fixed_size_binary, utf8, large_utf8, date, time, timestamp, duration, list, large_list, struct}
 use Rattle.arrow_types.specs.Field.{Fields, none, TypeShape, FieldShape, fields_of}
 use Rattle.arrow_types.specs.Notes.{Notes, unnoted, FieldNotes, SchemaShape, KeyValue, notes_of, pairs_view}
 use Rattle.arrow_types.specs.declared.data_type.DataType.{DataType, fold-DataType}
@@ -16,6 +16,7 @@ abbrev pub type_step : DataType-F TypeShape FieldShape → TypeShape
 type_step DataType-F.Null = leaf null
 type_step DataType-F.Bool = leaf boolean
 type_step (DataType-F.Int bits signed) = leaf (int bits signed)
+type_step (DataType-F.FloatingPoint precision) = leaf (floating_point precision)
 type_step DataType-F.Binary = leaf binary
 type_step DataType-F.LargeBinary = leaf large_binary
 type_step (DataType-F.FixedSizeBinary width) = leaf (fixed_size_binary width)
@@ -53,6 +54,7 @@ abbrev pub type_notes_step : DataType-F Notes FieldNotes → Notes
 type_notes_step DataType-F.Null = unnoted
 type_notes_step DataType-F.Bool = unnoted
 type_notes_step (DataType-F.Int _ _) = unnoted
+type_notes_step (DataType-F.FloatingPoint _) = unnoted
 type_notes_step DataType-F.Binary = unnoted
 type_notes_step DataType-F.LargeBinary = unnoted
 type_notes_step (DataType-F.FixedSizeBinary _) = unnoted

@@ -2,7 +2,7 @@
 //! here.
 
 ghost use Rattle.std.specs.Prelude.{◌≡◌, ◌↔◌, IsTrue, IfOk};
-ghost use Rattle.arrow_types.specs.DataType.{bits_of, time_width_of, date_width_of};
+ghost use Rattle.arrow_types.specs.DataType.{bits_of, time_width_of, date_width_of, float_width_of};
 ghost use Rattle.arrow_types.specs.Equality.{is_equal, is_equal_equivalence};
 ghost use Rattle.arrow_types.specs.Stored.{type_code, whole_type_code};
 ghost use Rattle.arrow_types.specs.View.{fields_view, notes_view, type_notes, type_view, whole_type};
@@ -87,6 +87,31 @@ impl TimeUnit {
     }
 }
 
+/// How wide a floating-point number is (`Schema.fbs`, enum `Precision`; IEEE 754, "Binary interchange
+/// format").
+#[derive(Clone, Copy, Debug, PartialEq, Eq)]
+pub enum Precision {
+    /// 16 bits.
+    Half,
+    /// 32 bits.
+    Single,
+    /// 64 bits.
+    Double,
+}
+
+impl Precision {
+    /// The width of one number: 16, 32 or 64 bits.
+    pub fn width(self) -> BitWidth
+        ensures { result ≡ float_width_of self }
+    {
+        match self {
+            Precision::Half => BitWidth::Sixteen,
+            Precision::Single => BitWidth::ThirtyTwo,
+            Precision::Double => BitWidth::SixtyFour,
+        }
+    }
+}
+
 /// The type of a column's values, without a dictionary (`Schema.fbs`, union `Type`).
 ///
 /// Any tree of types can be built; that it keeps to the limits is tested where a `Schema` is made
@@ -100,6 +125,8 @@ pub enum DataType {
     Bool,
     /// Whole numbers of this width, with a sign or without one.
     Int { bits: BitWidth, signed: bool },
+    /// Floating-point numbers, each given by its bits.
+    FloatingPoint(Precision),
     /// Byte strings of any length, between offsets of 32 bits.
     Binary,
     /// The same between offsets of 64 bits.
@@ -155,6 +182,7 @@ impl DataType {
                 bits: *bits,
                 signed: *signed,
             }),
+            DataType::FloatingPoint(precision) => Ok(DataType::FloatingPoint(*precision)),
             DataType::Binary => Ok(DataType::Binary),
             DataType::LargeBinary => Ok(DataType::LargeBinary),
             DataType::FixedSizeBinary(width) => Ok(DataType::FixedSizeBinary(*width)),
@@ -196,6 +224,9 @@ pub(crate) fn same_type(one: &DataType, other: &DataType) -> bool
         DataType::Bool => matches!(other, DataType::Bool),
         DataType::Int { bits, signed } => {
             matches!(other, DataType::Int { bits: b, signed: s } if b == bits && s == signed)
+        }
+        DataType::FloatingPoint(precision) => {
+            matches!(other, DataType::FloatingPoint(p) if p == precision)
         }
         DataType::Binary => matches!(other, DataType::Binary),
         DataType::LargeBinary => matches!(other, DataType::LargeBinary),

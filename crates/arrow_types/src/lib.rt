@@ -19,6 +19,7 @@
 //! | the dictionaries of fields | `specs/Schema.antt`: `dictionary_fields`, `dictionary_ids` |
 //! | levels and numbers of fields | `specs/Field.antt`: `levels`, `count`; `specs/Room.antt` |
 //! | limits | `specs/Limits.antt`: `LimitNumbers`, `AreWithinCeilings` |
+//! | which types are read and written | `specs/TypeSet.antt`: `leaves_some_out` |
 #![tactic(auto)]
 
 mod data_type;
@@ -33,10 +34,12 @@ mod node;
 mod notes;
 mod schema;
 mod size;
+mod type_set;
 mod widths;
 
-pub use data_type::{BitWidth, DataType, DateUnit, TimeUnit};
+pub use data_type::{BitWidth, DataType, DateUnit, Precision, TimeUnit};
 pub use field::{Encoding, Field, IndexType};
 pub use limits::Limits;
 pub use node::{Buffer, FieldNode};
 pub use schema::{Schema, SchemaFault};
+pub use type_set::TypeSet;

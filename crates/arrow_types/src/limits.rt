@@ -1,8 +1,10 @@
 //! The numbers that a reader and a writer keep to.
 
 ghost use Rattle.std.specs.Prelude.{◌≡◌, ◌≤◌, ◌^◌, SomeIff};
-ghost use Rattle.arrow_types.specs.Limits.{AreWithinCeilings, limit_numbers, standard_numbers};
+ghost use Rattle.arrow_types.specs.Limits.{AreWithinCeilings, limit_numbers, limits_with};
+ghost use Rattle.arrow_types.specs.Limits.{standard_numbers};
 
+use crate::type_set::TypeSet;
 use std::marker::Model;
 
 /// How much a stranger's stream may ask of a reader, and how much a writer may send.
@@ -14,22 +16,24 @@ pub struct Limits {
     max_metadata: u64,
     max_body: u64,
     max_rows: u64,
+    types: TypeSet,
 }
 
 impl Model for Limits {
-    ghost use Rattle.arrow_types.specs.Limits.{LimitNumbers, AreWithinCeilings, limit_numbers};
+    ghost use Rattle.arrow_types.specs.Limits.{LimitNumbers, AreWithinCeilings, limits_of};
 
     ghost Value = { LimitNumbers };
 
-    ghost view = { λ l. limit_numbers l.max_metadata l.max_body l.max_rows };
+    ghost view = { λ l. limits_of l.max_metadata l.max_body l.max_rows l.types };
 
     ghost invariant = { λ l.
-        AreWithinCeilings (limit_numbers l.max_metadata l.max_body l.max_rows) };
+        AreWithinCeilings (limits_of l.max_metadata l.max_body l.max_rows l.types) };
 
     ghost inverse = { λ n. record {
       max_metadata = n.max_metadata;
       max_body = n.max_body;
       max_rows = n.max_rows;
+      types = n.types;
     } };
 }
 
@@ -47,7 +51,7 @@ impl Limits {
     /// The place, counted in bytes from a stream's beginning, past which no frame may end.
     pub const LAST_PLACE: u64 = 4_611_686_018_427_387_904;
 
-    /// These three limits, or None where one is above its ceiling.
+    /// These three limits with the core of the types, or None where one is above its ceiling.
     ///
     /// `max_metadata` counts the bytes of one message's metadata, and those of all names and time
     /// zones of one schema together. `max_body` counts the bytes of one message's body. `max_rows`
@@ -64,6 +68,7 @@ impl Limits {
                 max_metadata,
                 max_body,
                 max_rows,
+                types: TypeSet::Core,
             })
         } else {
             None
@@ -71,7 +76,7 @@ impl Limits {
     }
 
     /// The defaults: 67,108,864 bytes of metadata, 68,719,476,736 bytes of body, 2,147,483,647
-    /// rows.
+    /// rows, the core of the types.
     pub fn standard() -> Limits
         ensures { result ≡ standard_numbers }
     {
@@ -79,6 +84,19 @@ impl Limits {
             max_metadata: 67_108_864,
             max_body: 68_719_476_736,
             max_rows: 2_147_483_647,
+            types: TypeSet::Core,
+        }
+    }
+
+    /// The same limits with this set of types.
+    pub fn with_types(self, types: TypeSet) -> Limits
+        ensures { result ≡ limits_with self types }
+    {
+        Limits {
+            max_metadata: self.max_metadata,
+            max_body: self.max_body,
+            max_rows: self.max_rows,
+            types,
         }
     }
 
@@ -105,5 +123,12 @@ impl Limits {
         ensures ceiling { result ≤ 2147483647 }
     {
         self.max_rows
+    }
+
+    /// The types that are read and written.
+    pub fn types(&self) -> TypeSet
+        ensures { result ≡ self.now.types }
+    {
+        self.types
     }
 }

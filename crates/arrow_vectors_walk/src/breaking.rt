@@ -2,14 +2,13 @@
 
 use crate::copying::{WAYS, compare_bytes, copy_of, walk_beginning};
 use crate::findings::Findings;
-use crate::given::Given;
+use crate::given::{Given, limits_of};
 use crate::pack::Vector;
 use crate::reports::{self, Call, wanted_of, written};
 use crate::told::{Break, Told, lines_before};
 use crate::{drilling, receiving};
 use arrow_sink::Sink;
 use arrow_sink::probe::{Failing, Narrow};
-use arrow_types::Limits;
 use arrowflow_copy::copy;
 use arrowflow_report::{check, show};
 use std::alloc::{AllocError, Global};
@@ -35,7 +34,7 @@ pub(crate) fn walk(
     if !told.is_clean() {
         return Ok(());
     }
-    let (copied, _) = copy_of(alloc, Given::whole(vector.stream), WAYS[0])?;
+    let (copied, _) = copy_of(alloc, vector.given(), WAYS[0])?;
     let count = told.messages.len();
     let step = if are_few { count } else { count / BESIDE };
     for (number, message) in told.messages.iter().enumerate() {
@@ -55,7 +54,7 @@ pub(crate) fn walk(
     for (what, wanted) in &outputs {
         let output = Output {
             what: *what,
-            stream: vector.stream,
+            given: vector.given(),
             wanted,
         };
         output.walk(alloc, found, are_few)?;
@@ -74,21 +73,25 @@ fn break_input(
     let stream = vector.stream.get(..place).unwrap_or(vector.stream);
     let lines = lines_before(alloc, vector.lines(), place as u64, Break::Ends)?;
     let told = Told::of(alloc, &lines)?;
+    let types = vector.types();
     let given = Given {
         stream,
+        types,
         at_once: 7,
         fails: None,
     };
     reports::walk(alloc, found, given, &told)?;
     walk_beginning(alloc, found, given, &told, (0, copied))?;
-    receiving::walk_whole(alloc, found, stream, &told)?;
+    receiving::walk_whole(alloc, found, given, &told)?;
     if !told.is_clean() {
-        drilling::walk_several(alloc, found, stream, vector.stream, &told)?;
+        let whole = Given::whole(stream, types);
+        drilling::walk_several(alloc, found, whole, vector.given(), &told)?;
     }
     let lines = lines_before(alloc, vector.lines(), place as u64, Break::Fails)?;
     let told = Told::of(alloc, &lines)?;
     let given = Given {
         stream: vector.stream,
+        types,
         at_once: 7,
         fails: Some(place),
     };
@@ -108,7 +111,7 @@ enum Written {
 #[derive(Clone, Copy)]
 struct Output<'a> {
     what: Written,
-    stream: &'a [u8],
+    given: Given<'a>,
     wanted: &'a [u8],
 }
 
@@ -168,7 +171,7 @@ impl Output<'_> {
         left: usize,
     ) -> Result<(Narrow, String), AllocError> {
         let output = Narrow::new(alloc, 100, left, failing);
-        let (limits, mut input) = (Limits::standard(), self.stream);
+        let (limits, mut input) = (limits_of(self.given.types), self.given.stream);
         let (output, answer) = match self.what {
             Written::Messages => check(alloc, &mut input, output, &limits),
             Written::Rows => show(alloc, &mut input, output, &limits),

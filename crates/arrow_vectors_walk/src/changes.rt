@@ -1,8 +1,8 @@
 //! Changes of a stream, and what a reader answers to each, in numbers.
 
 use crate::findings::Findings;
+use crate::pack::Vector;
 use arrow_stream_reader::{Item, StreamReader};
-use arrow_types::Limits;
 use std::alloc::{AllocError, Global};
 
 /// Compares what a reader answers to each change of a stream that a file tells of; of the values of
@@ -10,12 +10,12 @@ use std::alloc::{AllocError, Global};
 pub(crate) fn walk(
     alloc: Global,
     found: &mut Findings,
-    text: &str,
+    vector: &Vector<'_>,
     base: &[u8],
     are_few: bool,
 ) -> Result<(), AllocError> {
-    let mut reader = StreamReader::new(alloc, Limits::standard());
-    for (number, line) in text.split('\n').enumerate().skip(2) {
+    let mut reader = StreamReader::new(alloc, vector.limits());
+    for (number, line) in vector.text.split('\n').enumerate().skip(2) {
         if let Some((change, wanted)) = line.split_once(" -> ") {
             let mut tried = Tried {
                 alloc,

@@ -1,7 +1,7 @@
 //! Streams written again.
 
 use crate::findings::Findings;
-use crate::given::Given;
+use crate::given::{Given, limits_of};
 use crate::pack::{Vector, stream_of};
 use crate::reading::answers_to;
 use crate::reports::{fault_of, written};
@@ -10,7 +10,6 @@ use arrow_body_writer::Align;
 use arrow_dict::Updates;
 use arrow_sink::Counted;
 use arrow_stream_writer::Options;
-use arrow_types::Limits;
 use arrowflow_copy::copy;
 use std::alloc::{AllocError, Global};
 
@@ -49,15 +48,16 @@ pub(crate) fn walk(
 ) -> Result<(), AllocError> {
     let fault = fault_of(alloc, told)?;
     let wanted = rows_of(alloc, told, told.is_clean())?;
+    let types = vector.types();
     for (way, options) in WAYS.iter().enumerate() {
-        let (bytes, answer) = copy_of(alloc, Given::whole(vector.stream), *options)?;
+        let (bytes, answer) = copy_of(alloc, vector.given(), *options)?;
         found.compare(("copied in way", way), &answer, &fault)?;
-        let answers = answers_to(alloc, &bytes)?;
+        let answers = answers_to(alloc, &bytes, types)?;
         let copied = Told::of(alloc, &answers)?;
         let rows = rows_of(alloc, &copied, copied.is_ended())?;
         found.compare(("rows copied in way", way), &rows, &wanted)?;
         if told.is_clean() {
-            let (again, _) = copy_of(alloc, Given::whole(&bytes), *options)?;
+            let (again, _) = copy_of(alloc, Given::whole(&bytes, types), *options)?;
             compare_bytes(found, ("copied twice in way", way), &again, &bytes)?;
         }
         let name = format!(in alloc; "{}.copy{way}", vector.name)?;
@@ -79,7 +79,7 @@ pub(crate) fn walk_beginning(
     copied: (usize, &[u8]),
 ) -> Result<(), AllocError> {
     let (way, whole) = copied;
-    let answers = answers_to(alloc, whole)?;
+    let answers = answers_to(alloc, whole, given.types)?;
     let sent = Told::of(alloc, &answers)?;
     let mut wanted = Vec::new(alloc);
     if told.schema().is_some() {
@@ -122,9 +122,9 @@ pub(crate) fn copy_of(
     given: Given<'_>,
     options: Options,
 ) -> Result<(Vec<u8>, String), AllocError> {
-    let mut input = given.input();
+    let (limits, mut input) = (limits_of(given.types), given.input());
     let output = Counted::new(Vec::new(alloc));
-    let (output, answer) = copy(alloc, &mut input, output, options, &Limits::standard());
+    let (output, answer) = copy(alloc, &mut input, output, options, &limits);
     let answer = written(alloc, &[], &answer)?;
     Ok((output.into_inner(), answer))
 }

@@ -2,13 +2,13 @@
 
 use crate::copying::{WAYS, copy_of};
 use crate::findings::Findings;
-use crate::given::Given;
+use crate::given::{Given, limits_of};
 use crate::reading::answers_to;
 use crate::reports::fault_of;
 use crate::told::{Message, Told, push_ending};
 use arrow_sink::probe::Trickle;
 use arrow_stream_writer::Options;
-use arrow_types::Limits;
+use arrow_types::TypeSet;
 use arrowflow_drill::drill;
 use arrowflow_report::ToolFault;
 use std::alloc::{AllocError, Global};
@@ -26,16 +26,15 @@ const PIECES: [u64; 12] = [0, 1, 2, 3, 4, 5, 6, 7, 65, 1_000, 65_536, 1_073_741_
 pub(crate) fn walk(
     alloc: Global,
     found: &mut Findings,
-    stream: &[u8],
+    given: Given<'_>,
     told: &Told<'_>,
 ) -> Result<(), AllocError> {
     if !told.is_clean() {
         return Ok(());
     }
-    let given = Given::whole(stream);
     for (way, options) in WAYS.iter().enumerate() {
         let (bytes, _) = copy_of(alloc, given, *options)?;
-        let answers = answers_to(alloc, &bytes)?;
+        let answers = answers_to(alloc, &bytes, given.types)?;
         let sent = Told::of(alloc, &answers)?;
         for place in 0..sent.place().saturating_add(2) {
             let is_tried = if way == 0 {
@@ -67,23 +66,22 @@ fn delivery_at(place: u64, size: u64) -> (u64, u64) {
 pub(crate) fn walk_several(
     alloc: Global,
     found: &mut Findings,
-    stream: &[u8],
-    other: &[u8],
+    given: Given<'_>,
+    between: Given<'_>,
     told: &Told<'_>,
 ) -> Result<(), AllocError> {
-    let (given, between) = (Given::whole(stream), Given::whole(other));
     if !told.is_clean() {
-        let givens = [between, given, Given::whole(&[])];
+        let givens = [between, given, Given::whole(&[], given.types)];
         let answer = drilled(alloc, &givens, WAYS[0], (u64::MAX, 8))?;
         let fault = fault_of(alloc, told)?;
         return found.compare(("drilled behind another", 1), &answer, &fault);
     }
     for (way, options) in WAYS.iter().enumerate().take(2) {
         let (bytes, _) = copy_of(alloc, given, *options)?;
-        let answers = answers_to(alloc, &bytes)?;
+        let answers = answers_to(alloc, &bytes, given.types)?;
         let sent = Told::of(alloc, &answers)?;
         let (bytes, _) = copy_of(alloc, between, *options)?;
-        let others = answers_to(alloc, &bytes)?;
+        let others = answers_to(alloc, &bytes, between.types)?;
         let other_sent = Told::of(alloc, &others)?;
         let delivery = (sent.place() / 3 * 2, 100);
         let answer = drilled(alloc, &[given, between, given], *options, delivery)?;
@@ -107,6 +105,7 @@ fn walk_failing(
 ) -> Result<(), AllocError> {
     let failing = Given {
         stream: given.stream,
+        types: given.types,
         at_once: 100,
         fails: Some(place),
     };
@@ -123,7 +122,8 @@ fn walk_failing(
             inputs.push(input.input())?;
             write!(wanted, "{read} ")?;
         }
-        let mut answer = answer_of(alloc, &mut inputs, WAYS[0], (u64::MAX, 8))?;
+        let delivery = (u64::MAX, 8);
+        let mut answer = answer_of(alloc, &mut inputs, WAYS[0], delivery, given.types)?;
         for input in &inputs {
             write!(answer, "{} ", input.given())?;
         }
@@ -132,18 +132,20 @@ fn walk_failing(
     Ok(())
 }
 
-/// What is told of connections of which so many bytes are delivered, in pieces of this length.
+/// What is told of connections of which so many bytes are delivered, in pieces of this length; all of
+/// them are read with the same limits.
 fn drilled(
     alloc: Global,
     givens: &[Given<'_>],
     options: Options,
     delivery: (u64, u64),
 ) -> Result<String, AllocError> {
-    let mut inputs = Vec::new(alloc);
+    let (mut inputs, mut types) = (Vec::new(alloc), TypeSet::Core);
     for given in givens {
         inputs.push(given.input())?;
+        types = given.types;
     }
-    answer_of(alloc, &mut inputs, options, delivery)
+    answer_of(alloc, &mut inputs, options, delivery, types)
 }
 
 fn answer_of(
@@ -151,9 +153,10 @@ fn answer_of(
     inputs: &mut [Trickle<'_>],
     options: Options,
     delivery: (u64, u64),
+    types: TypeSet,
 ) -> Result<String, AllocError> {
     let (bytes, piece) = delivery;
-    match drill(alloc, inputs, options, bytes, piece, &Limits::standard()) {
+    match drill(alloc, inputs, options, bytes, piece, &limits_of(types)) {
         Ok(text) => Ok(text),
         Err(ToolFault::Input(number)) => format!(in alloc; "cannot read input {number}\n"),
         Err(fault) => fault_text(alloc, &fault),

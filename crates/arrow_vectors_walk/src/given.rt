@@ -1,13 +1,16 @@
 //! Inputs as the calls are given them.
 
 use arrow_sink::probe::Trickle;
+use arrow_types::{Limits, TypeSet};
 use std::io::ErrorKind;
 
-/// An input over bytes.
+/// An input over bytes, and the types with which it is read.
 #[derive(Clone, Copy)]
 pub(crate) struct Given<'a> {
     /// The bytes.
     pub(crate) stream: &'a [u8],
+    /// The types of the calls' limits.
+    pub(crate) types: TypeSet,
     /// So many of them come at once, at most.
     pub(crate) at_once: usize,
     /// Where it fails, if it does.
@@ -16,9 +19,10 @@ pub(crate) struct Given<'a> {
 
 impl<'a> Given<'a> {
     /// An input that gives all that it can at once.
-    pub(crate) fn whole(stream: &'a [u8]) -> Given<'a> {
+    pub(crate) fn whole(stream: &'a [u8], types: TypeSet) -> Given<'a> {
         Given {
             stream,
+            types,
             at_once: usize::MAX,
             fails: None,
         }
@@ -44,4 +48,9 @@ fn error_at(place: usize) -> ErrorKind {
         2 => ErrorKind::UnexpectedEof,
         _ => ErrorKind::Other,
     }
+}
+
+/// The standard limits with these types.
+pub(crate) fn limits_of(types: TypeSet) -> Limits {
+    Limits::standard().with_types(types)
 }

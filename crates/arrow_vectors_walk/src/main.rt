@@ -1,5 +1,6 @@
 //! Walks the vectors: each stream goes through each call that takes one, and what the calls answer
-//! is compared with the vector's text. The file `vectors.arrows` has all of them (`pack`).
+//! is compared with the vector's text. The file `vectors.arrows` has all of them, and says which are
+//! read with all types (`pack`).
 //!
 //! | Module | What is compared |
 //! |---|---|
@@ -164,7 +165,7 @@ impl Walk<'_> {
     ) -> Result<(), AllocError> {
         let name = base_of(vector.text).unwrap_or("");
         let base = stream_of(self.vectors, name).unwrap_or(&[]);
-        changes::walk(alloc, found, vector.text, base, self.are_whole)
+        changes::walk(alloc, found, vector, base, self.are_whole)
     }
 
     fn whole(
@@ -174,12 +175,12 @@ impl Walk<'_> {
         vector: &Vector<'_>,
         told: &Told<'_>,
     ) -> Result<(), AllocError> {
-        let stream = vector.stream;
+        let (given, other) = (vector.given(), Given::whole(self.other, vector.types()));
         reading::walk_whole(alloc, found, vector)?;
-        receiving::walk_whole(alloc, found, stream, told)?;
-        reports::walk(alloc, found, Given::whole(stream), told)?;
+        receiving::walk_whole(alloc, found, given, told)?;
+        reports::walk(alloc, found, given, told)?;
         copying::walk(alloc, found, self.vectors, vector, told)?;
-        drilling::walk_several(alloc, found, stream, self.other, told)?;
+        drilling::walk_several(alloc, found, given, other, told)?;
         if self.are_whole {
             breaking::walk(alloc, found, vector, told, true)?;
         }
@@ -195,13 +196,14 @@ impl Walk<'_> {
     ) -> Result<(), AllocError> {
         let given = Given {
             stream: vector.stream,
+            types: vector.types(),
             at_once: 1,
             fails: None,
         };
         reading::walk_in_pieces(alloc, found, vector, told)?;
         receiving::walk_in_pieces(alloc, found, vector, told)?;
         reports::walk(alloc, found, given, told)?;
-        drilling::walk(alloc, found, vector.stream, told)?;
+        drilling::walk(alloc, found, vector.given(), told)?;
         breaking::walk(alloc, found, vector, told, false)
     }
 }

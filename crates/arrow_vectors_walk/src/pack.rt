@@ -1,12 +1,17 @@
 //! The file of vectors: a stream of three columns, `name`, `text` and `stream`, with a row for each. A
 //! file of changes stands there like a vector without a stream, and what is written of a vector in
-//! one of the ways like one without a text, by the name `NAME.copyWAY`.
+//! one of the ways like one without a text, by the name `NAME.copyWAY`. A vector whose name begins
+//! with `all/` is read with all types, any other one with the core.
 
+use crate::given::{Given, limits_of};
 use arrow_data::Batch;
 use arrow_stream_reader::StreamReader;
-use arrow_types::Limits;
+use arrow_types::{Limits, TypeSet};
 use arrowflow_report::session::{Received, receive};
 use std::alloc::{AllocError, Global};
+
+/// What the name of a vector begins with that is read with all types.
+const OF_ALL: &str = "all/";
 
 /// A vector.
 #[derive(Clone, Copy)]
@@ -28,6 +33,25 @@ impl<'a> Vector<'a> {
     /// Whether it is a file of changes.
     pub(crate) fn is_of_changes(&self) -> bool {
         self.name.ends_with(".changes")
+    }
+
+    /// The limits with which it is read.
+    pub(crate) fn limits(&self) -> Limits {
+        limits_of(self.types())
+    }
+
+    /// The types of these.
+    pub(crate) fn types(&self) -> TypeSet {
+        if self.name.starts_with(OF_ALL) {
+            TypeSet::All
+        } else {
+            TypeSet::Core
+        }
+    }
+
+    /// Its bytes as an input that gives all that it can at once.
+    pub(crate) fn given(&self) -> Given<'a> {
+        Given::whole(self.stream, self.types())
     }
 
     /// The lines that tell what a reader answers: those behind the first two.

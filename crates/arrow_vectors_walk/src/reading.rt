@@ -2,12 +2,13 @@
 
 use crate::columns::push_schema;
 use crate::findings::Findings;
+use crate::given::limits_of;
 use crate::pack::Vector;
 use crate::told::Told;
 use crate::values::{push_batch, push_dictionary};
 use arrow_data::Batch;
 use arrow_stream_reader::{Fault, Item, StreamReader};
-use arrow_types::Limits;
+use arrow_types::TypeSet;
 use std::alloc::{AllocError, Global};
 
 /// A stream of up to so many bytes is cut at each place.
@@ -19,7 +20,7 @@ pub(crate) fn walk_whole(
     found: &mut Findings,
     vector: &Vector<'_>,
 ) -> Result<(), AllocError> {
-    let answers = answers_to(alloc, vector.stream)?;
+    let answers = answers_to(alloc, vector.stream, vector.types())?;
     found.compare(("read in pieces:", 1), &answers, vector.lines())
 }
 
@@ -32,7 +33,7 @@ pub(crate) fn walk_in_pieces(
     told: &Told<'_>,
 ) -> Result<(), AllocError> {
     let (wanted, stream) = (vector.lines(), vector.stream);
-    let mut reader = StreamReader::new(alloc, Limits::standard());
+    let mut reader = StreamReader::new(alloc, vector.limits());
     let mut answers = Answers::new(alloc);
     for byte in stream.chunks(1) {
         answers.give(&mut reader, byte)?;
@@ -48,9 +49,13 @@ pub(crate) fn walk_in_pieces(
     Ok(())
 }
 
-/// What a reader answers to a stream in one piece, as a text tells it.
-pub(crate) fn answers_to(alloc: Global, stream: &[u8]) -> Result<String, AllocError> {
-    let mut reader = StreamReader::new(alloc, Limits::standard());
+/// What a reader of these types answers to a stream in one piece, as a text tells it.
+pub(crate) fn answers_to(
+    alloc: Global,
+    stream: &[u8],
+    types: TypeSet,
+) -> Result<String, AllocError> {
+    let mut reader = StreamReader::new(alloc, limits_of(types));
     let mut answers = Answers::new(alloc);
     answers.give(&mut reader, stream)?;
     answers.finish(&reader)?;

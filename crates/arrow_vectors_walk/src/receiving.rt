@@ -1,11 +1,11 @@
 //! What one side of a connection receives.
 
 use crate::findings::Findings;
+use crate::given::{Given, limits_of};
 use crate::pack::Vector;
 use crate::told::{Form, Told};
 use crate::values::{push_batch, push_dictionary};
 use arrow_stream_reader::StreamReader;
-use arrow_types::Limits;
 use arrowflow_report::session::{Ending, Received, receive};
 use std::alloc::{AllocError, Global};
 
@@ -13,11 +13,11 @@ use std::alloc::{AllocError, Global};
 pub(crate) fn walk_whole(
     alloc: Global,
     found: &mut Findings,
-    stream: &[u8],
+    given: Given<'_>,
     told: &Told<'_>,
 ) -> Result<(), AllocError> {
-    let mut reader = StreamReader::new(alloc, Limits::standard());
-    let whole = received(alloc, &mut reader, stream, &[])?;
+    let mut reader = StreamReader::new(alloc, limits_of(given.types));
+    let whole = received(alloc, &mut reader, given.stream, &[])?;
     found.compare(("received in pieces:", 1), &whole, &wanted_of(alloc, told)?)
 }
 
@@ -30,7 +30,7 @@ pub(crate) fn walk_in_pieces(
     told: &Told<'_>,
 ) -> Result<(), AllocError> {
     let (wanted, stream) = (wanted_of(alloc, told)?, vector.stream);
-    let mut reader = StreamReader::new(alloc, Limits::standard());
+    let mut reader = StreamReader::new(alloc, vector.limits());
     let ones = vec![in alloc; 1; stream.len()]?;
     let each = received(alloc, &mut reader, stream, &ones)?;
     found.compare(("received in pieces:", stream.len()), &each, &wanted)?;

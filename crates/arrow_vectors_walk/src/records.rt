@@ -133,8 +133,8 @@ impl Values {
             ',' if self.depth == 0 => self.push_to(text),
             ',' => self.close_value(Some(';')),
             ':' => self.close_value(Some('=')),
-            // what was read is an index, whose value follows
-            '>' => {
+            // what was read is an index, whose value follows, or are bits, whose text does
+            '>' | '=' => {
                 self.value.clear();
                 Ok(())
             }

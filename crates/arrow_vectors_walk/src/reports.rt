@@ -1,11 +1,10 @@
 //! What the calls behind `schema`, `check` and `show` write.
 
 use crate::findings::Findings;
-use crate::given::Given;
+use crate::given::{Given, limits_of};
 use crate::records::{push_header, push_record};
 use crate::told::{Form, Message, Told, column_in};
 use arrow_sink::Counted;
-use arrow_types::Limits;
 use arrowflow_report::{ToolFault, check, check_quietly, schema_text, show, show_first};
 use std::alloc::{AllocError, Global};
 
@@ -62,7 +61,7 @@ pub(crate) fn walk(
 
 /// What a call writes of an input, and behind it the status and the line of its fault.
 fn answer_of(alloc: Global, call: Call, given: Given<'_>) -> Result<String, AllocError> {
-    let (limits, mut input) = (Limits::standard(), given.input());
+    let (limits, mut input) = (limits_of(given.types), given.input());
     let output = Counted::new(Vec::new(alloc));
     let (output, answer) = match call {
         Call::Schema => return schema_answer(alloc, given),
@@ -75,7 +74,7 @@ fn answer_of(alloc: Global, call: Call, given: Given<'_>) -> Result<String, Allo
 }
 
 fn schema_answer(alloc: Global, given: Given<'_>) -> Result<String, AllocError> {
-    match schema_text(alloc, &mut given.input(), &Limits::standard()) {
+    match schema_text(alloc, &mut given.input(), &limits_of(given.types)) {
         Ok(text) => Ok(text),
         Err(fault) => written(alloc, &[], &Err(fault)),
     }

@@ -1,8 +1,10 @@
 //! Values as a text tells them.
 
-use arrow_data::{Array, Batch, Dictionary, SlotValue};
-use arrow_types::Field;
+use arrow_data::{Array, Batch, Dictionary, SlotValue, floats, half};
+use arrow_types::{DataType, Field, Precision};
+use ryu::{Buffer, Float};
 use std::alloc::AllocError;
+use std::num::{f32_from_bits_with_nan, f64_from_bits_with_nan};
 
 /// More levels than a type has.
 const LEVELS: u32 = 40;
@@ -66,7 +68,7 @@ fn push_plain(text: &mut String, column: &Array, at: usize, levels: u32) -> Resu
     match column.slot(at) {
         SlotValue::Null => text.push_str("null"),
         SlotValue::Bool(truth) => write!(text, "{truth}"),
-        SlotValue::Int(number) => write!(text, "{number}"),
+        SlotValue::Int(number) => push_number(text, column.data_type(), number),
         SlotValue::Bytes(bytes) => push_bytes(text, bytes),
         SlotValue::Text(words) => push_text(text, words),
         SlotValue::List(start, end, items) => push_list(text, items, (start, end), levels),
@@ -74,6 +76,41 @@ fn push_plain(text: &mut String, column: &Array, at: usize, levels: u32) -> Resu
             push_struct(text, column.data_type().children(), parts, (place, levels))
         }
     }
+}
+
+/// Appends a number: a floating-point one is given by its bits.
+fn push_number(text: &mut String, data_type: &DataType, number: i128) -> Result<(), AllocError> {
+    match data_type {
+        DataType::FloatingPoint(precision) => {
+            push_float(text, *precision, floats::bits_in(number))
+        }
+        _ => write!(text, "{number}"),
+    }
+}
+
+/// Appends the bits of a floating-point number in hexadecimal, and its text.
+fn push_float(text: &mut String, precision: Precision, bits: u64) -> Result<(), AllocError> {
+    match precision {
+        Precision::Half => {
+            write!(text, "0x{bits:04x}=")?;
+            push_short(text, half::to_single((bits % 65_536) as u16))
+        }
+        Precision::Single => {
+            write!(text, "0x{bits:08x}=")?;
+            let bits = (bits % 4_294_967_296) as u32;
+            push_short(text, f32_from_bits_with_nan(bits))
+        }
+        Precision::Double => {
+            write!(text, "0x{bits:016x}=")?;
+            push_short(text, f64_from_bits_with_nan(bits))
+        }
+    }
+}
+
+/// Appends the shortest text of a number.
+fn push_short<F: Float>(text: &mut String, number: F) -> Result<(), AllocError> {
+    let mut buffer = Buffer::new();
+    text.push_str(buffer.format(number))
 }
 
 #[cycle(value)]

@@ -1,45 +1,70 @@
 -- What is told of a single value of a batch (Columnar Format, "Terminology").
-use Rattle.std.specs.Prelude.{◌≡◌, ◌⊎◌, ◌<◌, ◌≤◌, ℕ, ℤ, pos, false, List, length, Option, Some, None, MatchOption, slice_get}
+use Rattle.std.specs.Float.{float_zero}
+use Rattle.std.specs.Prelude.{◌≡◌, ◌^◌, ◌<◌, ◌≤◌, ℕ, ℤ, pos, negsuc, nat_lt, if◌then◌else◌, false, List, length, Option, Some, None, MatchOption, slice_get}
 use Rattle.arrow_data.specs.Batch.{Table}
 use Rattle.arrow_data.specs.Column.{Column}
+use Rattle.arrow_data.specs.Floats.{bits_in, number_of}
 use Rattle.arrow_data.specs.PlainValue.{PlainValue, value_at, null_value, bool_value, int_value, binary_value, utf8_value, list_value, struct_value}
 use Rattle.arrow_data.specs.declared.array.SlotValue.{SlotValue}
 use Rattle.arrow_data.specs.declared.array.SlotValue.TheVariants as values
+use Rattle.arrow_types.specs.DataType.{Tag, null, boolean, int, floating_point, binary, large_binary, fixed_size_binary, utf8, large_utf8, date, time, timestamp, duration, list, large_list, struct}
 use Rattle.arrowflow_c.specs.declared.cells.CellC.{CellC}
 use Rattle.arrowflow_c.specs.declared.reading.Reading.{Reading}
 use Rattle.arrowflow_c.specs.Texts.{filled}
 
 -- a cell of this kind alone
 abbrev pub bare_cell : ℕ → CellC
-bare_cell what = record { what = what; truth = false; number = pos 0; large = 0; size = 0 }
+bare_cell what = record { what = what; truth = false; number = pos 0; large = 0; real = float_zero; size = 0 }
 
 -- no cell
 abbrev pub no_cell : CellC
 no_cell = bare_cell 8
 
--- a number, signed or not, or none of 64 bits
-abbrev pub IsNumber : ℤ → CellC → Type 0
-IsNumber z c = (c ≡ record (bare_cell 2) { number = z }) ⊎ (((n : ℕ) × (z ≡ pos n) × (c ≡ record (bare_cell 7) { large = n })) ⊎ (c ≡ bare_cell 9))
+-- the cell of a number: one of 64 bits with a sign, one of 64 bits without, or one that takes more
+abbrev pub number_cell : ℤ → CellC
+number_cell (pos n) =
+    if nat_lt n (2 ^ 63) then record (bare_cell 2) { number = pos n } else
+    (if nat_lt n (2 ^ 64) then record (bare_cell 7) { large = n } else bare_cell 9)
+number_cell (negsuc n) = if nat_lt n (2 ^ 63) then record (bare_cell 2) { number = negsuc n } else bare_cell 9
 
--- The value was told, and of a byte string or a text as much as fits was put into the room.
-abbrev pub Gives : PlainValue → List ℕ → CellC → List ℕ → Type 0
-Gives null_value old c new = (c ≡ bare_cell 0) × (new ≡ old)
-Gives (bool_value b) old c new = (c ≡ record (bare_cell 1) { truth = b }) × (new ≡ old)
-Gives (int_value z) old c new = IsNumber z c × (new ≡ old)
-Gives (binary_value bytes) old c new = (c ≡ record (bare_cell 3) { size = length bytes }) × (new ≡ filled old bytes)
-Gives (utf8_value bytes) old c new = (c ≡ record (bare_cell 4) { size = length bytes }) × (new ≡ filled old bytes)
-Gives (list_value items) old c new = (c ≡ bare_cell 5) × (new ≡ old)
-Gives (struct_value parts) old c new = (c ≡ bare_cell 6) × (new ≡ old)
+-- the cell of a number by the type of its column: of a floating-point one that of the number that its bits say
+abbrev pub int_cell : Tag → ℤ → CellC
+int_cell (floating_point precision) z = record (bare_cell 10) { real = number_of precision (bits_in z) }
+int_cell null z = number_cell z
+int_cell boolean z = number_cell z
+int_cell (int _ _) z = number_cell z
+int_cell binary z = number_cell z
+int_cell large_binary z = number_cell z
+int_cell (fixed_size_binary _) z = number_cell z
+int_cell utf8 z = number_cell z
+int_cell large_utf8 z = number_cell z
+int_cell (date _) z = number_cell z
+int_cell (time _) z = number_cell z
+int_cell (timestamp _ _) z = number_cell z
+int_cell (duration _) z = number_cell z
+int_cell list z = number_cell z
+int_cell large_list z = number_cell z
+int_cell struct z = number_cell z
+
+-- The value of a type was told, and of a byte string or a text as much as fits was put into the room.
+abbrev pub Gives : Tag → PlainValue → List ℕ → CellC → List ℕ → Type 0
+Gives tag null_value old c new = (c ≡ bare_cell 0) × (new ≡ old)
+Gives tag (bool_value b) old c new = (c ≡ record (bare_cell 1) { truth = b }) × (new ≡ old)
+Gives tag (int_value z) old c new = (c ≡ int_cell tag z) × (new ≡ old)
+Gives tag (binary_value bytes) old c new = (c ≡ record (bare_cell 3) { size = length bytes }) × (new ≡ filled old bytes)
+Gives tag (utf8_value bytes) old c new = (c ≡ record (bare_cell 4) { size = length bytes }) × (new ≡ filled old bytes)
+Gives tag (list_value items) old c new = (c ≡ bare_cell 5) × (new ≡ old)
+Gives tag (struct_value parts) old c new = (c ≡ bare_cell 6) × (new ≡ old)
 
 -- the same of a value as it lies in a batch
-abbrev pub GivesShown : SlotValue → List ℕ → CellC → List ℕ → Type 0
-GivesShown values.Null old c new = (c ≡ bare_cell 0) × (new ≡ old)
-GivesShown (values.Bool b) old c new = (c ≡ record (bare_cell 1) { truth = b }) × (new ≡ old)
-GivesShown (values.Int z) old c new = IsNumber z c × (new ≡ old)
-GivesShown (values.Bytes bytes) old c new = (c ≡ record (bare_cell 3) { size = length bytes.now }) × (new ≡ filled old bytes.now)
-GivesShown (values.Text text) old c new = (c ≡ record (bare_cell 4) { size = length text.now }) × (new ≡ filled old text.now)
-GivesShown (values.List start stop child) old c new = (c ≡ bare_cell 5) × (new ≡ old)
-GivesShown (values.Struct children place) old c new = (c ≡ bare_cell 6) × (new ≡ old)
+abbrev pub GivesShown : Tag → SlotValue → List ℕ → CellC → List ℕ → Type 0
+GivesShown tag values.Null old c new = (c ≡ bare_cell 0) × (new ≡ old)
+GivesShown tag (values.Bool b) old c new = (c ≡ record (bare_cell 1) { truth = b }) × (new ≡ old)
+GivesShown tag (values.Int z) old c new = (c ≡ int_cell tag z) × (new ≡ old)
+GivesShown tag (values.Bytes bytes) old c new = (c ≡ record (bare_cell 3) { size = length bytes.now }) × (new ≡ filled old bytes.now)
+GivesShown tag (values.Text text) old c new = (c ≡ record (bare_cell 4) { size = length text.now }) × (new ≡ filled old text.now)
+GivesShown tag (values.List start stop child) old c new = (c ≡ bare_cell 5) × (new ≡ old)
+GivesShown tag (values.Struct children place) old c new = (c ≡ bare_cell 6) × (new ≡ old)
 
 -- no cell was told
 abbrev pub GivesNone : List ℕ → CellC → List ℕ → Type 0
@@ -47,7 +72,7 @@ GivesNone old c new = (c ≡ no_cell) × (new ≡ old)
 
 -- the value of a row of a column was told, indices looked up, if there is such a row
 pub record InColumn (column : Column) (row : ℕ) (old : List ℕ) (c : CellC) (new : List ℕ) : Type 0 where
-  pub inside : row < length column.raw → Gives (value_at column.resolved row) old c new
+  pub inside : row < length column.raw → Gives column.data_type.tag (value_at column.resolved row) old c new
   pub outside : length column.raw ≤ row → GivesNone old c new
 
 -- the value of a row of a column of a batch was told, if there is such a batch, column and row

@@ -1,9 +1,10 @@
 -- What is told of a column of a batch: its buffers, and where it stands (Columnar Format, "Physical Memory Layout").
-use Rattle.std.specs.Prelude.{◌≡◌, ◌⊎◌, ◌<◌, ◌≤◌, ℕ, Bool, false, List, [], ◌∷◌, length, Option, Some, None, MatchOption, slice_get}
+use Rattle.std.specs.Prelude.{◌≡◌, ◌⊎◌, ◌<◌, ◌≤◌, ℕ, Bool, true, false, if◌then◌else◌, List, [], ◌∷◌, length, Option, Some, None, MatchOption, slice_get}
 use Rattle.arrow_data.specs.Batch.{Table}
 use Rattle.arrow_data.specs.Column.{Column, HasChild, HasDictionary, HasField, HasValue, IsList, ValueList, struct_fields, type_of_field}
 use Rattle.arrow_data.specs.Form.{offset_bytes}
 use Rattle.arrow_data.specs.View.{AreBuffersOf}
+use Rattle.arrow_types.specs.DataType.{Tag, null, boolean, int, floating_point, binary, large_binary, fixed_size_binary, utf8, large_utf8, date, time, timestamp, duration, list, large_list, struct}
 use Rattle.arrow_data.specs.declared.view.Buffers.{Buffers}
 use Rattle.arrow_data.specs.declared.view.Buffers.TheVariants as buffers
 use Rattle.arrow_data.specs.declared.view.NumberBuffers.{NumberBuffers}
@@ -55,23 +56,42 @@ with_numbers c of = record c { has_sign = of.signed; width = of.width; validity 
 abbrev pub with_strings : PlainColumn → StringBuffers → PlainColumn
 with_strings c of = record c { width = offset_bytes of.width; validity = of.validity.now; offsets = of.offsets.now; values = of.bytes.now }
 
--- what is told of buffers, of so many slots, of which a place is meant
-abbrev pub told_of : ℕ → ℕ → Buffers → PlainColumn
-told_of slots place buffers.Nulls = bare_column 1 slots place
-told_of slots place (buffers.Bools validity values) = record (bare_column 2 slots place) { validity = validity.now; values = values.now }
-told_of slots place (buffers.Numbers of) = with_numbers (bare_column 3 slots place) of
-told_of slots place (buffers.Binaries of) = with_strings (bare_column 4 slots place) of
-told_of slots place (buffers.Texts of) = with_strings (bare_column 5 slots place) of
-told_of slots place (buffers.FixedBytes width validity values) = record (bare_column 6 slots place) { width = width; validity = validity.now; values = values.now }
-told_of slots place (buffers.Lists width validity offsets child) = record (bare_column 7 slots place) { width = offset_bytes width; children = 1; validity = validity.now; offsets = offsets.now }
-told_of slots place (buffers.Structs validity children) = record (bare_column 8 slots place) { children = length children.now; validity = validity.now }
-told_of slots place (buffers.Indices of dictionary) = record (with_numbers (bare_column 9 slots place) of) { entries = length dictionary.now.values }
+-- whether numbers of a type are floating-point ones
+abbrev pub is_float : Tag → Bool
+is_float null = false
+is_float boolean = false
+is_float (int _ _) = false
+is_float (floating_point _) = true
+is_float binary = false
+is_float large_binary = false
+is_float (fixed_size_binary _) = false
+is_float utf8 = false
+is_float large_utf8 = false
+is_float (date _) = false
+is_float (time _) = false
+is_float (timestamp _ _) = false
+is_float (duration _) = false
+is_float list = false
+is_float large_list = false
+is_float struct = false
+
+-- the plain column of buffers of a type, with so many slots, of which one is meant
+abbrev pub told_of : Tag → ℕ → ℕ → Buffers → PlainColumn
+told_of tag slots place buffers.Nulls = bare_column 1 slots place
+told_of tag slots place (buffers.Bools validity values) = record (bare_column 2 slots place) { validity = validity.now; values = values.now }
+told_of tag slots place (buffers.Numbers of) = with_numbers (bare_column (if is_float tag then 10 else 3) slots place) of
+told_of tag slots place (buffers.Binaries of) = with_strings (bare_column 4 slots place) of
+told_of tag slots place (buffers.Texts of) = with_strings (bare_column 5 slots place) of
+told_of tag slots place (buffers.FixedBytes width validity values) = record (bare_column 6 slots place) { width = width; validity = validity.now; values = values.now }
+told_of tag slots place (buffers.Lists width validity offsets child) = record (bare_column 7 slots place) { width = offset_bytes width; children = 1; validity = validity.now; offsets = offsets.now }
+told_of tag slots place (buffers.Structs validity children) = record (bare_column 8 slots place) { children = length children.now; validity = validity.now }
+told_of tag slots place (buffers.Indices of dictionary) = record (with_numbers (bare_column 9 slots place) of) { entries = length dictionary.now.values }
 
 -- What was told are the buffers of the column.
 pub record IsColumnOf (c : Column) (place : ℕ) (told : ColumnC) : Type 0 where
   pub buffers : Buffers
   pub own : AreBuffersOf c buffers
-  pub same : plain_of told ≡ told_of (length c.raw) place buffers
+  pub same : plain_of told ≡ told_of c.data_type.tag (length c.raw) place buffers
 
 -- Below a column stands another one under a number: the child of lists under 0, a field's under that of the field, and the
 -- one of a dictionary's values that value n stands in, at a place.

@@ -1,6 +1,5 @@
 -- What a reader does that is kept between calls, and what is told of it.
 use Rattle.std.specs.Prelude.{◌≡◌, ◌⊎◌, ℕ, List, Option, None, Some, Result, Ok, Err}
-use Rattle.arrow_types.specs.Limits.{LimitNumbers, AreWithinCeilings}
 use Rattle.arrow_data.specs.Batch.{Table}
 use Rattle.arrow_stream_reader.specs.declared.fault.Fault.{Fault}
 use Rattle.arrow_stream_reader.specs.declared.item.Item.{Item}
@@ -9,8 +8,10 @@ use Rattle.arrow_stream_reader.specs.Stream.{ReadsOn, ended_so, fresh}
 use Rattle.arrowflow_c.specs.declared.reading.Reading.{Reading}
 use Rattle.arrowflow_c.specs.declared.steps.FaultC.{FaultC}
 use Rattle.arrowflow_c.specs.declared.steps.StepC.{StepC}
+use Rattle.arrowflow_c.specs.declared.terms.LimitsC.{LimitsC}
 use Rattle.arrowflow_c.specs.Kinds.{bad_limits, no_reader, out_of_memory}
 use Rattle.arrowflow_c.specs.Steps.{end_told, fault_step, step_told}
+use Rattle.arrowflow_c.specs.Terms.{AreLimits, numbers}
 
 -- the batch of a reader's answer, if it gave one
 abbrev pub batch_given : Result (ℕ × Option Item) Fault → Option Table
@@ -38,8 +39,9 @@ abbrev pub Ends : Option Reading → FaultC → Option Reading → Type 0
 Ends None fault new = (fault ≡ record { kind = no_reader; place = 0 }) × (new ≡ None)
 Ends (Some old) fault new = (fault ≡ end_told (ended_so old.reader.at)) × (new ≡ Some old)
 
--- A reader to which nothing was given was made; or none, where memory was wanting or a limit is above its ceiling.
-abbrev pub Opens : LimitNumbers → ℕ → Option Reading → Type 0
+-- A reader to which nothing was given was made; or none, where memory was wanting, a limit is above its
+-- ceiling or there is no such set of types.
+abbrev pub Opens : LimitsC → ℕ → Option Reading → Type 0
 Opens limits kind new =
-    (AreWithinCeilings limits × (((kind ≡ 0) × (new ≡ Some (record { reader = fresh limits; batch = None }))) ⊎ ((kind ≡ out_of_memory) × (new ≡ None))))
-    ⊎ ((AreWithinCeilings limits → ⊥) × (kind ≡ bad_limits) × (new ≡ None))
+    (AreLimits limits × (((kind ≡ 0) × (new ≡ Some (record { reader = fresh (numbers limits); batch = None }))) ⊎ ((kind ≡ out_of_memory) × (new ≡ None))))
+    ⊎ ((AreLimits limits → ⊥) × (kind ≡ bad_limits) × (new ≡ None))

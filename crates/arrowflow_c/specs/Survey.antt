@@ -1,6 +1,6 @@
 -- What is reported of bytes that were read to their end (Columnar Format, "IPC Streaming Format").
 use Rattle.std.specs.Prelude.{◌≡◌, ◌⊎◌, ℕ, ◌+◌, ◌-◌, ◌^◌, min, Bool, true, false, List, [], ◌∷◌, length}
-use Rattle.arrow_types.specs.Limits.{LimitNumbers, AreWithinCeilings}
+use Rattle.arrow_types.specs.Limits.{LimitNumbers}
 use Rattle.arrow_data.specs.Batch.{Table}
 use Rattle.arrow_stream_reader.specs.declared.reader.Verdict.{Verdict}
 use Rattle.arrow_stream_reader.specs.declared.reader.Verdict.TheVariants.{Open, Done, Bad}
@@ -10,7 +10,9 @@ use Rattle.arrow_stream_reader.specs.Stream.{ReaderView, ReaderStands, ended_so}
 use Rattle.arrow_stream_reader.specs.Tables.{tables_of}
 use Rattle.arrowflow_c.specs.declared.survey.ReportC.{ReportC}
 use Rattle.arrowflow_c.specs.declared.survey.Counts.{Counts}
+use Rattle.arrowflow_c.specs.declared.terms.LimitsC.{LimitsC}
 use Rattle.arrowflow_c.specs.Kinds.{bad_limits, kind_by, out_of_memory}
+use Rattle.arrowflow_c.specs.Terms.{AreLimits, numbers}
 
 -- a report of this kind alone
 abbrev pub bare_report : ℕ → ReportC
@@ -65,6 +67,6 @@ pub record IsReport (limits : LimitNumbers) (bytes : List ℕ) (r : ReportC) : T
 abbrev pub Reports : LimitNumbers → List ℕ → ReportC → Type 0
 Reports limits bytes r = IsReport limits bytes r ⊎ (r ≡ bare_report out_of_memory)
 
--- Limits above their ceilings are told by a kind of their own.
-abbrev pub Checks : LimitNumbers → List ℕ → ReportC → Type 0
-Checks limits bytes r = (AreWithinCeilings limits × Reports limits bytes r) ⊎ ((AreWithinCeilings limits → ⊥) × (r ≡ bare_report bad_limits))
+-- Limits above their ceilings, and a set of types that there is not, are told by a kind of their own.
+abbrev pub Checks : LimitsC → List ℕ → ReportC → Type 0
+Checks limits bytes r = (AreLimits limits × Reports (numbers limits) bytes r) ⊎ ((AreLimits limits → ⊥) × (r ≡ bare_report bad_limits))

@@ -1,14 +1,20 @@
 -- On what terms a stream is read.
-use Rattle.std.specs.Prelude.{if◌then◌else◌}
-use Rattle.arrow_types.specs.Limits.{LimitNumbers, limit_numbers}
+use Rattle.std.specs.Prelude.{◌≤◌, ◌==◌, if◌then◌else◌}
+use Rattle.arrow_types.specs.Limits.{AreWithinCeilings, LimitNumbers, limits_of}
+use Rattle.arrow_types.specs.declared.type_set.TypeSet.TheVariants.{All, Core}
 use Rattle.arrow_dict.specs.declared.update.Updates.TheVariants.{Delta, Resend}
 use Rattle.arrow_stream_laws.specs.Sizes.{Options}
 use Rattle.arrowflow_c.specs.declared.terms.LimitsC.{LimitsC}
 use Rattle.arrowflow_c.specs.declared.terms.OptionsC.{OptionsC}
 
--- the numbers of these limits
+-- the limits that these numbers say
 abbrev pub numbers : LimitsC → LimitNumbers
-numbers l = limit_numbers l.max_metadata l.max_body l.max_rows
+numbers l = limits_of l.max_metadata l.max_body l.max_rows (if l.types == 0 then Core else All)
+
+-- each number is at most its ceiling, and the types are a set that there is
+pub record AreLimits (l : LimitsC) : Type 0 where
+  pub within : AreWithinCeilings (numbers l)
+  pub known : l.types ≤ 1
 
 -- how a writer sends by these options
 abbrev pub options_by : OptionsC → Options

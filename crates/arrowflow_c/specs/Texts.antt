@@ -2,14 +2,16 @@
 use Rattle.std.specs.Prelude.{◌≡◌, ◌⊎◌, ℕ, min, List, [], ◌++◌, length, take, drop, Option, Some, Result, Ok, Err, string_bytes}
 use Rattle.std.specs.declared.string.String.{String}
 use Rattle.std.specs.declared.alloc.Global.{Global}
-use Rattle.arrow_types.specs.Limits.{LimitNumbers, AreWithinCeilings}
+use Rattle.arrow_types.specs.Limits.{LimitNumbers}
 use Rattle.arrow_stream_laws.specs.Sizes.{Options}
 use Rattle.arrowflow_report.specs.declared.tool_fault.ToolFault.{ToolFault}
 use Rattle.arrowflow_report.specs.Calls.{ShowsInput, TellsInput}
 use Rattle.arrowflow_report.specs.SchemaCall.{AnswersInput}
 use Rattle.arrowflow_copy.specs.Copy.{CopiesInput}
+use Rattle.arrowflow_c.specs.declared.terms.LimitsC.{LimitsC}
 use Rattle.arrowflow_c.specs.declared.texts.TextC.{TextC}
 use Rattle.arrowflow_c.specs.Kinds.{bad_limits, kind_of, place_of}
+use Rattle.arrowflow_c.specs.Terms.{AreLimits}
 
 -- the room behind a text: as much of its front as fits, and then what was there
 abbrev pub filled : List ℕ → List ℕ → List ℕ
@@ -36,11 +38,11 @@ pub record IsPut (call : Call) (old : List ℕ) (told : TextC) (new : List ℕ) 
   pub is_told : told ≡ text_told answer (length text)
   pub room : new ≡ filled old text
 
--- The same, or limits are above their ceilings: that is told, and the room is as it was.
-abbrev pub Gives : LimitNumbers → Call → List ℕ → TextC → List ℕ → Type 0
+-- The same, or limits are above their ceilings or there is no such set of types: that is answered, and the room is as it was.
+abbrev pub Gives : LimitsC → Call → List ℕ → TextC → List ℕ → Type 0
 Gives limits call old told new =
-    (AreWithinCeilings limits × IsPut call old told new)
-    ⊎ ((AreWithinCeilings limits → ⊥) × (told ≡ bare_text bad_limits) × (new ≡ old))
+    (AreLimits limits × IsPut call old told new)
+    ⊎ ((AreLimits limits → ⊥) × (told ≡ bare_text bad_limits) × (new ≡ old))
 
 -- these bytes were copied by these options into memory, which gave this text
 abbrev pub IsCopied : LimitNumbers → Options → List ℕ → Call

@@ -1,17 +1,22 @@
 //! Single values of a batch.
 
 ghost use Rattle.std.specs.Prelude.{◌≡◌};
-ghost use Rattle.arrowflow_c.specs.Cells.{CellAt, GivesShown, InColumn, IsNumber, bare_cell, no_cell};
+ghost use Rattle.arrow_types.specs.View.{type_view};
+ghost use Rattle.arrowflow_c.specs.Cells.{CellAt, GivesShown, InColumn, bare_cell, int_cell};
+ghost use Rattle.arrowflow_c.specs.Cells.{no_cell, number_cell};
 
 use crate::texts::fill;
+use arrow_data::floats::number_of;
 use arrow_data::{Array, Batch, SlotValue};
+use arrow_types::DataType;
 
 /// A value of a batch.
 #[repr(C)]
 #[derive(Clone, Copy)]
 pub struct CellC {
     /// 0 null, 1 a truth value, 2 a number, 3 a byte string, 4 a text, 5 a list, 6 a struct, 7 a
-    /// number above 2^63 - 1, 8 no cell of the batch, 9 another number.
+    /// number above 2^63 - 1, 8 no cell of the batch, 9 a number of more than 64 bits, 10 a
+    /// floating-point number.
     pub what: u32,
     /// The truth value.
     pub truth: bool,
@@ -19,6 +24,8 @@ pub struct CellC {
     pub number: i64,
     /// The number, where it is above 2^63 - 1.
     pub large: u64,
+    /// The floating-point number: one of 16 or 32 bits widened, of what is no number some NaN.
+    pub real: f64,
     /// How many bytes the byte string or the text has, whether they fit into the room or not.
     pub size: u64,
 }
@@ -40,13 +47,14 @@ impl CellC {
             truth: false,
             number: 0,
             large: 0,
+            real: 0.0,
             size: 0,
         }
     }
 
     /// A number.
     fn of_number(number: i128) -> CellC
-        ensures { IsNumber number result }
+        ensures { result ≡ number_cell number }
     {
         match i64::try_from(number) {
             Ok(small) => CellC {
@@ -63,9 +71,22 @@ impl CellC {
         }
     }
 
-    /// A value; as much of a byte string or a text as fits is put into the room.
-    fn of(value: SlotValue<'_>, room: &mut [u8]) -> CellC
-        ensures { GivesShown value.entry room.old result room.new }
+    /// The number that a value of this type is: of a floating-point one that of its bits.
+    fn of_int(data_type: &DataType, number: i128) -> CellC
+        ensures { result ≡ int_cell (type_view data_type.now).tag number }
+    {
+        match data_type {
+            DataType::FloatingPoint(precision) => CellC {
+                real: number_of(*precision, number),
+                ..CellC::bare(10)
+            },
+            _ => CellC::of_number(number),
+        }
+    }
+
+    /// A value of this type; as much of a byte string or a text as fits is put into the room.
+    fn of(data_type: &DataType, value: SlotValue<'_>, room: &mut [u8]) -> CellC
+        ensures { GivesShown (type_view data_type.now).tag value.entry room.old result room.new }
     {
         match value {
             SlotValue::Null => CellC::bare(0),
@@ -73,7 +94,7 @@ impl CellC {
                 truth,
                 ..CellC::bare(1)
             },
-            SlotValue::Int(number) => CellC::of_number(number),
+            SlotValue::Int(number) => CellC::of_int(data_type, number),
             SlotValue::Bytes(bytes) => CellC {
                 size: fill(room, bytes),
                 ..CellC::bare(3)
@@ -93,7 +114,7 @@ fn cell_in(column: &Array, row: usize, room: &mut [u8]) -> CellC
     ensures { InColumn column.now row room.old result room.new }
 {
     if row < column.len() {
-        CellC::of(column.slot(row), room)
+        CellC::of(column.data_type(), column.slot(row), room)
     } else {
         CellC::none()
     }

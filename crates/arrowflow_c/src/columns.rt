@@ -3,17 +3,19 @@
 ghost use Rattle.std.specs.Prelude.{◌≡◌, ◌≤◌, MatchOption, length};
 ghost use Rattle.arrow_data.specs.Column.{HasValue};
 ghost use Rattle.arrowflow_c.specs.Columns.{ColumnAt, HasNothing, IsBelow, IsColumnOf, ShowsBelow};
-ghost use Rattle.arrowflow_c.specs.Columns.{bare_column, no_column, plain_of, told_of};
+ghost use Rattle.arrow_types.specs.View.{type_view};
+ghost use Rattle.arrowflow_c.specs.Columns.{bare_column, is_float, no_column, plain_of, told_of};
 ghost use Rattle.arrowflow_c.specs.Columns.{with_numbers, with_strings};
 
 use arrow_data::{Array, Batch, Buffers, Dictionary, NumberBuffers, StringBuffers};
+use arrow_types::DataType;
 
 /// A column as its buffers.
 #[repr(C)]
 #[derive(Clone, Copy)]
 pub struct ColumnC<'a> {
     /// 0 no such column, 1 nulls, 2 truth values, 3 numbers, 4 byte strings, 5 texts, 6 byte strings
-    /// of one length, 7 lists, 8 structs, 9 indices.
+    /// of one length, 7 lists, 8 structs, 9 indices, 10 floating-point numbers.
     pub layout: u32,
     /// Whether the numbers or the indices have a sign.
     pub has_sign: bool,
@@ -87,9 +89,10 @@ impl<'a> ColumnC<'a> {
         }
     }
 
-    /// A column of so many slots with these buffers.
-    fn told(slots: usize, place: usize, buffers: Buffers<'a>) -> ColumnC<'a>
-        ensures { plain_of result ≡ told_of slots place buffers.entry }
+    /// A column of this type and so many slots with these buffers.
+    fn told(data_type: &DataType, slots: usize, place: usize, buffers: Buffers<'a>) -> ColumnC<'a>
+        ensures { plain_of result
+            ≡ told_of (type_view data_type.now).tag slots place buffers.entry }
     {
         match buffers {
             Buffers::Nulls => ColumnC::bare(1, slots, place),
@@ -98,7 +101,10 @@ impl<'a> ColumnC<'a> {
                 values,
                 ..ColumnC::bare(2, slots, place)
             },
-            Buffers::Numbers(of) => ColumnC::bare(3, slots, place).of_numbers(of),
+            Buffers::Numbers(of) => {
+                let layout = if is_float(data_type) { 10 } else { 3 };
+                ColumnC::bare(layout, slots, place).of_numbers(of)
+            }
             Buffers::Binaries(of) => ColumnC::bare(4, slots, place).of_strings(of),
             Buffers::Texts(of) => ColumnC::bare(5, slots, place).of_strings(of),
             Buffers::FixedBytes {
@@ -139,8 +145,15 @@ impl<'a> ColumnC<'a> {
     fn of(column: &'a Array, place: usize) -> ColumnC<'a>
         ensures { IsColumnOf column.now place result }
     {
-        ColumnC::told(column.len(), place, column.buffers())
+        ColumnC::told(column.data_type(), column.len(), place, column.buffers())
     }
+}
+
+/// Whether numbers of this type are floating-point ones.
+fn is_float(data_type: &DataType) -> bool
+    ensures { result ≡ is_float (type_view data_type.now).tag }
+{
+    matches!(data_type, DataType::FloatingPoint(_))
 }
 
 /// Value `n` of a dictionary: the array that it stands in, and its place there.

@@ -20,7 +20,7 @@ pub extern "C" fn arrowflow_copy(
     options: OptionsC,
     room: &mut [u8],
 ) -> TextC
-    ensures copied { Gives (numbers limits) (IsCopied (numbers limits) (options_by options) bytes.now)
+    ensures copied { Gives limits (IsCopied (numbers limits) (options_by options) bytes.now)
         room.old result room.new }
 {
     let Some(limits) = limits.limits() else {

@@ -3,7 +3,6 @@
 ghost use Rattle.std.specs.Prelude.{◌≡◌, None};
 ghost use Rattle.arrowflow_c.specs.Cells.{CellIf};
 ghost use Rattle.arrowflow_c.specs.Columns.{ColumnIf};
-ghost use Rattle.arrowflow_c.specs.Terms.{numbers};
 ghost use Rattle.arrowflow_c.specs.Reading.{Ends, Opens, ReadsIf};
 
 use crate::cells::{CellC, cell_at};
@@ -17,10 +16,11 @@ use std::alloc::Global;
 use std::mem::replace;
 
 /// Makes a reader of a new stream, in place of the one that the handle has. It answers 0; or 19
-/// where a growth was refused and 20 where a limit is above its ceiling, and then there is none.
+/// where a growth was refused and 20 where a limit is above its ceiling or the types are no set, and
+/// then there is none.
 #[unsafe(no_mangle)]
 pub extern "C" fn arrowflow_reader_open(alloc: Global, limits: LimitsC, reader: &mut ReaderC) -> u32
-    ensures { Opens (numbers limits) result reader.new.slot.value }
+    ensures { Opens limits result reader.new.slot.value }
 {
     arrowflow_reader_close(alloc, reader);
     let Some(limits) = limits.limits() else {

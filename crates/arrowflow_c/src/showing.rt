@@ -18,7 +18,7 @@ pub extern "C" fn arrowflow_show(
     limits: LimitsC,
     room: &mut [u8],
 ) -> TextC
-    ensures shown { Gives (numbers limits) (IsShown (numbers limits) bytes.now)
+    ensures shown { Gives limits (IsShown (numbers limits) bytes.now)
         room.old result room.new }
 {
     let Some(limits) = limits.limits() else {
@@ -38,7 +38,7 @@ pub extern "C" fn arrowflow_messages(
     limits: LimitsC,
     room: &mut [u8],
 ) -> TextC
-    ensures told { Gives (numbers limits) (IsTold (numbers limits) bytes.now)
+    ensures told { Gives limits (IsTold (numbers limits) bytes.now)
         room.old result room.new }
 {
     let Some(limits) = limits.limits() else {
@@ -58,7 +58,7 @@ pub extern "C" fn arrowflow_schema(
     limits: LimitsC,
     room: &mut [u8],
 ) -> TextC
-    ensures told { Gives (numbers limits) (IsSchemaTold (numbers limits) bytes.now)
+    ensures told { Gives limits (IsSchemaTold (numbers limits) bytes.now)
         room.old result room.new }
 {
     let Some(limits) = limits.limits() else {

@@ -4,7 +4,6 @@ ghost use Rattle.std.specs.Prelude.{◌≡◌, [], IfOk};
 ghost use Rattle.arrow_stream_reader.specs.Stream.{ReaderStands};
 ghost use Rattle.arrow_stream_reader.specs.Views.{given};
 ghost use Rattle.arrowflow_c.specs.Survey.{CountsItem, Checks, HasCounted, Reports, bare_report};
-ghost use Rattle.arrowflow_c.specs.Terms.{numbers};
 
 use crate::kinds::{BAD_LIMITS, MEMORY, kind_by};
 use crate::terms::LimitsC;
@@ -17,7 +16,7 @@ use std::alloc::{AllocError, Global};
 #[derive(Clone, Copy)]
 pub struct ReportC {
     /// 0 for a stream without fault, 1 to 18 for a fault of the stream, 19 where a growth was
-    /// refused, 20 for limits above their ceilings.
+    /// refused, 20 for limits above their ceilings or of types that are no set.
     pub kind: u32,
     /// Whether the end marker came.
     pub ended: bool,
@@ -47,7 +46,7 @@ impl ReportC {
 /// Reads a whole stream, and tells what was found.
 #[unsafe(no_mangle)]
 pub extern "C" fn arrowflow_check(alloc: Global, bytes: &[u8], limits: LimitsC) -> ReportC
-    ensures checked { Checks (numbers limits) bytes.now result }
+    ensures checked { Checks limits bytes.now result }
 {
     match limits.limits() {
         Some(limits) => report_of(alloc, bytes, limits),

@@ -1,12 +1,11 @@
 //! On what terms a stream is read, and written again.
 
 ghost use Rattle.std.specs.Prelude.{◌≡◌, SomeIff};
-ghost use Rattle.arrow_types.specs.Limits.{AreWithinCeilings};
 ghost use Rattle.arrow_stream_writer.specs.Shown.{options_view};
-ghost use Rattle.arrowflow_c.specs.Terms.{numbers, options_by};
+ghost use Rattle.arrowflow_c.specs.Terms.{AreLimits, numbers, options_by};
 
 use arrow_stream_writer::{Align, Options, Updates};
-use arrow_types::Limits;
+use arrow_types::{Limits, TypeSet};
 
 /// How much a stranger's stream may ask for.
 #[repr(C)]
@@ -18,14 +17,23 @@ pub struct LimitsC {
     pub max_body: u64,
     /// The most rows of a batch, and values of a dictionary, at most 2^31 - 1.
     pub max_rows: u64,
+    /// Which types are read: 0 the core, 1 all.
+    pub types: u32,
 }
 
 impl LimitsC {
-    /// The limits of a reader, or None where one is above its ceiling.
+    /// The limits of a reader, or None where one is above its ceiling or there is no such set of
+    /// types.
     pub(crate) fn limits(self) -> Option<Limits>
-        ensures { SomeIff result (AreWithinCeilings (numbers self)) (numbers self) }
+        ensures { SomeIff result (AreLimits self) (numbers self) }
     {
-        Limits::new(self.max_metadata, self.max_body, self.max_rows)
+        let types = match self.types {
+            0 => TypeSet::Core,
+            1 => TypeSet::All,
+            _ => return None,
+        };
+        let limits = Limits::new(self.max_metadata, self.max_body, self.max_rows)?;
+        Some(limits.with_types(types))
     }
 }
 

@@ -10,7 +10,7 @@ use Rattle.clap.specs.Simple.{App, Shape, argument_words, built, entered, names_
 use Rattle.clap.specs.Walk.{Held, Names, Outcome, Row, Rule, Step, Text, Waiting, Walk, after_flag, after_step, arg_by_index, arg_by_long, bundle, long_met, long_or_other, nothing_held, plain_word, short_or_plain, stop_after, subcommand_met, subcommand_or_other, to_positional, walk_from, walked, walked_from, word_met}
 use Rattle.clap.specs.Walk.{done, waits, plain, refused, idle, option, positional, next, trailing, subcommand, value}
 use Rattle.clap.specs.declared.error.kind.ErrorKind.TheVariants as kind
-use Rattle.arrowflow_line.specs.CommandLine.{Choices, IsCommand, copy_app, drill_app, program_app}
+use Rattle.arrowflow_line.specs.CommandLine.{Choices, IsCommand, check_app, copy_app, drill_app, program_app, reading_app, schema_app, show_app}
 
 -- whether a word is a command's name
 abbrev is_name : Step → Bool
@@ -136,10 +136,10 @@ other_than_help name h = apart (bytes_eq (codes "help") name) refl where
       let same : name ≡ codes "help" = sym ((bytes_eq-Decides (codes "help") name).0 e) in
       absurd (true≢false (sym (ap (λ n. bytes_eq n (codes "help")) same) ∙ h))
 
-module _ (u a v b : Choices) where
+module _ (s c r u a t v b z : Choices) where
   -- the program's command line
   abbrev pub line : App
-  line = program_app (copy_app u a) (drill_app v b)
+  line = program_app (reading_app (schema_app s) (check_app c) (show_app r)) (copy_app u a t) (drill_app v b z)
 
   entered_so : (stop : Option (Text × List Text)) (name : Text) (rows : List Row) → NotHelp stop → entered (built line) stop ≡ Some (name, rows) → IsCommand name
   entered_so None name rows other h = absurd (cc)

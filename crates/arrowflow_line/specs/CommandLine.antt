@@ -10,6 +10,8 @@ use Rattle.arrow_dict.specs.declared.update.Updates.{Updates}
 use Rattle.arrow_dict.specs.declared.update.Updates.TheVariants.{Delta, Resend}
 use Rattle.arrow_stream_writer.specs.declared.stream_writer.Options.{Options}
 use Rattle.arrow_types.specs.Limits.{LimitNumbers}
+use Rattle.arrow_types.specs.declared.type_set.TypeSet.{TypeSet}
+use Rattle.arrow_types.specs.declared.type_set.TypeSet.TheVariants.{Core, All}
 use Rattle.clap.specs.declared.builder.action.ArgAction.TheVariants.{SetTrue}
 use Rattle.clap.specs.Lexer.{usize_max}
 use Rattle.clap.specs.Values.{IsUnsignedIn}
@@ -88,34 +90,46 @@ abbrev pub with_options : App → Choices → Choices → App
 with_options app updates aligns =
     with_rule (with_rule app (option (codes "updates") (parsers.Names updates) (codes "delta"))) (option (codes "align") (parsers.Names aligns) (codes "64"))
 
+-- a command with the sets of types
+abbrev pub with_types : App → Choices → App
+with_types app types = with_rule app (option (codes "types") (parsers.Names types) (codes "core"))
+
 -- a command of this name that takes one file
 abbrev pub file_app : Text → App
 file_app name = with_rule (new_app name) (needed (codes "FILE"))
 
 -- the command that prints a schema
-abbrev pub schema_app : App
-schema_app = with_limits (file_app (codes "schema"))
+abbrev pub schema_app : Choices → App
+schema_app types = with_types (with_limits (file_app (codes "schema"))) types
 
 -- the command that checks
-abbrev pub check_app : App
-check_app = with_limits (with_rule (file_app (codes "check")) (flag (codes "quiet")))
+abbrev pub check_app : Choices → App
+check_app types = with_types (with_limits (with_rule (file_app (codes "check")) (flag (codes "quiet")))) types
 
 -- the command that shows rows
-abbrev pub show_app : App
-show_app = with_limits (with_rule (with_rule (file_app (codes "show")) (text (codes "columns"))) (number (codes "rows")))
+abbrev pub show_app : Choices → App
+show_app types = with_types (with_limits (with_rule (with_rule (file_app (codes "show")) (text (codes "columns"))) (number (codes "rows")))) types
+
+-- the command that copies, without the sets of types
+abbrev pub limited_copy : Choices → Choices → App
+limited_copy updates aligns = with_limits (with_options (with_rule (with_rule (new_app (codes "copy")) (needed (codes "IN"))) (needed (codes "OUT"))) updates aligns)
 
 -- the command that copies
-abbrev pub copy_app : Choices → Choices → App
-copy_app updates aligns = with_limits (with_options (with_rule (with_rule (new_app (codes "copy")) (needed (codes "IN"))) (needed (codes "OUT"))) updates aligns)
+abbrev pub copy_app : Choices → Choices → Choices → App
+copy_app updates aligns types = with_types (limited_copy updates aligns) types
 
 -- a command with the options of what is delivered of a connection
 abbrev pub with_delivery : App → App
 with_delivery app =
     with_rule (with_rule app (option (codes "bytes") (parsers.Unsigned 0 (2 ^ 62)) (codes "4611686018427387904"))) (option (codes "piece") (parsers.Unsigned 1 (2 ^ 30)) (codes "65536"))
 
+-- the command that drills, without the sets of types
+abbrev pub limited_drill : Choices → Choices → App
+limited_drill updates aligns = with_limits (with_options (with_delivery (with_rule (new_app (codes "drill")) (needed_some (codes "FILE")))) updates aligns)
+
 -- the command that drills
-abbrev pub drill_app : Choices → Choices → App
-drill_app updates aligns = with_limits (with_options (with_delivery (with_rule (new_app (codes "drill")) (needed_some (codes "FILE")))) updates aligns)
+abbrev pub drill_app : Choices → Choices → Choices → App
+drill_app updates aligns types = with_types (limited_drill updates aligns) types
 
 -- a command with such options: updates are sent as deltas or again, and the alignment is 8 or 64
 pub record Offers (command : Choices → Choices → App) (app : App) : Type 0 where
@@ -125,25 +139,53 @@ pub record Offers (command : Choices → Choices → App) (app : App) : Type 0 w
   pub aligns_are : words_of aligns ≡ codes "8" ∷ codes "64" ∷ []
   pub is : app ≡ command updates aligns
 
+-- a command with the sets of types: the core, or all
+pub record Takes (command : Choices → App) (app : App) : Type 0 where
+  pub types : Choices
+  pub types_are : words_of types ≡ codes "core" ∷ codes "all" ∷ []
+  pub is : app ≡ command types
+
+-- a command with such options and the sets of types
+pub record Sends (command : Choices → Choices → Choices → App) (app : App) : Type 0 where
+  pub updates : Choices
+  pub aligns : Choices
+  pub types : Choices
+  pub updates_are : words_of updates ≡ codes "delta" ∷ codes "resend" ∷ []
+  pub aligns_are : words_of aligns ≡ codes "8" ∷ codes "64" ∷ []
+  pub types_are : words_of types ≡ codes "core" ∷ codes "all" ∷ []
+  pub is : app ≡ command updates aligns types
+
 -- a command line with a command more
 abbrev pub with_command : App → App → App
 with_command app command = with_subcommand app command.top
 
 -- the commands of one file
-abbrev pub reading_app : App
-reading_app = with_command (with_command (with_command (new_app (codes "arrowflow")) schema_app) check_app) show_app
+abbrev pub reading_app : App → App → App → App
+reading_app schema check show = with_command (with_command (with_command (new_app (codes "arrowflow")) schema) check) show
+
+-- it is the command line with these commands
+pub record IsReading (app : App) : Type 0 where
+  pub schema : App
+  pub has_schema : Takes schema_app schema
+  pub check : App
+  pub has_check : Takes check_app check
+  pub show : App
+  pub has_show : Takes show_app show
+  pub is : app ≡ reading_app schema check show
 
 -- the program's command line: one of five commands has to stand there
-abbrev pub program_app : App → App → App
-program_app copying drilling = on_top (λ s. record s { subcommand_required = true }) (with_command (with_command reading_app copying) drilling)
+abbrev pub program_app : App → App → App → App
+program_app reading copying drilling = on_top (λ s. record s { subcommand_required = true }) (with_command (with_command reading copying) drilling)
 
 -- it is the program's command line
 pub record IsProgram (app : App) : Type 0 where
+  pub reading : App
+  pub reads : IsReading reading
   pub copying : App
-  pub copies : Offers copy_app copying
+  pub copies : Sends copy_app copying
   pub drilling : App
-  pub drills : Offers drill_app drilling
-  pub is : app ≡ program_app copying drilling
+  pub drills : Sends drill_app drilling
+  pub is : app ≡ program_app reading copying drilling
 
 -- ---- what is asked for
 
@@ -177,6 +219,10 @@ pub record IsNumberOf (least most : ℕ) (text : Option Text) (n : ℕ) : Type 0
 abbrev pub updates_by : Text → Updates
 updates_by word = if bytes_eq word (codes "resend") then Resend else Delta
 
+-- the set of types, by the word for it
+abbrev pub types_by : Text → TypeSet
+types_by word = if bytes_eq word (codes "all") then All else Core
+
 -- the alignment, by the number of its bytes
 abbrev pub align_by : Text → Align
 align_by word = if bytes_eq word (codes "8") then Eight else SixtyFour
@@ -203,6 +249,7 @@ pub record AreLimitsIn (rows : List Row) (limits : LimitNumbers) : Type 0 where
   pub metadata : IsNumberOf 0 (2 ^ 30) (number_text (codes "limit-metadata") rows) limits.max_metadata
   pub body : IsNumberOf 0 (2 ^ 40) (number_text (codes "limit-body") rows) limits.max_body
   pub most_rows : IsNumberOf 0 2147483647 (number_text (codes "limit-rows") rows) limits.max_rows
+  pub types : limits.types ≡ types_by (name_in (codes "types") rows)
 
 -- the task of the command of this name, with what clap found behind it
 abbrev pub IsTask : Text → List Row → Task → Type 0

@@ -3,10 +3,11 @@
 ghost use Rattle.std.specs.Prelude.{◌≡◌, IfOk, false, map};
 ghost use Rattle.clap.specs.Walk.{rule_of};
 ghost use Rattle.clap.specs.Words.{app_of};
-ghost use Rattle.arrowflow_line.specs.CommandLine.{AnswersLine, HasNoGlobals, IsProgram};
+ghost use Rattle.arrowflow_line.specs.CommandLine.{AnswersLine, HasNoGlobals, IsProgram, IsReading};
+ghost use Rattle.arrowflow_line.specs.CommandLine.{Sends, Takes, limited_copy, limited_drill, with_types};
 ghost use Rattle.arrowflow_line.specs.CommandLine.{NeedsSubcommand, Offers, check_app, copy_app};
 ghost use Rattle.arrowflow_line.specs.CommandLine.{drill_app, file_app, flag, limit, needed};
-ghost use Rattle.arrowflow_line.specs.CommandLine.{named, needed_some, number, option, reading_app};
+ghost use Rattle.arrowflow_line.specs.CommandLine.{named, needed_some, number, option};
 ghost use Rattle.arrowflow_line.specs.CommandLine.{schema_app, show_app};
 ghost use Rattle.arrowflow_line.specs.CommandLine.{with_delivery, text, with_limits, with_options};
 
@@ -67,6 +68,9 @@ static UPDATES: [&str; 2] = ["delta", "resend"];
 
 /// The alignments, in bytes.
 static ALIGNS: [&str; 2] = ["8", "64"];
+
+/// The words for the sets of types.
+static TYPES: [&str; 2] = ["core", "all"];
 
 /// What help calls the number of `--limit-metadata`, and what it says of it.
 const METADATA_HELP: (&str, &str) = ("BYTES", "The most bytes of one message's metadata");
@@ -193,6 +197,24 @@ fn with_limits<'a>(alloc: Global, command: Command<'a>) -> Result<Command<'a>, A
     Ok(whole)
 }
 
+/// The command with the sets of types.
+fn with_types<'a>(alloc: Global, command: Command<'a>) -> Result<Command<'a>, AllocError>
+    requires { HasNoGlobals command }
+    ensures globals { IfOk result HasNoGlobals }
+    ensures app { IfOk result (λ c. Takes (with_types (app_of command.entry)) (app_of c)) }
+{
+    let types = option(
+        alloc,
+        "types",
+        Value {
+            parser: ValueParser::from(TYPES.as_slice()),
+            default: "core",
+        },
+        "Which types a stream may have: the core of them, or all, floating point too",
+    );
+    command.arg(types)
+}
+
 /// A command of one file, with what its help says before and behind the argument.
 fn file_command<'a>(
     alloc: Global,
@@ -217,16 +239,16 @@ fn file_command<'a>(
 /// The command that prints a schema.
 fn schema_command<'a>(alloc: Global) -> Result<Command<'a>, AllocError>
     ensures globals { IfOk result HasNoGlobals }
-    ensures app { IfOk result (λ c. app_of c ≡ schema_app) }
+    ensures app { IfOk result (λ c. Takes schema_app (app_of c)) }
 {
     let command = file_command(alloc, "schema", SCHEMA_ABOUT, SCHEMA_EXAMPLE)?;
-    with_limits(alloc, command)
+    with_types(alloc, with_limits(alloc, command)?)
 }
 
 /// The command that checks.
 fn check_command<'a>(alloc: Global) -> Result<Command<'a>, AllocError>
     ensures globals { IfOk result HasNoGlobals }
-    ensures app { IfOk result (λ c. app_of c ≡ check_app) }
+    ensures app { IfOk result (λ c. Takes check_app (app_of c)) }
 {
     let quiet = flag(
         alloc,
@@ -234,13 +256,13 @@ fn check_command<'a>(alloc: Global) -> Result<Command<'a>, AllocError>
         "Print no lines: the exit status tells, and the line of a fault",
     );
     let command = file_command(alloc, "check", CHECK_ABOUT, CHECK_EXAMPLE)?.arg(quiet)?;
-    with_limits(alloc, command)
+    with_types(alloc, with_limits(alloc, command)?)
 }
 
 /// The command that shows rows.
 fn show_command<'a>(alloc: Global) -> Result<Command<'a>, AllocError>
     ensures globals { IfOk result HasNoGlobals }
-    ensures app { IfOk result (λ c. app_of c ≡ show_app) }
+    ensures app { IfOk result (λ c. Takes show_app (app_of c)) }
 {
     let columns = text(
         alloc,
@@ -252,7 +274,7 @@ fn show_command<'a>(alloc: Global) -> Result<Command<'a>, AllocError>
     let command = file_command(alloc, "show", SHOW_ABOUT, SHOW_EXAMPLE)?
         .arg(columns)?
         .arg(rows)?;
-    with_limits(alloc, command)
+    with_types(alloc, with_limits(alloc, command)?)
 }
 
 /// The command with the options of how a stream is written.
@@ -285,7 +307,17 @@ fn with_options<'a>(alloc: Global, command: Command<'a>) -> Result<Command<'a>, 
 /// The command that copies.
 fn copy_command<'a>(alloc: Global) -> Result<Command<'a>, AllocError>
     ensures globals { IfOk result HasNoGlobals }
-    ensures app { IfOk result (λ c. Offers copy_app (app_of c)) }
+    ensures app { IfOk result (λ c. Sends copy_app (app_of c)) }
+{
+    let limited = limited_copy(alloc)?;
+    let whole = with_types(alloc, limited)?;
+    Ok(whole)
+}
+
+/// The same without the sets of types.
+fn limited_copy<'a>(alloc: Global) -> Result<Command<'a>, AllocError>
+    ensures globals { IfOk result HasNoGlobals }
+    ensures app { IfOk result (λ c. Offers limited_copy (app_of c)) }
 {
     let input = needed(
         alloc,
@@ -337,7 +369,17 @@ fn with_delivery<'a>(alloc: Global, command: Command<'a>) -> Result<Command<'a>,
 /// The command that drills.
 fn drill_command<'a>(alloc: Global) -> Result<Command<'a>, AllocError>
     ensures globals { IfOk result HasNoGlobals }
-    ensures app { IfOk result (λ c. Offers drill_app (app_of c)) }
+    ensures app { IfOk result (λ c. Sends drill_app (app_of c)) }
+{
+    let limited = limited_drill(alloc)?;
+    let whole = with_types(alloc, limited)?;
+    Ok(whole)
+}
+
+/// The same without the sets of types.
+fn limited_drill<'a>(alloc: Global) -> Result<Command<'a>, AllocError>
+    ensures globals { IfOk result HasNoGlobals }
+    ensures app { IfOk result (λ c. Offers limited_drill (app_of c)) }
 {
     let files = needed_some(
         alloc,
@@ -354,7 +396,7 @@ fn drill_command<'a>(alloc: Global) -> Result<Command<'a>, AllocError>
 /// The program's command line with the commands of one file.
 fn reading_command<'a>(alloc: Global) -> Result<Command<'a>, AllocError>
     ensures globals { IfOk result HasNoGlobals }
-    ensures app { IfOk result (λ c. app_of c ≡ reading_app) }
+    ensures app { IfOk result (λ c. IsReading (app_of c)) }
 {
     let top = Command::new(alloc, "arrowflow")
         .bin_name("arrowflow")?

@@ -6,13 +6,13 @@ ghost use Rattle.clap.specs.Words.{found_of, rows_of};
 ghost use Rattle.arrowflow_line.specs.CommandLine.{AreLimitsIn, IsCommand, IsNumberIfAny, IsNumberOf};
 ghost use Rattle.arrowflow_line.specs.CommandLine.{IsPlan, IsTask, align_by, is_given, name_in, names_in};
 ghost use Rattle.arrowflow_line.specs.CommandLine.{names_by, names_if_any, number_text};
-ghost use Rattle.arrowflow_line.specs.CommandLine.{options_in, updates_by};
+ghost use Rattle.arrowflow_line.specs.CommandLine.{options_in, types_by, updates_by};
 
 use crate::plans::{Plan, Task};
 use arrow_body_writer::Align;
 use arrow_dict::Updates;
 use arrow_stream_writer::Options;
-use arrow_types::Limits;
+use arrow_types::{Limits, TypeSet};
 use clap::ArgMatches;
 use std::alloc::{AllocError, Global};
 
@@ -121,7 +121,19 @@ fn limits_of(matches: &ArgMatches<'_>) -> Limits
     let metadata = number_of(matches, "limit-metadata", 0, Limits::METADATA_CEILING);
     let body = number_of(matches, "limit-body", 0, Limits::BODY_CEILING);
     let rows = number_of(matches, "limit-rows", 0, Limits::ROWS_CEILING);
-    Limits::new(metadata, body, rows).unwrap()
+    let types = types_by(text_of(matches, "types"));
+    Limits::new(metadata, body, rows).unwrap().with_types(types)
+}
+
+/// The set of types, by the word for it.
+fn types_by(word: &str) -> TypeSet
+    ensures { result ≡ types_by word.now }
+{
+    match word {
+        "all" => TypeSet::All,
+        // `core`: clap takes no other word
+        _ => TypeSet::Core,
+    }
 }
 
 /// What is sent of dictionaries, by the word for it.

@@ -11,7 +11,7 @@ use Rattle.arrow_stream_reader.specs.Tables.{tables_of}
 use Rattle.arrow_stream_reader.specs.declared.fault.Fault.{Fault}
 use Rattle.arrow_stream_reader.specs.declared.reader.Verdict.TheVariants.{Open}
 use Rattle.arrowflow_report.specs.Chosen.{AreRows, HaveChosen, choice_of}
-use Rattle.arrowflow_report.specs.FirstRows.{HaveFirst, IsEnoughTold, IsFirstBegun, IsFirstCut, IsFirstTold, IsShortAt, IsShortOf, ShowsFirst, first_chosen}
+use Rattle.arrowflow_report.specs.FirstRows.{HaveFirst, IsEnoughTold, IsFirstBegun, IsFirstCut, IsFirstTold, IsFirstChosen, IsShortAt, IsShortOf, ShowsFirst}
 use Rattle.arrowflow_report.specs.Reports.{EndsBadly, EndsWell, IsEnding, SendsText}
 use Rattle.arrowflow_report.specs.declared.report.Report.{Report}
 use Rattle.arrowflow_report.specs.declared.report.Report.TheVariants.{Messages, Rows}
@@ -36,7 +36,7 @@ module _ (n : ℕ) (report : Report) (is_rows : AreRows report) (limits : LimitN
   front_at : FrontOf limits bytes x.entries e
   front_at = subst (λ l. FrontOf l bytes x.entries e) same x.told.stands.front
 
-  text_is : HaveChosen (choice_of report) r.at.state.schema × (x.told.text ≡ first_chosen (choice_of report) n r.at.state.schema (tables_of x.entries))
+  text_is : HaveChosen (choice_of report) r.at.state.schema × IsFirstChosen (choice_of report) n r.at.state.schema (tables_of x.entries) x.told.text
   text_is = all_text n report first held number rows_left r bytes is_rows x
 
   short_of : HaveFirst n r.at.state.schema x.entries → ⊥
@@ -44,7 +44,7 @@ module _ (n : ℕ) (report : Report) (is_rows : AreRows report) (limits : LimitN
 
   written_by : (held' : Option (List ℕ)) → Appends first held' x.told.text → IsShortOf (choice_of report) n limits bytes e first held'
   written_by held' h = record {
-    written = record { entries = x.entries; front = front_at; has = text_is.0; wrote = subst (Appends first held') text_is.1 h };
+    written = record { entries = x.entries; front = front_at; has = text_is.0; text = x.told.text; is = text_is.1; wrote = h };
     short = short_of;
   }
 
@@ -57,7 +57,9 @@ module _ (n : ℕ) (report : Report) (is_rows : AreRows report) (limits : LimitN
     entries = x.entries;
     front = front_at;
     has = text_is.0;
-    wrote = subst (AcceptsBeginning first held') text_is.1 h;
+    text = x.told.text;
+    is = text_is.1;
+    wrote = h;
   }
 
   -- the stream goes on, and more rows are wanted
@@ -115,6 +117,8 @@ module _ (choice : Choice) (n : ℕ) (limits : LimitNumbers) (bytes piece : List
     entries = c.entries;
     front = subst (λ l. FrontOf l (bytes ++ c.taken) c.entries (standing_of r c.stands.rest)) same c.stands.front;
     has = c.has;
+    text = c.text;
+    is = c.is;
     wrote = c.wrote;
   }
 
@@ -138,7 +142,9 @@ module _ (choice : Choice) (n : ℕ) (limits : LimitNumbers) (bytes piece : List
         entries = x.entries;
         front = front_at;
         has = x.has;
-        wrote = subst (AcceptsBeginning first held') (append-nil _) (begun_behind first held held' (first_chosen choice n r.at.state.schema (tables_of x.entries)) [] x.wrote h);
+        text = x.text;
+        is = x.is;
+        wrote = subst (AcceptsBeginning first held') (append-nil x.text) (begun_behind first held held' x.text [] x.wrote h);
       }
 
       by : (answer : Result (Unit {0}) ToolFault) → SendsText held failed' [] answer held' failed'' → ShowsFirst choice n limits (bytes ++ piece) left first start answer held' failed''
@@ -152,7 +158,9 @@ module _ (choice : Choice) (n : ℕ) (limits : LimitNumbers) (bytes piece : List
             entries = x.entries;
             front = front_at;
             has = x.has;
-            wrote = subst (Appends first held') (append-nil _) (Appends-trans first held held' (first_chosen choice n r.at.state.schema (tables_of x.entries)) [] x.wrote sent.0);
+            text = x.text;
+            is = x.is;
+            wrote = subst (Appends first held') (append-nil x.text) (Appends-trans first held held' x.text [] x.wrote sent.0);
           };
           there = x.there;
         }),
@@ -174,5 +182,7 @@ first_longer choice n limits taken rest bytes first held whole begun = record {
   entries = begun.entries;
   front = begun.front;
   has = begun.has;
+  text = begun.text;
+  is = begun.is;
   wrote = begun.wrote;
 }

@@ -1,27 +1,24 @@
 -- The text of a stream's first rows, message by message.
-use Rattle.std.proofs.Common.{◌≡◌, ◌≤◌, ◌+◌, ◌-◌, min, ℕ, suc, true, List, [], ◌∷◌, ◌++◌, length, Option, None, Some, Err, ◌⊎◌, inl, inr, refl, sym, ap, ◌∙◌, subst, arith, append_assoc, append-nil, is_some}
+use Rattle.std.proofs.Common.{◌≡◌, ◌≤◌, ◌+◌, ◌-◌, min, ℕ, suc, true, List, [], ◌∷◌, ◌++◌, length, Option, None, Some, ◌⊎◌, inl, inr, refl, sym, ap, ◌∙◌, subst, arith, append_assoc, append-nil, is_some}
 use Rattle.std.proofs.lemmas.Bool.{false≢true}
 use Rattle.arrow_types.specs.Limits.{LimitNumbers}
 use Rattle.arrow_types.specs.Notes.{SchemaShape}
 use Rattle.arrow_data.specs.Batch.{Table}
 use Rattle.arrow_csv.specs.Named.{Choice, chosen, chosen_schema, chosen_shape, chosen_tables}
-use Rattle.arrow_csv.specs.Records.{batch_rows, batches_text, header_record, stream_text}
+use Rattle.arrow_csv.specs.Records.{AreBatchRows, AreBatches, IsStreamText, header_record}
 use Rattle.arrow_stream_reader.specs.declared.reader.Verdict.TheVariants.{Open}
 use Rattle.arrow_stream_reader.specs.Front.{Entry, Standing, FrontOf}
 use Rattle.arrow_stream_reader.specs.State.{Given, schema_given, dictionary_given, batch_given, ended}
 use Rattle.arrow_stream_reader.specs.Tables.{table_in, tables_of}
-use Rattle.arrowflow_report.specs.Chosen.{AreRows, HaveChosen, IsChosenAt, choice_of, chosen_given, chosen_text}
-use Rattle.arrowflow_report.specs.FirstRows.{AreLeft, AreRowsIn, HasLast, HasMore, HaveFirst, first_chosen, first_rows, first_text, last_in, left_behind, rows_of}
-use Rattle.arrowflow_report.specs.Reports.{IsAdded, IsTextOf, SendsText}
-use Rattle.arrowflow_report.specs.Shown.{text_in}
+use Rattle.arrowflow_report.specs.Chosen.{AreRows, HaveChosen, IsChosenText, choice_of, chosen_given}
+use Rattle.arrowflow_report.specs.FirstRows.{AreFirstRows, AreLeft, AreRowsIn, HasLast, HasMore, HaveFirst, IsFirstChosen, IsFirstText, IsLastIn, left_behind, rows_of}
+use Rattle.arrowflow_report.specs.Reports.{IsTextOf}
+use Rattle.arrowflow_report.specs.Shown.{IsTextIn}
 use Rattle.arrowflow_report.specs.declared.report.Report.{Report}
 use Rattle.arrowflow_report.specs.declared.report.Report.TheVariants.{Messages, Rows}
-use Rattle.arrowflow_report.specs.declared.tool_fault.ToolFault.{ToolFault}
-use Rattle.arrowflow_report.specs.declared.tool_fault.ToolFault.TheVariants.{Input, Output, Stream, Refused, Memory}
 use Rattle.arrowflow_report.proofs.First.{state_stays}
 use Rattle.arrowflow_report.proofs.Growing.{chosen_join, chosen_length, one_table, shape_shown, text_grows}
 use Rattle.arrowflow_report.proofs.Schemas.{front_begins, front_behind, front_keeps}
-use Rattle.arrowflow_report.proofs.Sent.{begun_longer, rows_join}
 
 -- ---- rows and their records
 
@@ -33,18 +30,17 @@ rows_of-append (t ∷ ts) us = omega (arith, rows_of-append ts us)
 rows_more : (es : List Entry) (x : Entry) → rows_of (tables_of (es ++ x ∷ [])) ≡ rows_of (tables_of es) + rows_of (table_in x.given)
 rows_more es x = ap rows_of (one_table es x) ∙ rows_of-append (tables_of es) (table_in x.given)
 
--- where no more rows are there than are asked for, the first are all
-first_all : (n number : ℕ) (ts : List Table) → rows_of ts ≤ n → first_rows n number ts ≡ batches_text number ts
-first_all n number [] h = refl
-first_all n number (t ∷ ts) h =
-    let least : min n t.rows ≡ t.rows = omega (arith, h) in
-    let rest : rows_of ts ≤ n - t.rows = omega (arith, h) in
-    ap (λ k. batch_rows number t 0 k ++ first_rows (n - t.rows) (number + 1) ts) least
-    ∙ ap (λ x. batch_rows number t 0 t.rows ++ x) (first_all (n - t.rows) (number + 1) ts rest)
+-- where no more rows are there than are asked for, records of all are those of the first
+first_all : (n number : ℕ) (ts : List Table) (text : List ℕ) → rows_of ts ≤ n → AreBatches number ts text → AreFirstRows n number ts text
+first_all n number [] text h none = none
+first_all n number (t ∷ ts) text h (own, others, is, rest, whole) =
+    let least : t.rows ≡ min n t.rows = omega (arith, h) in
+    let fewer : rows_of ts ≤ n - t.rows = omega (arith, h) in
+    (own, others, subst (λ k. AreBatchRows number t 0 k own) least is, first_all (n - t.rows) (number + 1) ts others fewer rest, whole)
 
-first_text_all : (n : ℕ) (schema : Option SchemaShape) (ts : List Table) → rows_of ts ≤ n → first_text n schema ts ≡ stream_text schema ts
-first_text_all n None ts h = refl
-first_text_all n (Some shape) ts h = ap (λ x. header_record shape.fields ++ x) (first_all n 0 ts h)
+first_text_all : (n : ℕ) (schema : Option SchemaShape) (ts : List Table) (text : List ℕ) → rows_of ts ≤ n → IsStreamText schema ts text → IsFirstText n schema ts text
+first_text_all n None ts text h is = is
+first_text_all n (Some shape) ts text h (records, are, whole) = (records, first_all n 0 ts records h are, whole)
 
 -- the chosen columns have as many rows
 chosen_one : (choice : Choice) (t : Table) → (chosen choice t).rows ≡ t.rows
@@ -56,25 +52,23 @@ chosen_rows None ts = refl
 chosen_rows (Some names) [] = refl
 chosen_rows (Some names) (t ∷ ts) = ap (λ n. t.rows + n) (chosen_rows (Some names) ts)
 
-pub first_chosen_all : (choice : Choice) (n : ℕ) (schema : Option SchemaShape) (ts : List Table) → rows_of ts ≤ n → first_chosen choice n schema ts ≡ chosen_text choice schema ts
-first_chosen_all choice n schema ts h = first_text_all n (chosen_schema choice schema) (chosen_tables choice ts) (omega (arith, h, chosen_rows choice ts))
+pub first_chosen_all : (choice : Choice) (n : ℕ) (schema : Option SchemaShape) (ts : List Table) (text : List ℕ) → rows_of ts ≤ n → IsChosenText choice schema ts text → IsFirstChosen choice n schema ts text
+first_chosen_all choice n schema ts text h is = first_text_all n (chosen_schema choice schema) (chosen_tables choice ts) text (omega (arith, h, chosen_rows choice ts)) is
 
 -- the batch with the last row
-first_then : (n number : ℕ) (ts : List Table) (b : Table) (left : ℕ) → n ≡ rows_of ts + left → left ≤ b.rows
-    → first_rows n number (ts ++ b ∷ []) ≡ batches_text number ts ++ batch_rows (number + length ts) b 0 left
-first_then n number [] b left e h =
-    let least : min n b.rows ≡ left = omega (arith, e, h) in
-    let here : number ≡ number + 0 = omega arith in
-    append-nil (batch_rows number b 0 (min n b.rows)) ∙ ap (λ k. batch_rows number b 0 k) least ∙ ap (λ m. batch_rows m b 0 left) here
-first_then n number (t ∷ ts) b left e h =
-    let least : min n t.rows ≡ t.rows = omega (arith, e) in
-    let rest : n - t.rows ≡ rows_of ts + left = omega (arith, e) in
-    let here : number + 1 + length ts ≡ number + suc (length ts) = omega arith in
-    let own = batch_rows number t 0 t.rows in
-    let later = batch_rows (number + suc (length ts)) b 0 left in
-    ap (λ k. batch_rows number t 0 k ++ first_rows (n - t.rows) (number + 1) (ts ++ b ∷ [])) least
-    ∙ ap (λ x. own ++ x) (first_then (n - t.rows) (number + 1) ts b left rest h ∙ ap (λ m. batches_text (number + 1) ts ++ batch_rows m b 0 left) here)
-    ∙ sym (append_assoc own (batches_text (number + 1) ts) later)
+first_then : (n number : ℕ) (ts : List Table) (b : Table) (left : ℕ) (before own : List ℕ) → n ≡ rows_of ts + left → left ≤ b.rows
+    → AreBatches number ts before → AreBatchRows (number + length ts) b 0 left own → AreFirstRows n number (ts ++ b ∷ []) (before ++ own)
+first_then n number [] b left before own e h none is =
+    let least : left ≡ min n b.rows = omega (arith, e, h) in
+    let here : number + 0 ≡ number = omega arith in
+    let its = subst (λ k. AreBatchRows number b 0 k own) least (subst (λ m. AreBatchRows m b 0 left own) here is) in
+    (own, [], its, refl, ap (λ t. t ++ own) none ∙ sym (append-nil own))
+first_then n number (t ∷ ts) b left before own e h (first, others, is, rest, whole) last =
+    let least : t.rows ≡ min n t.rows = omega (arith, e) in
+    let fewer : n - t.rows ≡ rows_of ts + left = omega (arith, e) in
+    let here : number + suc (length ts) ≡ number + 1 + length ts = omega arith in
+    let later = first_then (n - t.rows) (number + 1) ts b left others own fewer h rest (subst (λ m. AreBatchRows m b 0 left own) here last) in
+    (first, others ++ own, subst (λ k. AreBatchRows number t 0 k first) least is, later, ap (λ z. z ++ own) whole ∙ append_assoc first others own)
 
 -- ---- how many are left
 
@@ -131,35 +125,6 @@ rows_in (Some k) (dictionary_given id) rows h = tt
 rows_in (Some k) (batch_given b) rows h = omega (arith, h.0, h.1)
 rows_in (Some k) ended rows h = tt
 
--- of what the whole message adds it is a beginning
-last_longer : (rows : ℕ) (schema : Option SchemaShape) (number : ℕ) (g : Given) → AreRowsIn g rows → (later : List ℕ) × (last_in rows schema number g ++ later ≡ text_in schema number g)
-last_longer rows schema number schema_given h = ([], append-nil _)
-last_longer rows schema number (dictionary_given id) h = ([], refl)
-last_longer rows schema number (batch_given b) h = (batch_rows number b rows b.rows, rows_join number b rows b.rows 0 (omega arith) h)
-last_longer rows schema number ended h = ([], refl)
-
-rows_chosen : (choice : Choice) (g : Given) (rows : ℕ) → AreRowsIn g rows → AreRowsIn (chosen_given choice g) rows
-rows_chosen None g rows h = h
-rows_chosen (Some names) schema_given rows h = h
-rows_chosen (Some names) (dictionary_given id) rows h = h
-rows_chosen (Some names) (batch_given b) rows h = h
-rows_chosen (Some names) ended rows h = h
-
--- what was not sent to its end of a beginning, was not of the whole
-cut_longer : (f : ToolFault) (a c : Option (List ℕ)) (n k : ℕ) (s t : List ℕ) → SendsText a n s (Err f) c k → SendsText a n (s ++ t) (Err f) c k
-cut_longer (Input x) a c n k s t sent = absurd sent
-cut_longer (Refused what kind) a c n k s t sent = absurd sent
-cut_longer (Stream x) a c n k s t sent = absurd sent
-cut_longer Output a c n k s t sent = (begun_longer a c s t sent.0, sent.1)
-cut_longer Memory a c n k s t sent = (begun_longer a c s t sent.0, sent.1)
-
-pub last_cut : (choice : Choice) (f : ToolFault) (a c : Option (List ℕ)) (n k rows : ℕ) (schema : Option SchemaShape) (number : ℕ) (h : Given) → AreRowsIn h rows → SendsText a n (last_in rows schema number (chosen_given choice h)) (Err f) c k
-    → SendsText a n (text_in schema number (chosen_given choice h)) (Err f) c k
-last_cut choice f a c n k rows schema number h within sent =
-    let g = chosen_given choice h in
-    let longer = last_longer rows schema number g (rows_chosen choice h rows within) in
-    subst (λ t. SendsText a n t (Err f) c k) longer.1 (cut_longer f a c n k (last_in rows schema number g) longer.0 sent)
-
 -- with it all are there
 pub last_there : (n : ℕ) (left : Option ℕ) (rows : ℕ) {l : LimitNumbers} {b : List ℕ} (es : List Entry) (x : Entry) {f : Standing} → FrontOf l b (es ++ x ∷ []) f → AreLeft n left es → HasLast left x.given rows
     → HaveFirst n f.state.schema (es ++ x ∷ [])
@@ -175,19 +140,19 @@ last_there n (Some k) rows es x new a last =
     by (batch_given b) h = omega (arith, h.1)
     by ended h = absurd h
 
--- the text with so many of the last message's rows
+-- a text with so many of the last message's rows
 abbrev IsLastText : Choice → ℕ → ℕ → List Entry → Entry → Standing → Standing → Type 0
-IsLastText choice n rows es x e f =
-    first_chosen choice n f.state.schema (tables_of (es ++ x ∷ [])) ≡ chosen_text choice e.state.schema (tables_of es) ++ last_in rows (chosen_schema choice f.state.schema) (length (tables_of es)) (chosen_given choice x.given)
+IsLastText choice n rows es x e f = (text added : List ℕ) → IsChosenText choice e.state.schema (tables_of es) text
+    → IsLastIn rows (chosen_schema choice f.state.schema) (length (tables_of es)) (chosen_given choice x.given) added → IsFirstChosen choice n f.state.schema (tables_of (es ++ x ∷ [])) (text ++ added)
 
 -- a schema's message has no rows
-last_schema : (choice : Choice) (rows : ℕ) (schema : Option SchemaShape) (number : ℕ) → text_in schema number (chosen_given choice schema_given) ≡ last_in rows schema number (chosen_given choice schema_given)
-last_schema None rows schema number = refl
-last_schema (Some names) rows schema number = refl
+last_schema : (choice : Choice) (rows : ℕ) (schema : Option SchemaShape) (number : ℕ) (text : List ℕ) → IsLastIn rows schema number (chosen_given choice schema_given) text → IsTextIn schema number (chosen_given choice schema_given) text
+last_schema None rows schema number text is = is
+last_schema (Some names) rows schema number text is = is
 
-last_batch : (choice : Choice) (rows : ℕ) (schema : Option SchemaShape) (number : ℕ) (t : Table) → batch_rows number (chosen choice t) 0 rows ≡ last_in rows schema number (chosen_given choice (batch_given t))
-last_batch None rows schema number t = refl
-last_batch (Some names) rows schema number t = refl
+last_batch : (choice : Choice) (rows : ℕ) (schema : Option SchemaShape) (number : ℕ) (t : Table) (text : List ℕ) → IsLastIn rows schema number (chosen_given choice (batch_given t)) text → AreBatchRows number (chosen choice t) 0 rows text
+last_batch None rows schema number t text is = is
+last_batch (Some names) rows schema number t text is = is
 
 tables_in : (choice : Choice) (t : Table) → chosen_tables choice (table_in (batch_given t)) ≡ chosen choice t ∷ []
 tables_in None t = refl
@@ -200,26 +165,25 @@ last_text choice n None rows c es x old o new a last = absurd a
 last_text choice n (Some k) rows {l} {b} c es {e} {f} x old o new a last = by x.given refl last
   where
     behind : (t : Table) → x.given ≡ batch_given t → rows ≡ k → k ≤ t.rows → (shape : SchemaShape) → e.state.schema ≡ Some shape → IsLastText choice n rows es x e f
-    behind t is r h shape s =
+    behind t is r h shape s text added told own =
         let keep = front_keeps (front_behind c old o new).behind shape s in
         let ts = tables_of es in
         let seen = chosen_tables choice ts in
-        let head = header_record (chosen_shape choice shape).fields in
-        let own = batch_rows (length ts) (chosen choice t) 0 k in
-        let count : 0 + length seen ≡ length ts = omega (arith, chosen_length choice ts) in
+        let shown = chosen_shape choice shape in
+        let now : chosen_schema choice f.state.schema ≡ Some shown = ap (chosen_schema choice) keep.schema ∙ shape_shown choice shape in
+        let count : length ts ≡ 0 + length seen = omega (arith, chosen_length choice ts) in
         let wanted : n ≡ rows_of seen + k = omega (arith, a.0, chosen_rows choice ts) in
         let within : k ≤ (chosen choice t).rows = omega (arith, h, chosen_one choice t) in
-        let schema = chosen_schema choice f.state.schema in
-        let tables : chosen_tables choice (tables_of (es ++ x ∷ [])) ≡ seen ++ chosen choice t ∷ [] =
-        ap (chosen_tables choice) (one_table es x ∙ ap (λ g. ts ++ table_in g) is) ∙ chosen_join choice ts (table_in (batch_given t)) ∙ ap (λ us. seen ++ us) (tables_in choice t) in
-        let texts : first_rows n 0 (chosen_tables choice (tables_of (es ++ x ∷ []))) ≡ batches_text 0 seen ++ own =
-        ap (first_rows n 0) tables ∙ first_then n 0 seen (chosen choice t) k wanted within ∙ ap (λ m. batches_text 0 seen ++ batch_rows m (chosen choice t) 0 k) count in
-        ap (λ s. first_text n s (chosen_tables choice (tables_of (es ++ x ∷ [])))) (ap (chosen_schema choice) keep.schema ∙ shape_shown choice shape)
-        ∙ ap (λ y. head ++ y) texts ∙ sym (append_assoc head (batches_text 0 seen) own)
-        ∙ ap (λ s. stream_text s seen ++ own) (sym (ap (chosen_schema choice) s ∙ shape_shown choice shape))
-        ∙ ap (λ m. chosen_text choice e.state.schema ts ++ batch_rows (length ts) (chosen choice t) 0 m) (sym r)
-        ∙ ap (λ z. chosen_text choice e.state.schema ts ++ z) (last_batch choice rows schema (length ts) t)
-        ∙ ap (λ g. chosen_text choice e.state.schema ts ++ last_in rows schema (length ts) (chosen_given choice g)) (sym is)
+        let before : IsStreamText (Some shown) seen text = subst (λ z. IsStreamText z seen text) (ap (chosen_schema choice) s ∙ shape_shown choice shape) told in
+        let batch = last_batch choice rows (chosen_schema choice f.state.schema) (length ts) t added
+        (subst (λ g. IsLastIn rows (chosen_schema choice f.state.schema) (length ts) (chosen_given choice g) added) is own) in
+        let its : AreBatchRows (0 + length seen) (chosen choice t) 0 k added = subst (λ m. AreBatchRows m (chosen choice t) 0 k added) count (subst (λ m. AreBatchRows (length ts) (chosen choice t) 0 m added) r batch) in
+        let tables : seen ++ chosen choice t ∷ [] ≡ chosen_tables choice (tables_of (es ++ x ∷ [])) =
+        sym (ap (chosen_tables choice) (one_table es x ∙ ap (λ g. ts ++ table_in g) is) ∙ chosen_join choice ts (table_in (batch_given t)) ∙ ap (λ us. seen ++ us) (tables_in choice t)) in
+        let all = subst (λ us. AreFirstRows n 0 us (before.0 ++ added)) tables (first_then n 0 seen (chosen choice t) k before.0 added wanted within before.1 its) in
+        let whole : IsFirstText n (Some shown) (chosen_tables choice (tables_of (es ++ x ∷ []))) (text ++ added) =
+        (before.0 ++ added, all, ap (λ z. z ++ added) before.2 ∙ append_assoc (header_record shown.fields) before.0 added) in
+        subst (λ z. IsFirstText n z (chosen_tables choice (tables_of (es ++ x ∷ []))) (text ++ added)) (sym now) whole
 
     schema_before : (t : Table) → x.given ≡ batch_given t → (s : Option SchemaShape) → e.state.schema ≡ s → (fs : List Entry) → es ≡ fs → (shape : SchemaShape) × (e.state.schema ≡ Some shape)
     schema_before t is (Some shape) s fs q = (shape, s)
@@ -227,30 +191,24 @@ last_text choice n (Some k) rows {l} {b} c es {e} {f} x old o new a last = by x.
     schema_before t is None s (y ∷ ys) q = let w = front_begins old refl (λ z. let p : y ∷ ys ≡ [] = sym q ∙ z in cc) in let z : Some w.shape ≡ None = sym w.schema ∙ s in absurd (cc)
 
     by : (g : Given) → x.given ≡ g → HasLast (Some k) g rows → IsLastText choice n rows es x e f
-    by schema_given is h =
+    by schema_given is h text added told own =
         let total = rows_more es x ∙ ap (λ g. rows_of (tables_of es) + rows_of (table_in g)) is in
         let within : rows_of (tables_of (es ++ x ∷ [])) ≤ n = omega (arith, total, a.0) in
         let schema = chosen_schema choice f.state.schema in
         let number = length (tables_of es) in
-        let before = chosen_text choice e.state.schema (tables_of es) in
-        first_chosen_all choice n f.state.schema (tables_of (es ++ x ∷ [])) within ∙ text_grows choice c x old o new
-        ∙ ap (λ g. before ++ text_in schema number (chosen_given choice g)) is ∙ ap (λ z. before ++ z) (last_schema choice rows schema number)
-        ∙ ap (λ g. before ++ last_in rows schema number (chosen_given choice g)) (sym is)
-    by (dictionary_given id) is h = absurd h
-    by (batch_given t) is h = let w = schema_before t is e.state.schema refl es refl in behind t is h.0 h.1 w.0 w.1
-    by ended is h = absurd h
+        let header = last_schema choice rows schema number added (subst (λ g. IsLastIn rows schema number (chosen_given choice g) added) is own) in
+        let its : IsTextIn schema number (chosen_given choice x.given) added = subst (λ g. IsTextIn schema number (chosen_given choice g) added) (sym is) header in
+        first_chosen_all choice n f.state.schema (tables_of (es ++ x ∷ [])) (text ++ added) within (text_grows choice c x old o new text added told its)
+    by (dictionary_given id) is h text added told own = absurd h
+    by (batch_given t) is h text added told own = let w = schema_before t is e.state.schema refl es refl in behind t is h.0 h.1 w.0 w.1 text added told own
+    by ended is h text added told own = absurd h
 
 -- ---- of reports of rows alone
 
 pub rows_text : (report : Report) → AreRows report → (schema : Option SchemaShape) (es : List Entry) (text : List ℕ) → IsTextOf report schema es text
-    → HaveChosen (choice_of report) schema × (text ≡ chosen_text (choice_of report) schema (tables_of es))
+    → HaveChosen (choice_of report) schema × IsChosenText (choice_of report) schema (tables_of es) text
 rows_text (Rows choice) e schema es text is = is
 rows_text Messages e schema es text is = absurd e
-
-pub rows_added : (report : Report) → AreRows report → (schema : Option SchemaShape) (place number : ℕ) (g : Given) → IsChosenAt (choice_of report) schema g
-    → IsAdded report schema place number g (text_in (chosen_schema (choice_of report) schema) number (chosen_given (choice_of report) g))
-rows_added (Rows choice) e schema place number g has = (has, refl)
-rows_added Messages e schema place number g has = absurd e
 
 -- a number of rows is wanted of them alone
 pub rows_alone : {P : Type 0} (left : Option ℕ) (g : Given) (rows : ℕ) → HasLast left g rows → (left ≡ None) ⊎ P → P

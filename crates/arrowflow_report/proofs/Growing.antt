@@ -5,31 +5,31 @@ use Rattle.arrow_types.specs.Limits.{LimitNumbers}
 use Rattle.arrow_types.specs.Notes.{SchemaShape}
 use Rattle.arrow_data.specs.Batch.{Table}
 use Rattle.arrow_csv.specs.Named.{Choice, chosen, chosen_schema, chosen_shape, chosen_tables}
-use Rattle.arrow_csv.specs.Records.{batch_rows, batches_text, header_record, stream_text}
+use Rattle.arrow_csv.specs.Records.{AreBatches, IsStreamText, header_record}
 use Rattle.arrow_stream_reader.specs.declared.reader.Verdict.TheVariants.{Open}
 use Rattle.arrow_stream_reader.specs.Front.{Entry, Standing, FrontOf}
 use Rattle.arrow_stream_reader.specs.State.{Given, schema_given, dictionary_given, batch_given, ended}
 use Rattle.arrow_stream_reader.specs.Tables.{table_in, tables_of}
-use Rattle.arrowflow_report.specs.Chosen.{HaveChosen, IsChosenAt, chosen_given, chosen_text}
-use Rattle.arrowflow_report.specs.Shown.{TextGrows, text_in}
+use Rattle.arrowflow_report.specs.Chosen.{HaveChosen, IsChosenAt, chosen_given, IsChosenText}
+use Rattle.arrowflow_report.specs.Shown.{IsTextIn, TextGrows}
 use Rattle.arrowflow_report.proofs.Feeding.{tables-append}
 use Rattle.arrowflow_report.proofs.Schemas.{front_begins, front_behind, front_keeps}
 
--- the records of two parts of the batches are those of all
-pub batches_join : (n : ℕ) (ts us : List Table) → batches_text n (ts ++ us) ≡ batches_text n ts ++ batches_text (n + length ts) us
-batches_join n [] us = let e : n ≡ n + 0 = omega arith in ap (λ k. batches_text k us) e
-batches_join n (t ∷ ts) us =
-    let e : n + 1 + length ts ≡ n + suc (length ts) = omega arith in
-    let first = batch_rows n t 0 t.rows in
-    ap (λ x. first ++ x) (batches_join (n + 1) ts us ∙ ap (λ k. batches_text (n + 1) ts ++ batches_text k us) e)
-    ∙ sym (append_assoc first (batches_text (n + 1) ts) (batches_text (n + suc (length ts)) us))
+-- records of two parts of the batches are those of all
+pub batches_join : (n : ℕ) (ts us : List Table) (first second : List ℕ) → AreBatches n ts first → AreBatches (n + length ts) us second → AreBatches n (ts ++ us) (first ++ second)
+batches_join n [] us first second none h =
+    let e : n + 0 ≡ n = omega arith in
+    subst (λ t. AreBatches n us (t ++ second)) (sym none) (subst (λ k. AreBatches k us second) e h)
+batches_join n (t ∷ ts) us first second (own, others, is, rest, whole) h =
+    let e : n + suc (length ts) ≡ n + 1 + length ts = omega arith in
+    (own, others ++ second, is, batches_join (n + 1) ts us others second rest (subst (λ k. AreBatches k us second) e h), ap (λ t. t ++ second) whole ∙ append_assoc own others second)
 
 -- what a message behind the schema adds
-given_text : (schema : SchemaShape) (n : ℕ) (g : Given) → (g ≡ schema_given → ⊥) → batches_text n (table_in g) ≡ text_in (Some schema) n g
-given_text schema n schema_given h = absurd (h refl)
-given_text schema n (dictionary_given id) h = refl
-given_text schema n (batch_given b) h = append-nil (batch_rows n b 0 b.rows)
-given_text schema n ended h = refl
+given_text : (schema : SchemaShape) (n : ℕ) (g : Given) (added : List ℕ) → (g ≡ schema_given → ⊥) → IsTextIn (Some schema) n g added → AreBatches n (table_in g) added
+given_text schema n schema_given added h is = absurd (h refl)
+given_text schema n (dictionary_given id) added h is = is
+given_text schema n (batch_given b) added h is = (added, [], is, refl, sym (append-nil added))
+given_text schema n ended added h is = is
 
 same_rest : (es : List Entry) (x : Entry) (more : List Entry) → es ++ x ∷ [] ≡ es ++ more → x ∷ [] ≡ more
 same_rest [] x more q = q
@@ -80,9 +80,13 @@ shape_shown None shape = refl
 shape_shown (Some names) shape = refl
 
 -- before the schema nothing is shown, and nothing lacks
-pub text_before : (choice : Choice) (ts : List Table) → chosen_text choice None ts ≡ []
-text_before None ts = refl
-text_before (Some names) ts = refl
+pub text_before : (choice : Choice) (ts : List Table) (text : List ℕ) → IsChosenText choice None ts text → text ≡ []
+text_before None ts text is = is
+text_before (Some names) ts text is = is
+
+pub nothing_before : (choice : Choice) (ts : List Table) → IsChosenText choice None ts []
+nothing_before None ts = refl
+nothing_before (Some names) ts = refl
 
 pub have_before : (choice : Choice) → HaveChosen choice None
 have_before None = tt
@@ -90,8 +94,8 @@ have_before (Some names) = tt
 
 -- a message behind an open front adds its text
 abbrev pub Grows : Choice → List Entry → Entry → Standing → Standing → Type 0
-Grows choice es x e f =
-    chosen_text choice f.state.schema (tables_of (es ++ x ∷ [])) ≡ chosen_text choice e.state.schema (tables_of es) ++ text_in (chosen_schema choice f.state.schema) (length (tables_of es)) (chosen_given choice x.given)
+Grows choice es x e f = (text added : List ℕ) → IsChosenText choice e.state.schema (tables_of es) text
+    → IsTextIn (chosen_schema choice f.state.schema) (length (tables_of es)) (chosen_given choice x.given) added → IsChosenText choice f.state.schema (tables_of (es ++ x ∷ [])) (text ++ added)
 
 pub text_grows : (choice : Choice) {l : LimitNumbers} {b : List ℕ} (c : List ℕ) {es : List Entry} {e f : Standing} (x : Entry) → FrontOf l b es e → e.verdict ≡ Open → FrontOf l (b ++ c) (es ++ x ∷ []) f → Grows choice es x e f
 text_grows choice {l} {b} c {es} {e} {f} x old o new = by e.state.schema refl
@@ -100,7 +104,7 @@ text_grows choice {l} {b} c {es} {e} {f} x old o new = by e.state.schema refl
     g = chosen_given choice x.given
 
     behind_schema : (shape : SchemaShape) → e.state.schema ≡ Some shape → Grows choice es x e f
-    behind_schema shape k =
+    behind_schema shape k text added is own =
         let w = front_behind c old o new in
         let keep = front_keeps w.behind shape k in
         let other = (subst (λ more. AllByRecursion (λ (y : Entry). y.given ≡ schema_given → ⊥) more) (sym (same_rest es x w.more w.joined)) keep.others).0 in
@@ -108,35 +112,35 @@ text_grows choice {l} {b} c {es} {e} {f} x old o new = by e.state.schema refl
         let seen = chosen_tables choice ts in
         let one = chosen_tables choice (table_in x.given) in
         let shown = chosen_shape choice shape in
-        let head = header_record shown.fields in
         let n = length ts in
-        let added = text_in (Some shown) n g in
-        let count : 0 + length seen ≡ n = omega (arith, chosen_length choice ts) in
-        let texts : batches_text 0 (chosen_tables choice (tables_of (es ++ x ∷ []))) ≡ batches_text 0 seen ++ added =
-        ap (λ us. batches_text 0 (chosen_tables choice us)) (one_table es x) ∙ ap (batches_text 0) (chosen_join choice ts (table_in x.given))
-        ∙ batches_join 0 seen one ∙ ap (λ m. batches_text 0 seen ++ batches_text m one) count
-        ∙ ap (λ us. batches_text 0 seen ++ batches_text n us) (chosen_in choice x.given)
-        ∙ ap (λ t. batches_text 0 seen ++ t) (given_text shown n g (λ z. other (no_schema choice x.given z))) in
-        ap (λ s. chosen_text choice s (tables_of (es ++ x ∷ []))) keep.schema ∙ ap (λ s. stream_text s (chosen_tables choice (tables_of (es ++ x ∷ [])))) (shape_shown choice shape)
-        ∙ ap (λ t. head ++ t) texts ∙ sym (append_assoc head (batches_text 0 seen) added)
-        ∙ ap (λ s. stream_text s seen ++ added) (sym (shape_shown choice shape)) ∙ ap (λ s. chosen_text choice s ts ++ added) (sym k)
-        ∙ ap (λ s. chosen_text choice e.state.schema ts ++ text_in s n g) (sym (ap (chosen_schema choice) keep.schema ∙ shape_shown choice shape))
+        let count : n ≡ 0 + length seen = omega (arith, chosen_length choice ts) in
+        let before : IsStreamText (Some shown) seen text = subst (λ s. IsStreamText s seen text) (ap (chosen_schema choice) k ∙ shape_shown choice shape) is in
+        let now : chosen_schema choice f.state.schema ≡ Some shown = ap (chosen_schema choice) keep.schema ∙ shape_shown choice shape in
+        let batch = given_text shown n g added (λ z. other (no_schema choice x.given z)) (subst (λ s. IsTextIn s n g added) now own) in
+        let there : AreBatches (0 + length seen) one added = subst (λ m. AreBatches m one added) count (subst (λ us. AreBatches n us added) (sym (chosen_in choice x.given)) batch) in
+        let tables : seen ++ one ≡ chosen_tables choice (tables_of (es ++ x ∷ [])) = sym (chosen_join choice ts (table_in x.given)) ∙ ap (chosen_tables choice) (sym (one_table es x)) in
+        let all = subst (λ us. AreBatches 0 us (before.0 ++ added)) tables (batches_join 0 seen one before.0 added before.1 there) in
+        let whole : IsStreamText (Some shown) (chosen_tables choice (tables_of (es ++ x ∷ []))) (text ++ added) =
+        (before.0 ++ added, all, ap (λ t. t ++ added) before.2 ∙ append_assoc (header_record shown.fields) before.0 added) in
+        subst (λ s. IsStreamText s (chosen_tables choice (tables_of (es ++ x ∷ []))) (text ++ added)) (sym now) whole
 
     before_schema : (es : List Entry) → e.state.schema ≡ None → FrontOf l b es e → FrontOf l (b ++ c) (es ++ x ∷ []) f → Grows choice es x e f
-    before_schema [] k old new =
+    before_schema [] k old new text added is own =
         let w = front_begins new refl (λ q. cc) in
         let first : w.first ≡ x = let q = w.joined in cc in
-        let is : x.given ≡ schema_given = ap (λ (y : Entry). y.given) (sym first) ∙ w.given in
-        let none : table_in x.given ++ [] ≡ [] = ap (λ h. table_in h ++ []) is in
+        let given : x.given ≡ schema_given = ap (λ (y : Entry). y.given) (sym first) ∙ w.given in
+        let none : [] ≡ table_in x.given ++ [] = ap (λ h. table_in h ++ []) (sym given) in
         let shown = chosen_shape choice w.shape in
         let head = header_record shown.fields in
         let schema : chosen_schema choice f.state.schema ≡ Some shown = ap (chosen_schema choice) w.schema ∙ shape_shown choice w.shape in
-        let nothing : chosen_text choice e.state.schema [] ≡ [] = ap (λ s. chosen_text choice s []) k ∙ text_before choice [] in
-        ap (λ s. stream_text s (chosen_tables choice (table_in x.given ++ []))) schema
-        ∙ ap (λ ts. head ++ batches_text 0 ts) (ap (chosen_tables choice) none ∙ no_tables choice) ∙ append-nil head
-        ∙ ap (λ h. text_in (Some shown) 0 h) (sym (ap (chosen_given choice) is ∙ given_schema choice)) ∙ ap (λ s. text_in s 0 g) (sym schema)
-        ∙ ap (λ t. t ++ text_in (chosen_schema choice f.state.schema) 0 g) (sym nothing)
-    before_schema (y ∷ ys) k old new = let w = front_begins old refl (λ q. cc) in let q : Some w.shape ≡ None = sym w.schema ∙ k in absurd (cc)
+        let nothing : text ≡ [] = text_before choice [] text (subst (λ s. IsChosenText choice s [] text) k is) in
+        let header : IsTextIn (Some shown) 0 schema_given added =
+        subst (λ h. IsTextIn (Some shown) 0 h added) (ap (chosen_given choice) given ∙ given_schema choice) (subst (λ s. IsTextIn s 0 g added) schema own) in
+        let both : text ++ added ≡ head ++ [] = ap (λ t. t ++ added) nothing ∙ header ∙ sym (append-nil head) in
+        let whole : IsStreamText (Some shown) [] (text ++ added) = ([], refl, both) in
+        subst (λ s. IsStreamText s (chosen_tables choice (table_in x.given ++ [])) (text ++ added)) (sym schema)
+        (subst (λ ts. IsStreamText (Some shown) ts (text ++ added)) (sym (no_tables choice) ∙ ap (chosen_tables choice) none) whole)
+    before_schema (y ∷ ys) k old new text added is own = let w = front_begins old refl (λ q. cc) in let q : Some w.shape ≡ None = sym w.schema ∙ k in absurd (cc)
 
     by : (s : Option SchemaShape) → e.state.schema ≡ s → Grows choice es x e f
     by None k = before_schema es k old new
@@ -160,4 +164,4 @@ have_next choice {l} {b} c {es} {e} {f} x old o new had has = by e.state.schema 
 
 -- the same for all fronts, as the law says it
 pub text_grows_law : TextGrows
-text_grows_law limits bytes more entries x e f old o new = text_grows None more x old o new
+text_grows_law limits bytes more entries x e f text added old o new = text_grows None more x old o new text added

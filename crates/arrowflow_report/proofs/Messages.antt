@@ -12,11 +12,11 @@ use Rattle.arrow_stream_reader.specs.Stream.{ReaderView, ReaderStands}
 use Rattle.arrow_stream_reader.specs.Tables.{table_in, tables_of}
 use Rattle.arrow_stream_reader.specs.Views.{given}
 use Rattle.arrow_sink.specs.Sinks.{AcceptsBeginning}
-use Rattle.arrowflow_report.specs.Chosen.{AreRows, IsChosenAt, LacksAt, LacksColumn, choice_of, chosen_given, chosen_text}
+use Rattle.arrowflow_report.specs.Chosen.{AreRows, IsChosenAt, LacksAt, LacksColumn, IsChosenText, choice_of, chosen_given}
 use Rattle.arrowflow_report.specs.Columns.{BeginWithout, LacksInput}
 use Rattle.arrowflow_report.specs.Consumer.{Comes, HasEnded, IsEndedBy, entry_of}
 use Rattle.arrowflow_report.specs.Driver.{CallForMore, Driven, EndBadly, FailToRead, WantMemory}
-use Rattle.arrowflow_report.specs.FirstRows.{AreLeft, HasLast, HasMore, IsFirstTold, IsShortAt, ShowsFirst, ShowsFirstOf, last_in, left_behind, rows_of}
+use Rattle.arrowflow_report.specs.FirstRows.{AreLeft, HasLast, HasMore, IsFirstTold, IsLastIn, IsShortAt, ShowsFirst, ShowsFirstOf, left_behind, rows_of}
 use Rattle.arrowflow_report.specs.Reads.{IsReadWhile}
 use Rattle.arrowflow_report.specs.Reports.{EndsBadly, EndsWell, IsAdded, IsBegun, IsEnding, IsLast, IsOpenAt, IsTextOf, IsTold, IsWritten, Reports, ReportsInput, SendsSome, SendsText}
 use Rattle.arrowflow_report.specs.SchemaCall.{AreNoMessage}
@@ -31,7 +31,7 @@ use Rattle.arrowflow_report.proofs.First.{one_entry, state_stays}
 use Rattle.arrowflow_report.proofs.FirstReported.{first_longer, begun_so, ending_cut, ending_told, first_badly, first_enough_flushed, first_input, first_memory, flushed_by}
 use Rattle.arrowflow_report.proofs.FirstRows.{none_last, not_there, rows_text, stays_all}
 use Rattle.arrowflow_report.proofs.FirstTold.{first_cut, first_enough, first_last_cut, first_left}
-use Rattle.arrowflow_report.proofs.Growing.{have_before, text_before}
+use Rattle.arrowflow_report.proofs.Growing.{have_before, nothing_before, text_before}
 use Rattle.arrowflow_report.proofs.Lacking.{lack_waits, lacks_rows, lacks_schema, none_before}
 use Rattle.arrowflow_report.proofs.Reporting.{cut_begun, flushed, more_begun, more_written, written}
 use Rattle.arrowflow_report.proofs.Sent.{begun_all, begun_behind}
@@ -83,7 +83,7 @@ module _ {S : Type 0} (contents : S → Option (List ℕ)) (failed : S → ℕ) 
         let rows = lacks_rows c.report new.at.state.schema column schema.1 in
         let none = none_before es (entry_of item t n) comes.gives.stands.front schema.0 in
         let text = (rows_text c.report rows old.at.state.schema es x.text x.is).1 in
-        let nothing : x.text ≡ [] = text ∙ ap (λ (s : StreamState). chosen_text choice s.schema (tables_of es)) (state_stays comes.before.front none) ∙ text_before choice (tables_of es) in
+        let nothing : x.text ≡ [] = text_before choice (tables_of es) x.text (subst (λ (s : StreamState). IsChosenText choice s.schema (tables_of es) x.text) (state_stays comes.before.front none) text) in
         let opens = one_entry comes.gives.stands.front refl (entry_of item t n) (ap (λ fs. fs ++ entry_of item t n ∷ []) none) in
         let joined : t ++ piece ≡ (t ++ take n piece) ++ drop n piece = ap (λ y. t ++ y) (sym (take-append-drop n piece)) ∙ sym (append_assoc t (take n piece) (drop n piece)) in
         let begins : BeginWithout choice new.limits (t ++ piece) column =
@@ -97,7 +97,7 @@ module _ {S : Type 0} (contents : S → Option (List ℕ)) (failed : S → ℕ) 
 
     -- it has the last row that is wanted: its rows were sent, and the output was flushed
     pub message_enough : (rows : ℕ) → HasLast c.left (given item) rows → IsChosenAt (choice_of c.report) new.at.state.schema (given item) → (held' : Option (List ℕ)) (failed' : ℕ)
-        → SendsText (contents c.output) (failed c.output) (last_in rows (chosen_schema (choice_of c.report) new.at.state.schema) c.number (chosen_given (choice_of c.report) (given item))) (Ok tt) held' failed'
+        → SendsSome (IsLastIn rows (chosen_schema (choice_of c.report) new.at.state.schema) c.number (chosen_given (choice_of c.report) (given item))) (contents c.output) (failed c.output) (Ok tt) held' failed'
         → (c' : Teller S) → c'.report ≡ c.report → c'.lacks ≡ c.lacks → (answer : Result (Unit {0}) ToolFault) → SendsText held' failed' [] answer (contents c'.output) (failed c'.output) → OnOk answer (is_passed_on c'.output) → (left : Option (List ℕ))
         → TellsSo contents failed is_passed_on began c' answer new (t ++ piece) left
     message_enough rows last has held' failed' sent c' same lacks answer flush passed left =
@@ -106,12 +106,12 @@ module _ {S : Type 0} (contents : S → Option (List ℕ)) (failed : S → ℕ) 
         by : (wanted : Option ℕ) → LeftAre wanted c.left c.report es → ShowsSo wanted c.report new.limits (t ++ piece) left began.first began.failures answer (contents c'.output) (failed c'.output)
         by None none = absurd (none_last c.left (given item) rows last none)
         by (Some k) wants =
-            let enough = first_enough k c.report wants.0 began.first (contents c.output) c.number c.left old new t piece (first_told k wants.1) n item comes.is_open comes.limits comes.gives rows last has held' sent.0 in
-            first_enough_flushed (choice_of c.report) k new.limits t piece left began.first held' began.failures (failed c.output) failed' new refl x.failures_are enough sent.1 (contents c'.output) (failed c'.output) answer flush
+            let enough = first_enough k c.report wants.0 began.first (contents c.output) c.number c.left old new t piece (first_told k wants.1) n item comes.is_open comes.limits comes.gives rows last has sent.0 sent.1 held' sent.2.0 in
+            first_enough_flushed (choice_of c.report) k new.limits t piece left began.first held' began.failures (failed c.output) failed' new refl x.failures_are enough sent.2.1 (contents c'.output) (failed c'.output) answer flush
 
     -- or they were not sent to their end
     pub message_cut : (rows : ℕ) → HasLast c.left (given item) rows → IsChosenAt (choice_of c.report) new.at.state.schema (given item) → (c' : Teller S) → c'.report ≡ c.report → c'.lacks ≡ c.lacks → (f : ToolFault)
-        → SendsText (contents c.output) (failed c.output) (last_in rows (chosen_schema (choice_of c.report) new.at.state.schema) c.number (chosen_given (choice_of c.report) (given item))) (Err f) (contents c'.output) (failed c'.output)
+        → SendsSome (IsLastIn rows (chosen_schema (choice_of c.report) new.at.state.schema) c.number (chosen_given (choice_of c.report) (given item))) (contents c.output) (failed c.output) (Err f) (contents c'.output) (failed c'.output)
         → (left : Option (List ℕ)) → TellsSo contents failed is_passed_on began c' (Err f) new (t ++ piece) left
     message_cut rows last has c' same lacks f sent left =
         answered c c' new (t ++ piece) left (Err f) x.report_is (lacks ∙ x.lacks_none) (by began.rows x.left_are) tt
@@ -119,10 +119,10 @@ module _ {S : Type 0} (contents : S → Option (List ℕ)) (failed : S → ℕ) 
         by : (wanted : Option ℕ) → LeftAre wanted c.left c.report es → ShowsSo wanted c.report new.limits (t ++ piece) left began.first began.failures (Err f) (contents c'.output) (failed c'.output)
         by None none = absurd (none_last c.left (given item) rows last none)
         by (Some k) wants =
-            let begun = λ (h : AcceptsBeginning (contents c.output) (contents c'.output) (last_in rows (chosen_schema (choice_of c.report) new.at.state.schema) c.number (chosen_given (choice_of c.report) (given item)))).
+            let begun = λ (h : AcceptsBeginning (contents c.output) (contents c'.output) sent.0).
             begun_so (choice_of c.report) k new.limits t piece left began.first (contents c'.output) began.failures (failed c.output) (failed c'.output) new refl x.failures_are
-            (first_last_cut k c.report wants.0 began.first (contents c.output) c.number c.left old new t piece (first_told k wants.1) n item comes.is_open comes.limits comes.gives rows last has (contents c'.output) h) in
-            cut_short (last_in rows (chosen_schema (choice_of c.report) new.at.state.schema) c.number (chosen_given (choice_of c.report) (given item))) (contents c.output) (contents c'.output) (failed c.output) (failed c'.output) f sent
+            (first_last_cut k c.report wants.0 began.first (contents c.output) c.number c.left old new t piece (first_told k wants.1) n item comes.is_open comes.limits comes.gives rows last has sent.0 sent.1 (contents c'.output) h) in
+            cut_short sent.0 (contents c.output) (contents c'.output) (failed c.output) (failed c'.output) f sent.2
             (λ h w. subst (λ g. ShowsFirst (choice_of c.report) k new.limits (t ++ piece) left began.first began.failures (Err g) (contents c'.output) (failed c'.output)) (sym w.1) (begun h, w.0 ∙ ap (λ m. m + 1) x.failures_are))
             (λ h w. subst (λ g. ShowsFirst (choice_of c.report) k new.limits (t ++ piece) left began.first began.failures (Err g) (contents c'.output) (failed c'.output)) (sym w.1) (begun h, w.0 ∙ x.failures_are))
 
@@ -283,7 +283,7 @@ module _ {S : Type 0} (contents : S → Option (List ℕ)) (failed : S → ℕ) 
     where
       by : (p : Report) → IsTextOf p None [] []
       by Messages = refl
-      by (Rows chosen) = (have_before (choice_by chosen), sym (text_before (choice_by chosen) []))
+      by (Rows chosen) = (have_before (choice_by chosen), nothing_before (choice_by chosen) [])
 
       rows_by : (n : ℕ) → ((c.left ≡ None) ⊎ AreRows c.report) → c.left ≡ Some n → AreRows c.report
       rows_by n (inl all) some = let q = sym all ∙ some in absurd (cc)

@@ -1,41 +1,25 @@
 -- Texts that are sent one behind the other.
-use Rattle.std.proofs.Common.{◌≡◌, ◌≤◌, ◌+◌, ◌-◌, ℕ, zero, suc, List, [], ◌++◌, length, take, Option, Err, refl, sym, ap, ◌∙◌, subst, arith, append_assoc}
-use Rattle.std.specs.List.{flat_map, range_with_len}
+use Rattle.std.proofs.Common.{◌≡◌, ◌≤◌, ◌+◌, ◌-◌, ℕ, List, [], ◌++◌, length, take, Option, Err, refl, sym, ap, ◌∙◌, subst, arith}
 use Rattle.std.specs.Io.KnownBytes.{Appends}
 use Rattle.std.proofs.KnownBytes.{Appends-nil, Appends-trans}
 use Rattle.std.proofs.Math.Seq.{take-append-add}
 use Rattle.std.proofs.lemmas.List.{length-append, take-append-le, take_all}
 use Rattle.arrow_data.specs.Batch.{Table}
 use Rattle.arrow_csv.specs.Named.{choice_by, chosen_schema}
-use Rattle.arrow_csv.specs.Records.{batch_rows, row_record}
-use Rattle.arrow_csv.proofs.Written.{rows_next}
+use Rattle.arrow_csv.specs.Records.{AreBatchRows}
+use Rattle.arrow_csv.proofs.Some.{rows_join, some_rows}
 use Rattle.arrow_sink.specs.Sinks.{AcceptsBeginning}
-use Rattle.arrow_stream_reader.specs.State.{StreamState, Given}
+use Rattle.arrow_stream_reader.specs.State.{StreamState, Given, schema_given, dictionary_given, batch_given, ended}
 use Rattle.arrow_types.specs.Notes.{SchemaShape}
 use Rattle.arrowflow_report.specs.Chosen.{IsChosenAt, choice_of, chosen_given}
+use Rattle.arrowflow_report.specs.FirstRows.{IsLastIn}
 use Rattle.arrowflow_report.specs.Lines.{message_line}
 use Rattle.arrowflow_report.specs.Reports.{IsAdded, SendsText}
-use Rattle.arrowflow_report.specs.Shown.{text_in}
+use Rattle.arrowflow_report.specs.Shown.{IsTextIn, header_in}
 use Rattle.arrowflow_report.specs.declared.report.Report.{Report}
 use Rattle.arrowflow_report.specs.declared.report.Report.TheVariants.{Messages, Rows}
 use Rattle.arrowflow_report.specs.declared.tool_fault.ToolFault.{ToolFault}
 use Rattle.arrowflow_report.specs.declared.tool_fault.ToolFault.TheVariants.{Input, Output, Stream, Refused, Memory}
-
--- the rows of two ranges, one behind the other
-pub rows_join : (number : ℕ) (batch : Table) (mid end i : ℕ) → i ≤ mid → mid ≤ end → batch_rows number batch i mid ++ batch_rows number batch mid end ≡ batch_rows number batch i end
-rows_join number batch mid end i low high = by (mid - i) i refl low
-  where
-    by : (k i : ℕ) → mid - i ≡ k → i ≤ mid → batch_rows number batch i mid ++ batch_rows number batch mid end ≡ batch_rows number batch i end
-    by zero i e low =
-        let same : mid ≡ i = omega (arith, e) in
-        ap (λ m. flat_map (row_record number batch) (range_with_len i m) ++ batch_rows number batch mid end) e ∙ ap (λ j. batch_rows number batch j end) same
-    by (suc k) i e low =
-        let row = row_record number batch i in
-        let next : mid - (i + 1) ≡ k = omega (arith, e) in
-        ap (λ x. x ++ batch_rows number batch mid end) (rows_next number batch.columns i mid (omega (arith, e)))
-        ∙ append_assoc row (batch_rows number batch (i + 1) mid) (batch_rows number batch mid end)
-        ∙ ap (λ x. row ++ x) (by k (i + 1) next (omega (arith, e)))
-        ∙ sym (rows_next number batch.columns i end (omega (arith, e)))
 
 -- all of a text is a beginning of it
 pub begun_all : (a b : Option (List ℕ)) (text : List ℕ) → Appends a b text → AcceptsBeginning a b text
@@ -54,19 +38,43 @@ begun_behind a b c s t h (n, within, g) =
 pub begun_longer : (a b : Option (List ℕ)) (s t : List ℕ) → AcceptsBeginning a b s → AcceptsBeginning a b (s ++ t)
 begun_longer a b s t (n, within, g) = (n, omega (arith, within, length-append s t), subst (Appends a b) (sym (take-append-le n s t within)) g)
 
--- a text was not sent to its end: behind one that was sent, and before one that was not
-pub cut_between : (f : ToolFault) (a b c : Option (List ℕ)) (n m k : ℕ) (s t u whole : List ℕ) → Appends a b s → m ≡ n → s ++ t ++ u ≡ whole → SendsText b m t (Err f) c k → SendsText a n whole (Err f) c k
-cut_between (Input x) a b c n m k s t u whole h same e sent = sent
-cut_between (Refused what kind) a b c n m k s t u whole h same e sent = sent
-cut_between (Stream x) a b c n m k s t u whole h same e sent = sent
-cut_between Output a b c n m k s t u whole h same e sent =
-    (subst (AcceptsBeginning a c) e (begun_longer a c (s ++ t) u (begun_behind a b c s t h sent.0)), sent.1 ∙ ap (λ j. j + 1) same)
-cut_between Memory a b c n m k s t u whole h same e sent =
-    (subst (AcceptsBeginning a c) e (begun_longer a c (s ++ t) u (begun_behind a b c s t h sent.0)), sent.1 ∙ same)
+-- ---- that there are texts
 
--- each message has a text
+-- records of the first rows of a batch go on to those of more
+pub rows_go_on : (number : ℕ) (batch : Table) (mid end : ℕ) (text : List ℕ) → mid ≤ end → AreBatchRows number batch 0 mid text → (rest : List ℕ) × AreBatchRows number batch 0 end (text ++ rest)
+rows_go_on number batch mid end text within told =
+    let rest = some_rows number batch.columns mid (end - mid) in
+    (rest.0, rows_join number batch 0 mid end text rest.0 (omega arith) within told rest.1)
+
+-- each message adds a text to the rows
+pub some_in : (schema : Option SchemaShape) (number : ℕ) (given : Given) → (text : List ℕ) × IsTextIn schema number given text
+some_in schema number schema_given = (header_in schema, refl)
+some_in schema number (dictionary_given id) = ([], refl)
+some_in schema number (batch_given batch) = some_rows number batch.columns 0 (batch.rows - 0)
+some_in schema number ended = ([], refl)
+
+-- so it does with some of its rows
+pub some_last : (rows : ℕ) (schema : Option SchemaShape) (number : ℕ) (given : Given) → (text : List ℕ) × IsLastIn rows schema number given text
+some_last rows schema number schema_given = (header_in schema, refl)
+some_last rows schema number (dictionary_given id) = ([], refl)
+some_last rows schema number (batch_given batch) = some_rows number batch.columns 0 (rows - 0)
+some_last rows schema number ended = ([], refl)
+
+-- and to what is told, be it rows or lines
 pub some_added : (report : Report) (schema : Option SchemaShape) (place number : ℕ) (given : Given) → IsChosenAt (choice_of report) schema given → (text : List ℕ) × IsAdded report schema place number given text
 some_added Messages schema place number given has =
     let state : StreamState = record { schema = schema; dictionaries = [] } in
     (message_line place number state given, (state, refl, refl))
-some_added (Rows chosen) schema place number given has = (text_in (chosen_schema (choice_by chosen) schema) number (chosen_given (choice_by chosen) given), (has, refl))
+some_added (Rows chosen) schema place number given has =
+    let text = some_in (chosen_schema (choice_by chosen) schema) number (chosen_given (choice_by chosen) given) in
+    (text.0, (has, text.1))
+
+-- ---- texts that were not sent to their end
+
+-- a text behind others was not: the others were sent, and some rows are told that go on with it
+pub cut_behind : (f : ToolFault) (a b c : Option (List ℕ)) (n m k : ℕ) (s t u : List ℕ) → Appends a b s → m ≡ n → SendsText b m t (Err f) c k → SendsText a n ((s ++ t) ++ u) (Err f) c k
+cut_behind (Input x) a b c n m k s t u h same sent = sent
+cut_behind (Refused what kind) a b c n m k s t u h same sent = sent
+cut_behind (Stream x) a b c n m k s t u h same sent = sent
+cut_behind Output a b c n m k s t u h same sent = (begun_longer a c (s ++ t) u (begun_behind a b c s t h sent.0), sent.1 ∙ ap (λ j. j + 1) same)
+cut_behind Memory a b c n m k s t u h same sent = (begun_longer a c (s ++ t) u (begun_behind a b c s t h sent.0), sent.1 ∙ same)

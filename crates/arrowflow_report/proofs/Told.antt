@@ -11,11 +11,11 @@ use Rattle.arrow_stream_reader.specs.declared.reader.Verdict.TheVariants.{Open}
 use Rattle.arrow_stream_reader.specs.Front.{Entry, Standing, FrontOf}
 use Rattle.arrow_stream_reader.specs.Stream.{ReaderView, GivesNext}
 use Rattle.arrow_stream_reader.specs.Views.{given}
-use Rattle.arrowflow_report.specs.Chosen.{chosen_given, chosen_text}
+use Rattle.arrowflow_report.specs.Chosen.{chosen_given}
 use Rattle.arrowflow_report.specs.Lines.{IsLine}
 use Rattle.arrowflow_report.specs.Reports.{IsTextOf, IsAdded, IsTold, IsCutOff}
 use Rattle.arrow_stream_reader.specs.Tables.{table_in, tables_of}
-use Rattle.arrowflow_report.specs.Shown.{text_in}
+use Rattle.arrowflow_report.specs.Shown.{IsTextIn}
 use Rattle.arrowflow_report.specs.declared.report.Report.{Report}
 use Rattle.arrowflow_report.specs.declared.report.Report.TheVariants.{Messages, Rows}
 use Rattle.arrowflow_report.proofs.Growing.{have_next, one_table, text_grows}
@@ -32,11 +32,9 @@ text_more Messages c {es} {e} {f} x number text added old o new k is more =
     lines_more f.state.schema 0 0 es x text added (lines_kept c x text es old o new is)
     (subst (λ m. IsLine f.state.schema (end_of 0 es) m x.given added) count (subst (λ p. IsLine f.state.schema p number x.given added) (front_end old) more))
 text_more (Rows chosen) c {es} {e} {f} x number text added old o new k is more =
-    let choice = choice_by chosen in (
-      have_next choice c x old o new is.0 more.0,
-      ap (λ y. y ++ added) is.1 ∙ ap (λ y. chosen_text choice e.state.schema (tables_of es) ++ y) (more.1 ∙ ap (λ m. text_in (chosen_schema choice f.state.schema) m (chosen_given choice x.given)) k)
-          ∙ sym (text_grows choice c x old o new),
-    )
+    let choice = choice_by chosen in
+    let own = subst (λ m. IsTextIn (chosen_schema choice f.state.schema) m (chosen_given choice x.given) added) k more.1 in
+    (have_next choice c x old o new is.0 more.0, text_grows choice c x old o new text added is.1 own)
 
 module _ (report : Report) (first held : Option (List ℕ)) (number : ℕ) (now new : ReaderView) (u rest : List ℕ) (es : List Entry) (n : ℕ) (item : Item) (is_open : now.at.verdict ≡ Open) (limits : new.limits ≡ now.limits)
     (x : IsTold report first held number now u es) (gives : GivesNext rest n item new u es) (added : List ℕ) (is_added : IsAdded report new.at.state.schema now.at.place number (given item) added) where

@@ -3,7 +3,7 @@ use Rattle.std.specs.Prelude.{◌≡◌, ℕ, List, Option, None, Some, ⊤}
 use Rattle.arrow_types.specs.Notes.{SchemaShape}
 use Rattle.arrow_data.specs.Batch.{Table}
 use Rattle.arrow_csv.specs.Named.{Choice, HasChosen, choice_by, chosen, chosen_schema, chosen_tables, lacking}
-use Rattle.arrow_csv.specs.Records.{stream_text}
+use Rattle.arrow_csv.specs.Records.{IsStreamText}
 use Rattle.arrow_stream_reader.specs.State.{Given, schema_given, dictionary_given, batch_given, ended}
 use Rattle.arrowflow_report.specs.declared.report.Report.{Report}
 use Rattle.arrowflow_report.specs.declared.report.Report.TheVariants.{Messages, Rows}
@@ -52,6 +52,6 @@ chosen_given (Some names) (dictionary_given id) = dictionary_given id
 chosen_given (Some names) (batch_given batch) = batch_given (chosen (Some names) batch)
 chosen_given (Some names) ended = ended
 
--- the records of a stream with the chosen columns alone
-abbrev pub chosen_text : Choice → Option SchemaShape → List Table → List ℕ
-chosen_text choice schema batches = stream_text (chosen_schema choice schema) (chosen_tables choice batches)
+-- records of a stream with the chosen columns alone
+abbrev pub IsChosenText : Choice → Option SchemaShape → List Table → List ℕ → Type 0
+IsChosenText choice schema batches text = IsStreamText (chosen_schema choice schema) (chosen_tables choice batches) text

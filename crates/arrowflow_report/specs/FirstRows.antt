@@ -5,7 +5,7 @@ use Rattle.arrow_types.specs.Limits.{LimitNumbers}
 use Rattle.arrow_types.specs.Notes.{SchemaShape}
 use Rattle.arrow_data.specs.Batch.{Table}
 use Rattle.arrow_csv.specs.Named.{Choice, chosen_schema, chosen_tables}
-use Rattle.arrow_csv.specs.Records.{batch_rows, header_record}
+use Rattle.arrow_csv.specs.Records.{AreBatchRows, header_record}
 use Rattle.arrow_sink.specs.Sinks.{AcceptsBeginning}
 use Rattle.arrow_stream_reader.specs.declared.reader.Verdict.TheVariants.{Open}
 use Rattle.arrow_stream_reader.specs.Front.{Entry, Standing, FrontOf}
@@ -25,19 +25,20 @@ abbrev pub rows_of : List Table → ℕ
 rows_of [] = 0
 rows_of (batch ∷ batches) = batch.rows + rows_of batches
 
--- the records of the first n rows of batches, the first of which has this number
-abbrev pub first_rows : ℕ → ℕ → List Table → List ℕ
-first_rows n number [] = []
-first_rows n number (batch ∷ batches) = batch_rows number batch 0 (min n batch.rows) ++ first_rows (n - batch.rows) (number + 1) batches
+-- records of the first n rows of batches, the first of which has this number
+abbrev pub AreFirstRows : ℕ → ℕ → List Table → List ℕ → Type 0
+AreFirstRows n number [] text = text ≡ []
+AreFirstRows n number (batch ∷ batches) text =
+    (first : List ℕ) × (others : List ℕ) × AreBatchRows number batch 0 (min n batch.rows) first × AreFirstRows (n - batch.rows) (number + 1) batches others × (text ≡ first ++ others)
 
--- the records of a stream: those of its schema and of its first n rows, none without a schema
-abbrev pub first_text : ℕ → Option SchemaShape → List Table → List ℕ
-first_text n None batches = []
-first_text n (Some shape) batches = header_record shape.fields ++ first_rows n 0 batches
+-- records of a stream: those of its schema and of its first n rows, none without a schema
+abbrev pub IsFirstText : ℕ → Option SchemaShape → List Table → List ℕ → Type 0
+IsFirstText n None batches text = text ≡ []
+IsFirstText n (Some shape) batches text = (records : List ℕ) × AreFirstRows n 0 batches records × (text ≡ header_record shape.fields ++ records)
 
 -- the same with the chosen columns alone
-abbrev pub first_chosen : Choice → ℕ → Option SchemaShape → List Table → List ℕ
-first_chosen choice n schema batches = first_text n (chosen_schema choice schema) (chosen_tables choice batches)
+abbrev pub IsFirstChosen : Choice → ℕ → Option SchemaShape → List Table → List ℕ → Type 0
+IsFirstChosen choice n schema batches text = IsFirstText n (chosen_schema choice schema) (chosen_tables choice batches) text
 
 -- n rows stand there, behind their schema
 abbrev pub HaveFirst : ℕ → Option SchemaShape → List Entry → Type 0
@@ -48,7 +49,9 @@ pub record IsFirstWritten (choice : Choice) (n : ℕ) (limits : LimitNumbers) (b
   pub entries : List Entry
   pub front : FrontOf limits bytes entries e
   pub has : HaveChosen choice e.state.schema
-  pub wrote : Appends before after (first_chosen choice n e.state.schema (tables_of entries))
+  pub text : List ℕ
+  pub is : IsFirstChosen choice n e.state.schema (tables_of entries) text
+  pub wrote : Appends before after text
 
 -- the same of bytes in which they are not all there
 pub record IsShortOf (choice : Choice) (n : ℕ) (limits : LimitNumbers) (bytes : List ℕ) (e : Standing) (before after : Option (List ℕ)) : Type 0 where
@@ -73,7 +76,9 @@ pub record IsFirstBegun (choice : Choice) (n : ℕ) (limits : LimitNumbers) (byt
   pub entries : List Entry
   pub front : FrontOf limits taken entries standing
   pub has : HaveChosen choice standing.state.schema
-  pub wrote : AcceptsBeginning before after (first_chosen choice n standing.state.schema (tables_of entries))
+  pub text : List ℕ
+  pub is : IsFirstChosen choice n standing.state.schema (tables_of entries) text
+  pub wrote : AcceptsBeginning before after text
 
 -- What was written of the first n rows, and why the call ended, when these bytes were read of an input of which this is
 -- left. It ends well once they are there, whatever comes behind them, and where the stream ends well with fewer.
@@ -126,11 +131,11 @@ AreRowsIn (batch_given batch) rows = rows ≤ batch.rows
 AreRowsIn ended rows = ⊤
 
 -- what a message adds to the text with so many of its rows
-abbrev pub last_in : ℕ → Option SchemaShape → ℕ → Given → List ℕ
-last_in rows schema number schema_given = header_in schema
-last_in rows schema number (dictionary_given id) = []
-last_in rows schema number (batch_given batch) = batch_rows number batch 0 rows
-last_in rows schema number ended = []
+abbrev pub IsLastIn : ℕ → Option SchemaShape → ℕ → Given → List ℕ → Type 0
+IsLastIn rows schema number schema_given text = text ≡ header_in schema
+IsLastIn rows schema number (dictionary_given id) text = text ≡ []
+IsLastIn rows schema number (batch_given batch) text = AreBatchRows number batch 0 rows text
+IsLastIn rows schema number ended text = text ≡ []
 
 -- how many rows are still wanted behind so many more
 abbrev pub left_behind : Option ℕ → ℕ → Option ℕ
@@ -157,7 +162,9 @@ pub record IsEnoughTold (choice : Choice) (n : ℕ) (first held : Option (List �
   pub stands : ReaderStands r (t ++ taken) entries
   pub there : HaveFirst n r.at.state.schema entries
   pub has : HaveChosen choice r.at.state.schema
-  pub wrote : Appends first held (first_chosen choice n r.at.state.schema (tables_of entries))
+  pub text : List ℕ
+  pub is : IsFirstChosen choice n r.at.state.schema (tables_of entries) text
+  pub wrote : Appends first held text
 
 -- the same, and a beginning of these rows stands there
 pub record IsFirstCut (choice : Choice) (n : ℕ) (first held : Option (List ℕ)) (r : ReaderView) (t bytes : List ℕ) : Type 0 where
@@ -167,4 +174,6 @@ pub record IsFirstCut (choice : Choice) (n : ℕ) (first held : Option (List ℕ
   pub entries : List Entry
   pub stands : ReaderStands r (t ++ taken) entries
   pub has : HaveChosen choice r.at.state.schema
-  pub wrote : AcceptsBeginning first held (first_chosen choice n r.at.state.schema (tables_of entries))
+  pub text : List ℕ
+  pub is : IsFirstChosen choice n r.at.state.schema (tables_of entries) text
+  pub wrote : AcceptsBeginning first held text

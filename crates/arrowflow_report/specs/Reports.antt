@@ -15,25 +15,25 @@ use Rattle.arrow_stream_reader.specs.State.{Given}
 use Rattle.arrow_stream_reader.specs.Stream.{ReaderView, ReaderStands, ended_so}
 use Rattle.arrowflow_report.specs.Reads.{IsReadWhile}
 use Rattle.arrow_stream_reader.specs.Tables.{tables_of}
-use Rattle.arrowflow_report.specs.Chosen.{HaveChosen, IsChosenAt, chosen_given, chosen_text}
+use Rattle.arrowflow_report.specs.Chosen.{HaveChosen, IsChosenAt, IsChosenText, chosen_given}
 use Rattle.arrowflow_report.specs.Lines.{AreLines, IsLine, end_line}
-use Rattle.arrowflow_report.specs.Shown.{text_in}
+use Rattle.arrowflow_report.specs.Shown.{IsTextIn}
 use Rattle.arrowflow_report.specs.declared.report.Report.{Report}
 use Rattle.arrowflow_report.specs.declared.report.Report.TheVariants.{Messages, Rows}
 use Rattle.arrowflow_report.specs.declared.tool_fault.ToolFault.{ToolFault}
 use Rattle.arrowflow_report.specs.declared.tool_fault.ToolFault.TheVariants.{Input, Output, Stream, Refused, Memory}
 
--- the text of a stream's messages by the schema that they left: their lines, or the records of their rows, of which there
--- are none where the schema lacks a column that is chosen
+-- a text of a stream's messages by the schema that they left: their lines, or records of their rows, of which there are
+-- none where the schema lacks a column that is chosen
 abbrev pub IsTextOf : Report → Option SchemaShape → List Entry → List ℕ → Type 0
 IsTextOf Messages schema entries text = AreLines schema 0 0 entries text
-IsTextOf (Rows choice) schema entries text = HaveChosen (choice_by choice) schema × (text ≡ chosen_text (choice_by choice) schema (tables_of entries))
+IsTextOf (Rows choice) schema entries text = HaveChosen (choice_by choice) schema × IsChosenText (choice_by choice) schema (tables_of entries) text
 
 -- what one message adds to it that begins at this place, behind so many batches
 abbrev pub IsAdded : Report → Option SchemaShape → ℕ → ℕ → Given → List ℕ → Type 0
 IsAdded Messages schema place number given text = IsLine schema place number given text
 IsAdded (Rows choice) schema place number given text =
-    IsChosenAt (choice_by choice) schema given × (text ≡ text_in (chosen_schema (choice_by choice) schema) number (chosen_given (choice_by choice) given))
+    IsChosenAt (choice_by choice) schema given × IsTextIn (chosen_schema (choice_by choice) schema) number (chosen_given (choice_by choice) given) text
 
 -- what stands behind the text of the messages where the input ends at this place: a line, nothing behind rows
 abbrev pub IsEnding : Report → ℕ → List ℕ → Type 0

@@ -2,7 +2,7 @@
 use Rattle.std.specs.Prelude.{◌≡◌, ℕ, List, [], ◌∷◌, ◌++◌, length, Option, None, Some}
 use Rattle.arrow_types.specs.Limits.{LimitNumbers}
 use Rattle.arrow_types.specs.Notes.{SchemaShape}
-use Rattle.arrow_csv.specs.Records.{batch_rows, header_record, stream_text}
+use Rattle.arrow_csv.specs.Records.{AreBatchRows, IsStreamText, header_record}
 use Rattle.arrow_stream_reader.specs.declared.reader.Verdict.TheVariants.{Open}
 use Rattle.arrow_stream_reader.specs.Front.{Entry, Standing, FrontOf}
 use Rattle.arrow_stream_reader.specs.State.{Given, schema_given, dictionary_given, batch_given, ended}
@@ -14,18 +14,18 @@ header_in None = []
 header_in (Some shape) = header_record shape.fields
 
 -- what a message adds to the text behind so many batches
-abbrev pub text_in : Option SchemaShape → ℕ → Given → List ℕ
-text_in schema number schema_given = header_in schema
-text_in schema number (dictionary_given id) = []
-text_in schema number (batch_given batch) = batch_rows number batch 0 batch.rows
-text_in schema number ended = []
+abbrev pub IsTextIn : Option SchemaShape → ℕ → Given → List ℕ → Type 0
+IsTextIn schema number schema_given text = text ≡ header_in schema
+IsTextIn schema number (dictionary_given id) text = text ≡ []
+IsTextIn schema number (batch_given batch) text = AreBatchRows number batch 0 batch.rows text
+IsTextIn schema number ended text = text ≡ []
 
--- the text of the messages at a front
-abbrev pub text_at : List Entry → Standing → List ℕ
-text_at entries e = stream_text e.state.schema (tables_of entries)
+-- a text of the messages at a front
+abbrev pub IsTextAt : List Entry → Standing → List ℕ → Type 0
+IsTextAt entries e text = IsStreamText e.state.schema (tables_of entries) text
 
--- A law: with one message more at the front of a stream its text is the one before, and behind it what the message adds.
+-- A law: with one message more at the front of a stream a text is one of before, and after it what the message adds.
 abbrev pub TextGrows : Type 0
-TextGrows = (limits : LimitNumbers) (bytes more : List ℕ) (entries : List Entry) (x : Entry) (e f : Standing)
+TextGrows = (limits : LimitNumbers) (bytes more : List ℕ) (entries : List Entry) (x : Entry) (e f : Standing) (text added : List ℕ)
     → FrontOf limits bytes entries e → e.verdict ≡ Open → FrontOf limits (bytes ++ more) (entries ++ x ∷ []) f
-    → text_at (entries ++ x ∷ []) f ≡ text_at entries e ++ text_in f.state.schema (length (tables_of entries)) x.given
+    → IsTextAt entries e text → IsTextIn f.state.schema (length (tables_of entries)) x.given added → IsTextAt (entries ++ x ∷ []) f (text ++ added)

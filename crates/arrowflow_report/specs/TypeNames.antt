@@ -2,11 +2,13 @@
 -- project's own.)
 use Rattle.std.specs.Prelude.{ℕ, Bool, true, false, if◌then◌else◌, List, [], ◌++◌, Option, Some, None, codes}
 use Rattle.std.specs.Fmt.{decimal, signed_decimal}
-use Rattle.arrow_types.specs.DataType.{Tag, null, boolean, int, binary, large_binary, fixed_size_binary, utf8, large_utf8, date, time, timestamp, duration, list, large_list, struct}
+use Rattle.arrow_types.specs.DataType.{Tag, null, boolean, int, floating_point, binary, large_binary, fixed_size_binary, utf8, large_utf8, date, time, timestamp, duration, list, large_list, struct}
 use Rattle.arrow_types.specs.declared.data_type.BitWidth.{BitWidth}
 use Rattle.arrow_types.specs.declared.data_type.BitWidth.TheVariants.{Eight, Sixteen, ThirtyTwo, SixtyFour}
 use Rattle.arrow_types.specs.declared.data_type.DateUnit.{DateUnit}
 use Rattle.arrow_types.specs.declared.data_type.DateUnit.TheVariants as dates
+use Rattle.arrow_types.specs.declared.data_type.Precision.{Precision}
+use Rattle.arrow_types.specs.declared.data_type.Precision.TheVariants.{Half, Single, Double}
 use Rattle.arrow_types.specs.declared.data_type.TimeUnit.{TimeUnit}
 use Rattle.arrow_types.specs.declared.data_type.TimeUnit.TheVariants as times
 use Rattle.arrow_types.specs.declared.field.Encoding.{Encoding}
@@ -22,6 +24,12 @@ int_name Eight false = codes "uint8"
 int_name Sixteen false = codes "uint16"
 int_name ThirtyTwo false = codes "uint32"
 int_name SixtyFour false = codes "uint64"
+
+-- a floating-point type by its precision
+abbrev pub float_name : Precision → List ℕ
+float_name Half = codes "halffloat"
+float_name Single = codes "float"
+float_name Double = codes "double"
 
 -- a date's type by its unit
 abbrev pub date_name : DateUnit → List ℕ
@@ -45,6 +53,7 @@ abbrev pub type_name : Tag → List ℕ
 type_name null = codes "null"
 type_name boolean = codes "bool"
 type_name (int bits signed) = int_name bits signed
+type_name (floating_point precision) = float_name precision
 type_name binary = codes "binary"
 type_name large_binary = codes "large_binary"
 type_name (fixed_size_binary width) = codes "fixed_size_binary[" ++ decimal width ++ codes "]"

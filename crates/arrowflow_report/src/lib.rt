@@ -17,10 +17,10 @@
 //! | what is received of bytes | `specs/Session.antt`: `Receives`; `specs/Pieces.antt`: `Feeds` |
 //! | the text of a schema | `specs/SchemaText.antt`: `schema_lines`; `specs/TypeNames.antt`; `specs/Escapes.antt` |
 //! | what an input answers with it | `specs/SchemaCall.antt`: `AnswersInput` |
-//! | what is written of a stream, and how that ends | `specs/Reports.antt`: `ReportsInput`; `specs/OfFront.antt`: `IsBegunOf`; `specs/Shown.antt`: `text_at` |
+//! | what is written of a stream, and how that ends | `specs/Reports.antt`: `ReportsInput`; `specs/OfFront.antt`: `IsBegunOf`; `specs/Shown.antt`: `IsTextAt` |
 //! | what a check that writes nothing says of an input | `specs/Quiet.antt`: `ChecksInput` |
-//! | the first rows of a stream | `specs/FirstRows.antt`: `ShowsFirstOf`, `first_text` |
-//! | columns chosen by their names | `specs/Columns.antt`: `ShowsColumns`, `LacksInput`; `specs/Chosen.antt`: `chosen_text` |
+//! | the first rows of a stream | `specs/FirstRows.antt`: `ShowsFirstOf`, `IsFirstText` |
+//! | columns chosen by their names | `specs/Columns.antt`: `ShowsColumns`, `LacksInput`; `specs/Chosen.antt`: `IsChosenText` |
 //! | the lines of messages | `specs/Lines.antt`: `message_line`, `AreLines` |
 //! | how far an input is read | `specs/Reads.antt`: `IsReadWhile` |
 //! | what is said of a fault | `specs/Faults.antt`: `fault_line`, `status_of` |

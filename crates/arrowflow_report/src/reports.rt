@@ -70,8 +70,9 @@ pub fn check_quietly<R: Read>(
 ///
 /// A record of the word `batch` and the names of the columns comes first, then one for each row:
 /// the number of its batch, counted from 0, and the texts of its values, with indices looked up
-/// (`arrow_csv`). Rows are written as their batches come, so that memory is bounded by a message,
-/// whatever the stream's length.
+/// (`arrow_csv`); of a floating-point number it is one that reads back as this number. Rows are
+/// written as their batches come, so that memory is bounded by a message, whatever the stream's
+/// length.
 ///
 /// The input is read in pieces of 65,536 bytes up to an end marker, or to its end; the output is
 /// flushed once, before `Ok`. `Stream` where the stream is refused, or where it ends without being

@@ -1,8 +1,8 @@
 //! Texts on their way to an output.
 
 ghost use Rattle.std.specs.Prelude.{◌<◌, ◌≤◌, ◌-◌, ◌^◌, [], OnOk};
-ghost use Rattle.arrow_csv.specs.Records.{batch_rows};
-ghost use Rattle.arrowflow_report.specs.Reports.{SendsText};
+ghost use Rattle.arrow_csv.specs.Records.{AreBatchRows};
+ghost use Rattle.arrowflow_report.specs.Reports.{SendsSome, SendsText};
 
 use crate::tool_fault::ToolFault;
 use arrow_csv::BatchRows;
@@ -31,8 +31,8 @@ pub(crate) fn send_rows<S: Sink>(
 ) -> Result<(), ToolFault>
     requires failed { S.failed output.old < 2 ^ 64 - 1 }
     requires within { end ≤ rows.now.batch.rows }
-    ensures { SendsText (S.contents output.old) (S.failed output.old)
-        (batch_rows rows.now.number rows.now.batch 0 end) result (S.contents output.new)
+    ensures { SendsSome (AreBatchRows rows.now.number rows.now.batch 0 end)
+        (S.contents output.old) (S.failed output.old) result (S.contents output.new)
         (S.failed output.new) }
 {
     let mut start = 0;

@@ -7,11 +7,11 @@ ghost use Rattle.arrow_stream_reader.specs.Tables.{table_in};
 ghost use Rattle.arrow_csv.specs.Named.{choice_by, chosen_schema};
 ghost use Rattle.arrowflow_report.specs.Chosen.{IsChosenAt, LacksAt, choice_of, chosen_given};
 ghost use Rattle.arrowflow_report.specs.Consumer.{Ends, Takes};
-ghost use Rattle.arrowflow_report.specs.FirstRows.{AreRowsIn, HasLast, HasMore};
-ghost use Rattle.arrowflow_report.specs.FirstRows.{last_in, left_behind, rows_of};
+ghost use Rattle.arrowflow_report.specs.FirstRows.{AreRowsIn, HasLast, HasMore, IsLastIn};
+ghost use Rattle.arrowflow_report.specs.FirstRows.{left_behind, rows_of};
 ghost use Rattle.arrowflow_report.specs.Lines.{IsLine};
 ghost use Rattle.arrowflow_report.specs.Reports.{IsAdded, SendsText, SendsSome};
-ghost use Rattle.arrowflow_report.specs.Shown.{header_in, text_in};
+ghost use Rattle.arrowflow_report.specs.Shown.{IsTextIn, header_in};
 ghost use Rattle.arrowflow_report.specs.Telling.{AreCountsSame, HasTold, IsLastBy, IsTellerSame};
 ghost use Rattle.arrowflow_report.specs.Telling.{TellsSo};
 ghost use Rattle.arrowflow_report.specs.declared.consumer.Wants.TheVariants.{More};
@@ -193,9 +193,10 @@ impl<'a, S: Sink> Teller<'a, S> {
     ) -> Result<(), ToolFault>
         requires failed { S.failed self.old.output < 2 ^ 64 - 1 }
         requires within { AreRowsIn (given item.now) rows }
-        ensures sent { SendsText (S.contents self.old.output) (S.failed self.old.output)
-            (last_in rows (chosen_schema (choice_of self.old.report) reader.now.at.state.schema)
-            self.old.number (chosen_given (choice_of self.old.report) (given item.now))) result
+        ensures sent { SendsSome (IsLastIn rows
+            (chosen_schema (choice_of self.old.report) reader.now.at.state.schema) self.old.number
+            (chosen_given (choice_of self.old.report) (given item.now)))
+            (S.contents self.old.output) (S.failed self.old.output) result
             (S.contents self.new.output) (S.failed self.new.output) }
         ensures same { IsTellerSame self.old self.new }
     {
@@ -251,9 +252,10 @@ impl<'a, S: Sink> Teller<'a, S> {
         number: u64,
     ) -> Result<(), ToolFault>
         requires { S.failed self.old.output < 2 ^ 64 - 1 }
-        ensures sent { SendsText (S.contents self.old.output) (S.failed self.old.output)
-            (text_in (chosen_schema (choice_by choice.entry) message.entry.reader.now.at.state.schema)
-            number (chosen_given (choice_by choice.entry) (given message.entry.item.now))) result
+        ensures sent { SendsSome (IsTextIn
+            (chosen_schema (choice_by choice.entry) message.entry.reader.now.at.state.schema) number
+            (chosen_given (choice_by choice.entry) (given message.entry.item.now)))
+            (S.contents self.old.output) (S.failed self.old.output) result
             (S.contents self.new.output) (S.failed self.new.output) }
         ensures same { IsTellerSame self.old self.new }
         ensures counts { AreCountsSame self.old self.new }

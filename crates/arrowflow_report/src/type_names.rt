@@ -3,11 +3,11 @@
 ghost use Rattle.std.specs.Prelude.{◌≡◌, ◌++◌, OnOk, string_bytes, option_map};
 ghost use Rattle.arrow_types.specs.DataType.{duration, fixed_size_binary, time, timestamp};
 ghost use Rattle.arrow_types.specs.View.{type_view};
-ghost use Rattle.arrowflow_report.specs.TypeNames.{int_name, date_name, unit_name, type_name};
+ghost use Rattle.arrowflow_report.specs.TypeNames.{date_name, float_name, int_name, type_name, unit_name};
 ghost use Rattle.arrowflow_report.specs.TypeNames.{index_text, id_text, column_type};
 
 use crate::escapes::push_escaped;
-use arrow_types::{BitWidth, DataType, DateUnit, Encoding, TimeUnit};
+use arrow_types::{BitWidth, DataType, DateUnit, Encoding, Precision, TimeUnit};
 use std::alloc::AllocError;
 use std::fmt::Write;
 
@@ -62,6 +62,7 @@ fn push_type(line: &mut String, data_type: &DataType) -> Result<(), AllocError>
         DataType::Null => line.push_str("null"),
         DataType::Bool => line.push_str("bool"),
         DataType::Int { bits, signed } => line.push_str(int_name(*bits, *signed)),
+        DataType::FloatingPoint(precision) => line.push_str(float_name(*precision)),
         DataType::Binary => line.push_str("binary"),
         DataType::LargeBinary => line.push_str("large_binary"),
         DataType::FixedSizeBinary(width) => push_fixed_size(line, *width),
@@ -132,6 +133,16 @@ fn int_name(bits: BitWidth, signed: bool) -> &'static str
         (BitWidth::Sixteen, false) => "uint16",
         (BitWidth::ThirtyTwo, false) => "uint32",
         (BitWidth::SixtyFour, false) => "uint64",
+    }
+}
+
+fn float_name(precision: Precision) -> &'static str
+    ensures { result.now ≡ float_name precision }
+{
+    match precision {
+        Precision::Half => "halffloat",
+        Precision::Single => "float",
+        Precision::Double => "double",
     }
 }
 

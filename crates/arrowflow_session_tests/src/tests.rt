@@ -14,4 +14,5 @@ mod one_id;
 mod other_schemas;
 mod session;
 mod told;
+mod types;
 mod writers;

@@ -8,7 +8,7 @@ use arrow_builder::{ArrayBuilder, PushFault};
 use std::process::Abort;
 
 // The type of a column, and the values that are pushed; a `!` stands before one that does not fit.
-static PUSHES: [(&str, &str); 26] = [
+static PUSHES: [(&str, &str); 29] = [
     ("null", "null, !0, !false, !x, !'', ![ ], !{ }"),
     ("int8!", "1, null, !''"),
     ("bool", "true, null, !1, ![ ], false"),
@@ -29,6 +29,9 @@ static PUSHES: [(&str, &str); 26] = [
         "uint64",
         "18446744073709551615, !18446744073709551616, 0, !-1",
     ),
+    ("halffloat", "65535, !65536, 0, !-1, !'1'"),
+    ("float", "4294967295, !4294967296, null, !-1"),
+    ("double", "18446744073709551615, !18446744073709551616, !-1"),
     ("duration[s]", "-1, !9223372036854775808"),
     ("binary", "x0,255, !'a', ![ ], null, x, x7"),
     ("large_binary", "null, x1, !1"),

@@ -9,11 +9,13 @@ use std::process::Abort;
 const MEMORY: &str = "memory";
 
 // Columns, and their buffers; of children what they are of themselves.
-static COLUMNS: [&str; 17] = [
+static COLUMNS: [&str; 19] = [
     "null; 4 => nulls",
     "bool; 4; 251 / 249 => truths [251] [249]",
     "int32; 2; / i 1 2 => 4 signed bytes [] [1, 0, 0, 0, 2, 0, 0, 0]",
     "uint16; 2; 1 / 2 1 4 3 => 2 bytes [1] [2, 1, 4, 3]",
+    "halffloat; 2; 1 / 2 1 4 3 => 2 bytes [1] [2, 1, 4, 3]",
+    "double; 1; / l -2 => 8 bytes [] [254, 255, 255, 255, 255, 255, 255, 255]",
     "timestamp[s]; 1; / l -2 => 8 signed bytes [] [254, 255, 255, 255, 255, 255, 255, 255]",
     "utf8; 3; 5 / i 0 1 1 3 / 'abc??' => \
      small texts [5] [0, 0, 0, 0, 1, 0, 0, 0, 1, 0, 0, 0, 3, 0, 0, 0] [97, 98, 99, 63, 63]",

@@ -75,7 +75,7 @@ const NUMBERS: &str = "; 3; 253 / 241 242 243 244 245 246 247 248 9 10 11 12 13 
 
 // Types of numbers, and what three slots show, of which the second is null: how wide they are, and
 // whether they have a sign.
-static TYPES: [&str; 22] = [
+static TYPES: [&str; 25] = [
     "uint8 => 3: 241, null, 243",
     "int8 => 3: -15, null, -13",
     "uint16 => 3: 62193, null, 63221",
@@ -84,6 +84,9 @@ static TYPES: [&str; 22] = [
     "int32 => 3: -185339151, null, 202050057",
     "uint64 => 3: 17940079176890708721, null, 1735880461161533969",
     "int64 => 3: -506664896818842895, null, 1735880461161533969",
+    "halffloat => 3: 62193, null, 63221",
+    "float => 3: 4109628145, null, 202050057",
+    "double => 3: 17940079176890708721, null, 1735880461161533969",
     "date[day] => 3: -185339151, null, 202050057",
     "date[ms] => 3: -506664896818842895, null, 1735880461161533969",
     "time[s] => 3: -185339151, null, 202050057",

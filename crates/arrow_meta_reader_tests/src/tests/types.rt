@@ -2,7 +2,7 @@
 
 use super::reading::{MEMORY, told};
 use crate::vectors::LEVELS;
-use arrow_types::Limits;
+use arrow_types::{Limits, TypeSet};
 use std::process::Abort;
 
 const READ: [u8; 15] = [1, 2, 4, 5, 6, 8, 9, 10, 12, 13, 15, 18, 19, 20, 21];
@@ -24,5 +24,10 @@ fn codes_of_types(rt: HostRuntime) {
         };
         let (fault, _) = told(rt.alloc(), &column(&rt, code), &Limits::standard());
         assert_eq!(rt; fault, want, "{code}");
+        // FloatingPoint is in the set of all types
+        let want = if code == 3 { 9 } else { want };
+        let all = Limits::standard().with_types(TypeSet::All);
+        let (fault, _) = told(rt.alloc(), &column(&rt, code), &all);
+        assert_eq!(rt; fault, want, "{code} of all types");
     }
 }

@@ -1,6 +1,8 @@
 // Fields that are built of what stands in words.
 
-use arrow_types::{BitWidth, DataType, Encoding, Field, IndexType, Schema, SchemaFault, TimeUnit};
+use arrow_types::{
+    BitWidth, DataType, Encoding, Field, IndexType, Precision, Schema, SchemaFault, TimeUnit,
+};
 use std::process::Abort;
 
 pub(super) const MEMORY: &str = "memory";
@@ -59,6 +61,9 @@ fn data_type(rt: &(impl Abort + AllocGlobal), before: &mut Vec<Field>, word: &st
         "binary" => DataType::Binary,
         "large_binary" => DataType::LargeBinary,
         "fixed" => DataType::FixedSizeBinary(count_in(rt, more)),
+        "halffloat" => DataType::FloatingPoint(Precision::Half),
+        "float" => DataType::FloatingPoint(Precision::Single),
+        "double" => DataType::FloatingPoint(Precision::Double),
         "utf8" => DataType::Utf8,
         "large_utf8" => DataType::LargeUtf8,
         "time" => DataType::Time(unit_in(rt, more)),

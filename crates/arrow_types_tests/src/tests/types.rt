@@ -4,7 +4,9 @@ use super::fields::{MEMORY, add_empty, column, columns, number};
 use arrow_types::SchemaFault::{
     ByteWidth, Memory, NestedDictionary, SharedIdTypesDiffer, TooDeep, TooManyFields, TooManyPairs,
 };
-use arrow_types::{BitWidth, DateUnit, Field, Limits, Schema, SchemaFault, TimeUnit};
+use arrow_types::{
+    BitWidth, DateUnit, Field, Limits, Precision, Schema, SchemaFault, TimeUnit, TypeSet,
+};
 use std::process::Abort;
 
 // Ceilings of metadata, body and rows.
@@ -37,12 +39,54 @@ fn limits_keep_to_their_ceilings(rt: HostRuntime) {
 }
 
 #[test]
+fn a_set_of_types_changes_no_number(rt: HostRuntime) {
+    let small = Limits::new(1, 2, 3).expect(&rt, "limits");
+    for limits in [Limits::standard(), small] {
+        let all = limits.with_types(TypeSet::All);
+        assert!(rt; limits.types() == TypeSet::Core && all.types() == TypeSet::All);
+        assert!(rt; numbers(all) == numbers(limits));
+        assert!(rt; all.with_types(TypeSet::Core).types() == TypeSet::Core);
+    }
+}
+
+// Columns, and whether the core leaves the type of a field among them out.
+static LATE: [(&str, bool); 9] = [
+    ("", false),
+    (
+        "a:null b:bool c:fixed.4 d:time.s e:timestamp f:duration.ns",
+        false,
+    ),
+    (
+        "a:binary b:large_binary c:utf8 d:large_utf8 e:list f:large_list g:struct.2",
+        false,
+    ),
+    ("h:halffloat", true),
+    ("n:null f:float", true),
+    ("d:double n:null", true),
+    ("d@1:double", true),
+    ("d:double l:list l:large_list", true),
+    ("n:null d@1:double s:struct.2 n:null", true),
+];
+
+#[test]
+fn types_outside_of_a_set(rt: HostRuntime) {
+    for (words, late) in &LATE {
+        let fields = columns(&rt, words);
+        assert!(rt; TypeSet::Core.leaves_some_out(&fields) == *late, "{words}");
+        assert!(rt; !TypeSet::All.leaves_some_out(&fields), "{words}");
+    }
+}
+
+#[test]
 fn units_have_their_widths(rt: HostRuntime) {
     let widths = [
         (BitWidth::Eight, 8),
         (BitWidth::Sixteen, 16),
         (BitWidth::ThirtyTwo, 32),
         (BitWidth::SixtyFour, 64),
+        (Precision::Half.width(), 16),
+        (Precision::Single.width(), 32),
+        (Precision::Double.width(), 64),
         (DateUnit::Day.width(), 32),
         (DateUnit::Millisecond.width(), 64),
         (TimeUnit::Second.time_width(), 32),
@@ -164,7 +208,7 @@ fn children_of_lists_and_structs(rt: HostRuntime) {
 }
 
 const COPIED: &str = "k@1:utf8 z:timestamp.UTC i:time.s l:list d:duration.ns f:fixed.16 \
-    b:large_binary t:large_utf8 m:large_list n:large_list s:struct.6";
+    b:large_binary t:large_utf8 m:large_list n:large_list s:struct.6 d:double f:float";
 
 fn is_copied(rt: &(impl Abort + AllocGlobal), field: &Field) {
     assert!(rt; field.copy(rt.alloc()).expect(rt, MEMORY) == *field);
@@ -180,7 +224,7 @@ fn copies_are_equal(rt: HostRuntime) {
     }
     let copy = schema.copy(rt.alloc()).expect(&rt, MEMORY);
     assert!(rt; copy == schema);
-    assert!(rt; has_ids(&copy, &[1], 2));
+    assert!(rt; has_ids(&copy, &[1], 4));
 }
 
 // Fields that each differ from `k@0:timestamp.UTC`, and whether their type is the same.
@@ -216,7 +260,8 @@ fn equality_reads_everything(rt: HostRuntime) {
 
 // Types of which no two are the same; then lists of each width of offsets, of two items.
 const APART: &str = "c:binary c:large_binary c:fixed.0 c:fixed.3 c:fixed.4 c:utf8 c:large_utf8 \
-    c:time.s c:duration.s c:duration.ms c:duration.us c:duration.ns c:struct.0 c:null";
+    c:time.s c:duration.s c:duration.ms c:duration.us c:duration.ns c:struct.0 c:null \
+    c:halffloat c:float c:double";
 
 const LISTS: &str =
     "t:utf8 l:list t:utf8 l:large_list t:large_utf8 l:list t:large_utf8 l:large_list";

@@ -1,6 +1,6 @@
 //! Good and bad command lines, with the exit statuses of their faults.
 
-use arrow_types::Limits;
+use arrow_types::{Limits, TypeSet};
 use arrowflow_line::{ArgFault, plan};
 use std::alloc::Global;
 use std::process::Abort;
@@ -213,8 +213,32 @@ fn limits_are_those_of_the_line(rt: HostRuntime) {
     }
 }
 
+// The words of a line, and whether they ask for all types.
+static TYPES: [(&[&str], bool); 7] = [
+    (&["arrowflow", "schema", "a", "--types", "all"], true),
+    (&["arrowflow", "check", "--types=all", "a"], true),
+    (&["arrowflow", "show", "a", "--types", "core"], false),
+    (&["arrowflow", "show", "a", "--types=all"], true),
+    (&["arrowflow", "copy", "--types", "all", "a", "b"], true),
+    (&["arrowflow", "drill", "a", "all"], false),
+    (&["arrowflow", "drill", "a", "--types", "all"], true),
+];
+
+#[test]
+fn types_are_those_of_the_line(rt: HostRuntime) {
+    for (words, expected) in &TYPES {
+        let limits = plan(rt.alloc(), words).expect(&rt, "a plan").limits;
+        let of_all = limits.types() == TypeSet::All;
+        assert_eq!(rt; of_all, *expected, "of {words:?}");
+        assert!(rt; limits.with_types(TypeSet::Core) == Limits::standard());
+    }
+}
+
 // The words of a line without a plan, the exit status, and a part of what is printed.
-static OTHERS: [(&[&str], i32, &str); 54] = [
+static OTHERS: [(&[&str], i32, &str); 57] = [
+    (&["arrowflow", "check", "a", "--types", "floats"], 2, ""),
+    (&["arrowflow", "show", "a", "--types"], 2, ""),
+    (&["arrowflow", "drill", "a", "--types="], 2, ""),
     (&["arrowflow"], 2, ""),
     (&["arrowflow", "schema"], 2, ""),
     (&["arrowflow", "schema", "a", "b"], 2, ""),

@@ -1,10 +1,14 @@
-use Rattle.std.proofs.Common.{[], ◌∙◌, subst, arith}
+use Rattle.std.proofs.Common.{◌≡◌, [], ap, refl, sym, ◌∙◌, subst, arith, append-nil, rules, to_z, of_z}
+use Rattle.std.specs.Int.{w128}
 use Rattle.std.proofs.lemmas.Result.{on_ok_weaker}
-use Rattle.arrow_data.specs.PlainValue.{value_at}
+use Rattle.arrow_data.specs.Column.{resolved_row_of, values_from}
+use Rattle.arrow_data.specs.PlainValue.{int_value, value_at}
 use Rattle.arrow_data.specs.Shown.{HoldsValue}
-use Rattle.arrow_csv.specs.Texts.{value_text}
-use Rattle.arrow_csv.proofs.Joining.{list_shown}
-use Rattle.arrow_csv.proofs.Written.{field_behind}
+use Rattle.arrow_types.specs.View.{fields_view, type_view}
+use Rattle.arrow_csv.specs.Floats.{IsNumberText}
+use Rattle.arrow_csv.specs.Texts.{IsFieldOf, IsListOf, IsPlain, IsStructOf, IsText}
+use Rattle.arrow_csv.proofs.Joining.{appends_weaker, list_text, number_text, struct_text}
+use Rattle.arrow_csv.proofs.Written.{field_appended, plain_field}
 use Rattle.arrow_csv.proofs.records.push_field.Goals as goal
 
 -- the text of the list stands behind the one before, and between quotes where it calls for them
@@ -12,8 +16,46 @@ pub returns-in_ok-push_items-in-List : goal.returns-in_ok-push_items-in-List
 returns-in_ok-push_items-in-List c =
     let column = c.args.column.now in
     let list = c.in-List in
+    let items = list.items.now in
+    let value = value_at column.resolved c.args.i in
     let old = c.args.out.now.items in
+    let whole = c.push_items.new.out.items in
     let lists = subst (HoldsValue column c.args.i) list.is c.requires.holds in
-    let text = value_text [] column.data_type.children (value_at column.resolved c.args.i) in
-    let written = c.in_ok-push_items-in-List.ensures ∙ list_shown column list.items.now c.args.i list.start list.end [] old lists in
-    on_ok_weaker c.quote_from.result (λ e. e ∙ field_behind old text c.push_items.new.out.items c.len-place.result (omega (arith, c.len-place.ensures)) written) c.quote_from.ensures
+    let text = appends_weaker (IsListOf items.data_type (values_from items.resolved list.start list.end)) (IsText [] column.data_type value) old whole
+    (λ text is. list_text column items c.args.i list.start list.end [] text lists is) c.in_ok-push_items-in-List.ensures in
+    on_ok_weaker c.quote_from.result (field_appended column.data_type value old whole _ c.len-place.result (omega (arith, c.len-place.ensures)) text) c.quote_from.ensures
+
+-- the number stands as it is
+pub returns-in-Int : goal.returns-in-Int
+returns-in-Int c =
+    let column = c.args.column.now in
+    let type = type_view c.data_type.result.now in
+    let z = c.in-Int.number in
+    let value = value_at column.resolved c.args.i in
+    let holds = subst (HoldsValue column c.args.i) c.in-Int.is c.requires.holds in
+    let same : to_z w128 (of_z w128 z) ≡ z = search rules in
+    on_ok_weaker c.push_int.result (appends_weaker (IsPlain (IsNumberText type.tag (to_z w128 (of_z w128 z)))) (IsFieldOf column.data_type value) _ _
+    (λ text is. plain_field column.data_type value text (number_text [] column.data_type type value (to_z w128 (of_z w128 z)) text (holds ∙ ap int_value (sym same)) c.data_type.ensures is.0) is.1)) c.push_int.ensures
+
+-- and the struct
+pub returns-in_ok-push_parts-in-Struct : goal.returns-in_ok-push_parts-in-Struct
+returns-in_ok-push_parts-in-Struct c =
+    let column = c.args.column.now in
+    let parts = c.in-Struct in
+    let fields = fields_view c.children.result.now in
+    let values = resolved_row_of parts.children.now parts.place in
+    let value = value_at column.resolved c.args.i in
+    let old = c.args.out.now.items in
+    let whole = c.push_parts.new.out.items in
+    let holds = subst (HoldsValue column c.args.i) parts.is c.requires.holds in
+    let same = c.children.ensures.fields ∙ ap (λ x. x.children) c.data_type-in-Struct.ensures in
+    let text = appends_weaker (IsStructOf fields values) (IsText [] column.data_type value) old whole
+    (λ text is. struct_text [] column.data_type fields values value text holds.same same is) c.in_ok-push_parts-in-Struct.ensures in
+    on_ok_weaker c.quote_from-in-Struct.result (field_appended column.data_type value old whole _ c.len-from.result (omega (arith, c.len-from.ensures)) text) c.quote_from-in-Struct.ensures
+
+-- a null is empty
+pub returns-in-Null : goal.returns-in-Null
+returns-in-Null c =
+    let column = c.args.column.now in
+    let holds = subst (HoldsValue column c.args.i) c.in-Null.is c.requires.holds in
+    ([], ([], subst (λ w. IsText [] column.data_type w []) (sym holds) refl, refl), sym (append-nil c.args.out.now.items))

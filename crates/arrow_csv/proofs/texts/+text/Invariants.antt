@@ -1,21 +1,16 @@
-use Rattle.std.proofs.Common.{◌≡◌, ◌≤◌, ◌-◌, ◌++◌, codes, map, take}
-use Rattle.arrow_data.specs.Column.{values_from, resolved_row_of}
-use Rattle.arrow_data.specs.PlainValue.{values_of}
+use Rattle.std.proofs.Common.{◌≤◌, ◌++◌, codes}
 use Rattle.arrow_data.specs.Same.{slot_measure, items_measure, parts_measure}
-use Rattle.arrow_types.specs.View.{fields_view}
-use Rattle.arrow_csv.specs.Texts.{item_text, joined, part_texts}
+use Rattle.arrow_csv.proofs.Joining.{ItemsStand, PartsStand}
 use Rattle.arrow_csv.proofs.texts.+text.Given as goal
 
--- the texts of the items before slot k stand there
+-- texts of the items before slot k stand there
 abbrev pub invariant-push_items-loop-k : goal.invariant-push_items-loop-k
 invariant-push_items-loop-k l =
-    (l.start ≤ l.k) × (l.k ≤ l.end)
-    × (l.out.items ≡ l.fn.out.items ++ codes "[" ++ joined (take (l.k - l.start) (map (item_text l.items.data_type.children) (values_from l.items.resolved l.start l.end))))
+    (l.start ≤ l.k) × (l.k ≤ l.end) × ItemsStand l.items.data_type l.items.resolved l.start l.k (l.fn.out.items ++ codes "[") l.out.items
 
--- the texts of the fields before field k stand there
+-- texts of the fields before field k stand there
 abbrev pub invariant-push_parts-loop-k : goal.invariant-push_parts-loop-k
-invariant-push_parts-loop-k l =
-    l.out.items ≡ l.fn.out.items ++ codes "{" ++ joined (take l.k (part_texts (fields_view l.fields) (values_of (resolved_row_of l.children l.place))))
+invariant-push_parts-loop-k l = PartsStand l.fields l.children l.place l.k (l.fn.out.items ++ codes "{") l.out.items
 
 -- each call goes to smaller columns
 abbrev pub decreases-push_value : goal.decreases-push_value

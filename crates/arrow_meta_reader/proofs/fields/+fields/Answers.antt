@@ -71,7 +71,7 @@ pub fields_of-field-requires : goal.fields_of-field-requires
 fields_of-field-requires t c =
     let e : into_iter_items c.loop-table.table-iterator ≡ c.in-Some.table ∷ into_iter_items c.next.new.self = search (rules, c.in-Some.ensures.steps) in
     let small : size_all (plain_all c.in-Some-into_field_parts.parts.items) + 1 < size_all (plain_all c.args.tables.items) =
-    omega (arith, ap (λ ts. size_all (plain_all ts)) e, ap size c.in-Some-into_field_parts.ensures.parts, c.loop-table.invariant.2, size_positive (plain_all (into_iter_items c.next.new.self))) in
+    omega (arith, ap (λ ts. size_all (plain_all ts)) e, ap size c.in-Some-into_field_parts.ensures.parts.1, c.loop-table.invariant.2, size_positive (plain_all (into_iter_items c.next.new.self))) in
     search (rules, small, c.decreases)
 
 pub fields_of-returns : goal.fields_of-returns
@@ -86,13 +86,13 @@ fields_of-returns-in_err-field-clause-some t c =
     let e : into_iter_items c.loop-table.table-iterator ≡ c.in-Some.table ∷ into_iter_items c.next.new.self = search (rules, c.in-Some.ensures.steps) in
     let before = map field_view c.loop-table.fields.items in
     let failed = err_from_is_err_and c.from_residual.result c.from_residual.ensures.1 in
-    rw failed.1 (one_field before c.in-Some.table (plain_all c.in-Some-into_field_parts.parts.items) (into_iter_items c.next.new.self) c.args.tables.items
-    c.in-Some-into_field_parts.ensures.parts (ap (λ ts. before ++ shapes_in ts) (sym e) ∙ c.loop-table.invariant.4))
+    rw failed.1 (one_field before c.in-Some.table c.in-Some-into_field_parts.ensures.parts.0 (plain_all c.in-Some-into_field_parts.parts.items) (into_iter_items c.next.new.self) c.args.tables.items
+    c.in-Some-into_field_parts.ensures.parts.1 (ap (λ ts. before ++ shapes_in ts) (sym e) ∙ c.loop-table.invariant.4))
 
 pub fields_of-returns-in_err-push-clause-some : goal.fields_of-returns-in_err-push-clause-some
 fields_of-returns-in_err-push-clause-some t c =
     let e : into_iter_items c.loop-table.table-iterator ≡ c.in-Some.table ∷ into_iter_items c.next.new.self = search (rules, c.in-Some.ensures.steps) in
     let before = map field_view c.loop-table.fields.items in
     let failed = err_from_is_err_and c.from_residual-in_err-push.result c.from_residual-in_err-push.ensures.1 in
-    rw failed.1 (one_field before c.in-Some.table (plain_all c.in-Some-into_field_parts.parts.items) (into_iter_items c.next.new.self) c.args.tables.items
-    c.in-Some-into_field_parts.ensures.parts (ap (λ ts. before ++ shapes_in ts) (sym e) ∙ c.loop-table.invariant.4))
+    rw failed.1 (one_field before c.in-Some.table c.in-Some-into_field_parts.ensures.parts.0 (plain_all c.in-Some-into_field_parts.parts.items) (into_iter_items c.next.new.self) c.args.tables.items
+    c.in-Some-into_field_parts.ensures.parts.1 (ap (λ ts. before ++ shapes_in ts) (sym e) ∙ c.loop-table.invariant.4))

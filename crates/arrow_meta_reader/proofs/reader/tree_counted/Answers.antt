@@ -1,5 +1,6 @@
 use Rattle.std.proofs.Common.{◌≡◌, ℕ, ◌≤◌, ◌-◌, List, subst, arith}
 use Rattle.std.proofs.lemmas.Result.{err_from_is_err_and}
+use Rattle.arrow_types.specs.declared.type_set.TypeSet.{TypeSet}
 use Rattle.arrow_meta_reader.specs.Lies.{Stands, LiesAtRoot}
 use Rattle.arrow_meta_reader.specs.Trees.{Tree}
 use Rattle.arrow_meta_reader.specs.Views.{plain}
@@ -11,9 +12,9 @@ use Rattle.arrow_meta_reader.proofs.Spots.{faulty_so}
 use Rattle.arrow_meta_reader.proofs.reader.tree_counted.Goals as goal
 
 -- where no tree fits, none is within the limits
-none_within : (bytes : List ℕ) (max_metadata : ℕ) → NoneFits bytes root 32 (whole max_metadata) → (x : Tree) → LiesAtRoot x bytes → ¬ (IsWithin max_metadata x)
-none_within bytes max_metadata never x h w =
-    never x (root_stands bytes x h) (record {
+none_within : (types : TypeSet) (bytes : List ℕ) (max_metadata : ℕ) → NoneFits bytes (root types) 32 (whole max_metadata) → (x : Tree) → LiesAtRoot types x bytes → ¬ (IsWithin max_metadata x)
+none_within types bytes max_metadata never x h w =
+    never x (root_stands types bytes x h) (record {
       levels_fit = w.shallow.levels_within;
       visits_fit = w.shallow.visits_within;
       entries_fit = w.shallow.entries_within;
@@ -21,9 +22,9 @@ none_within bytes max_metadata never x h w =
     })
 
 -- a tree that was read at the root within the whole room lies there, and is within the limits
-lies_within : (bytes : List ℕ) (max_metadata : ℕ) (x : Tree) (new : Room) → Stands bytes root x × (levels x ≤ 32) × Spends (whole max_metadata) new (visits x) (entries x) (text_bytes x) → LiesAtRoot x bytes × IsWithin max_metadata x
-lies_within bytes max_metadata x new h = (
-  root_lies bytes x h.0,
+lies_within : (types : TypeSet) (bytes : List ℕ) (max_metadata : ℕ) (x : Tree) (new : Room) → Stands bytes (root types) x × (levels x ≤ 32) × Spends (whole max_metadata) new (visits x) (entries x) (text_bytes x) → LiesAtRoot types x bytes × IsWithin max_metadata x
+lies_within types bytes max_metadata x new h = (
+  root_lies types bytes x h.0,
   record {
     shallow = record {
       levels_within = h.1;
@@ -48,14 +49,14 @@ pub returns-clause-found : goal.returns-clause-found
 returns-clause-found c =
     let x = plain c.in_ok-found.field-0 in
     let n = c.max_metadata.result in
-    let P : Room → Type 0 = λ left. Stands c.args.bytes.now root x × (levels x ≤ 32) × Spends left (room c.root-found.new.self) (visits x) (entries x) (text_bytes x) in
-    rw (← c.max_metadata.ensures.value)
-    (lies_within c.args.bytes.now n x (room c.root-found.new.self) (subst P (all_left n) c.in_ok-found.ensures.read))
+    let P : Room → Type 0 = λ left. Stands c.args.bytes.now (root c.types.result) x × (levels x ≤ 32) × Spends left (room c.root-found.new.self) (visits x) (entries x) (text_bytes x) in
+    rw (← c.max_metadata.ensures.value, ← c.types.ensures)
+    (lies_within c.types.result c.args.bytes.now n x (room c.root-found.new.self) (subst P (all_left n) c.in_ok-found.ensures.read))
 
 pub returns-in_err-found-clause-none : goal.returns-in_err-found-clause-none
 returns-in_err-found-clause-none c =
     let n = c.max_metadata.result in
-    let P : Room → Type 0 = λ left. Faulty c.in_err-found.field-0.0 (NoneFits c.args.bytes.now root 32 left) (Grows c.args.bytes.now root 32 left) in
+    let P : Room → Type 0 = λ left. Faulty c.in_err-found.field-0.0 (NoneFits c.args.bytes.now (root c.types.result) 32 left) (Grows c.args.bytes.now (root c.types.result) 32 left) in
     let failed = err_from_is_err_and c.from_residual.result c.from_residual.ensures.1 in
-    rw (← c.max_metadata.ensures.value, failed.1, failed.2)
-    (faulty_so c.in_err-found.field-0.0 _ _ _ _ (none_within c.args.bytes.now n) (λ g. g) (subst P (all_left n) c.in_err-found.ensures.read))
+    rw (← c.max_metadata.ensures.value, ← c.types.ensures, failed.1, failed.2)
+    (faulty_so c.in_err-found.field-0.0 _ _ _ _ (none_within c.types.result c.args.bytes.now n) (λ g. g) (subst P (all_left n) c.in_err-found.ensures.read))

@@ -32,7 +32,7 @@ returns c =
     let header = c.in_ok-write_message.ensures.typed in
     record {
       bytes = bytes;
-      lies = subst (λ bs. LiesAligned (message_tree m) bs) (append-nil (metadata m) ∙ sym bytes) (written_aligned m some.0 [] header some.1);
+      lies = λ types. subst (λ bs. LiesAligned types (message_tree types m) bs) (append-nil (metadata m) ∙ sym bytes) (written_aligned types m some.0 [] header some.1);
       means = λ limits. subst (λ bs. MetadataMeans limits bs m ↔ Allows limits m) (append-nil (metadata m) ∙ sym bytes) (written_means m some.0 [] header some.1 limits);
       size = ap (λ (bs : List ℕ). Some (length bs)) bytes ∙ ap Some (written_length m some.0 some.1) ∙ sym some.1;
       typed = header;

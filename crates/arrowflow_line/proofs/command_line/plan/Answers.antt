@@ -2,14 +2,20 @@ use Rattle.std.proofs.Common.{◌≡◌, Option, None, Some, refl, ap, ap₂, sy
 use Rattle.std.proofs.lemmas.Result.{err_from_is_err_and}
 use Rattle.std.specs.Option.{IsSome, MatchOption}
 use Rattle.clap.specs.Words.{App, app_of, fault_of, found_of, is_simple, is_simple_and_free, rows_of, subcommand_of, subcommand_rows_of}
-use Rattle.arrowflow_line.specs.CommandLine.{IsAskedFor, IsCommand, IsPlan, IsProgram, program_app}
+use Rattle.arrowflow_line.specs.CommandLine.{IsAskedFor, IsCommand, IsPlan, IsProgram, program_app, reading_app}
 use Rattle.arrowflow_line.proofs.Asked.{met_as, name_met}
 use Rattle.arrowflow_line.proofs.Named.{command_found, line}
 use Rattle.arrowflow_line.proofs.command_line.plan.Goals as goal
 
 -- the program's command line as it is written
-written : (app : App) (p : IsProgram app) → app ≡ line p.copies.updates p.copies.aligns p.drills.updates p.drills.aligns
-written app p = p.is ∙ ap₂ program_app p.copies.is p.drills.is
+abbrev line_of : (app : App) → IsProgram app → App
+line_of app p =
+    line p.reads.has_schema.types p.reads.has_check.types p.reads.has_show.types p.copies.updates p.copies.aligns p.copies.types p.drills.updates p.drills.aligns p.drills.types
+
+written : (app : App) (p : IsProgram app) → app ≡ line_of app p
+written app p =
+    let reading = p.reads.is ∙ (λ i. reading_app (p.reads.has_schema.is i) (p.reads.has_check.is i) (p.reads.has_show.is i)) in
+    p.is ∙ (λ i. program_app (reading i) (p.copies.is i) (p.drills.is i))
 
 -- there is what can be missing only where something does not hold
 is_there : {A : Type 0} (o : Option A) (X : Type 0) (P : A → Type 0) → MatchOption o (X → ⊥) P → X → IsSome o
@@ -38,7 +44,7 @@ unwrap-requires-2 c =
     let sound = sym (ap (λ a. fault_of a words) app) ∙ c.in_ok-matches.ensures.kinds (ap is_simple_and_free app) in
     let found = sym (ap (λ a. subcommand_of a words) app) ∙ sym parsed ∙ met in
     is_there c.in_ok-plan_of.field-0 (IsCommand name) (λ p. IsPlan name rows p) c.in_ok-plan_of.ensures
-    (command_found p.copies.updates p.copies.aligns p.drills.updates p.drills.aligns words name rows sound found)
+    (command_found p.reads.has_schema.types p.reads.has_check.types p.reads.has_show.types p.copies.updates p.copies.aligns p.copies.types p.drills.updates p.drills.aligns p.drills.types words name rows sound found)
 
 pub returns : goal.returns
 returns c =

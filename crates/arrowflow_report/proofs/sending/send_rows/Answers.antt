@@ -1,27 +1,22 @@
-use Rattle.std.proofs.Common.{rules, ◌≡◌, ◌≤◌, ◌+◌, ◌++◌, ap, ◌∙◌, subst, arith}
+use Rattle.std.proofs.Common.{rules, ◌≡◌, ◌≤◌, ◌+◌, ◌++◌, ap, sym, ◌∙◌, subst, arith}
 use Rattle.std.proofs.lemmas.Result.{err_from_is_err_and}
-use Rattle.std.specs.Io.KnownBytes.{Appends}
 use Rattle.std.proofs.KnownBytes.{Appends-trans}
-use Rattle.arrow_csv.specs.Records.{batch_rows}
-use Rattle.arrow_sink.specs.Sinks.{AcceptsBeginning}
-use Rattle.arrowflow_report.proofs.Sent.{begun_all, begun_longer, cut_between, rows_join}
+use Rattle.arrow_csv.specs.Records.{AreBatchRows}
+use Rattle.arrow_csv.proofs.Some.{rows_join}
+use Rattle.arrowflow_report.proofs.Sent.{begun_all, begun_longer, cut_behind, rows_go_on}
 use Rattle.arrowflow_report.proofs.sending.send_rows.Goals as goal
 
+-- memory is wanting: the rows before stand there
 pub returns-in_err-push : goal.returns-in_err-push
 returns-in_err-push g c =
     let i = c.loop-start.invariant in
-    let batch = c.args.rows.now.batch in
-    let start = c.loop-start.start in
     let before = g.S.Sink.contents c.args.output.now in
     let held = g.S.Sink.contents c.loop-start.output in
-    let sent = batch_rows c.args.rows.now.number batch 0 start in
+    let rest = rows_go_on c.args.rows.now.number c.args.rows.now.batch c.loop-start.start c.args.end i.1.0 i.0 i.1.1 in
     let failed = err_from_is_err_and c.from_residual.result c.from_residual.ensures.1 in
-    rw (failed.1, failed.2) (
-      subst (AcceptsBeginning before held) (rows_join c.args.rows.now.number batch start c.args.end 0 (omega arith) i.0)
-          (begun_longer before held sent (batch_rows c.args.rows.now.number batch start c.args.end) (begun_all before held sent i.1)),
-      i.2,
-    )
+    rw (failed.1, failed.2) (i.1.0 ++ rest.0, rest.1, (begun_longer before held i.1.0 rest.0 (begun_all before held i.1.0 i.1.2), i.2))
 
+-- a beginning of some more was sent
 pub returns-in_err-send_text : goal.returns-in_err-send_text
 returns-in_err-send_text g c =
     let i = c.loop-start.invariant in
@@ -29,16 +24,17 @@ returns-in_err-send_text g c =
     let batch = c.args.rows.now.batch in
     let start = c.loop-start.start in
     let next = start + c.min.result in
-    let end = c.args.end in
-    let within : next ≤ end = search (rules, i.0, c.min.ensures) in
-    let later = batch_rows number batch next end in
-    let sent = batch_rows number batch 0 start in
+    let within : next ≤ c.args.end = search (rules, i.0, c.min.ensures) in
     let text = c.deref.result.now in
-    let whole : sent ++ text ++ later ≡ batch_rows number batch 0 end =
-    ap (λ t. sent ++ t ++ later) (c.deref.ensures.value ∙ c.in_ok-push.ensures.ok ∙ ap (λ t. t ++ batch_rows number batch start next) c.clear.ensures.items) ∙ ap (λ t. t ++ later) (rows_join number batch start next 0 (omega arith) (omega arith)) ∙ rows_join number batch next end 0 (omega arith) within in
+    let put = c.in_ok-push.ensures.ok in
+    let same : text ≡ put.0 = c.deref.ensures.value ∙ put.2 ∙ ap (λ t. t ++ put.0) c.clear.ensures.items in
+    let told : AreBatchRows number batch 0 next (i.1.0 ++ text) = rows_join number batch 0 start next i.1.0 text (omega arith) (omega arith) i.1.1 (subst (AreBatchRows number batch start next) (sym same) put.1) in
+    let rest = rows_go_on number batch next c.args.end (i.1.0 ++ text) within told in
     let failed = err_from_is_err_and c.from_residual-in_err-send_text.result c.from_residual-in_err-send_text.ensures.1 in
-    rw (failed.1, failed.2) (cut_between c.in_err-send_text.field-0.0 (g.S.Sink.contents c.args.output.now) (g.S.Sink.contents c.loop-start.output) _ _ _ _ sent text later _ i.1 i.2 whole c.in_err-send_text.ensures)
+    rw (failed.1, failed.2)
+    ((i.1.0 ++ text) ++ rest.0, rest.1, cut_behind c.in_err-send_text.field-0.0 (g.S.Sink.contents c.args.output.now) (g.S.Sink.contents c.loop-start.output) _ _ _ _ i.1.0 text rest.0 i.1.2 i.2 c.in_err-send_text.ensures)
 
+-- some more rows were sent
 pub loop-start-preserved : goal.loop-start-preserved
 loop-start-preserved g c =
     let i = c.loop-start.invariant in
@@ -46,11 +42,11 @@ loop-start-preserved g c =
     let batch = c.args.rows.now.batch in
     let start = c.loop-start.start in
     let next = start + c.min.result in
-    let end = c.args.end in
-    let within : next ≤ end = search (rules, i.0, c.min.ensures) in
+    let within : next ≤ c.args.end = search (rules, i.0, c.min.ensures) in
     let before = g.S.Sink.contents c.args.output.now in
     let after = g.S.Sink.contents c.send_text.new.output in
-    let sent = batch_rows number batch 0 start in
     let text = c.deref.result.now in
-    let whole : sent ++ text ≡ batch_rows number batch 0 next = ap (λ t. sent ++ t) (c.deref.ensures.value ∙ c.in_ok-push.ensures.ok ∙ ap (λ t. t ++ batch_rows number batch start next) c.clear.ensures.items) ∙ rows_join number batch start next 0 (omega arith) (omega arith) in
-    (within, subst (Appends before after) whole (Appends-trans before (g.S.Sink.contents c.loop-start.output) after sent text i.1 c.in_ok-send_text.ensures.0), c.in_ok-send_text.ensures.1 ∙ i.2)
+    let put = c.in_ok-push.ensures.ok in
+    let same : text ≡ put.0 = c.deref.ensures.value ∙ put.2 ∙ ap (λ t. t ++ put.0) c.clear.ensures.items in
+    let told : AreBatchRows number batch 0 next (i.1.0 ++ text) = rows_join number batch 0 start next i.1.0 text (omega arith) (omega arith) i.1.1 (subst (AreBatchRows number batch start next) (sym same) put.1) in
+    (within, (i.1.0 ++ text, told, Appends-trans before (g.S.Sink.contents c.loop-start.output) after i.1.0 text i.1.2 c.in_ok-send_text.ensures.0), c.in_ok-send_text.ensures.1 ∙ i.2)

@@ -1,8 +1,5 @@
 use Rattle.std.proofs.Common.{◌≡◌, ◌+◌, ◌++◌, ◌∷◌, [], length, sym, ap, ◌∙◌, subst, arith}
-use Rattle.csv.specs.Writing.{default_writer, field_text}
-use Rattle.arrow_data.specs.PlainValue.{value_at}
 use Rattle.arrow_csv.specs.Made.{AreFirst}
-use Rattle.arrow_csv.specs.Texts.{value_text}
 use Rattle.arrow_csv.proofs.Making.{entry_field, first_more}
 use Rattle.arrow_csv.proofs.column_text.EntryFields.of.Goals as goal
 
@@ -14,10 +11,11 @@ loop-n-preserved c =
     let place = c.value-place.result.1 in
     let old = c.loop-n.bytes.items in
     let places = c.loop-n.places.items in
-    let field = field_text default_writer (value_text [] values.data_type.children (value_at values.resolved place)) in
-    let same = entry_field d c.loop-n.n values place c.data_type.ensures.known c.len-in-loop-n.ensures.known c.value-place.ensures in
-    let more = first_more d old places field c.loop-n.n c.loop-n.invariant same in
-    let bytes : c.push_field.new.out.items ≡ old ++ field = c.in_ok-push_field.ensures in
+    let made = c.in_ok-push_field.ensures in
+    let field = made.0 in
+    let is = entry_field d c.loop-n.n values place field c.data_type.ensures.known c.len-in-loop-n.ensures.known c.value-place.ensures made.1 in
+    let more = first_more d old places field c.loop-n.n c.loop-n.invariant is in
+    let bytes : c.push_field.new.out.items ≡ old ++ field = made.2 in
     let len : c.len-in-loop-n-3.result ≡ length c.push_field.new.out.items = omega (arith, c.len-in-loop-n-3.ensures) in
     let ends : c.push-in-loop-n.new.self.items ≡ places ++ length (old ++ field) ∷ [] =
     c.in_ok-push-2.ensures.items ∙ ap (λ n. places ++ n ∷ []) (len ∙ ap length bytes) in

@@ -13,14 +13,14 @@ use Rattle.arrow_meta_reader.proofs.reader.Reader.root.Goals as goal
 pub returns-in-None-clause-read : goal.returns-in-None-clause-read
 returns-in-None-clause-read c =
     let b = c.args.bytes.now in
-    none_fits b root 32 (room c.args.self.now)
-    (layer_there b (forms.Table kinds.Message) (Some 0) 0 refl ∙ ap (option_map (λ t. table_layer kinds.Message (spots_of kinds.Message t))) (sym c.in-None.ensures.value))
+    none_fits b (root c.args.types) 32 (room c.args.self.now)
+    (layer_there b (forms.Table (kinds.Message c.args.types)) (Some 0) 0 refl ∙ ap (option_map (λ t. table_layer (kinds.Message c.args.types) (spots_of (kinds.Message c.args.types) t))) (sym c.in-None.ensures.value))
 
 -- the table at the root was read
 pub returns-in-Some-clause-read : goal.returns-in-Some-clause-read
 returns-in-Some-clause-read c =
     let b = c.args.bytes.now in
     let there = c.in-Some.ensures in
-    let l = table_layer kinds.Message (spots_of kinds.Message c.in-Some.table) in
+    let l = table_layer (kinds.Message c.args.types) (spots_of (kinds.Message c.args.types) c.in-Some.table) in
     let P : List ℕ → Type 0 = λ bytes. (s : Spot) → layer bytes s ≡ Some l → ReadsTree plain c.table.result bytes s 32 (room c.args.self.now) (room c.table.new.self) in
-    subst P there.bytes c.table.ensures.read root (element_layer b kinds.Message 0 c.in-Some.table (sym there.value))
+    subst P there.bytes c.table.ensures.read (root c.args.types) (element_layer b (kinds.Message c.args.types) 0 c.in-Some.table (sym there.value))

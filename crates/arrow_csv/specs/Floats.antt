@@ -1,0 +1,38 @@
+-- The texts of numbers: of whole numbers in decimal, of floating-point numbers whatever reads back as the same number.
+use Rattle.std.specs.Prelude.{ℕ, ℤ, List, ◌≡◌, Some}
+use Rattle.std.specs.Float.{Format, binary32, binary64}
+use Rattle.std.specs.Float.Parse.{parse_float}
+use Rattle.std.specs.Fmt.{signed_decimal}
+use Rattle.arrow_types.specs.DataType.{Tag, null, boolean, int, floating_point, binary, large_binary, fixed_size_binary, utf8, large_utf8, date, time, timestamp, duration, list, large_list, struct}
+use Rattle.arrow_types.specs.declared.data_type.Precision.{Precision}
+use Rattle.arrow_types.specs.declared.data_type.Precision.TheVariants.{Half, Single, Double}
+use Rattle.arrow_data.specs.Floats.{bits_in, number_of}
+
+-- the format in which a text is read back: a number of 16 bits shows as the one of 32 bits that it equals
+abbrev pub text_format : Precision → Format
+text_format Half = binary32
+text_format Single = binary32
+text_format Double = binary64
+
+-- a text of the number of these bits: one that reads back as it (IEEE 754, 5.12.2)
+abbrev pub IsFloatText : Precision → ℕ → List ℕ → Type 0
+IsFloatText precision bits text = parse_float (text_format precision) text ≡ Some (number_of precision bits)
+
+-- a text of the number that a value of this type is
+abbrev pub IsNumberText : Tag → ℤ → List ℕ → Type 0
+IsNumberText (floating_point precision) z text = IsFloatText precision (bits_in z) text
+IsNumberText null z text = text ≡ signed_decimal z
+IsNumberText boolean z text = text ≡ signed_decimal z
+IsNumberText (int _ _) z text = text ≡ signed_decimal z
+IsNumberText binary z text = text ≡ signed_decimal z
+IsNumberText large_binary z text = text ≡ signed_decimal z
+IsNumberText (fixed_size_binary _) z text = text ≡ signed_decimal z
+IsNumberText utf8 z text = text ≡ signed_decimal z
+IsNumberText large_utf8 z text = text ≡ signed_decimal z
+IsNumberText (date _) z text = text ≡ signed_decimal z
+IsNumberText (time _) z text = text ≡ signed_decimal z
+IsNumberText (timestamp _ _) z text = text ≡ signed_decimal z
+IsNumberText (duration _) z text = text ≡ signed_decimal z
+IsNumberText list z text = text ≡ signed_decimal z
+IsNumberText large_list z text = text ≡ signed_decimal z
+IsNumberText struct z text = text ≡ signed_decimal z

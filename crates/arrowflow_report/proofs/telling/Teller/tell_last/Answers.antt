@@ -1,0 +1,16 @@
+use Rattle.std.proofs.Common.{refl}
+use Rattle.std.proofs.lemmas.Result.{err_from_is_err_and}
+use Rattle.arrow_csv.specs.Named.{chosen_schema}
+use Rattle.arrow_stream_reader.specs.Views.{given}
+use Rattle.arrowflow_report.specs.Chosen.{choice_of, chosen_given}
+use Rattle.arrowflow_report.proofs.Sent.{begun_nothing, some_last}
+use Rattle.arrowflow_report.proofs.telling.Teller.tell_last.Goals as goal
+
+-- of a batch for whose columns memory is wanting nothing is told
+pub returns-in_err-texts-in-Batch-clause-sent : goal.returns-in_err-texts-in-Batch-clause-sent
+returns-in_err-texts-in-Batch-clause-sent g c =
+    let choice = choice_of c.args.self.now.report in
+    let text = some_last c.args.rows (chosen_schema choice c.args.reader.now.at.state.schema) c.args.self.now.number (chosen_given choice (given c.args.item.now)) in
+    let held = g.S.Sink.contents c.args.self.now.output in
+    let failed = err_from_is_err_and c.from_residual.result c.from_residual.ensures.1 in
+    rw (failed.1, failed.2) (text.0, text.1, (begun_nothing held text.0, refl))
