@@ -23,6 +23,7 @@ pub use Rattle.arrow_stream_laws.specs.Plan
 pub use Rattle.arrow_stream_laws.specs.Frames
 pub use Rattle.arrow_stream_laws.specs.Admission
 pub use Rattle.arrow_stream_laws.specs.Text
+pub use Rattle.arrow_stream_laws.specs.Sent
 pub use Rattle.arrow_stream_laws.specs.Laws as SentLaws
 pub use Rattle.arrow_stream_laws.specs.Writer
 pub use Rattle.arrow_stream_laws.specs.Standing

@@ -5,6 +5,7 @@ pub mod Parts
 pub mod Texts
 pub mod Lyings
 pub mod Deliveries
+pub mod Sending
 pub mod Starts
 pub mod Aligning
 mod Examples

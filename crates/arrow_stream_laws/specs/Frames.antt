@@ -1,12 +1,14 @@
 -- Frames one after another, with what each gives and leaves (Columnar Format, "Encapsulated message format", "IPC Streaming
 -- Format").
-use Rattle.std.specs.Prelude.{◌≡◌, ℕ, ℤ, ◌-◌, ◌<◌, ◌⊎◌, nat_lt, true, if◌then◌else◌, List, [], ◌∷◌, ◌++◌, length, map, Some}
+use Rattle.std.specs.Prelude.{◌≡◌, ℕ, ℤ, ◌-◌, ◌<◌, ◌⊎◌, nat_lt, true, if◌then◌else◌, List, [], ◌∷◌, ◌++◌, length, map, replicate, Some}
+use Rattle.arrow_bits.specs.Numbers.{number_bytes}
 use Rattle.arrow_types.specs.Limits.{LimitNumbers}
 use Rattle.arrow_types.specs.Notes.{SchemaShape}
 use Rattle.arrow_data.specs.Column.{ValueList}
 use Rattle.arrow_meta_reader.specs.declared.message.MetadataVersion.TheVariants as versions
 use Rattle.arrow_meta_reader.specs.Judges.{MetadataMeans}
-use Rattle.arrow_meta_reader.specs.Means.{PlainHeader}
+use Rattle.arrow_meta_reader.specs.Means.{PlainHeader, PlainMessage}
+use Rattle.arrow_meta_writer.specs.Metadata.{metadata}
 use Rattle.arrow_stream_reader.specs.declared.reader.Verdict.TheVariants.{Open, Done}
 use Rattle.arrow_stream_reader.specs.Frame.{has_continuation, number_at}
 use Rattle.arrow_stream_reader.specs.Front.{Entry, Standing, FrontOf}
@@ -45,9 +47,26 @@ abbrev pub last_end : ℕ → List Entry → ℕ
 last_end p [] = p
 last_end p (e ∷ es) = last_end e.end es
 
--- b is a frame of this content and this body: the continuation and the size of the metadata, which is not 0, in eight bytes; the
+-- the eight bytes before metadata of so many bytes: the continuation, then their number
+abbrev pub prefix_bytes : ℕ → List ℕ
+prefix_bytes n = 255 ∷ 255 ∷ 255 ∷ 255 ∷ number_bytes 4 n
+
+-- the metadata of the message, and zero bytes up to this size
+abbrev pub padded : PlainMessage → ℕ → List ℕ
+padded m size = metadata m ++ replicate (size - length (metadata m)) 0
+
+-- the frame of the message with this body, whose metadata take so many bytes
+abbrev pub framed : PlainMessage → ℕ → List ℕ → List ℕ
+framed m size body = prefix_bytes size ++ padded m size ++ body
+
+-- the message of version V5 with this content and this body
+abbrev pub message_of : PlainHeader → List ℕ → PlainMessage
+message_of content body = record { version = versions.V5; header = content; body_len = length body }
+
+-- b is the frame of this content and this body: the continuation and the size of the metadata, which is not 0, in eight bytes; the
 -- metadata, which mean a message of version V5 with the content and the length of the body; the body (Columnar Format,
--- "Encapsulated message format"; Schema.fbs, enum "MetadataVersion").
+-- "Encapsulated message format"; Schema.fbs, enum "MetadataVersion"). Of all metadata that mean this message they are those that the
+-- function `metadata` gives, and zero bytes behind them.
 pub record IsFrameOf (limits : LimitNumbers) (size : ℕ) (content : PlainHeader) (body b : List ℕ) : Type 0 where
   pub prefix : List ℕ
   pub metadata : List ℕ
@@ -56,14 +75,16 @@ pub record IsFrameOf (limits : LimitNumbers) (size : ℕ) (content : PlainHeader
   pub number : number_at prefix 4 ≡ size
   pub sized : length metadata ≡ size
   pub some : 0 < size
-  pub means : MetadataMeans limits metadata (record { version = versions.V5; header = content; body_len = length body })
+  pub means : MetadataMeans limits metadata (message_of content body)
   pub bytes : b ≡ prefix ++ metadata ++ body
+  pub one : b ≡ framed (message_of content body) size body
 
 -- b is the end marker: the continuation and the size 0 (Columnar Format, "IPC Streaming Format")
 pub record IsMarker (b : List ℕ) : Type 0 where
   pub eight : length b ≡ 8
   pub continued : has_continuation b ≡ true
   pub number : number_at b 4 ≡ 0
+  pub one : b ≡ prefix_bytes 0
 
 -- b is a stream: whole messages, perhaps closed by the end marker, and nothing after them; they set the schema, give these rows in
 -- their order and leave these dictionaries (Columnar Format, "IPC Streaming Format").

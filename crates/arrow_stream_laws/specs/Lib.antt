@@ -5,6 +5,7 @@ pub mod Plan
 pub mod Frames
 pub mod Admission
 pub mod Text
+pub mod Sent
 pub mod Laws
 pub mod Writer
 pub mod Standing

@@ -5,6 +5,7 @@
 ghost use Rattle.arrow_stream_reader.specs.Laws.{OneFront};
 ghost use Rattle.arrow_stream_laws.specs.Laws.{DeliveredBeginning, FramesAreAligned};
 ghost use Rattle.arrow_stream_laws.specs.Laws.{FramesOfABeginning, TextIsAStream};
+ghost use Rattle.arrow_stream_laws.specs.Sent.{OneText};
 ghost use Rattle.arrow_stream_laws.specs.Standing.{BrokenIsDelivered, EndIsDelivered, MarkerBroken};
 ghost use Rattle.arrow_stream_laws.specs.Standing.{MarkerSent, PartBroken, PartSent, SchemaSent};
 ghost use Rattle.arrow_stream_laws.specs.Standing.{SentIsAStream, StartIsDelivered};
@@ -19,6 +20,12 @@ pub fn frames_of_a_beginning()
 /// those that were sent for these.
 pub fn text_is_a_stream()
     ensures stream { TextIsAStream }
+{}
+
+/// All bytes that are sent are a function of the schema, of the options and of what the batches hold:
+/// of the raw values of their columns, their rows and the dictionaries that the columns refer to.
+pub fn one_text()
+    ensures { OneText }
 {}
 
 /// Of the first bytes of the text of a connection, however many, nothing is refused: a reader has

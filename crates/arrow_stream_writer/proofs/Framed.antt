@@ -26,11 +26,11 @@ use Rattle.arrow_meta_writer.specs.Writable.{leaves_header_out}
 use Rattle.arrow_stream_reader.specs.Batch.{is_bad_length}
 use Rattle.arrow_stream_laws.specs.Admission.{frame_fits}
 use Rattle.arrow_stream_laws.specs.Built.{IsBuilt}
-use Rattle.arrow_stream_laws.specs.Frames.{IsFrameOf}
+use Rattle.arrow_stream_laws.specs.Frames.{IsFrameOf, framed}
 use Rattle.arrow_stream_laws.specs.Sizes.{batch_size, header_size, slots_in}
 use Rattle.arrow_sink.specs.declared.write_fault.WriteFault.{WriteFault}
 use Rattle.arrow_sink.specs.declared.write_fault.WriteFault.TheVariants.{SchemaDiffers, TooLarge, DictionariesDiffer, Sink, Broken, Finished, Memory}
-use Rattle.arrow_stream_writer.specs.Frame.{AppendsFrame, framed}
+use Rattle.arrow_stream_writer.specs.Frame.{AppendsFrame}
 use Rattle.arrow_stream_writer.proofs.Sizing.{batch_sized, dictionary_sized}
 use Rattle.arrow_stream_writer.specs.declared.frames.BatchKind.{BatchKind}
 use Rattle.arrow_stream_writer.specs.declared.frames.BatchKind.TheVariants.{Record, Dictionary}
@@ -115,6 +115,7 @@ module _ (terms : Terms) (load : Load) (b : PlainBody) (s : IsStored terms.align
     slots = slots;
     columns = read;
     tidy = subst (λ (x : PlainBody). IsTidy terms.align load.fields x.nodes x.buffers x.bytes) (sym s.same) (is_tidy terms.align load.fields load.raws some s.can s.small);
+    one = s.same;
   }
 
   -- the size of the metadata is that of the load's kind

@@ -22,9 +22,9 @@ use Rattle.arrow_meta_reader.specs.Within.{text_bytes}
 use Rattle.arrow_body_laws.specs.Stored.{rounded}
 use Rattle.arrow_body_laws.proofs.Placed.{rounded-le}
 use Rattle.arrow_stream_reader.specs.Frame.{number_at}
-use Rattle.arrow_stream_laws.specs.Frames.{IsFrameOf}
+use Rattle.arrow_stream_laws.specs.Frames.{IsFrameOf, framed, message_of, padded, prefix_bytes}
 use Rattle.arrow_stream_laws.specs.Sizes.{header_size}
-use Rattle.arrow_stream_writer.specs.Frame.{AppendsFrame, framed, padded, prefix_bytes}
+use Rattle.arrow_stream_writer.specs.Frame.{AppendsFrame}
 
 -- the least multiple of the alignment that is not smaller
 pub next_multiple : (align n : ℕ) → 0 < align → next_multiple_of n align ≡ rounded align n
@@ -85,6 +85,7 @@ module _ (align : ℕ) (m : PlainMessage) (body : List ℕ) (size n : ℕ) (some
         some = omega (arith, is_high, some_bytes m);
         means = v5;
         bytes = refl;
+        one = λ i. framed (record { version = s.version i; header = m.header; body_len = told i }) size body;
       })
 
   -- what was appended

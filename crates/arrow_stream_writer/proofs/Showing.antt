@@ -131,7 +131,7 @@ part_near terms place t sent frames part = (part_fits_so terms.limits (options_o
 -- THE END MARKER
 
 pub marker_is : IsMarker marker
-marker_is = record { eight = refl; continued = refl; number = refl }
+marker_is = record { eight = refl; continued = refl; number = refl; one = refl }
 
 pub near_marker : (place : ℕ) → place + 8 ≤ 2 ^ 62 → marker_fits place ≡ true
 near_marker place h = le-leb (place + 8) (2 ^ 62) h

@@ -1,24 +1,10 @@
 -- What it is to append a frame, or the end marker (Columnar Format, "Encapsulated message format", "IPC Streaming Format").
-use Rattle.std.specs.Prelude.{◌≡◌, ◌≤◌, ℕ, false, ◌-◌, List, ◌∷◌, ◌++◌, length, replicate}
-use Rattle.arrow_bits.specs.Numbers.{number_bytes}
+use Rattle.std.specs.Prelude.{◌≡◌, ◌≤◌, ℕ, false, List, ◌++◌, length}
 use Rattle.arrow_types.specs.Limits.{LimitNumbers}
 use Rattle.arrow_meta_reader.specs.Means.{PlainMessage}
-use Rattle.arrow_meta_writer.specs.Metadata.{metadata}
 use Rattle.arrow_meta_writer.specs.Writable.{leaves_header_out}
-use Rattle.arrow_stream_laws.specs.Frames.{IsFrameOf, IsMarker}
+use Rattle.arrow_stream_laws.specs.Frames.{framed, IsFrameOf, IsMarker}
 use Rattle.arrow_stream_laws.specs.Sizes.{header_size}
-
--- the eight bytes before metadata of so many bytes: the continuation, then their number
-abbrev pub prefix_bytes : ℕ → List ℕ
-prefix_bytes n = 255 ∷ 255 ∷ 255 ∷ 255 ∷ number_bytes 4 n
-
--- the metadata of the message, and zero bytes up to this size
-abbrev pub padded : PlainMessage → ℕ → List ℕ
-padded m size = metadata m ++ replicate (size - length (metadata m)) 0
-
--- the frame of the message with this body, whose metadata take so many bytes
-abbrev pub framed : PlainMessage → ℕ → List ℕ → List ℕ
-framed m size body = prefix_bytes size ++ padded m size ++ body
 
 -- Just the frame of the message with this body was appended, its metadata padded with zero bytes so that with the prefix they end at
 -- a multiple of the alignment: a frame to every reader whose limits it keeps to.

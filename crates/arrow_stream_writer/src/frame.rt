@@ -3,7 +3,8 @@
 ghost use Rattle.std.specs.Prelude.{◌≡◌, ◌≤◌, ◌<◌, ◌+◌, ◌-◌, ◌++◌, IsSome, OnOk, OnErr, Ok, IfOk};
 ghost use Rattle.std.specs.Prelude.{length, replicate, take};
 ghost use Rattle.arrow_body_laws.specs.Stored.{rounded};
-ghost use Rattle.arrow_stream_writer.specs.Frame.{AppendsFrame, AppendsHead, AppendsMarker, prefix_bytes};
+ghost use Rattle.arrow_stream_laws.specs.Frames.{prefix_bytes};
+ghost use Rattle.arrow_stream_writer.specs.Frame.{AppendsFrame, AppendsHead, AppendsMarker};
 ghost use Rattle.arrow_meta_reader.specs.Means.{message_view};
 ghost use Rattle.arrow_meta_writer.specs.Metadata.{size_of};
 

@@ -1,7 +1,7 @@
 use Rattle.std.proofs.Common.{rules, ◌≡◌, ◌+◌, ◌-◌, ◌++◌, List, length, replicate, sym, ap, ◌∙◌}
 use Rattle.arrow_body_laws.specs.Stored.{rounded}
 use Rattle.arrow_meta_reader.specs.Means.{message_view}
-use Rattle.arrow_stream_writer.specs.Frame.{prefix_bytes}
+use Rattle.arrow_stream_laws.specs.Frames.{prefix_bytes}
 use Rattle.std.specs.Int.{next_multiple_of}
 use Rattle.arrow_stream_writer.proofs.Framing.{appended_parts, next_multiple}
 use Rattle.arrow_stream_writer.proofs.frame.put_head.Goals as goal

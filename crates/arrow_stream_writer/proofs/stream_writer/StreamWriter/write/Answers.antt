@@ -67,3 +67,11 @@ invariant_of-self-in-Ok-clause-near g c =
     let built = c.in_ok-build.ensures.built in
     let long = c.len.ensures ∙ built.sized in
     omega (arith, long, part_near terms old.place c.args.batch.now old.builder.tracker.sent built.frames built.is_part)
+
+-- so that its end is a place
+pub overflow_add-self : goal.overflow_add-self
+overflow_add-self g c =
+    let old = c.args.self.now in
+    let built = c.in_ok-build.ensures.built in
+    let long = c.len.ensures ∙ built.sized in
+    omega (arith, long, part_near (terms_of old.builder.settings) old.place c.args.batch.now old.builder.tracker.sent built.frames built.is_part)
