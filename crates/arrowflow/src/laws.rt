@@ -1,4 +1,4 @@
 //! Laws of what is written of a stream that is shown, told or copied.
 
-pub use arrowflow_copy::laws::copy_of_front;
+pub use arrowflow_copy::laws::{copies_are_equal, copy_of_front};
 pub use arrowflow_report::laws::{text_grows, text_of_front};

@@ -1,2 +1,3 @@
 mod Copied
 pub mod OfFront
+mod Equal

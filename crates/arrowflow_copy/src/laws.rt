@@ -1,6 +1,7 @@
 //! Laws of the definitions, which no code stands behind. Each is the contract of a function that
 //! does nothing.
 
+ghost use Rattle.arrowflow_copy.specs.Equal.{CopiesAreEqual, CopyIsSent};
 ghost use Rattle.arrowflow_copy.specs.OfFront.{BatchOfFront, PartOfFront, SchemaOfFront};
 
 /// What [`copy`](crate::copy) writes before `Output` and `Memory`, and what it refuses before its
@@ -13,4 +14,13 @@ pub fn copy_of_front()
     ensures part { PartOfFront }
     ensures schema { SchemaOfFront }
     ensures batch { BatchOfFront }
+{}
+
+/// A copy that ended well wrote just the bytes that are sent of the schema and of what the batches
+/// hold. So two streams with one schema, whose batches hold the same raw values, rows and
+/// dictionaries, are copied to equal bytes: whatever else stood in their metadata, in gaps, in
+/// padding, under nulls or behind lengths is gone, and nothing of it can be told from the copy.
+pub fn copies_are_equal()
+    ensures sent { CopyIsSent }
+    ensures equal { CopiesAreEqual }
 {}

@@ -10,6 +10,7 @@
 //! |---|---|
 //! | what is written, and how that ends | `specs/Copy.antt`: `CopiesInput` |
 //! | the same by the front of all bytes read | `specs/OfFront.antt`: `RefusesSchemaOf`, `RefusesBatchOf` |
+//! | what is written, as a function of what was read | `specs/Equal.antt`: `CopyIsSent`, `CopiesAreEqual` |
 //! | where a copy stands | `specs/Copying.antt`: `At`; `specs/Target.antt`: `at_of` |
 #![tactic(auto)]
 
