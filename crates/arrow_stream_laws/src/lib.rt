@@ -8,8 +8,9 @@
 //! the parts, the batches and the frames; the choice of a dictionary batch is that of `arrow_dict`
 //! (`specs/Plan.antt`); `admission` (`specs/Admission.antt`) is the first refusal of a batch, a
 //! `WriteFault`; `IsFrameOf` (`specs/Frames.antt`) and `IsBuilt` (`specs/Built.antt`) say when
-//! bytes are a frame and a body. A frame is a relation, so that a writer may lay out its metadata as
-//! it likes; how many bytes it takes is given by functions of sizes, whichever they are
+//! bytes are a frame and a body. Both are told by what a reader has of them and pinned to the one text
+//! that a function gives, so that all bytes that are sent are a function of the schema, the options
+//! and what the batches hold (`specs/Sent.antt`); how many they are follows from sizes alone
 //! (`specs/Sizes.antt`).
 //!
 //! What a writer shows, what each of its calls may answer and at which parts and batches it then
@@ -22,6 +23,7 @@
 //! |---|---|
 //! | a frame, a stream of frames | `specs/Frames.antt`: `IsFrameOf`, `IsStream` |
 //! | the text of a connection | `specs/Text.antt`: `Written`, `IsPart`, `whole_batches` |
+//! | all bytes that are sent, as a function | `specs/Sent.antt`: `sent_of`, `OneText` |
 //! | the dictionary batches before a batch | `specs/Plan.antt`: `plan` |
 //! | the first refusal of a batch, of a schema | `specs/Admission.antt`: `admission`, `schema_admission` |
 //! | a body of raw values | `specs/Built.antt`: `IsBuilt` |
