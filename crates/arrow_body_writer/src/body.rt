@@ -251,16 +251,23 @@ impl Body {
         ensures empty { IsEmpty self.new }
         ensures room { OnOk result (size ≤ vec_capacity self.new.bytes) }
     {
-        self.nodes.clear();
-        self.buffers.clear();
-        self.bytes.clear();
+        self.empty();
         self.bytes.reserve_exact(size)
     }
 
+    // Takes all out of the body, and keeps its room.
+    fn empty(&mut self)
+        ensures { IsEmpty self.new }
+    {
+        self.nodes.clear();
+        self.buffers.clear();
+        self.bytes.clear();
+    }
+
     // Takes all out of the body, and makes room for so many nodes, and for as many buffers as these
-    // can have.
+    // can have. After `AllocError` it is empty too.
     fn begin(&mut self, nodes: usize) -> Result<(), AllocError>
-        ensures { OnOk result (IsEmpty self.new) }
+        ensures { IsEmpty self.new }
     {
         self.make_room(0)?;
         self.nodes.reserve_exact(nodes)?;
@@ -297,7 +304,7 @@ pub fn store(alloc: Global, arrays: &[Array], align: Align) -> Result<Body, Allo
 /// Makes a body that of `store`, in the room of what it was, in one walk over the columns. Nodes,
 /// buffers and bytes grow only where this room is too small for them. `TooLarge` only where the
 /// columns cannot be told, whatever the most bytes of a body; `Memory` where a growth was refused.
-/// After a fault nothing is said of the body.
+/// After a fault the body is empty.
 pub fn store_in(body: &mut Body, arrays: &[Array], align: Align) -> Result<(), StoreFault>
     ensures told { OnOk result (AreTold arrays.now) }
     ensures raws { OnOk result (AreRaws (fields_of_columns arrays.now) (raws_of arrays.now)) }
@@ -308,12 +315,20 @@ pub fn store_in(body: &mut Body, arrays: &[Array], align: Align) -> Result<(), S
     ensures tidy { OnOk result (IsTidy (alignment_of align) (fields_of_columns arrays.now)
         body.new.nodes.items body.new.buffers.items body.new.bytes.items) }
     ensures large { IfErr result (λ fault. fault ≡ TooLarge → AreTold arrays.now → ⊥) }
+    ensures emptied { IfErr result (λ _. IsEmpty body.new) }
 {
     if !are_countable(arrays) {
+        body.empty();
         return Err(StoreFault::TooLarge);
     }
     body.begin(nodes_in_all(arrays))?;
-    put_columns(body, align, arrays)
+    match put_columns(body, align, arrays) {
+        Ok(()) => Ok(()),
+        Err(fault) => {
+            body.empty();
+            Err(fault)
+        }
+    }
 }
 
 /// The body of one column without an encoding whose slots hold the values of the dictionary from
@@ -351,7 +366,7 @@ pub fn store_rest(
 }
 
 /// Makes a body that of `store_rest`, in the room of what it was, as `store_in` does, with its
-/// faults.
+/// faults, after which the body is empty.
 pub fn store_rest_in(
     body: &mut Body,
     dictionary: &Dictionary,
@@ -372,11 +387,19 @@ pub fn store_rest_in(
         body.new.nodes.items body.new.buffers.items body.new.bytes.items) }
     ensures large { IfErr result (λ fault. fault ≡ TooLarge
         → AreTold (rest_of dictionary.now from ∷ []) → ⊥) }
+    ensures emptied { IfErr result (λ _. IsEmpty body.new) }
 {
     let nodes = nodes_in_rest(dictionary);
     if nodes == usize::MAX {
+        body.empty();
         return Err(StoreFault::TooLarge);
     }
     body.begin(nodes)?;
-    put_column(body, align, &Source::Rest(dictionary, from))
+    match put_column(body, align, &Source::Rest(dictionary, from)) {
+        Ok(()) => Ok(()),
+        Err(fault) => {
+            body.empty();
+            Err(fault)
+        }
+    }
 }

@@ -1,11 +1,11 @@
 -- What was counted while the tree of some bytes was read is what any tree of them has: there is but one.
-use Rattle.std.proofs.Common.{List, ℕ, Result, Ok, Err, sym, subst}
-use Rattle.std.specs.Prelude.{IfOk}
+use Rattle.std.proofs.Common.{List, ℕ, Result, Ok, Err, inr, sym, subst}
+use Rattle.std.specs.Prelude.{IfErr, IfOk}
 use Rattle.arrow_types.specs.Limits.{LimitNumbers}
 use Rattle.arrow_meta_reader.specs.declared.fault.MetaFault.{MetaFault}
 use Rattle.arrow_meta_reader.specs.declared.message.Message.{Message}
 use Rattle.arrow_meta_reader.specs.declared.work.Work.{Work}
-use Rattle.arrow_meta_reader.specs.Judges.{IsTreeOf, Counts, CountsTree}
+use Rattle.arrow_meta_reader.specs.Judges.{CountsFailed, IsTreeOf, Counts, CountsTree}
 use Rattle.arrow_meta_reader.specs.Straight.{IsBare}
 use Rattle.arrow_meta_reader.specs.Trees.{Tree}
 use Rattle.arrow_meta_reader.proofs.OneAnswer.{one_tree}
@@ -27,3 +27,9 @@ pub counted : (r : Result Message MetaFault) (limits : LimitNumbers) (bytes : Li
     IsTreeOf bytes limits x → Counts work x → IfOk r (λ _. CountsTree limits bytes work)
 counted (Ok m) limits bytes x work is counts = counts_any limits bytes x work is counts
 counted (Err e) limits bytes x work is counts = tt
+
+-- with a fault of the tree, they are those of the tree too
+pub counted_failed : (r : Result Message MetaFault) (limits : LimitNumbers) (bytes : List ℕ) (x : Tree) (work : Work) →
+    IsTreeOf bytes limits x → Counts work x → IfErr r (λ e. CountsFailed limits bytes e work)
+counted_failed (Ok m) limits bytes x work is counts = tt
+counted_failed (Err e) limits bytes x work is counts = inr (x, is, counts)

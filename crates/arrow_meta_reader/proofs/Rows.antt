@@ -121,7 +121,7 @@ begun bytes [] most old new i s xs d e = absurd (cc)
 begun bytes (r ∷ rs) most old new i s xs d e = first_read bytes r rs most old new i xs d
 
 -- what is left to spend where nothing was spent
-unspent : (old new : Room) → Spends old new 0 0 0 → new ≡ old
+pub unspent : (old new : Room) → Spends old new 0 0 0 → new ≡ old
 unspent old new h =
     let same_visits : new.visits ≡ old.visits = omega (arith, h.visits_paid) in
     let same_entries : new.entries ≡ old.entries = omega (arith, h.entries_paid) in

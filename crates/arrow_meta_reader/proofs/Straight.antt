@@ -1,6 +1,6 @@
 -- The tables of a batch, read field by field, are those of a tree that lies there.
 use Rattle.std.proofs.Common.{◌≡◌, ℕ, ◌≤◌, inl, inr, ℤ, Bool, true, false, not, ◌==◌, List, [], ◌∷◌, map, Option, Some, None, option_map, is_some, arith, refl, sym, ap, subst, ◌∙◌}
-use Rattle.std.specs.Int.{cast_signed, w16, w64}
+use Rattle.std.specs.Int.{cast_signed, w64}
 use Rattle.std.proofs.lemmas.Bool.{le-ltb}
 use Rattle.arrow_flatbuf.specs.Place.{behind}
 use Rattle.arrow_flatbuf.specs.Table.{TableAt, table_at, field_place}

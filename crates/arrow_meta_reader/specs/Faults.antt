@@ -1,5 +1,5 @@
 -- The conditions of the faults of a message's tree, in the order of their numbers, and the least fault that holds.
-use Rattle.std.specs.Prelude.{ℕ, Bool, ◌||◌, not, List, [], ◌∷◌, length, ◌+◌, ◌<◌, Option, Some, None, is_some, ◌==◌, nat_lt, if◌then◌else◌}
+use Rattle.std.specs.Prelude.{ℕ, Bool, ◌||◌, not, List, [], ◌∷◌, length, ◌+◌, ◌<◌, Option, Some, None, is_some, nat_lt, if◌then◌else◌}
 use Rattle.arrow_types.specs.Field.{width}
 use Rattle.arrow_types.specs.Schema.{is_nested, types_differ, dictionary_fields}
 use Rattle.arrow_meta_reader.specs.declared.codes.HeaderKind.{HeaderKind}

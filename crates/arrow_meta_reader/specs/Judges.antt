@@ -1,5 +1,5 @@
 -- What a tree, and the bytes of a metadata, are answered with.
-use Rattle.std.specs.Prelude.{◌≡◌, ◌≤◌, ◌⊎◌, ℕ, List, Option, Result, Ok, Err, Some, None}
+use Rattle.std.specs.Prelude.{◌≡◌, ◌≤◌, ◌⊎◌, ℕ, false, List, Option, Result, Ok, Err, Some, None}
 use Rattle.arrow_types.specs.Limits.{LimitNumbers}
 use Rattle.arrow_meta_reader.specs.declared.codes.HeaderKind.{HeaderKind}
 use Rattle.arrow_meta_reader.specs.declared.codes.HeaderKind.TheVariants as headers
@@ -8,12 +8,13 @@ use Rattle.arrow_meta_reader.specs.declared.fault.MetaFault.TheVariants.{Metadat
 use Rattle.arrow_meta_reader.specs.declared.message.Message.{Message}
 use Rattle.arrow_meta_reader.specs.declared.message.MetadataVersion.{MetadataVersion}
 use Rattle.arrow_meta_reader.specs.Faults.{fault_of, version_in, header_in, header_of, data_of, HasFieldOrPair, HasNodeOrBuffer}
-use Rattle.arrow_meta_reader.specs.Grows.{GrowsAtRoot}
+use Rattle.arrow_meta_reader.specs.Grows.{GrowsAtRoot, root, whole}
 use Rattle.arrow_meta_reader.specs.Lies.{LiesAtRoot}
 use Rattle.arrow_meta_reader.specs.Means.{PlainMessage, Means, message_view}
 use Rattle.arrow_meta_reader.specs.Parts.{parts}
+use Rattle.arrow_meta_reader.specs.Reads.{Ends}
 use Rattle.arrow_meta_reader.specs.Trees.{Tree, Trees}
-use Rattle.arrow_meta_reader.specs.Within.{IsWithin, visits, entries, text_bytes}
+use Rattle.arrow_meta_reader.specs.Within.{IsWithin, visits, entries, text_bytes, Room, Spends}
 use Rattle.arrow_meta_reader.specs.declared.work.Work.{Work}
 
 -- A header's table with these fields, which is this header, is built with memory: a schema if it has a field or a pair of
@@ -90,3 +91,15 @@ pub record Counts (work : Work) (x : Tree) : Type 0 where
 -- The work counts just what the tree of a metadata has.
 abbrev pub CountsTree : LimitNumbers → List ℕ → Work → Type 0
 CountsTree limits bytes work = (x : Tree) → IsTreeOf bytes limits x → Counts work x
+
+-- Reading the message whose metadata the bytes are ends with this fault, and the work counts just what was opened and
+-- copied up to there.
+abbrev pub EndsAtRoot : LimitNumbers → List ℕ → MetaFault → Work → Type 0
+EndsAtRoot limits bytes e work =
+    (left : Room) × Ends bytes false e (root limits.types) 32 (whole limits.max_metadata) left ×
+    Spends (whole limits.max_metadata) left work.fields work.pairs work.bytes
+
+-- The work after a fault: what was opened and copied up to where reading ended with it, or what the whole tree has, where
+-- the fault is the tree's.
+abbrev pub CountsFailed : LimitNumbers → List ℕ → MetaFault → Work → Type 0
+CountsFailed limits bytes e work = EndsAtRoot limits bytes e work ⊎ ((x : Tree) × IsTreeOf bytes limits x × Counts work x)

@@ -1,14 +1,15 @@
--- What reading answers.
-use Rattle.std.specs.Prelude.{ℕ, ◌<◌, ◌≤◌, ◌-◌, ◌⊎◌, List, Result, Ok, Err}
+-- What reading answers, and where it ends with a fault.
+use Rattle.std.specs.Prelude.{◌≡◌, ℕ, ◌<◌, ◌≤◌, ◌+◌, ◌-◌, ◌⊎◌, Bool, true, false, List, ◌∷◌, Some, None, Result, Ok, Err}
 use Rattle.arrow_meta_reader.specs.declared.fault.MetaFault.{MetaFault}
 use Rattle.arrow_meta_reader.specs.declared.fault.MetaFault.TheVariants.{Metadata, Version, Header, BodyLength, Unsupported, Schema, Compressed, Memory}
 use Rattle.arrow_meta_reader.specs.declared.kinds.TableKind.{TableKind}
+use Rattle.arrow_meta_reader.specs.declared.kinds.FieldForm.TheVariants as forms
 use Rattle.arrow_meta_reader.specs.declared.reader.Reader.{Reader}
-use Rattle.arrow_meta_reader.specs.Grows.{Grows, RowGrows}
+use Rattle.arrow_meta_reader.specs.Grows.{TakesMemory, Grows, RowGrows}
 use Rattle.arrow_meta_reader.specs.Kinds.{Spot}
-use Rattle.arrow_meta_reader.specs.Lies.{Stands, AllStand}
-use Rattle.arrow_meta_reader.specs.Trees.{Tree, Trees}
-use Rattle.arrow_meta_reader.specs.Within.{visit, entry, levels, levels_all, visits, visits_all, entries, entries_all, text_bytes}
+use Rattle.arrow_meta_reader.specs.Lies.{leaf_layer, table_layer, tables_layer, layer, Stands, AllStand}
+use Rattle.arrow_meta_reader.specs.Trees.{Leaf, Tree, Trees}
+use Rattle.arrow_meta_reader.specs.Within.{visit, entry, levels, levels_all, visits, visits_all, entries, entries_all, text_length, text_bytes}
 use Rattle.arrow_meta_reader.specs.Within.{text_bytes_all, Room, Spends, Fits}
 
 -- No tree that stands at the spot fits.
@@ -58,3 +59,43 @@ room r = record {
 -- There is no room for a table of this kind: no level is left for it, no visit or no entry.
 abbrev pub LacksRoom : Room → TableKind → ℕ → Type 0
 LacksRoom room kind levels = (levels < visit kind) ⊎ ((room.visits < visit kind) ⊎ (room.entries < entry kind))
+
+mutual
+  -- Reading the tree at the spot ends with this fault, and the new room is left: all that was opened and copied before it
+  -- is paid for, and nothing else. With true the spot is an element of a vector, whose table is paid for before it is opened.
+  pub data Ends (bytes : List ℕ) : Bool → MetaFault → Spot → ℕ → Room → Room → Type 0 where
+    -- what a field holds is not readable
+    ends_unreadable : {s : Spot} {most : ℕ} {room : Room} → layer bytes s ≡ None → Ends bytes false Metadata s most room room
+    -- there is no room for a table
+    ends_unpaid : {v : Bool} {s : Spot} {most : ℕ} {room : Room} (kind : TableKind) →
+        s.form ≡ forms.Table kind → LacksRoom room kind most → Ends bytes v Metadata s most room room
+    -- a table that is paid for is not readable
+    ends_paid : {s : Spot} {most : ℕ} {room new : Room} (kind : TableKind) →
+        s.form ≡ forms.Table kind → layer bytes s ≡ None → Spends room new (visit kind) (entry kind) 0 →
+        Ends bytes true Metadata s most room new
+    -- there is no room for a text or a string
+    ends_long : {v : Bool} {s : Spot} {most : ℕ} {room : Room} (x : Leaf) →
+        layer bytes s ≡ Some (leaf_layer x) → room.text < text_length x → Ends bytes v Metadata s most room room
+    -- a growth for what stands in a field is refused, and a text or a string there is paid for
+    ends_refused : {v : Bool} {s : Spot} {most : ℕ} {room new : Room} (x : Leaf) →
+        layer bytes s ≡ Some (leaf_layer x) → TakesMemory x room → Spends room new 0 0 (text_length x) →
+        Ends bytes v Memory s most room new
+    -- it ends in the fields of a table that is paid for
+    ends_below : {v : Bool} {e : MetaFault} {s : Spot} {most below : ℕ} {room mid new : Room} {kind : TableKind} {ss : List Spot} →
+        layer bytes s ≡ Some (table_layer kind ss) → below + visit kind ≡ most → Spends room mid (visit kind) (entry kind) 0 →
+        RowEnds bytes false e ss below mid new → Ends bytes v e s most room new
+    -- it ends in the tables of a vector
+    ends_inside : {v : Bool} {e : MetaFault} {s : Spot} {most : ℕ} {room new : Room} {ss : List Spot} →
+        layer bytes s ≡ Some (tables_layer ss) → RowEnds bytes true e ss most room new → Ends bytes v e s most room new
+
+  -- Reading the trees at the spots, one after another, ends with this fault: in the first tree, or where a growth to keep
+  -- that is refused, or in the later ones.
+  pub data RowEnds (bytes : List ℕ) : Bool → MetaFault → List Spot → ℕ → Room → Room → Type 0 where
+    ends_first : {v : Bool} {e : MetaFault} {s : Spot} {rest : List Spot} {most : ℕ} {room new : Room} →
+        Ends bytes v e s most room new → RowEnds bytes v e (s ∷ rest) most room new
+    ends_unkept : {v : Bool} {s : Spot} {rest : List Spot} {most : ℕ} {room new : Room} (x : Tree) →
+        Stands bytes s x → levels x ≤ most → Spends room new (visits x) (entries x) (text_bytes x) →
+        RowEnds bytes v Memory (s ∷ rest) most room new
+    ends_later : {v : Bool} {e : MetaFault} {s : Spot} {rest : List Spot} {most : ℕ} {room mid new : Room} (x : Tree) →
+        Stands bytes s x → levels x ≤ most → Spends room mid (visits x) (entries x) (text_bytes x) →
+        RowEnds bytes v e rest most mid new → RowEnds bytes v e (s ∷ rest) most room new

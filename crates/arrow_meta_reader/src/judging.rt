@@ -1,13 +1,13 @@
 //! What a tree means, or its least fault.
-ghost use Rattle.std.specs.Prelude.{◌≡◌, ◌∷◌, [], Some, IfOk};
+ghost use Rattle.std.specs.Prelude.{◌≡◌, ◌∷◌, [], Some, IfErr, IfOk};
 ghost use Rattle.arrow_meta_reader.specs.declared.codes.HeaderKind.TheVariants as headers;
 ghost use Rattle.arrow_meta_reader.specs.declared.fault.MetaFault.TheVariants.{Compressed};
 ghost use Rattle.arrow_meta_reader.specs.Conditions.{any, is_misfit};
 ghost use Rattle.arrow_meta_reader.specs.Faults.{data_of, header_in, header_of, is_bad_length, version_in};
 ghost use Rattle.arrow_meta_reader.specs.Faults.{header_conditions, is_compressed};
 ghost use Rattle.arrow_meta_reader.specs.Faults.{is_unsupported_schema, least, shares_an_id};
-ghost use Rattle.arrow_meta_reader.specs.Judges.{Clears, CountsTree, Decodes, IsWorkWithin, Judges};
-ghost use Rattle.arrow_meta_reader.specs.Judges.{LengthFits};
+ghost use Rattle.arrow_meta_reader.specs.Judges.{Clears, CountsFailed, CountsTree, Decodes};
+ghost use Rattle.arrow_meta_reader.specs.Judges.{IsWorkWithin, Judges, LengthFits};
 ghost use Rattle.arrow_meta_reader.specs.Parts.{nth, parts as parts_of};
 ghost use Rattle.arrow_meta_reader.specs.SchemaMeaning.{fields_in, schema_fields};
 ghost use Rattle.arrow_meta_reader.specs.Views.{plain, plain_all};
@@ -51,7 +51,8 @@ pub fn decode(alloc: Global, bytes: &[u8], limits: &Limits) -> Result<Message, M
 /// table that is opened, in the one function that all of them are opened behind, and by the length
 /// of each name, zone, key or value, in the one that copies them: one that several offsets lead to
 /// counts each time. It never passes 65,536 fields, 65,536 pairs and `max_metadata` bytes, whatever
-/// is answered, and after a message it counts just what the tree has.
+/// is answered. After a message it counts just what the tree has, and so it does after a fault of a
+/// tree; after any other fault just what was opened and copied up to where reading ended with it.
 pub fn decode_counted(
     alloc: Global,
     bytes: &[u8],
@@ -62,6 +63,7 @@ pub fn decode_counted(
     ensures length { LengthFits result limits.now.max_body }
     ensures within { IsWorkWithin limits.now work.new }
     ensures counted { IfOk result (λ _. CountsTree limits.now bytes.now work.new) }
+    ensures ends { IfErr result (λ e. CountsFailed limits.now bytes.now e work.new) }
 {
     *work = Work::NONE;
     match batch_message(alloc, bytes, limits) {

@@ -26,17 +26,19 @@
 //! | the tree that lies at a place | `specs/Lies.antt`: `Lies`, `LiesAtRoot` |
 //! | levels, visits, pairs, bytes of names | `specs/Within.antt`: `IsWithin` |
 //! | where reading asks for memory | `specs/Grows.antt`: `Grows`, `GrowsAtRoot` |
+//! | where reading ends with a fault | `specs/Reads.antt`: `Ends` |
 //! | the conditions of faults | `specs/Conditions.antt`; `specs/Faults.antt`: `fault_of` |
 //! | what fields say of their dictionaries | `specs/Sharing.antt`: `type_of`, `encoded_view` |
 //! | the message that a tree means | `specs/SchemaMeaning.antt`, `specs/Means.antt`: `Means` |
 //! | what the tables of a batch say | `specs/Straight.antt`: `HasNumber`, `HasPairs`, `IsHeader` |
-//! | what is answered | `specs/Judges.antt`: `Judges`, `Decodes` |
+//! | what is answered, and counted | `specs/Judges.antt`: `Judges`, `Decodes`, `Counts`, `EndsAtRoot` |
 //!
 //! However offsets share tables and texts, the work is bounded: each visit of a Field table and of a
 //! KeyValue table is counted in one function before the table is opened, and the bytes of each name,
 //! zone, key or value in one before they are copied. [`decode_counted`] tells these counts, as
-//! [`Work`], whatever it answers. Recursion goes no deeper than the levels of fields, and room for the
-//! elements of a vector is made only after all of them were found to lie inside.
+//! [`Work`], whatever it answers: those of the tree, or of what was read up to the fault. Recursion
+//! goes no deeper than the levels of fields, and room for the elements of a vector is made only after
+//! all of them were found to lie inside.
 #![tactic(auto)]
 
 mod batches;

@@ -1,5 +1,5 @@
 //! Reading of the tree that lies in the bytes of a metadata, within limits.
-ghost use Rattle.std.specs.Prelude.{◌≡◌, ◌<◌, ◌≤◌, ◌+◌, ◌*◌, ℕ, Some, length};
+ghost use Rattle.std.specs.Prelude.{◌≡◌, ◌<◌, ◌≤◌, ◌+◌, ◌*◌, ℕ, Bool, false, true, Some, length};
 ghost use Rattle.std.specs.Prelude.{MatchResult, IfOk, IfErr};
 ghost use Rattle.arrow_flatbuf.specs.Table.{field_place};
 ghost use Rattle.arrow_meta_reader.specs.Grows.{GrowsAtRoot, root};
@@ -8,10 +8,11 @@ ghost use Rattle.arrow_meta_reader.specs.Views.{plain, plain_all};
 ghost use Rattle.arrow_meta_reader.specs.Lies.{LiesAtRoot, elements, layer, table_layer};
 ghost use Rattle.arrow_meta_reader.specs.Lies.{number_layer, layer_at, pairs_from};
 ghost use Rattle.arrow_meta_reader.specs.Trees.{Tree as PlainTree, table};
-ghost use Rattle.arrow_meta_reader.specs.Judges.{Counts, IsWorkWithin};
+ghost use Rattle.arrow_meta_reader.specs.Judges.{Counts, EndsAtRoot, IsWorkWithin};
 ghost use Rattle.arrow_meta_reader.specs.Within.{IsWithin, Spends, entry, visit};
 ghost use Rattle.arrow_meta_reader.specs.declared.kinds.FieldForm.{FieldForm as Form};
 ghost use Rattle.arrow_meta_reader.specs.declared.kinds.FieldForm.TheVariants as forms;
+ghost use Rattle.arrow_meta_reader.specs.Reads.{Ends, RowEnds};
 ghost use Rattle.arrow_meta_reader.specs.Reads.{ReadsTree, ReadsRow, LacksRoom, room, Faulty};
 
 use crate::counter::Counter;
@@ -54,9 +55,10 @@ pub fn tree(alloc: Global, bytes: &[u8], limits: &Limits) -> Result<MessageTree,
 }
 
 /// The same, with what it came to. The work is 0 first, whatever it was, and then counts each Field
-/// table and each KeyValue table that is opened, and each byte of a name, a zone, a key or a value
-/// that is copied. It keeps to the limits whatever is answered, and where a tree is, it counts just
-/// what that has.
+/// table and each KeyValue table before it is opened, and each byte of a name, a zone, a key or a
+/// value before it is copied. It keeps to the limits whatever is answered. Where a tree is, it counts
+/// just what that has; after a fault just what stands before the place where reading ended with it,
+/// and a table or a copy that it ended at, where there was room for that.
 pub fn tree_counted(
     alloc: Global,
     bytes: &[u8],
@@ -71,6 +73,7 @@ pub fn tree_counted(
         (GrowsAtRoot limits.now bytes.now)) }
     ensures within { IsWorkWithin limits.now work.new }
     ensures counted { IfOk result (λ t. Counts work.new t) }
+    ensures ends { IfErr result (λ e. EndsAtRoot limits.now bytes.now e work.new) }
 {
     let mut reader = Reader {
         alloc,
@@ -97,6 +100,8 @@ impl Reader {
     fn root(&mut self, types: TypeSet, bytes: &[u8]) -> Result<Tree, MetaFault>
         ensures read { ReadsTree plain result bytes.now (root types) 32 (room self.old)
             (room self.new) }
+        ensures ends { IfErr result (λ e. Ends bytes.now false e (root types) 32 (room self.old)
+            (room self.new)) }
         ensures max { self.new.counter.max_bytes ≡ self.old.counter.max_bytes }
     {
         match Root::open(bytes) {
@@ -112,6 +117,7 @@ impl Reader {
             (λ below. (below + visit kind ≡ levels)
             × Spends (room self.old) (room self.new) (visit kind) (entry kind) 0)
             (λ e. (e ≡ MetaFault.Metadata) × LacksRoom (room self.old) kind levels) }
+        ensures unpaid { IfErr result (λ _. room self.new ≡ room self.old) }
         ensures max { self.new.counter.max_bytes ≡ self.old.counter.max_bytes }
     {
         match kind {
@@ -139,6 +145,9 @@ impl Reader {
         ensures read { (s : Spot)
             → layer table.now.bytes s ≡ Some (table_layer kind (spots_of kind table.now))
             → ReadsTree plain result table.now.bytes s levels (room self.old) (room self.new) }
+        ensures ends { IfErr result (λ e. (v : Bool) (s : Spot) → s.form ≡ forms.Table kind
+            → layer table.now.bytes s ≡ Some (table_layer kind (spots_of kind table.now))
+            → Ends table.now.bytes v e s levels (room self.old) (room self.new)) }
         ensures max { self.new.counter.max_bytes ≡ self.old.counter.max_bytes }
     {
         let below = self.enter(kind, levels)?;
@@ -156,6 +165,8 @@ impl Reader {
     ) -> Result<Vec<Tree>, MetaFault>
         ensures read { ReadsRow (λ v. plain_all v.items) result table.now.bytes
             (spots_of kind table.now) levels (room self.old) (room self.new) }
+        ensures ends { IfErr result (λ e. RowEnds table.now.bytes false e
+            (spots_of kind table.now) levels (room self.old) (room self.new)) }
         ensures max { self.new.counter.max_bytes ≡ self.old.counter.max_bytes }
     {
         let forms = kinds::forms(kind);
@@ -178,6 +189,8 @@ impl Reader {
     ) -> Result<Tree, MetaFault>
         ensures read { ReadsTree plain result table.now.bytes (spot form table.now field)
             levels (room self.old) (room self.new) }
+        ensures ends { IfErr result (λ e. Ends table.now.bytes false e
+            (spot form table.now field) levels (room self.old) (room self.new)) }
         ensures max { self.new.counter.max_bytes ≡ self.old.counter.max_bytes }
     {
         match form {
@@ -214,6 +227,8 @@ impl Reader {
     ) -> Result<Tree, MetaFault>
         ensures read { ReadsTree plain result table.now.bytes
             (opened kind (field_place table.now field)) levels (room self.old) (room self.new) }
+        ensures ends { IfErr result (λ e. Ends table.now.bytes false e
+            (opened kind (field_place table.now field)) levels (room self.old) (room self.new)) }
         ensures max { self.new.counter.max_bytes ≡ self.old.counter.max_bytes }
     {
         match kind {
@@ -238,6 +253,9 @@ impl Reader {
         ensures read { ReadsTree plain result table.now.bytes
             (record { form = forms.Tables kind; place = field_place table.now field })
             levels (room self.old) (room self.new) }
+        ensures ends { IfErr result (λ e. Ends table.now.bytes false e
+            (record { form = forms.Tables kind; place = field_place table.now field })
+            levels (room self.old) (room self.new)) }
         ensures max { self.new.counter.max_bytes ≡ self.old.counter.max_bytes }
     {
         match table.vector(field, kinds::OFFSET)? {
@@ -258,6 +276,9 @@ impl Reader {
         ensures read { ReadsRow (λ v. plain_all v.items) result vector.now.bytes
             (elements kind vector.now.place vector.now.count)
             levels (room self.old) (room self.new) }
+        ensures ends { IfErr result (λ e. RowEnds vector.now.bytes true e
+            (elements kind vector.now.place vector.now.count)
+            levels (room self.old) (room self.new)) }
         ensures max { self.new.counter.max_bytes ≡ self.old.counter.max_bytes }
     {
         let mut trees = Vec::new(self.alloc);
@@ -282,6 +303,9 @@ impl Reader {
         ensures read { ReadsTree plain result vector.now.bytes
             (record { form = forms.Table kind; place = Some (vector.now.place + index * 4) })
             levels (room self.old) (room self.new) }
+        ensures ends { IfErr result (λ e. Ends vector.now.bytes true e
+            (record { form = forms.Table kind; place = Some (vector.now.place + index * 4) })
+            levels (room self.old) (room self.new)) }
         ensures max { self.new.counter.max_bytes ≡ self.old.counter.max_bytes }
     {
         let below = self.enter(kind, levels)?;
@@ -300,6 +324,11 @@ impl Reader {
             → ReadsTree plain result table.now.bytes
             (record { form = form; place = field_place table.now field })
             most (room self.old) (room self.new) }
+        ensures ends { IfErr result (λ e. (form : Form) (most : ℕ)
+            → ((p : ℕ) → layer_at table.now.bytes form p ≡ number_layer width table.now.bytes p)
+            → Ends table.now.bytes false e
+            (record { form = form; place = field_place table.now field })
+            most (room self.old) (room self.new)) }
         ensures max { self.new.counter.max_bytes ≡ self.old.counter.max_bytes }
     {
         match table.scalar(field, width)? {
@@ -314,6 +343,9 @@ impl Reader {
         ensures read { (most : ℕ) → ReadsTree plain result table.now.bytes
             (record { form = forms.Text; place = field_place table.now field })
             most (room self.old) (room self.new) }
+        ensures ends { IfErr result (λ e. (most : ℕ) → Ends table.now.bytes false e
+            (record { form = forms.Text; place = field_place table.now field })
+            most (room self.old) (room self.new)) }
         ensures max { self.new.counter.max_bytes ≡ self.old.counter.max_bytes }
     {
         match table.text(field)? {
@@ -331,6 +363,9 @@ impl Reader {
         ensures read { (most : ℕ) → ReadsTree plain result table.now.bytes
             (record { form = forms.Bytes; place = field_place table.now field })
             most (room self.old) (room self.new) }
+        ensures ends { IfErr result (λ e. (most : ℕ) → Ends table.now.bytes false e
+            (record { form = forms.Bytes; place = field_place table.now field })
+            most (room self.old) (room self.new)) }
         ensures max { self.new.counter.max_bytes ≡ self.old.counter.max_bytes }
     {
         match table.bytes(field)? {
@@ -346,6 +381,8 @@ impl Reader {
             × Spends (room self.old) (room self.new) 0 0 (length bytes.now))
             (λ e. Faulty e ((room self.old).text < length bytes.now)
             (length bytes.now ≤ (room self.old).text)) }
+        ensures ends { IfErr result (λ e. Faulty e (room self.new ≡ room self.old)
+            (Spends (room self.old) (room self.new) 0 0 (length bytes.now))) }
         ensures max { self.new.counter.max_bytes ≡ self.old.counter.max_bytes }
     {
         let length = bytes.len() as u64;
@@ -362,6 +399,9 @@ impl Reader {
         ensures read { (most : ℕ) → ReadsTree plain result table.now.bytes
             (record { form = forms.Pairs; place = field_place table.now field })
             most (room self.old) (room self.new) }
+        ensures ends { IfErr result (λ e. (most : ℕ) → Ends table.now.bytes false e
+            (record { form = forms.Pairs; place = field_place table.now field })
+            most (room self.old) (room self.new)) }
         ensures max { self.new.counter.max_bytes ≡ self.old.counter.max_bytes }
     {
         match table.vector(field, kinds::PAIR)? {
@@ -376,6 +416,9 @@ impl Reader {
         ensures read { (most : ℕ) → ReadsTree plain result table.now.bytes
             (record { form = forms.Presence; place = field_place table.now field })
             most (room self.old) (room self.new) }
+        ensures ends { IfErr result (λ e. (most : ℕ) → Ends table.now.bytes false e
+            (record { form = forms.Presence; place = field_place table.now field })
+            most (room self.old) (room self.new)) }
         ensures max { self.new.counter.max_bytes ≡ self.old.counter.max_bytes }
     {
         if table.has(field) {

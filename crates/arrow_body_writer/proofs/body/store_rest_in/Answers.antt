@@ -1,5 +1,4 @@
 use Rattle.std.proofs.Common.{[], ◌∷◌, sym, subst, arith}
-use Rattle.std.proofs.lemmas.Result.{on_ok_weaker}
 use Rattle.arrow_body_laws.proofs.Tidied.{is_tidy}
 use Rattle.arrow_body_laws.proofs.Whole.{is_read}
 use Rattle.arrow_body_laws.specs.Laws.{IsBodyOf, raws_of}
@@ -18,37 +17,24 @@ returns-then-nodes-clause-large c = λ large told. omega (arith, told.counted.0,
 pub put_column-requires-clause-counted : goal.put_column-requires-clause-counted
 put_column-requires-clause-counted c = omega (arith, c.nodes_in_rest-nodes.ensures.count c.args.from, c.if-nodes.false)
 
--- what can be told was stored
-pub returns-clause-told : goal.returns-clause-told
-returns-clause-told c = on_ok_weaker c.put_column.result (λ all. all.told) c.put_column.ensures.stored
-
-pub returns-clause-same : goal.returns-clause-same
-returns-clause-same c =
-    let empty = c.in_ok-begin.ensures in
-    on_ok_weaker c.put_column.result
-    (λ all. stored_from (alignment_of c.args.align) (rest_of c.args.dictionary.now c.args.from ∷ []) c.begin.new.self c.put_column.new.body empty.no_nodes empty.no_buffers empty.no_bytes all.stored)
-    c.put_column.ensures.stored
-
--- so it is read
-pub returns-clause-read : goal.returns-clause-read
-returns-clause-read c =
+-- what was stored is read
+pub returns-in-Ok-clause-read : goal.returns-in-Ok-clause-read
+returns-in-Ok-clause-read c =
     let cs = rest_of c.args.dictionary.now c.args.from ∷ [] in
     let align = alignment_of c.args.align in
-    let empty = c.in_ok-begin.ensures in
-    on_ok_weaker c.put_column.result
-    (λ all. let same = stored_from align cs c.begin.new.self c.put_column.new.body empty.no_nodes empty.no_buffers empty.no_bytes all.stored in
+    let empty = c.begin.ensures in
+    let all = c.in-Ok.ensures.stored in
+    let same = stored_from align cs c.begin.new.self c.put_column.new.body empty.no_nodes empty.no_buffers empty.no_bytes all.stored in
     subst (IsBodyOf align (fields_of_columns cs) (raws_of cs)) (sym same)
-    (is_read align (fields_of_columns cs) (raws_of cs) (some_alignment c.args.align) (c.nodes_in_rest-nodes.ensures.raws c.args.from) all.told.small))
-    c.put_column.ensures.stored
+    (is_read align (fields_of_columns cs) (raws_of cs) (some_alignment c.args.align) (c.nodes_in_rest-nodes.ensures.raws c.args.from) all.told.small)
 
 -- and tidy
-pub returns-clause-tidy : goal.returns-clause-tidy
-returns-clause-tidy c =
+pub returns-in-Ok-clause-tidy : goal.returns-in-Ok-clause-tidy
+returns-in-Ok-clause-tidy c =
     let cs = rest_of c.args.dictionary.now c.args.from ∷ [] in
     let align = alignment_of c.args.align in
-    let empty = c.in_ok-begin.ensures in
-    on_ok_weaker c.put_column.result
-    (λ all. let same = stored_from align cs c.begin.new.self c.put_column.new.body empty.no_nodes empty.no_buffers empty.no_bytes all.stored in
+    let empty = c.begin.ensures in
+    let all = c.in-Ok.ensures.stored in
+    let same = stored_from align cs c.begin.new.self c.put_column.new.body empty.no_nodes empty.no_buffers empty.no_bytes all.stored in
     subst (λ (b : PlainBody). IsTidy align (fields_of_columns cs) b.nodes b.buffers b.bytes) (sym same)
-    (is_tidy align (fields_of_columns cs) (raws_of cs) (some_alignment c.args.align) (c.nodes_in_rest-nodes.ensures.raws c.args.from) all.told.small))
-    c.put_column.ensures.stored
+    (is_tidy align (fields_of_columns cs) (raws_of cs) (some_alignment c.args.align) (c.nodes_in_rest-nodes.ensures.raws c.args.from) all.told.small)

@@ -1,4 +1,6 @@
-use Rattle.arrow_meta_reader.proofs.Counting.{counts_nothing, counted}
+use Rattle.std.proofs.Common.{inl}
+use Rattle.std.proofs.lemmas.Result.{err_from_is_err_and}
+use Rattle.arrow_meta_reader.proofs.Counting.{counts_nothing, counted, counted_failed}
 use Rattle.arrow_meta_reader.proofs.Decoding.{decoded}
 use Rattle.arrow_meta_reader.proofs.judging.decode_counted.Goals as goal
 
@@ -19,3 +21,16 @@ returns-in_ok-tree_counted-in-None-clause-counted c =
     let read = c.in_ok-tree_counted-in-None.ensures.found in
     counted c.judge.result c.args.limits.now c.args.bytes.now c.in_ok-tree_counted-in-None.field-0 c.tree_counted.new.work
     (record { lies = read.0; within = read.1 }) c.in_ok-tree_counted-in-None.ensures.counted
+
+-- with a fault of its own too
+pub returns-in_ok-tree_counted-in-None-clause-ends : goal.returns-in_ok-tree_counted-in-None-clause-ends
+returns-in_ok-tree_counted-in-None-clause-ends c =
+    let read = c.in_ok-tree_counted-in-None.ensures.found in
+    counted_failed c.judge.result c.args.limits.now c.args.bytes.now c.in_ok-tree_counted-in-None.field-0 c.tree_counted.new.work
+    (record { lies = read.0; within = read.1 }) c.in_ok-tree_counted-in-None.ensures.counted
+
+-- where reading ended
+pub returns-in_err-tree_counted-in-None-clause-ends : goal.returns-in_err-tree_counted-in-None-clause-ends
+returns-in_err-tree_counted-in-None-clause-ends c =
+    let failed = err_from_is_err_and c.from_residual.result c.from_residual.ensures.1 in
+    rw (failed.1, failed.2) (inl c.in_err-tree_counted-in-None.ensures.ends)

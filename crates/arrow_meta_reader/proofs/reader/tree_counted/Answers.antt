@@ -1,12 +1,12 @@
-use Rattle.std.proofs.Common.{◌≡◌, ℕ, ◌≤◌, ◌-◌, List, subst, arith}
+use Rattle.std.proofs.Common.{◌≡◌, false, ℕ, ◌≤◌, ◌-◌, List, subst, arith}
 use Rattle.std.proofs.lemmas.Result.{err_from_is_err_and}
 use Rattle.arrow_types.specs.declared.type_set.TypeSet.{TypeSet}
+use Rattle.arrow_meta_reader.specs.Reads.{Ends, NoneFits, Faulty, room}
 use Rattle.arrow_meta_reader.specs.Lies.{Stands, LiesAtRoot}
 use Rattle.arrow_meta_reader.specs.Trees.{Tree}
 use Rattle.arrow_meta_reader.specs.Views.{plain}
 use Rattle.arrow_meta_reader.specs.Within.{levels, visits, entries, text_bytes, Room, Spends, IsWithin}
 use Rattle.arrow_meta_reader.specs.Grows.{Grows, root, whole}
-use Rattle.arrow_meta_reader.specs.Reads.{NoneFits, Faulty, room}
 use Rattle.arrow_meta_reader.proofs.Roots.{root_lies, root_stands}
 use Rattle.arrow_meta_reader.proofs.Spots.{faulty_so}
 use Rattle.arrow_meta_reader.proofs.reader.tree_counted.Goals as goal
@@ -60,3 +60,18 @@ returns-in_err-found-clause-none c =
     let failed = err_from_is_err_and c.from_residual.result c.from_residual.ensures.1 in
     rw (← c.max_metadata.ensures.value, ← c.types.ensures, failed.1, failed.2)
     (faulty_so c.in_err-found.field-0.0 _ _ _ _ (none_within c.types.result c.args.bytes.now n) (λ g. g) (subst P (all_left n) c.in_err-found.ensures.read))
+
+-- what was counted is what the whole room had, and no longer has
+pub returns-in_err-found-clause-ends : goal.returns-in_err-found-clause-ends
+returns-in_err-found-clause-ends c =
+    let n = c.max_metadata.result in
+    let counter = c.root-found.new.self.counter in
+    let left = room c.root-found.new.self in
+    let P : Room → Type 0 = λ all. Ends c.args.bytes.now false c.in_err-found.field-0.0 (root c.types.result) 32 all left in
+    let paid : Spends (whole n) left counter.work.fields counter.work.pairs counter.work.bytes = record {
+      visits_paid = omega (arith, counter.fields_within);
+      entries_paid = omega (arith, counter.pairs_within);
+      text_paid = omega (arith, counter.bytes_within, c.root-found.ensures.max);
+    } in
+    let failed = err_from_is_err_and c.from_residual.result c.from_residual.ensures.1 in
+    rw (← c.max_metadata.ensures.value, ← c.types.ensures, failed.1, failed.2) (left, subst P (all_left n) c.in_err-found.ensures.ends, paid)

@@ -1,18 +1,20 @@
-use Rattle.std.proofs.Common.{◌≡◌, ℕ, ◌+◌, ◌*◌, ◌≤◌, List, Some, ap, sym, subst, ◌∙◌, option_map, arith, add-one, refl}
+use Rattle.std.proofs.Common.{false, true, ◌≡◌, ℕ, ◌+◌, ◌*◌, ◌≤◌, List, Some, ap, sym, subst, ◌∙◌, option_map, arith, add-one, refl}
 use Rattle.std.proofs.lemmas.Result.{err_from_is_err_and}
 use Rattle.arrow_flatbuf.specs.Place.{behind}
 use Rattle.arrow_flatbuf.specs.Table.{field_place}
 use Rattle.arrow_flatbuf.specs.Vector.{vector_at}
-use Rattle.arrow_meta_reader.specs.Kinds.{spots_of}
+use Rattle.arrow_meta_reader.specs.Reads.{Ends, RowEnds, ends_unpaid, ends_paid, ends_below, ends_inside, NoRowFits, Faulty, room}
+use Rattle.arrow_meta_reader.specs.Kinds.{Spot, spots_of}
+use Rattle.arrow_meta_reader.specs.declared.fault.MetaFault.TheVariants.{Metadata}
 use Rattle.arrow_meta_reader.specs.Views.{plain, plain_all}
 use Rattle.arrow_meta_reader.specs.Trees.{Tree, table}
 use Rattle.arrow_meta_reader.specs.Within.{levels, levels_all, visits, visits_all, entries, entries_all, text_bytes, text_bytes_all, Spends}
 use Rattle.arrow_meta_reader.specs.Lies.{Stands, AllStand, table_layer, tables_layer, elements}
 use Rattle.arrow_meta_reader.specs.Grows.{RowGrows, table_grows, tables_grow}
-use Rattle.arrow_meta_reader.specs.Reads.{NoRowFits, Faulty, room}
 use Rattle.arrow_meta_reader.specs.declared.kinds.FieldForm.TheVariants as forms
-use Rattle.arrow_meta_reader.proofs.Layers.{unreadable, unreadable_child, vector_layer, element_layer, no_room, no_room_at, no_fields, no_elements}
+use Rattle.arrow_meta_reader.proofs.Layers.{layer_there, unreadable, unreadable_child, vector_layer, element_layer, no_room, no_room_at, no_fields, no_elements}
 use Rattle.arrow_meta_reader.proofs.Rows.{further, stuck, grown, begun, finished, plain_all-push}
+use Rattle.arrow_meta_reader.proofs.Ending.{row_ends, row_unkept, ends_there, ends_child}
 use Rattle.arrow_meta_reader.proofs.Spots.{field_get, element_get, length-elements, faulty_so}
 use Rattle.arrow_meta_reader.proofs.reader.Reader.+trees.Goals as goal
 
@@ -154,3 +156,96 @@ elements-loop-index-preserved t c =
     let at = element_get c.args.kind c.args.vector.now.place c.args.vector.now.count c.loop-index.index (omega arith) in
     let next = further c.args.vector.now.bytes (elements c.args.kind c.args.vector.now.place c.args.vector.now.count) c.args.levels (room c.args.self.now) (room c.loop-index.self) (room c.element.new.self) c.loop-index.index _ (plain_all c.loop-index.trees.items) (plain c.in_ok-tree.tree) c.loop-index.invariant.0 at c.in_ok-tree.ensures.read in
     rw (add-one, c.in_ok-push.ensures.items, plain_all-push c.loop-index.trees.items c.in_ok-tree.tree) (next, c.in_ok-tree.ensures.max ∙ c.loop-index.invariant.1)
+
+pub table-returns-in_err-below-clause-ends : goal.table-returns-in_err-below-clause-ends
+table-returns-in_err-below-clause-ends t c =
+    let lacks = c.in_err-below.ensures.paid in
+    let p = err_from_is_err_and c.from_residual.result c.from_residual.ensures.1 in
+    rw (p.1, p.2, lacks.0) (λ v s f e. let here : Ends c.args.table.now.bytes v Metadata s c.args.levels (room c.args.self.now) (room c.args.self.now) = ends_unpaid c.args.kind f lacks.1 in
+    subst (λ left. Ends c.args.table.now.bytes v Metadata s c.args.levels (room c.args.self.now) left) (sym c.in_err-below.ensures.unpaid) here)
+
+pub table-returns-in_err-fields-clause-ends : goal.table-returns-in_err-fields-clause-ends
+table-returns-in_err-fields-clause-ends t c =
+    let paid = c.in_ok-below.ensures.paid in
+    let p = err_from_is_err_and c.from_residual-in_err-fields.result c.from_residual-in_err-fields.ensures.1 in
+    rw (p.1, p.2) (λ v s f e. ends_below e paid.0 paid.1 c.in_err-fields.ensures.ends)
+
+pub fields-returns-in_err-tree-clause-ends : goal.fields-returns-in_err-tree-clause-ends
+fields-returns-in_err-tree-clause-ends t c =
+    let p = err_from_is_err_and c.from_residual.result c.from_residual.ensures.1 in
+    let at = field_get c.args.kind c.args.table.now c.forms-forms.result.now c.loop-field.field forms.Byte c.forms-forms.ensures.value (omega arith) in
+    rw (p.1, p.2) (row_ends c.args.table.now.bytes false c.in_err-tree.field-0.0 (spots_of c.args.kind c.args.table.now) c.args.levels (room c.args.self.now) (room c.loop-field.self) (room c.field.new.self) c.loop-field.field _
+    (plain_all c.loop-field.trees.items) c.loop-field.invariant.0 at c.in_err-tree.ensures.ends)
+
+pub fields-returns-in_err-push-clause-ends : goal.fields-returns-in_err-push-clause-ends
+fields-returns-in_err-push-clause-ends t c =
+    let h = c.in_ok-tree.ensures.read in
+    let at = field_get c.args.kind c.args.table.now c.forms-forms.result.now c.loop-field.field forms.Byte c.forms-forms.ensures.value (omega arith) in
+    let next = further c.args.table.now.bytes (spots_of c.args.kind c.args.table.now) c.args.levels (room c.args.self.now) (room c.loop-field.self) (room c.field.new.self) c.loop-field.field _ (plain_all c.loop-field.trees.items) (plain c.in_ok-tree.tree) c.loop-field.invariant.0 at h in
+    let failed = err_from_is_err_and c.from_residual-in_err-push.result c.from_residual-in_err-push.ensures.1 in
+    rw (failed.1, failed.2) (row_unkept _ _ _ _ _ _ _ _ _ next at)
+
+pub child-returns-in_err-table-in-Some-clause-ends : goal.child-returns-in_err-table-in-Some-clause-ends
+child-returns-in_err-table-in-Some-clause-ends t c =
+    let there = c.in_err-table-in-Some.ensures in
+    let failed = err_from_is_err_and c.from_residual.result c.from_residual.ensures.1 in
+    rw (failed.1, failed.2) (ends_child c.args.table.now.bytes c.args.kind c.in-Some.opened (field_place c.args.table.now c.args.field) c.args.levels (room c.args.self.now) there.answer.0 c.in-Some.is there.answer.1 there.answer.2)
+
+pub children-returns-in_err-vector-clause-ends : goal.children-returns-in_err-vector-clause-ends
+children-returns-in_err-vector-clause-ends t c =
+    let there = c.in_err-vector.ensures in
+    let failed = err_from_is_err_and c.from_residual.result c.from_residual.ensures.1 in
+    rw (failed.1, failed.2) (ends_there c.args.table.now.bytes (forms.Tables c.args.kind) (field_place c.args.table.now c.args.field) c.args.levels (room c.args.self.now) there.answer.0 there.answer.1
+    (ap (option_map (λ v. tables_layer (elements c.args.kind v.place v.count))) there.answer.2))
+
+pub children-returns-in_err-elements-in-Some-clause-ends : goal.children-returns-in_err-elements-in-Some-clause-ends
+children-returns-in_err-elements-in-Some-clause-ends t c =
+    let v = c.in-Some.vector in
+    let there : (p : ℕ) × (field_place c.args.table.now c.args.field ≡ Some p) × (behind (vector_at 4) c.args.table.now.bytes p ≡ Some v) = rw c.in-Some.is at c.in_ok-vector.ensures.answer in
+    let same : (v.bytes ≡ c.args.table.now.bytes) × (v.size ≡ 4) = rw c.in-Some.is at c.in_ok-vector.ensures.bytes in
+    let p = err_from_is_err_and c.from_residual-in_err-elements-in-Some.result c.from_residual-in_err-elements-in-Some.ensures.1 in
+    let P : List ℕ → Type 0 = λ bytes. RowEnds bytes true c.in_err-elements-in-Some.field-0.0 (elements c.args.kind v.place v.count) c.args.levels (room c.args.self.now) (room c.elements.new.self) in
+    let at = vector_layer c.args.table.now.bytes c.args.kind (field_place c.args.table.now c.args.field) there.0 v there.1 there.2 in
+    rw (p.1, p.2) (ends_inside at (subst P same.0 c.in_err-elements-in-Some.ensures.ends))
+
+pub elements-returns-in_err-tree-clause-ends : goal.elements-returns-in_err-tree-clause-ends
+elements-returns-in_err-tree-clause-ends t c =
+    let at = element_get c.args.kind c.args.vector.now.place c.args.vector.now.count c.loop-index.index (omega arith) in
+    let p = err_from_is_err_and c.from_residual.result c.from_residual.ensures.1 in
+    rw (p.1, p.2) (row_ends c.args.vector.now.bytes true c.in_err-tree.field-0.0 (elements c.args.kind c.args.vector.now.place c.args.vector.now.count) c.args.levels (room c.args.self.now) (room c.loop-index.self) (room c.element.new.self) c.loop-index.index _
+    (plain_all c.loop-index.trees.items) c.loop-index.invariant.0 at c.in_err-tree.ensures.ends)
+
+pub elements-returns-in_err-push-clause-ends : goal.elements-returns-in_err-push-clause-ends
+elements-returns-in_err-push-clause-ends t c =
+    let at = element_get c.args.kind c.args.vector.now.place c.args.vector.now.count c.loop-index.index (omega arith) in
+    let next = further c.args.vector.now.bytes (elements c.args.kind c.args.vector.now.place c.args.vector.now.count) c.args.levels (room c.args.self.now) (room c.loop-index.self) (room c.element.new.self) c.loop-index.index _ (plain_all c.loop-index.trees.items) (plain c.in_ok-tree.tree) c.loop-index.invariant.0 at c.in_ok-tree.ensures.read in
+    let failed = err_from_is_err_and c.from_residual-in_err-push.result c.from_residual-in_err-push.ensures.1 in
+    rw (failed.1, failed.2) (row_unkept _ _ _ _ _ _ _ _ _ next at)
+
+pub element-returns-in_err-below-clause-ends : goal.element-returns-in_err-below-clause-ends
+element-returns-in_err-below-clause-ends t c =
+    let lacks = c.in_err-below.ensures.paid in
+    let p = err_from_is_err_and c.from_residual.result c.from_residual.ensures.1 in
+    let q = c.args.vector.now.place + c.args.index * 4 in
+    let s : Spot = record { form = forms.Table c.args.kind; place = Some q } in
+    let here : Ends c.args.vector.now.bytes true Metadata s c.args.levels (room c.args.self.now) (room c.args.self.now) = ends_unpaid c.args.kind refl lacks.1 in
+    rw (p.1, p.2, lacks.0) (subst (λ left. Ends c.args.vector.now.bytes true Metadata s c.args.levels (room c.args.self.now) left) (sym c.in_err-below.ensures.unpaid) here)
+
+pub element-returns-in_err-table-clause-ends : goal.element-returns-in_err-table-clause-ends
+element-returns-in_err-table-clause-ends t c =
+    let q = c.args.vector.now.place + c.args.index * 4 in
+    let failed = err_from_is_err_and c.from_residual-in_err-table.result c.from_residual-in_err-table.ensures.1 in
+    let nothing = layer_there c.args.vector.now.bytes (forms.Table c.args.kind) (Some q) q refl ∙ ap (option_map (λ t. table_layer c.args.kind (spots_of c.args.kind t))) (sym c.in_err-table.ensures.value) in
+    rw (failed.1, failed.2) (ends_paid c.args.kind refl nothing c.in_ok-below.ensures.paid.1)
+
+pub element-returns-in_err-fields-clause-ends : goal.element-returns-in_err-fields-clause-ends
+element-returns-in_err-fields-clause-ends t c =
+    let q = c.args.vector.now.place + c.args.index * 4 in
+    let b = c.args.vector.now.bytes in
+    let ss = spots_of c.args.kind c.in_ok-table.table in
+    let there = c.in_ok-table.ensures in
+    let paid = c.in_ok-below.ensures.paid in
+    let at = element_layer b c.args.kind q c.in_ok-table.table (sym there.value) in
+    let P : List ℕ → Type 0 = λ bytes. RowEnds bytes false c.in_err-fields.field-0.0 ss c.in_ok-below.below (room c.enter.new.self) (room c.fields.new.self) in
+    let p = err_from_is_err_and c.from_residual-in_err-fields.result c.from_residual-in_err-fields.ensures.1 in
+    rw (p.1, p.2) (ends_below at paid.0 paid.1 (subst P there.bytes c.in_err-fields.ensures.ends))
