@@ -21,11 +21,11 @@
  *             the thread that opened it.
  *
  * What a caller owes, and nothing checks:
- *  - A pointer to bytes or to a room may be NULL where the length beside it is 0. A pointer to a
- *    reader is never NULL. A length is at most PTRDIFF_MAX.
+ *  - A pointer to bytes or to a room may be NULL where the length beside it is 0. No other pointer is
+ *    ever NULL. A length is at most PTRDIFF_MAX.
  *  - Bytes stay as they are until the call has returned, in other threads and processes too: what
  *    lies in memory that a stranger can write is copied first.
- *  - A room overlaps with nothing else that is passed.
+ *  - A room, a handle and an arrowflow_column overlap with nothing else that is passed.
  *  - A bool is 0 or 1.
  *  - malloc, realloc and free are those of one allocator, and align as the C standard asks.
  *  - No call comes from a signal handler, or from the forked child of a process with threads.
@@ -220,24 +220,24 @@ typedef struct {
     uint64_t size; /* of a byte string or a text, whether it fits or not */
 } arrowflow_cell;
 
-/* Makes a reader of a new stream, in place of the one that the handle has: ARROWFLOW_FINE, or
- * ARROWFLOW_MEMORY or ARROWFLOW_BAD_LIMITS, and then the handle has none. */
+/* Makes a reader of a new stream, in place of the one that the handle has, which is freed:
+ * ARROWFLOW_FINE, or ARROWFLOW_MEMORY or ARROWFLOW_BAD_LIMITS, and then the handle has none. */
 uint32_t arrowflow_reader_open(arrowflow_limits limits, arrowflow_reader *reader);
 
 /* Gives the reader a piece, of which it takes the bytes up to the end of one message, or all where
  * none is whole. Where a stream was cut changes no answer. After a fault of the stream it takes
- * nothing and answers the same again; after the end marker it takes nothing. After ARROWFLOW_MEMORY
- * the reader has lost the batch that it gave last, and nothing else has changed: the same call may
- * be made again. */
+ * nothing and answers the same again; after the end marker it takes nothing. The batch that a call
+ * gives is the reader's until the next call. After ARROWFLOW_MEMORY nothing has changed, as though the
+ * call had not been made: it may be made again. */
 arrowflow_step arrowflow_reader_read(arrowflow_reader *reader, const uint8_t *piece, size_t len);
 
 /* What a stream answers that ends here: ARROWFLOW_NO_SCHEMA, ARROWFLOW_TRUNCATED, the fault that
  * came, or ARROWFLOW_FINE. It changes nothing. */
 arrowflow_fault arrowflow_reader_end(arrowflow_reader *reader);
 
-/* The value in a row and a column, both from 0, of the batch that the last call of
- * arrowflow_reader_read gave, with indices looked up in the dictionaries as they stood at that
- * batch. As much of a byte string or a text as fits stands in the room. */
+/* The value in a row and a column, both from 0, of the reader's batch, with indices looked up in the
+ * dictionaries as they stood at that batch. As much of a byte string or a text as fits stands in the
+ * room. */
 arrowflow_cell arrowflow_reader_cell(arrowflow_reader *reader, size_t column, size_t row,
                                      uint8_t *out, size_t room);
 
@@ -276,16 +276,18 @@ typedef struct {
     size_t values_len;
 } arrowflow_column;
 
-/* Tells in *column where the buffers lie of a column of the batch that the last call of
- * arrowflow_reader_read gave. path[0] is the number of the column, and each number behind it leads a
- * level down: below LISTS it is 0, below STRUCTS that of a field, and below INDICES that of a value
- * of the dictionary, which leads to the array that this value stands in, at `slot`. The array's other
- * slots are the dictionary's values around it, one after another, so that value n - slot + slots is
- * the first of the next array. Depth 0 leads nowhere.
+/* Tells in *column where the buffers lie of a column of the reader's batch. path[0] is the number of
+ * the column, and each number behind it leads a level down: below LISTS it is 0, below STRUCTS that of
+ * a field, and below INDICES that of a value of the dictionary, which leads to the array that this
+ * value stands in, at `slot`. The array's other slots are the dictionary's values around it, one after
+ * another, so that value n - slot + slots is the first of the next array. Depth 0 leads nowhere.
  * All of it was tested when the batch was read: offsets never fall and end inside the child or the
  * values, and in a slot that has a value an index is below `entries` and a text is UTF-8. What stands
  * in a slot without a value says nothing.
- * The pointers in *column are not NULL before the call: arrowflow_column_at sees to that. */
+ * Before the call *column is a whole one, of which nothing is read: `has_sign` is 0 or 1, and at each
+ * of its three pointers, none of them NULL, lie as many bytes as the length beside it says, as they
+ * are until the call has returned. So it is no struct that was never set, nor one that was told of a
+ * batch that is gone. arrowflow_column_at sees to all of this, and to a path that is NULL. */
 void arrowflow_reader_column(arrowflow_reader *reader, const size_t *path, size_t depth,
                              arrowflow_column *column);
 

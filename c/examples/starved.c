@@ -2,8 +2,9 @@
  *
  * Makes each call on a stream again and again, and refuses one growth of memory in each, the first one,
  * the second one, and so on: the call answers ARROWFLOW_MEMORY, or what it answers with all of its
- * memory. A reader goes on where the same call is made again. It is linked with
- * -Wl,--wrap=malloc,--wrap=realloc.
+ * memory. A reader goes on where the same call is made again, and has its batch until then. Of what a
+ * call took nothing is left, and nothing of a reader that was closed or replaced. It is linked with
+ * -Wl,--wrap=malloc,--wrap=realloc,--wrap=free.
  */
 #include "arrowflow.h"
 
@@ -13,12 +14,16 @@
 
 void *__real_malloc(size_t size);
 void *__real_realloc(void *at, size_t size);
+void __real_free(void *at);
 void *__wrap_malloc(size_t size);
 void *__wrap_realloc(void *at, size_t size);
+void __wrap_free(void *at);
 
 /* How many growths come before the one that is refused; below 0 none is. */
 static long before = -1;
 static long refused = 0;
+/* How many readers kept a batch where a growth was refused. */
+static long kept = 0;
 
 static bool is_refused(void) {
     if (before < 0 || before-- > 0) return false;
@@ -26,8 +31,25 @@ static bool is_refused(void) {
     return true;
 }
 
-void *__wrap_malloc(size_t size) { return is_refused() ? NULL : __real_malloc(size); }
-void *__wrap_realloc(void *at, size_t size) { return is_refused() ? NULL : __real_realloc(at, size); }
+/* How many blocks were taken and not freed. */
+static long blocks = 0;
+
+void *__wrap_malloc(size_t size) {
+    void *at = is_refused() ? NULL : __real_malloc(size);
+    blocks += at != NULL;
+    return at;
+}
+
+void *__wrap_realloc(void *at, size_t size) {
+    void *moved = is_refused() ? NULL : __real_realloc(at, size);
+    blocks += at == NULL && moved != NULL;
+    return moved;
+}
+
+void __wrap_free(void *at) {
+    blocks -= at != NULL;
+    __real_free(at);
+}
 
 enum { MOST = 1 << 16 };
 
@@ -48,6 +70,7 @@ static void starve_check(arrowflow_report whole) {
     for (long number = 0;; number++) {
         before = number;
         arrowflow_report report = arrowflow_check(bytes, len, arrowflow_standard_limits());
+        want(blocks == 0, "nothing left of a check");
         if (before >= 0) return;
         want(report.kind == ARROWFLOW_MEMORY ? report.place == 0 && report.batches == 0 : is_same_report(report, whole), "check");
     }
@@ -71,10 +94,25 @@ static void starve_text(int call) {
     for (long number = 0;; number++) {
         before = number;
         arrowflow_text told = give(call, found);
+        want(blocks == 0, "nothing left of a text");
         if (before >= 0) return;
         want(told.kind == ARROWFLOW_MEMORY ? told.size <= whole.size : told.kind == whole.kind && told.size == whole.size, "the text's length");
         want(told.size <= MOST && memcmp(found, wanted, told.size) == 0, "the text, or its beginning");
     }
+}
+
+/* The first column of the reader's batch, if it has one. */
+static arrowflow_column first_column(arrowflow_reader *reader) {
+    const size_t path[1] = {0};
+    return arrowflow_column_at(reader, path, 1);
+}
+
+/* Whether the batch of which this is the first column is still the reader's, where it was. */
+static bool is_kept(arrowflow_reader *reader, arrowflow_column of) {
+    arrowflow_column now = first_column(reader);
+    return now.layout == of.layout && now.slots == of.slots && now.validity_len == of.validity_len
+        && now.offsets_len == of.offsets_len && now.values_len == of.values_len
+        && (now.values_len == 0 || now.values == of.values);
 }
 
 /* Reads the stream with one growth refused; what was refused is asked for once more. */
@@ -86,8 +124,14 @@ static arrowflow_report read_starved(long number) {
         want(arrowflow_reader_open(arrowflow_standard_limits(), &reader) == ARROWFLOW_FINE, "opened again");
     for (size_t at = 0; at < len && report.kind == ARROWFLOW_FINE && !report.ended;) {
         size_t piece = len - at < 100 ? len - at : 100;
+        arrowflow_column last = first_column(&reader);
         arrowflow_step step = arrowflow_reader_read(&reader, bytes + at, piece);
-        want(step.kind != ARROWFLOW_MEMORY || step.taken == 0, "nothing taken");
+        if (step.kind == ARROWFLOW_MEMORY) {
+            want(step.taken == 0, "nothing taken");
+            want(is_kept(&reader, last), "the last batch still there");
+            kept += last.layout != ARROWFLOW_NO_COLUMN;
+        } else if (step.what != ARROWFLOW_BATCH_READ)
+            want(first_column(&reader).layout == ARROWFLOW_NO_COLUMN, "no batch where none came");
         at += step.taken;
         report.kind = step.kind == ARROWFLOW_MEMORY ? (uint32_t)ARROWFLOW_FINE : step.kind;
         report.ended = step.what == ARROWFLOW_END_READ;
@@ -97,6 +141,7 @@ static arrowflow_report read_starved(long number) {
     }
     arrowflow_fault end = arrowflow_reader_end(&reader);
     arrowflow_reader_close(&reader);
+    want(blocks == 0, "nothing left of a reader");
     if (end.kind != ARROWFLOW_FINE) report.place = end.place;
     report.kind = end.kind;
     return report;
@@ -108,6 +153,43 @@ static void starve_reader(arrowflow_report whole) {
         want(is_same_report(report, whole), "a reader that was asked again");
         if (before >= 0) return;
     }
+}
+
+/* Opens a reader, and makes so many calls on it. Whether the stream goes on. */
+static bool feed(arrowflow_reader *reader, long calls) {
+    size_t at = 0;
+    arrowflow_step step = {0, 0, 0, 0, 0, 0, 0};
+    want(arrowflow_reader_open(arrowflow_standard_limits(), reader) == ARROWFLOW_FINE, "opened");
+    for (; calls > 0 && at < len && step.kind == ARROWFLOW_FINE && step.what != ARROWFLOW_END_READ; calls--) {
+        size_t left = len - at, piece = len / 16 + 1;
+        step = arrowflow_reader_read(reader, bytes + at, left < piece ? left : piece);
+        at += step.taken;
+    }
+    return calls == 0;
+}
+
+/* Lets a reader go in each way, wherever it stands: closed, twice, and replaced by one, or by none. */
+static void let_go(void) {
+    arrowflow_limits fine = arrowflow_standard_limits(), high = fine;
+    arrowflow_reader reader = ARROWFLOW_CLOSED;
+    high.max_rows++;
+    before = -1;
+    want(arrowflow_reader_open(fine, &reader) == ARROWFLOW_FINE, "opened");
+    long fresh = blocks;
+    for (long calls = 0; feed(&reader, calls); calls++) {
+        want(arrowflow_reader_open(fine, &reader) == ARROWFLOW_FINE && blocks == fresh, "one reader for another");
+        feed(&reader, calls);
+        want(arrowflow_reader_open(high, &reader) == ARROWFLOW_BAD_LIMITS && blocks == 0, "no reader with bad limits");
+        feed(&reader, calls);
+        before = 0;
+        want(arrowflow_reader_open(fine, &reader) == ARROWFLOW_MEMORY && blocks == 0, "no reader without memory");
+        feed(&reader, calls);
+        arrowflow_reader_close(&reader);
+        arrowflow_reader_close(&reader);
+        want(blocks == 0, "nothing left of a closed reader");
+    }
+    arrowflow_reader_close(&reader);
+    want(blocks == 0, "nothing left of the last reader");
 }
 
 int main(int argc, char **argv) {
@@ -122,8 +204,8 @@ int main(int argc, char **argv) {
     starve_check(whole);
     for (int call = 0; call < 4; call++) starve_text(call);
     starve_reader(whole);
-    before = -1;
-    if (refused > 0) return 0;
-    fprintf(stderr, "no growth was refused\n");
-    return 1;
+    let_go();
+    want(refused > 0, "a growth was refused");
+    want(kept > 0 || whole.batches == 0, "a growth was refused behind a batch");
+    return 0;
 }

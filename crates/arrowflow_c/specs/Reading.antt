@@ -1,10 +1,13 @@
 -- What a reader does that is kept between calls, and what is told of it.
-use Rattle.std.specs.Prelude.{◌≡◌, ◌⊎◌, ℕ, List, Option, None, Some, Result, Ok, Err}
+use Rattle.std.specs.Prelude.{◌≡◌, ◌⊎◌, ◌==◌, if◌then◌else◌, ℕ, List, [], Option, None, Some, Result, Ok, Err, IfOk, IfErr}
 use Rattle.arrow_data.specs.Batch.{Table}
 use Rattle.arrow_stream_reader.specs.declared.fault.Fault.{Fault}
 use Rattle.arrow_stream_reader.specs.declared.item.Item.{Item}
 use Rattle.arrow_stream_reader.specs.declared.item.Item.TheVariants as items
-use Rattle.arrow_stream_reader.specs.Stream.{ReadsOn, ended_so, fresh}
+use Rattle.arrow_stream_reader.specs.declared.kind.Refusal.{Refusal}
+use Rattle.arrow_stream_reader.specs.declared.reader.Verdict.TheVariants.{Open, Done, Bad}
+use Rattle.arrow_stream_reader.specs.Kind.{kind_of}
+use Rattle.arrow_stream_reader.specs.Stream.{FailsFor, GoesOn, MemoryAlone, ReaderView, ReadsOn, TakesPiece, ended_so, fresh}
 use Rattle.arrowflow_c.specs.declared.reading.Reading.{Reading}
 use Rattle.arrowflow_c.specs.declared.steps.FaultC.{FaultC}
 use Rattle.arrowflow_c.specs.declared.steps.StepC.{StepC}
@@ -22,12 +25,24 @@ batch_given (Ok (taken, Some (items.Batch b))) = Some b
 batch_given (Ok (taken, Some items.End)) = None
 batch_given (Err fault) = None
 
--- A reader was given a piece: it answered as the stream's bytes say, that was told, and the batch is the answer's.
+-- A reader of a stream was given a piece, and answered: each field is the clause of `StreamReader::read` of its name.
+pub record AnswersPiece (old : ReaderView) (piece : List ℕ) (answer : Result (ℕ × Option Item) Fault) (new : ReaderView) : Type 0 where
+  pub takes : IfOk answer (λ taken. TakesPiece piece taken)
+  pub reads : ReadsOn old piece answer new
+  pub memory : IfErr answer (MemoryAlone old new)
+  pub fails : IfErr answer (FailsFor old new)
+  pub goes_on : IfOk answer (λ taken. GoesOn taken.1 old.at.verdict new.at.verdict)
+  pub limits : new.limits ≡ old.limits
+  pub failed : (k : Refusal) → old.at.verdict ≡ Bad k → (answer ≡ Err (record { kind = kind_of k; place = old.at.place })) × (new ≡ old)
+  pub done : old.at.verdict ≡ Done → (answer ≡ Ok (0, None)) × (new ≡ old)
+  pub empty : old.at.verdict ≡ Open → piece ≡ [] → (answer ≡ Ok (0, None)) × (new ≡ old)
+
+-- A reader was given a piece: what it answered was told. The batch is the answer's, and where memory was wanting the last one.
 pub record Reads (old : Reading) (piece : List ℕ) (step : StepC) (new : Reading) : Type 0 where
   pub answer : Result (ℕ × Option Item) Fault
-  pub reads : ReadsOn old.reader piece answer new.reader
+  pub answers : AnswersPiece old.reader piece answer new.reader
   pub told : step ≡ step_told answer
-  pub batch : new.batch ≡ batch_given answer
+  pub batch : new.batch ≡ (if step.kind == out_of_memory then old.batch else batch_given answer)
 
 -- the same, where there is a reader
 abbrev pub ReadsIf : Option Reading → List ℕ → StepC → Option Reading → Type 0

@@ -36,7 +36,9 @@ pub extern "C" fn arrowflow_reader_open(alloc: Global, limits: LimitsC, reader: 
 }
 
 /// Gives the reader a piece, of which it takes the bytes up to the end of one message, or all of
-/// them where no message of it is whole, and tells what came. What it left is given again.
+/// them where no message of it is whole, and tells what came. What it left is given again. The batch
+/// that a call gives is the reader's until the next call; where a growth was refused nothing has
+/// changed.
 #[unsafe(no_mangle)]
 pub extern "C" fn arrowflow_reader_read(alloc: Global, reader: &mut ReaderC, piece: &[u8]) -> StepC
     ensures { ReadsIf reader.old.slot.value piece.now result reader.new.slot.value }
@@ -69,9 +71,9 @@ pub extern "C" fn arrowflow_reader_end(alloc: Global, reader: &mut ReaderC) -> F
     }
 }
 
-/// Tells the value in a row and a column of the batch that the last call of `arrowflow_reader_read`
-/// gave, both counted from 0, with indices looked up. As much of a byte string or a text as fits is
-/// put into the room, and its length is told.
+/// Tells the value in a row and a column of the reader's batch, both counted from 0, with indices
+/// looked up. As much of a byte string or a text as fits is put into the room, and its length is
+/// told.
 #[unsafe(no_mangle)]
 pub extern "C" fn arrowflow_reader_cell(
     alloc: Global,
@@ -93,11 +95,11 @@ pub extern "C" fn arrowflow_reader_cell(
     }
 }
 
-/// Tells of a column of the batch that the last call of `arrowflow_reader_read` gave where its
-/// buffers lie, which stay there until the handle is used again. The path has the number of the
-/// column, and behind it, from level to level, what stands below: of lists 0, of structs the number
-/// of a field, of indices the number of a value of the dictionary, which leads to the array that this
-/// value stands in. All are counted from 0.
+/// Tells of a column of the reader's batch where its buffers lie, which stay there until the handle
+/// is used again. The path has the number of the column, and behind it, from level to level, what
+/// stands below: of lists 0, of structs the number of a field, of indices the number of a value of
+/// the dictionary, which leads to the array that this value stands in. All are counted from 0. What
+/// the struct held before is not looked at, but its references are such ones.
 #[unsafe(no_mangle)]
 pub extern "C" fn arrowflow_reader_column<'a>(
     reader: &'a mut ReaderC,

@@ -5,6 +5,7 @@ ghost use Rattle.arrow_stream_reader.specs.Stream.{ended_so, fresh};
 ghost use Rattle.arrowflow_c.specs.Reading.{Reads, batch_given};
 ghost use Rattle.arrowflow_c.specs.Steps.{end_told};
 
+use crate::kinds::MEMORY;
 use crate::steps::{FaultC, StepC};
 use arrow_data::Batch;
 use arrow_stream_reader::{Fault, Item, StreamReader};
@@ -31,13 +32,15 @@ impl Reading {
     }
 
     /// Reads on in a piece, up to the end of one message, and keeps its batch in place of the last
-    /// one.
+    /// one, which is let go where none came. Where a growth was refused the last one stays.
     pub(crate) fn read(&mut self, piece: &[u8]) -> StepC
         ensures { Reads self.old piece.now result self.new }
     {
         let answer = self.reader.read(piece);
         let step = StepC::told(&answer);
-        self.batch = batch_given(answer);
+        if step.kind != MEMORY {
+            self.batch = batch_given(answer);
+        }
         step
     }
 
