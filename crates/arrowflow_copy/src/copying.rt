@@ -1,7 +1,8 @@
 //! A stream copied piece by piece.
 
-ghost use Rattle.std.specs.Prelude.{◌<◌, ◌-◌, ◌^◌, OnOk};
+ghost use Rattle.std.specs.Prelude.{◌<◌, ◌-◌, ◌^◌, IfErr, OnOk};
 ghost use Rattle.arrow_stream_writer.specs.Shown.{options_view};
+ghost use Rattle.arrowflow_report.specs.Blame.{BlamesOnly};
 ghost use Rattle.arrowflow_copy.specs.Copy.{CopiesInput};
 
 use crate::copier::{Copier, Target, Terms};
@@ -9,9 +10,8 @@ use arrow_sink::Sink;
 use arrow_stream_reader::StreamReader;
 use arrow_stream_writer::Options;
 use arrow_types::Limits;
-use arrowflow_report::{ToolFault, drive};
+use arrowflow_report::{Input, ToolFault, drive};
 use std::alloc::Global;
-use std::io::Read;
 
 /// Writes a stream again, with its dictionaries and buffers sent as the options say, and hands the
 /// output back (Columnar Format, "IPC Streaming Format").
@@ -28,7 +28,7 @@ use std::io::Read;
 /// where a growth was refused: then a beginning of them does, perhaps with a beginning of the next
 /// one. Of the end marker something stands there only after `Output`, and then behind all batches
 /// of an input that ended as for `Ok`.
-pub fn copy<R: Read, S: Sink>(
+pub fn copy<R: Input, S: Sink>(
     alloc: Global,
     input: &mut R,
     output: S,
@@ -40,6 +40,7 @@ pub fn copy<R: Read, S: Sink>(
         (R.remaining input.new) (S.contents output) (S.failed output) result.1
         (S.contents result.0) (S.failed result.0) }
     ensures passed { OnOk result.1 (S.is_passed_on result.0) }
+    ensures blameless { IfErr result.1 (BlamesOnly (R.has_failed input.new)) }
 {
     let mut reader = StreamReader::new(alloc, *limits);
     let copier = Copier {

@@ -18,34 +18,34 @@ reports_length limits [] (r ∷ rs) x = absurd x
 reports_length limits (c ∷ cs) [] x = absurd x
 reports_length limits (c ∷ cs) (r ∷ rs) x = ap suc (reports_length limits cs rs x.1)
 
-module _ {R : Type 0} (remaining : R → Option (List ℕ)) (asks : Asks) where
+module _ {R : Type 0} (remaining : R → Option (List ℕ)) (has_failed : R → Type 0) (asks : Asks) where
   -- one input more was read
-  read_more : (n : ℕ) (hads lefts : List R) (cs : List Asked) (had left : R) (c : Asked) → AreRead remaining asks n hads lefts cs → IsRead asks (n + length hads) (remaining had) (remaining left) (Ok c)
-      → AreRead remaining asks n (hads ++ had ∷ []) (lefts ++ left ∷ []) (cs ++ c ∷ [])
+  read_more : (n : ℕ) (hads lefts : List R) (cs : List Asked) (had left : R) (c : Asked) → AreRead remaining has_failed asks n hads lefts cs → IsRead asks (n + length hads) (remaining had) (remaining left) (has_failed left) (Ok c)
+      → AreRead remaining has_failed asks n (hads ++ had ∷ []) (lefts ++ left ∷ []) (cs ++ c ∷ [])
   read_more n [] [] [] had left c a x =
       let at : n + 0 ≡ n = omega arith in
-      (subst (λ m. IsRead asks m (remaining had) (remaining left) (Ok c)) at x, tt)
+      (subst (λ m. IsRead asks m (remaining had) (remaining left) (has_failed left) (Ok c)) at x, tt)
   read_more n [] [] (d ∷ ds) had left c a x = absurd a
   read_more n [] (l ∷ ls) cs had left c a x = absurd a
   read_more n (h ∷ hs) [] cs had left c a x = absurd a
   read_more n (h ∷ hs) (l ∷ ls) [] had left c a x = absurd a
   read_more n (h ∷ hs) (l ∷ ls) (d ∷ ds) had left c a x =
       let at : n + length (h ∷ hs) ≡ (n + 1) + length hs = omega arith in
-      (a.0, read_more (n + 1) hs ls ds had left c a.1 (subst (λ m. IsRead asks m (remaining had) (remaining left) (Ok c)) at x))
+      (a.0, read_more (n + 1) hs ls ds had left c a.1 (subst (λ m. IsRead asks m (remaining had) (remaining left) (has_failed left) (Ok c)) at x))
 
   -- one input more ended it
-  ended_at : (n : ℕ) (hads lefts : List R) (cs : List Asked) (had left : R) (rest : List R) (fault : ToolFault) → AreRead remaining asks n hads lefts cs → IsRead asks (n + length hads) (remaining had) (remaining left) (Err fault)
-      → EndsReading remaining asks n (hads ++ had ∷ rest) (lefts ++ left ∷ rest) fault
+  ended_at : (n : ℕ) (hads lefts : List R) (cs : List Asked) (had left : R) (rest : List R) (fault : ToolFault) → AreRead remaining has_failed asks n hads lefts cs → IsRead asks (n + length hads) (remaining had) (remaining left) (has_failed left) (Err fault)
+      → EndsReading remaining has_failed asks n (hads ++ had ∷ rest) (lefts ++ left ∷ rest) fault
   ended_at n [] [] [] had left rest fault a x =
       let at : n + 0 ≡ n = omega arith in
-      inl (subst (λ m. IsRead asks m (remaining had) (remaining left) (Err fault)) at x, refl)
+      inl (subst (λ m. IsRead asks m (remaining had) (remaining left) (has_failed left) (Err fault)) at x, refl)
   ended_at n [] [] (d ∷ ds) had left rest fault a x = absurd a
   ended_at n [] (l ∷ ls) cs had left rest fault a x = absurd a
   ended_at n (h ∷ hs) [] cs had left rest fault a x = absurd a
   ended_at n (h ∷ hs) (l ∷ ls) [] had left rest fault a x = absurd a
   ended_at n (h ∷ hs) (l ∷ ls) (d ∷ ds) had left rest fault a x =
       let at : n + length (h ∷ hs) ≡ (n + 1) + length hs = omega arith in
-      inr ((d, a.0), ended_at (n + 1) hs ls ds had left rest fault a.1 (subst (λ m. IsRead asks m (remaining had) (remaining left) (Err fault)) at x))
+      inr ((d, a.0), ended_at (n + 1) hs ls ds had left rest fault a.1 (subst (λ m. IsRead asks m (remaining had) (remaining left) (has_failed left) (Err fault)) at x))
 
   module _ (k : ℕ) (hads now : List R) (d left : R) (low : k < length now) (same_length : length now ≡ length hads) (same : drop k now ≡ drop k hads) where
     abbrev had : R
@@ -64,32 +64,32 @@ module _ {R : Type 0} (remaining : R → Option (List ℕ)) (asks : Asks) where
     numbered = let of : length (take k hads) ≡ k = length-take-le k hads (omega arith) in omega (arith, of)
 
     -- an input was read, and its connection put behind the others
-    pub read_next : (cs cs' : List Connection) (c : Connection) → cs' ≡ cs ++ c ∷ [] → AreRead remaining asks 0 (take k hads) (take k now) (map asked_of cs) → IsRead asks k (remaining had) (remaining left) (Ok (asked_of c))
-        → AreRead remaining asks 0 (take (k + 1) hads) (take (k + 1) (set now k left)) (map asked_of cs')
+    pub read_next : (cs cs' : List Connection) (c : Connection) → cs' ≡ cs ++ c ∷ [] → AreRead remaining has_failed asks 0 (take k hads) (take k now) (map asked_of cs) → IsRead asks k (remaining had) (remaining left) (has_failed left) (Ok (asked_of c))
+        → AreRead remaining has_failed asks 0 (take (k + 1) hads) (take (k + 1) (set now k left)) (map asked_of cs')
     read_next cs cs' c more a x =
         let here : take (k + 1) hads ≡ take k hads ++ had ∷ [] = take_more hads k had (omega arith) ∙ ap (λ y. take k hads ++ y ∷ []) at_k in
         let there : take (k + 1) (set now k left) ≡ take k now ++ left ∷ [] = take_more_set now k left low in
         let all : map asked_of cs' ≡ map asked_of cs ++ asked_of c ∷ [] = ap (λ y. map asked_of y) more ∙ map-append asked_of cs (c ∷ []) in
-        subst (λ y. AreRead remaining asks 0 (take (k + 1) hads) (take (k + 1) (set now k left)) y) (sym all)
-        (subst (λ hs. AreRead remaining asks 0 hs (take (k + 1) (set now k left)) (map asked_of cs ++ asked_of c ∷ [])) (sym here)
-        (subst (λ ls. AreRead remaining asks 0 (take k hads ++ had ∷ []) ls (map asked_of cs ++ asked_of c ∷ [])) (sym there)
-        (read_more 0 (take k hads) (take k now) (map asked_of cs) had left (asked_of c) a (subst (λ m. IsRead asks m (remaining had) (remaining left) (Ok (asked_of c))) (sym numbered) x))))
+        subst (λ y. AreRead remaining has_failed asks 0 (take (k + 1) hads) (take (k + 1) (set now k left)) y) (sym all)
+        (subst (λ hs. AreRead remaining has_failed asks 0 hs (take (k + 1) (set now k left)) (map asked_of cs ++ asked_of c ∷ [])) (sym here)
+        (subst (λ ls. AreRead remaining has_failed asks 0 (take k hads ++ had ∷ []) ls (map asked_of cs ++ asked_of c ∷ [])) (sym there)
+        (read_more 0 (take k hads) (take k now) (map asked_of cs) had left (asked_of c) a (subst (λ m. IsRead asks m (remaining had) (remaining left) (has_failed left) (Ok (asked_of c))) (sym numbered) x))))
 
     -- the inputs after it are as they were
     pub rest_same : drop (k + 1) (set now k left) ≡ drop (k + 1) hads
     rest_same = drop-set-lt (k + 1) now k left (omega arith) ∙ drop_more_same now hads k same
 
     -- an input ended it
-    ends_here : (cs : List Asked) (fault : ToolFault) → AreRead remaining asks 0 (take k hads) (take k now) cs → IsRead asks k (remaining had) (remaining left) (Err fault) → EndsReading remaining asks 0 hads (set now k left) fault
+    ends_here : (cs : List Asked) (fault : ToolFault) → AreRead remaining has_failed asks 0 (take k hads) (take k now) cs → IsRead asks k (remaining had) (remaining left) (has_failed left) (Err fault) → EndsReading remaining has_failed asks 0 hads (set now k left) fault
     ends_here cs fault a x =
         let here : take k hads ++ had ∷ drop (k + 1) now ≡ hads = ap (λ y. take k hads ++ y) (sym after_hads) ∙ take-append-drop k hads in
         let there : take k now ++ left ∷ drop (k + 1) now ≡ set now k left =
         sym (ap (λ y. y ++ (left ∷ drop (k + 1) now)) (take-set now k left)) ∙ sym (ap (λ y. take k (set now k left) ++ y) (drop-set now k left low)) ∙ take-append-drop k (set now k left) in
-        subst (λ hs. EndsReading remaining asks 0 hs (set now k left) fault) here
-        (subst (λ ls. EndsReading remaining asks 0 (take k hads ++ had ∷ drop (k + 1) now) ls fault) there
-        (ended_at 0 (take k hads) (take k now) cs had left (drop (k + 1) now) fault a (subst (λ m. IsRead asks m (remaining had) (remaining left) (Err fault)) (sym numbered) x)))
+        subst (λ hs. EndsReading remaining has_failed asks 0 hs (set now k left) fault) here
+        (subst (λ ls. EndsReading remaining has_failed asks 0 (take k hads ++ had ∷ drop (k + 1) now) ls fault) there
+        (ended_at 0 (take k hads) (take k now) cs had left (drop (k + 1) now) fault a (subst (λ m. IsRead asks m (remaining had) (remaining left) (has_failed left) (Err fault)) (sym numbered) x)))
 
-    pub stopped_here : (cs : List Asked) (fault : ToolFault) → AreRead remaining asks 0 (take k hads) (take k now) cs → IsRead asks k (remaining had) (remaining left) (Err fault) → ReadsAll remaining asks hads (set now k left) (Err fault)
+    pub stopped_here : (cs : List Asked) (fault : ToolFault) → AreRead remaining has_failed asks 0 (take k hads) (take k now) cs → IsRead asks k (remaining had) (remaining left) (has_failed left) (Err fault) → ReadsAll remaining has_failed asks hads (set now k left) (Err fault)
     stopped_here cs (Stream f) a x = ends_here cs (Stream f) a x
     stopped_here cs (Input n) a x = ends_here cs (Input n) a x
     stopped_here cs Memory a x = tt

@@ -7,6 +7,7 @@ use Rattle.arrow_stream_reader.specs.declared.reader.Verdict.{Verdict}
 use Rattle.arrow_stream_reader.specs.declared.reader.Verdict.TheVariants.{Open, Done, Bad}
 use Rattle.arrow_stream_reader.specs.Front.{Entry, Standing, FrontOf}
 use Rattle.arrow_stream_reader.specs.Stream.{ReaderView, ReaderStands, ended_by, ended_so}
+use Rattle.arrowflow_report.specs.Blame.{BlamesOnly}
 use Rattle.arrowflow_report.specs.Driver.{Driven}
 use Rattle.arrowflow_report.specs.Kept.{HasKept}
 use Rattle.arrowflow_report.specs.declared.tool_fault.ToolFault.{ToolFault}
@@ -38,28 +39,28 @@ module _ (asks : Asks) (number : ℕ) (bytes : List ℕ) (left : Option (List �
   }
 
   -- how it ended else
-  pub stream_ended : (fault : ToolFault) → Driven (keeping batches) (HasKept batches) bytes left r (Err fault) → Brings asks number bytes left (Err (of_input number fault))
-  stream_ended fault (inl wants) = subst (λ f. Brings asks number bytes left (Err (of_input number f))) (sym wants.0) tt
-  stream_ended fault (inr (inl ends)) =
+  pub stream_ended : (failed : Type 0) (fault : ToolFault) → BlamesOnly failed fault → Driven (keeping batches) (HasKept batches) bytes left r (Err fault) → Brings asks number bytes left failed (Err (of_input number fault))
+  stream_ended failed fault blames (inl wants) = subst (λ f. Brings asks number bytes left failed (Err (of_input number f))) (sym wants.0) tt
+  stream_ended failed fault blames (inr (inl ends)) =
       let g = ends.given in
-      subst (λ f. Brings asks number bytes left (Err (of_input number f))) (sym ends.told)
+      subst (λ f. Brings asks number bytes left failed (Err (of_input number f))) (sym ends.told)
       (record { entries = g.entries; standing = standing_of r g.stands.rest; front = front_at asks.limits r bytes g.entries g.stands same; ends = badly_at r bytes g.entries left ends.of_stream g.stands ends.badly })
-  stream_ended fault (inr (inr (inl fails))) =
+  stream_ended failed fault blames (inr (inr (inl fails))) =
       let g = fails.given in
-      subst (λ f. Brings asks number bytes left (Err (of_input number f))) (sym fails.told)
-      (refl, record { entries = g.entries; standing = standing_of r g.stands.rest; front = front_at asks.limits r bytes g.entries g.stands same; goes_on = fails.is_open })
-  stream_ended fault (inr (inr (inr wants))) = subst (λ f. Brings asks number bytes left (Err (of_input number f))) (sym wants.is_memory) tt
+      subst (λ f. Brings asks number bytes left failed (Err (of_input number f))) (sym fails.told)
+      (refl, subst (BlamesOnly failed) fails.told blames, record { entries = g.entries; standing = standing_of r g.stands.rest; front = front_at asks.limits r bytes g.entries g.stands same; goes_on = fails.is_open })
+  stream_ended failed fault blames (inr (inr (inr wants))) = subst (λ f. Brings asks number bytes left failed (Err (of_input number f))) (sym wants.is_memory) tt
 
 -- what came of the connection that was made of such a stream
-pub made_so : (terms : Terms) (number : ℕ) (bytes : List ℕ) (left : Option (List ℕ)) (schema : Option SchemaShape) (batches : List Table) → IsWhole (asks_of terms).limits bytes left schema batches → (answer : Result Connection ToolFault)
-    → MatchResult answer (IsMadeOf terms schema batches) (λ fault. fault ≡ Memory) → Brings (asks_of terms) number bytes left (asked_in answer)
-made_so terms number bytes left schema batches whole (Ok c) made = record {
+pub made_so : (terms : Terms) (number : ℕ) (bytes : List ℕ) (left : Option (List ℕ)) (failed : Type 0) (schema : Option SchemaShape) (batches : List Table) → IsWhole (asks_of terms).limits bytes left schema batches → (answer : Result Connection ToolFault)
+    → MatchResult answer (IsMadeOf terms schema batches) (λ fault. fault ≡ Memory) → Brings (asks_of terms) number bytes left failed (asked_in answer)
+made_so terms number bytes left failed schema batches whole (Ok c) made = record {
   stream = subst (λ ts. IsWhole (asks_of terms).limits bytes left (Some c.schema) ts) (sym made.batches_are) (subst (λ s. IsWhole (asks_of terms).limits bytes left s batches) (sym made.schema_is) whole);
   options_are = made.options_are;
   finishes = made.finishes;
   delivers = made.delivers;
 }
-made_so terms number bytes left schema batches whole (Err fault) is = subst (λ f. Brings (asks_of terms) number bytes left (Err f)) (sym is) tt
+made_so terms number bytes left failed schema batches whole (Err fault) is = subst (λ f. Brings (asks_of terms) number bytes left failed (Err f)) (sym is) tt
 
 -- a stream that ends well has a schema
 well_schema : {l : LimitNumbers} {b : List ℕ} {es : List Entry} {e : Standing} → FrontOf l b es e → ended_so e ≡ Ok tt → e.state.schema ≡ None → ⊥

@@ -17,21 +17,21 @@ AskTheSame old new = map asked_of new ≡ map asked_of old
 
 -- The inputs were read as these connections, these are the reports of what comes of them in pieces of this length, and the text has
 -- the lines of just these.
-pub record AreRehearsed {R : Type 0} (remaining : R → Option (List ℕ)) (asks : Asks) (piece : ℕ) (hads lefts : List R) (text : List ℕ) (connections : List Connection) (reports : List Report) : Type 0 where
-  pub read : AreRead remaining asks 0 hads lefts (map asked_of connections)
+pub record AreRehearsed {R : Type 0} (remaining : R → Option (List ℕ)) (has_failed : R → Type 0) (asks : Asks) (piece : ℕ) (hads lefts : List R) (text : List ℕ) (connections : List Connection) (reports : List Report) : Type 0 where
+  pub read : AreRead remaining has_failed asks 0 hads lefts (map asked_of connections)
   pub reported : Reports asks.limits connections reports
   pub text_is : text ≡ lines_from piece 0 connections reports
 
 -- There are such connections and reports.
-abbrev pub IsRehearsed : {R : Type 0} → (R → Option (List ℕ)) → Asks → ℕ → List R → List R → List ℕ → Type 0
-IsRehearsed remaining asks piece hads lefts text = (connections : List Connection) × (reports : List Report) × AreRehearsed remaining asks piece hads lefts text connections reports
+abbrev pub IsRehearsed : {R : Type 0} → (R → Option (List ℕ)) → (R → Type 0) → Asks → ℕ → List R → List R → List ℕ → Type 0
+IsRehearsed remaining has_failed asks piece hads lefts text = (connections : List Connection) × (reports : List Report) × AreRehearsed remaining has_failed asks piece hads lefts text connections reports
 
 -- What is answered of inputs that had bytes before and have bytes after it: the text of what came of them, or the fault of the first
 -- one that could not be read or was refused. Want of memory may end it at any time.
-abbrev pub Drills : {R : Type 0} → (R → Option (List ℕ)) → Asks → ℕ → List R → List R → Result (String Global) ToolFault → Type 0
-Drills remaining asks piece hads lefts (Ok text) = IsRehearsed remaining asks piece hads lefts (string_bytes text)
-Drills remaining asks piece hads lefts (Err (Stream fault)) = EndsReading remaining asks 0 hads lefts (Stream fault)
-Drills remaining asks piece hads lefts (Err (Input number)) = EndsReading remaining asks 0 hads lefts (Input number)
-Drills remaining asks piece hads lefts (Err Memory) = ⊤
-Drills remaining asks piece hads lefts (Err Output) = ⊥
-Drills remaining asks piece hads lefts (Err (Refused what kind)) = ⊥
+abbrev pub Drills : {R : Type 0} → (R → Option (List ℕ)) → (R → Type 0) → Asks → ℕ → List R → List R → Result (String Global) ToolFault → Type 0
+Drills remaining has_failed asks piece hads lefts (Ok text) = IsRehearsed remaining has_failed asks piece hads lefts (string_bytes text)
+Drills remaining has_failed asks piece hads lefts (Err (Stream fault)) = EndsReading remaining has_failed asks 0 hads lefts (Stream fault)
+Drills remaining has_failed asks piece hads lefts (Err (Input number)) = EndsReading remaining has_failed asks 0 hads lefts (Input number)
+Drills remaining has_failed asks piece hads lefts (Err Memory) = ⊤
+Drills remaining has_failed asks piece hads lefts (Err Output) = ⊥
+Drills remaining has_failed asks piece hads lefts (Err (Refused what kind)) = ⊥

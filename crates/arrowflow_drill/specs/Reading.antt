@@ -49,19 +49,19 @@ pub record IsConnectionOf (asks : Asks) (bytes : List ℕ) (left : Option (List 
   pub finishes : c.finish ≡ true
   pub delivers : c.deliver ≡ asks.deliver
 
--- What comes of the input of this number. Of faults a failed read is the input's alone.
-abbrev pub Brings : Asks → ℕ → List ℕ → Option (List ℕ) → Result Asked ToolFault → Type 0
-Brings asks number bytes left (Ok c) = IsConnectionOf asks bytes left c
-Brings asks number bytes left (Err (Stream fault)) = IsRefusedStream asks.limits bytes left fault
-Brings asks number bytes left (Err (Input n)) = (n ≡ number) × IsOpenAt asks.limits bytes
-Brings asks number bytes left (Err Memory) = ⊤
-Brings asks number bytes left (Err Output) = ⊥
-Brings asks number bytes left (Err (Refused what kind)) = ⊥
+-- What comes of the input of this number. Of faults a failed read is the input's alone, and comes only where it has failed.
+abbrev pub Brings : Asks → ℕ → List ℕ → Option (List ℕ) → Type 0 → Result Asked ToolFault → Type 0
+Brings asks number bytes left failed (Ok c) = IsConnectionOf asks bytes left c
+Brings asks number bytes left failed (Err (Stream fault)) = IsRefusedStream asks.limits bytes left fault
+Brings asks number bytes left failed (Err (Input n)) = (n ≡ number) × failed × IsOpenAt asks.limits bytes
+Brings asks number bytes left failed (Err Memory) = ⊤
+Brings asks number bytes left failed (Err Output) = ⊥
+Brings asks number bytes left failed (Err (Refused what kind)) = ⊥
 
 -- the same of one that had these bytes before and has these after it
-abbrev pub IsRead : Asks → ℕ → Option (List ℕ) → Option (List ℕ) → Result Asked ToolFault → Type 0
-IsRead asks number had left answer =
-    (bytes : List ℕ) × Consumes had left bytes × IsReadWhile (IsOpenAt asks.limits) bytes × Brings asks number bytes left answer
+abbrev pub IsRead : Asks → ℕ → Option (List ℕ) → Option (List ℕ) → Type 0 → Result Asked ToolFault → Type 0
+IsRead asks number had left failed answer =
+    (bytes : List ℕ) × Consumes had left bytes × IsReadWhile (IsOpenAt asks.limits) bytes × Brings asks number bytes left failed answer
 
 -- a fault as that of the input of this number
 abbrev pub of_input : ℕ → ToolFault → ToolFault
@@ -78,31 +78,31 @@ asked_in (Err fault) = Err fault
 
 -- The inputs from this number on, of which each had bytes before and has bytes after it, were read one after another, each as a
 -- connection.
-abbrev pub AreRead : {R : Type 0} → (R → Option (List ℕ)) → Asks → ℕ → List R → List R → List Asked → Type 0
-AreRead remaining asks number [] [] [] = Unit {0}
-AreRead remaining asks number [] [] (c ∷ cs) = ⊥
-AreRead remaining asks number [] (left ∷ lefts) cs = ⊥
-AreRead remaining asks number (had ∷ hads) [] cs = ⊥
-AreRead remaining asks number (had ∷ hads) (left ∷ lefts) [] = ⊥
-AreRead remaining asks number (had ∷ hads) (left ∷ lefts) (c ∷ cs) =
-    IsRead asks number (remaining had) (remaining left) (Ok c) × AreRead remaining asks (number + 1) hads lefts cs
+abbrev pub AreRead : {R : Type 0} → (R → Option (List ℕ)) → (R → Type 0) → Asks → ℕ → List R → List R → List Asked → Type 0
+AreRead remaining has_failed asks number [] [] [] = Unit {0}
+AreRead remaining has_failed asks number [] [] (c ∷ cs) = ⊥
+AreRead remaining has_failed asks number [] (left ∷ lefts) cs = ⊥
+AreRead remaining has_failed asks number (had ∷ hads) [] cs = ⊥
+AreRead remaining has_failed asks number (had ∷ hads) (left ∷ lefts) [] = ⊥
+AreRead remaining has_failed asks number (had ∷ hads) (left ∷ lefts) (c ∷ cs) =
+    IsRead asks number (remaining had) (remaining left) (has_failed left) (Ok c) × AreRead remaining has_failed asks (number + 1) hads lefts cs
 
 -- One of them ended it with this fault: those before it were read as connections, those after it not at all.
-abbrev pub EndsReading : {R : Type 0} → (R → Option (List ℕ)) → Asks → ℕ → List R → List R → ToolFault → Type 0
-EndsReading remaining asks number [] lefts fault = ⊥
-EndsReading remaining asks number (had ∷ hads) [] fault = ⊥
-EndsReading remaining asks number (had ∷ hads) (left ∷ lefts) fault =
-    (IsRead asks number (remaining had) (remaining left) (Err fault) × (lefts ≡ hads))
-    ⊎ (((c : Asked) × IsRead asks number (remaining had) (remaining left) (Ok c)) × EndsReading remaining asks (number + 1) hads lefts fault)
+abbrev pub EndsReading : {R : Type 0} → (R → Option (List ℕ)) → (R → Type 0) → Asks → ℕ → List R → List R → ToolFault → Type 0
+EndsReading remaining has_failed asks number [] lefts fault = ⊥
+EndsReading remaining has_failed asks number (had ∷ hads) [] fault = ⊥
+EndsReading remaining has_failed asks number (had ∷ hads) (left ∷ lefts) fault =
+    (IsRead asks number (remaining had) (remaining left) (has_failed left) (Err fault) × (lefts ≡ hads))
+    ⊎ (((c : Asked) × IsRead asks number (remaining had) (remaining left) (has_failed left) (Ok c)) × EndsReading remaining has_failed asks (number + 1) hads lefts fault)
 
 -- What comes of all inputs. Want of memory may end it at any time.
-abbrev pub ReadsAll : {R : Type 0} → (R → Option (List ℕ)) → Asks → List R → List R → Result (List Asked) ToolFault → Type 0
-ReadsAll remaining asks hads lefts (Ok cs) = AreRead remaining asks 0 hads lefts cs
-ReadsAll remaining asks hads lefts (Err (Stream fault)) = EndsReading remaining asks 0 hads lefts (Stream fault)
-ReadsAll remaining asks hads lefts (Err (Input number)) = EndsReading remaining asks 0 hads lefts (Input number)
-ReadsAll remaining asks hads lefts (Err Memory) = ⊤
-ReadsAll remaining asks hads lefts (Err Output) = ⊥
-ReadsAll remaining asks hads lefts (Err (Refused what kind)) = ⊥
+abbrev pub ReadsAll : {R : Type 0} → (R → Option (List ℕ)) → (R → Type 0) → Asks → List R → List R → Result (List Asked) ToolFault → Type 0
+ReadsAll remaining has_failed asks hads lefts (Ok cs) = AreRead remaining has_failed asks 0 hads lefts cs
+ReadsAll remaining has_failed asks hads lefts (Err (Stream fault)) = EndsReading remaining has_failed asks 0 hads lefts (Stream fault)
+ReadsAll remaining has_failed asks hads lefts (Err (Input number)) = EndsReading remaining has_failed asks 0 hads lefts (Input number)
+ReadsAll remaining has_failed asks hads lefts (Err Memory) = ⊤
+ReadsAll remaining has_failed asks hads lefts (Err Output) = ⊥
+ReadsAll remaining has_failed asks hads lefts (Err (Refused what kind)) = ⊥
 
 -- what is asked of the connections that came of all inputs, or the fault
 abbrev pub all_asked_in : Result (Vec Connection Global) ToolFault → Result (List Asked) ToolFault

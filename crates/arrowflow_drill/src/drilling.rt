@@ -9,10 +9,9 @@ ghost use Rattle.arrowflow_drill.specs.Lines.{lines_from};
 use crate::lines::{Outcome, push_connection, size_of};
 use crate::reading::{Terms, read_all};
 use arrow_types::Limits;
-use arrowflow_report::ToolFault;
+use arrowflow_report::{Input, ToolFault};
 use arrowflow_session::session::{Connection, Options, Report, run};
 use std::alloc::{AllocError, Global};
-use std::io::Read;
 
 /// Reads each input as one connection, writes its batches again, with an end marker, as the options
 /// say, delivers the first so many bytes of it in pieces of a length, and tells what came of it
@@ -26,7 +25,7 @@ use std::io::Read;
 /// fault: the text tells of it, line by line (`specs/Lines.antt`).
 ///
 /// All batches of all inputs are held, and what is sent of them.
-pub fn drill<R: Read>(
+pub fn drill<R: Input>(
     alloc: Global,
     inputs: &mut [R],
     options: Options,
@@ -34,7 +33,7 @@ pub fn drill<R: Read>(
     piece: u64,
     limits: &Limits,
 ) -> Result<String, ToolFault>
-    ensures { Drills R.remaining (record {
+    ensures { Drills R.remaining R.has_failed (record {
       limits = limits.now;
       options = options_view options;
       deliver = bytes;

@@ -8,10 +8,9 @@ ghost use Rattle.arrowflow_drill.specs.Terms.{IsMadeOf, asks_of};
 use arrow_data::Batch;
 use arrow_stream_reader::StreamReader;
 use arrow_types::Limits;
-use arrowflow_report::{ToolFault, drive};
+use arrowflow_report::{Input, ToolFault, drive};
 use arrowflow_session::session::{Connection, Options};
 use std::alloc::Global;
-use std::io::Read;
 
 /// How inputs are read, and what is asked of their connections.
 #[derive(Drop)]
@@ -25,11 +24,11 @@ pub(crate) struct Terms {
 
 /// Reads the inputs one after the other, each as a connection. The first that cannot be read or is
 /// refused ends it.
-pub(crate) fn read_all<R: Read>(
+pub(crate) fn read_all<R: Input>(
     terms: &Terms,
     inputs: &mut [R],
 ) -> Result<Vec<Connection>, ToolFault>
-    ensures { ReadsAll R.remaining (asks_of terms.now) inputs.old inputs.new
+    ensures { ReadsAll R.remaining R.has_failed (asks_of terms.now) inputs.old inputs.new
         (all_asked_in result) }
 {
     let mut connections = Vec::new(terms.alloc);
@@ -41,9 +40,9 @@ pub(crate) fn read_all<R: Read>(
 }
 
 /// Reads the input of this number as a connection with an end marker, delivered in one piece.
-fn read_one<R: Read>(terms: &Terms, number: u64, input: &mut R) -> Result<Connection, ToolFault>
+fn read_one<R: Input>(terms: &Terms, number: u64, input: &mut R) -> Result<Connection, ToolFault>
     ensures { IsRead (asks_of terms.now) number (R.remaining input.old) (R.remaining input.new)
-        (asked_in result) }
+        (R.has_failed input.new) (asked_in result) }
 {
     let mut reader = StreamReader::new(terms.alloc, terms.limits);
     let batches: Vec<Batch> = Vec::new(terms.alloc);

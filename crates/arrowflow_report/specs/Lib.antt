@@ -1,3 +1,4 @@
+pub mod Blame
 pub mod Consumer
 pub mod Telling
 pub mod Kept

@@ -1,10 +1,11 @@
 //! What is made of a stream, message by message.
 
-ghost use Rattle.std.specs.Prelude.{◌≡◌, ℕ, List, Ok, Option, Result, ⊤};
+ghost use Rattle.std.specs.Prelude.{◌≡◌, ℕ, List, IfErr, Ok, Option, Result, ⊤};
 ghost use Rattle.arrow_types.specs.Limits.{LimitNumbers};
 ghost use Rattle.arrow_stream_reader.specs.Front.{Entry};
 ghost use Rattle.arrow_stream_reader.specs.State.{StreamState};
 ghost use Rattle.arrow_stream_reader.specs.Stream.{ReaderView};
+ghost use Rattle.arrowflow_report.specs.Blame.{BlamesNone};
 ghost use Rattle.arrowflow_report.specs.Consumer.{Ends, Takes};
 ghost use Rattle.arrowflow_report.specs.declared.consumer.Wants.TheVariants.{More};
 ghost use Rattle.arrowflow_report.specs.declared.tool_fault.ToolFault.{ToolFault};
@@ -45,10 +46,12 @@ pub trait Consumer {
     fn item(self, reader: &StreamReader, place: u64, item: Item) -> (Self, Result<Wants, ToolFault>)
         requires ready { Self.is_ready self }
         ensures takes { Takes Self.keeps Self.answers self place item reader.now result.1 result.0 }
-        ensures ready { result.1 ≡ Ok More → Self.is_ready result.0 };
+        ensures ready { result.1 ≡ Ok More → Self.is_ready result.0 }
+        ensures blameless { IfErr result.1 BlamesNone };
 
     /// Ends a stream that ended well: with its end marker, or with its input at the end of a message.
     fn end(self, reader: &StreamReader, marked: bool) -> (Self, Result<(), ToolFault>)
         requires ready { Self.is_ready self }
-        ensures ends { Ends Self.keeps Self.answers self marked reader.now result.1 result.0 };
+        ensures ends { Ends Self.keeps Self.answers self marked reader.now result.1 result.0 }
+        ensures blameless { IfErr result.1 BlamesNone };
 }

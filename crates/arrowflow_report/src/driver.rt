@@ -1,19 +1,20 @@
 //! An input read to its end, whose messages are given to a consumer as they come.
 
-ghost use Rattle.std.specs.Prelude.{◌≡◌, ◌++◌, ℕ, List, [], MatchBool, Ok, length};
+ghost use Rattle.std.specs.Prelude.{◌≡◌, ◌++◌, ℕ, List, [], IfErr, MatchBool, Ok, length};
 ghost use Rattle.arrow_stream_reader.specs.declared.item.Item.TheVariants.{End};
 ghost use Rattle.arrow_stream_reader.specs.Stream.{ReaderStands};
 ghost use Rattle.arrow_stream_reader.specs.declared.reader.Verdict.TheVariants.{Open};
+ghost use Rattle.arrowflow_report.specs.Blame.{BlamesNone, BlamesOnly};
 ghost use Rattle.arrowflow_report.specs.Driver.{Drives, TakesPiece};
 ghost use Rattle.arrowflow_report.specs.Session.{StandsAt};
 ghost use Rattle.arrowflow_report.specs.declared.driver.Progress.TheVariants.{GoesOn, Marker};
 
 use crate::consumer::{Consumer, Wants};
-use crate::pieces::{read_piece, room_for_a_piece};
+use crate::input::Input;
+use crate::pieces::room_for_a_piece;
 use crate::tool_fault::ToolFault;
 use arrow_stream_reader::{Item, StreamReader};
 use std::alloc::Global;
-use std::io::Read;
 
 /// What came of a piece.
 #[derive(Clone, Copy)]
@@ -35,7 +36,7 @@ pub(crate) enum Progress {
 /// The answer is the consumer's, where it stopped or the stream ended well; `Stream` where the
 /// stream is refused, or where it ends without being at the end of a message behind its schema;
 /// `Input(0)` where a read failed, an interrupted one included; `Memory` where a growth was refused.
-pub fn drive<R: Read, C: Consumer>(
+pub fn drive<R: Input, C: Consumer>(
     alloc: Global,
     reader: &mut StreamReader,
     input: &mut R,
@@ -45,6 +46,7 @@ pub fn drive<R: Read, C: Consumer>(
     ensures driven { Drives C.keeps C.answers consumer reader.old.limits
         (R.remaining input.old) (R.remaining input.new) result.1 result.0 reader.new }
     ensures limits { reader.new.limits ≡ reader.old.limits }
+    ensures blameless { IfErr result.1 (BlamesOnly (R.has_failed input.new)) }
 {
     reader.restart();
     let Ok(mut room) = room_for_a_piece(alloc) else {
@@ -55,7 +57,7 @@ pub fn drive<R: Read, C: Consumer>(
 
 /// Gives the pieces of an input to a consumer, one by one. No stream is longer than the last place
 /// allows, so that this ends.
-fn drive_pieces<R: Read, C: Consumer>(
+fn drive_pieces<R: Input, C: Consumer>(
     reader: &mut StreamReader,
     input: &mut R,
     mut consumer: C,
@@ -68,9 +70,10 @@ fn drive_pieces<R: Read, C: Consumer>(
     ensures driven { Drives C.keeps C.answers consumer reader.old.limits
         (R.remaining input.old) (R.remaining input.new) result.1 result.0 reader.new }
     ensures limits { reader.new.limits ≡ reader.old.limits }
+    ensures blameless { IfErr result.1 (BlamesOnly (R.has_failed input.new)) }
 {
     loop {
-        let count = match read_piece(input, room) {
+        let count = match input.read_piece(room) {
             Ok(count) => count,
             Err(_) => return (consumer, Err(ToolFault::Input(0))),
         };
@@ -106,6 +109,7 @@ pub(crate) fn take_piece<C: Consumer>(
         → reader.new.at.verdict ≡ Open }
     ensures goes_on { result.1 ≡ Ok GoesOn → C.is_ready result.0 }
     ensures marker { result.1 ≡ Ok Marker → C.is_ready result.0 }
+    ensures blameless { IfErr result.1 BlamesNone }
 {
     let mut rest = piece;
     loop {

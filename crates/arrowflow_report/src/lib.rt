@@ -23,6 +23,7 @@
 //! | columns chosen by their names | `specs/Columns.antt`: `ShowsColumns`, `LacksInput`; `specs/Chosen.antt`: `IsChosenText` |
 //! | the lines of messages | `specs/Lines.antt`: `message_line`, `AreLines` |
 //! | how far an input is read | `specs/Reads.antt`: `IsReadWhile` |
+//! | when an input is said to have failed | `specs/Blame.antt`: `BlamesOnly`; `has_failed` of [`Input`] |
 //! | what is said of a fault | `specs/Faults.antt`: `fault_line`, `status_of` |
 //!
 //! Of the proofs, `Driving` shows the loop for any consumer, `Feeding` how a reader goes along its
@@ -38,6 +39,7 @@ mod columns;
 mod consumer;
 mod driver;
 mod escapes;
+mod input;
 pub mod laws;
 mod lines;
 mod nowhere;
@@ -56,6 +58,7 @@ mod what;
 pub use columns::{ColumnsFault, Selection};
 pub use consumer::{Consumer, Wants};
 pub use driver::drive;
+pub use input::{Input, Tried};
 pub use reports::{check, check_quietly, show, show_columns, show_first};
 pub use schema_call::schema_text;
 pub use schema_lines::schema_lines_of;

@@ -1,6 +1,7 @@
 //! Streams told as they come: their messages, or their rows.
 
-ghost use Rattle.std.specs.Prelude.{◌≡◌, ◌<◌, ◌-◌, ◌^◌, ◌⊎◌, ℕ, None, Some, OnOk};
+ghost use Rattle.std.specs.Prelude.{◌≡◌, ◌<◌, ◌-◌, ◌^◌, ◌⊎◌, ℕ, IfErr, None, Some, OnOk};
+ghost use Rattle.arrowflow_report.specs.Blame.{BlamesOnly, ColumnsBlameOnly};
 ghost use Rattle.arrowflow_report.specs.Chosen.{AreRows, choice_of};
 ghost use Rattle.arrowflow_report.specs.Columns.{LacksInput, ShowsColumns};
 ghost use Rattle.arrowflow_report.specs.FirstRows.{ShowsFirstOf};
@@ -10,6 +11,7 @@ ghost use Rattle.arrowflow_report.specs.declared.report.Report.TheVariants.{Mess
 
 use crate::columns::{ColumnsFault, Selection, answer_by_lack};
 use crate::driver::drive;
+use crate::input::Input;
 use crate::nowhere::Nowhere;
 use crate::report::Report;
 use crate::telling::Teller;
@@ -18,7 +20,6 @@ use arrow_sink::Sink;
 use arrow_stream_reader::StreamReader;
 use arrow_types::Limits;
 use std::alloc::Global;
-use std::io::Read;
 
 /// Writes a line for each message of a stream, and hands the output back.
 ///
@@ -30,7 +31,7 @@ use std::io::Read;
 /// as many; that of the line itself says that it is the dictionary of that id, as it stands then.
 ///
 /// The input is read, and the call ends, as [`show`] does.
-pub fn check<R: Read, S: Sink>(
+pub fn check<R: Input, S: Sink>(
     alloc: Global,
     input: &mut R,
     output: S,
@@ -41,6 +42,7 @@ pub fn check<R: Read, S: Sink>(
         (R.remaining input.new) (S.contents output) (S.failed output) result.1
         (S.contents result.0) (S.failed result.0) }
     ensures passed { OnOk result.1 (S.is_passed_on result.0) }
+    ensures blameless { IfErr result.1 (BlamesOnly (R.has_failed input.new)) }
 {
     let teller = Teller::new(alloc, Report::Messages, None, output);
     let (output, _, answer) = report(alloc, input, teller, limits);
@@ -54,12 +56,13 @@ pub fn check<R: Read, S: Sink>(
 /// answers too; `Input(0)` where a read failed, an interrupted one included; `Memory` where a growth
 /// was refused. `Output` never.
 #[tactic(auto, using(crate::proofs::Quiet::checked))]
-pub fn check_quietly<R: Read>(
+pub fn check_quietly<R: Input>(
     alloc: Global,
     input: &mut R,
     limits: &Limits,
 ) -> Result<(), ToolFault>
-    ensures { ChecksInput limits.now (R.remaining input.old) (R.remaining input.new) result }
+    ensures checked { ChecksInput limits.now (R.remaining input.old) (R.remaining input.new) result }
+    ensures blameless { IfErr result (BlamesOnly (R.has_failed input.new)) }
 {
     let teller = Teller::new(alloc, Report::Messages, None, Nowhere);
     let (_, _, answer) = report(alloc, input, teller, limits);
@@ -79,7 +82,7 @@ pub fn check_quietly<R: Read>(
 /// at the end of a message behind its schema; `Input(0)` where a read failed, an interrupted one
 /// included: then the rows of the whole messages stand there. `Output` where the output failed, and
 /// `Memory` where a growth was refused: then a beginning of them does.
-pub fn show<R: Read, S: Sink>(
+pub fn show<R: Input, S: Sink>(
     alloc: Global,
     input: &mut R,
     output: S,
@@ -90,6 +93,7 @@ pub fn show<R: Read, S: Sink>(
         (R.remaining input.new) (S.contents output) (S.failed output) result.1
         (S.contents result.0) (S.failed result.0) }
     ensures passed { OnOk result.1 (S.is_passed_on result.0) }
+    ensures blameless { IfErr result.1 (BlamesOnly (R.has_failed input.new)) }
 {
     let teller = Teller::new(alloc, Report::Rows(None), None, output);
     let (output, _, answer) = report(alloc, input, teller, limits);
@@ -103,7 +107,7 @@ pub fn show<R: Read, S: Sink>(
 /// behind the message that has the last of them is not looked at, and of the input no piece is read
 /// behind that in which its last byte stands. Of a stream that ends or is refused before, the call
 /// ends as [`show`] does.
-pub fn show_first<R: Read, S: Sink>(
+pub fn show_first<R: Input, S: Sink>(
     alloc: Global,
     input: &mut R,
     output: S,
@@ -115,6 +119,7 @@ pub fn show_first<R: Read, S: Sink>(
         (R.remaining input.new) (S.contents output) (S.failed output) result.1
         (S.contents result.0) (S.failed result.0) }
     ensures passed { OnOk result.1 (S.is_passed_on result.0) }
+    ensures blameless { IfErr result.1 (BlamesOnly (R.has_failed input.new)) }
 {
     let teller = Teller::new(alloc, Report::Rows(None), Some(rows), output);
     let (output, _, answer) = report(alloc, input, teller, limits);
@@ -128,7 +133,7 @@ pub fn show_first<R: Read, S: Sink>(
 /// columns in this order; the call ends, and the input is read, as there. Where the schema lacks one
 /// of the columns, `Lacks` is answered once it came: nothing was written then, and no piece was read
 /// behind the one in which the schema's last byte stands.
-pub fn show_columns<R: Read, S: Sink>(
+pub fn show_columns<R: Input, S: Sink>(
     alloc: Global,
     input: &mut R,
     output: S,
@@ -140,6 +145,7 @@ pub fn show_columns<R: Read, S: Sink>(
         (R.remaining input.new) (S.contents output) (S.failed output) result.1
         (S.contents result.0) (S.failed result.0) }
     ensures passed { OnOk result.1 (S.is_passed_on result.0) }
+    ensures blameless { IfErr result.1 (ColumnsBlameOnly (R.has_failed input.new)) }
 {
     let columns = Report::Rows(Some(selection.columns));
     let teller = Teller::new(alloc, columns, selection.rows, output);
@@ -149,7 +155,7 @@ pub fn show_columns<R: Read, S: Sink>(
 
 /// Tells a stream from its beginning, as many of its rows as the teller is to tell; hands back the
 /// output, and the place of the first column asked for that the schema lacks.
-fn report<R: Read, S: Sink>(
+fn report<R: Input, S: Sink>(
     alloc: Global,
     input: &mut R,
     teller: Teller<S>,
@@ -172,6 +178,7 @@ fn report<R: Read, S: Sink>(
         (S.failed teller.entry.output) k (S.contents result.0) (S.failed result.0) }
     ensures all { choice_of teller.entry.report ≡ None → result.1 ≡ None }
     ensures passed { result.1 ≡ None → OnOk result.2 (S.is_passed_on result.0) }
+    ensures blameless { IfErr result.2 (BlamesOnly (R.has_failed input.new)) }
 {
     let mut reader = StreamReader::new(alloc, *limits);
     let (teller, answer) = drive(alloc, &mut reader, input, teller);

@@ -1,16 +1,17 @@
 //! The text of the schema of an input.
 
-ghost use Rattle.std.specs.Prelude.{◌≡◌};
+ghost use Rattle.std.specs.Prelude.{◌≡◌, IfErr};
+ghost use Rattle.arrowflow_report.specs.Blame.{BlamesOnly};
 ghost use Rattle.arrowflow_report.specs.SchemaCall.{AnswersInput};
 
 use crate::consumer::{Consumer, Wants};
 use crate::driver::drive;
+use crate::input::Input;
 use crate::schema_lines::schema_lines_of;
 use crate::tool_fault::ToolFault;
 use arrow_stream_reader::{Item, StreamReader};
 use arrow_types::Limits;
 use std::alloc::Global;
-use std::io::Read;
 
 /// The text of the schema of a stream: a line a field in pre-order, each with its line feed, two
 /// spaces of indentation for each level below the first. A schema without columns has the empty
@@ -23,12 +24,13 @@ use std::io::Read;
 /// `NoSchema` where the input ends before it is whole. `Input(0)` where a read failed before that,
 /// an interrupted one included. `Memory` where a growth was refused: nothing is said of the stream
 /// then.
-pub fn schema_text<R: Read>(
+pub fn schema_text<R: Input>(
     alloc: Global,
     input: &mut R,
     limits: &Limits,
 ) -> Result<String, ToolFault>
-    ensures { AnswersInput limits.now (R.remaining input.old) (R.remaining input.new) result }
+    ensures answers { AnswersInput limits.now (R.remaining input.old) (R.remaining input.new) result }
+    ensures blameless { IfErr result (BlamesOnly (R.has_failed input.new)) }
 {
     let mut reader = StreamReader::new(alloc, *limits);
     let lines = SchemaLines {

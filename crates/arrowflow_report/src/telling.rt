@@ -5,6 +5,7 @@ ghost use Rattle.std.specs.Prelude.{OnOk, length};
 ghost use Rattle.arrow_stream_reader.specs.Views.{given};
 ghost use Rattle.arrow_stream_reader.specs.Tables.{table_in};
 ghost use Rattle.arrow_csv.specs.Named.{choice_by, chosen_schema};
+ghost use Rattle.arrowflow_report.specs.Blame.{BlamesNone};
 ghost use Rattle.arrowflow_report.specs.Chosen.{IsChosenAt, LacksAt, choice_of, chosen_given};
 ghost use Rattle.arrowflow_report.specs.Consumer.{Ends, Takes};
 ghost use Rattle.arrowflow_report.specs.FirstRows.{AreRowsIn, HasLast, HasMore, IsLastIn};
@@ -134,6 +135,7 @@ impl<'a, S: Sink> Teller<'a, S> {
             (TellsSo S.contents S.failed S.is_passed_on) self.old place item.now reader.now result
             self.new }
         ensures ready { result ≡ Ok More → S.failed self.new.output < 2 ^ 64 - 1 }
+        ensures blameless { IfErr result BlamesNone }
     {
         if let Some(column) = lacking_in(self.report, reader, item) {
             self.lacks = Some(column);
@@ -277,6 +279,7 @@ impl<'a, S: Sink> Teller<'a, S> {
         ensures ends { Ends (HasTold S.contents S.failed)
             (TellsSo S.contents S.failed S.is_passed_on) self.old marked reader.now result
             self.new }
+        ensures blameless { IfErr result BlamesNone }
     {
         self.tell_ending(reader, marked)?;
         flush(&mut self.output)

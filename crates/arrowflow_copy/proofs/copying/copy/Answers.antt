@@ -17,8 +17,8 @@ returns-clause-written g c =
     let limits = c.args.limits.now in
     let options = options_view c.args.options in
     let began : Began = record { limits = limits; options = options; first = g.S.Sink.contents output; failures = g.S.Sink.failed output } in
-    let had = g.R.Read.remaining c.args.input.now in
-    let left = g.R.Read.remaining c.drive-copier.new.input in
+    let had = g.R.Input.remaining c.args.input.now in
+    let left = g.R.Input.remaining c.drive-copier.new.input in
     let own = c.new-reader.result.limits in
     let limits_are : own ≡ limits = ap (λ (r : ReaderView). r.limits) c.new-reader.ensures.fresh in
     let copied = c.drive-copier.result.0 in
@@ -41,8 +41,8 @@ returns-clause-passed g c =
     let limits = c.args.limits.now in
     let options = options_view c.args.options in
     let began : Began = record { limits = limits; options = options; first = g.S.Sink.contents output; failures = g.S.Sink.failed output } in
-    let had = g.R.Read.remaining c.args.input.now in
-    let left = g.R.Read.remaining c.drive-copier.new.input in
+    let had = g.R.Input.remaining c.args.input.now in
+    let left = g.R.Input.remaining c.drive-copier.new.input in
     let own = c.new-reader.result.limits in
     let limits_are : own ≡ limits = ap (λ (r : ReaderView). r.limits) c.new-reader.ensures.fresh in
     let copied = c.drive-copier.result.0 in

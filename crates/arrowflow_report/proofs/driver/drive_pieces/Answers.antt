@@ -10,7 +10,7 @@ use Rattle.arrowflow_report.proofs.driver.drive_pieces.Goals as goal
 pub loop-count-init : goal.loop-count-init
 loop-count-init g c =
     let r = c.args.reader.now in
-    ([], Consumes-nil (g.R.Read.remaining c.args.input.now), λ start kept. nothing_given (g.C.Consumer.keeps start c.args.consumer) r c.requires.start kept, ([], c.requires.start), refl, c.requires.open, c.requires.ready)
+    ([], Consumes-nil (g.R.Input.remaining c.args.input.now), λ start kept. nothing_given (g.C.Consumer.keeps start c.args.consumer) r c.requires.start kept, ([], c.requires.start), refl, c.requires.open, c.requires.ready)
 
 pub returns-in-Err-clause-driven : goal.returns-in-Err-clause-driven
 returns-in-Err-clause-driven g c start kept =
@@ -20,7 +20,7 @@ returns-in-Err-clause-driven g c start kept =
       inv.0,
       Consumes-kept _ _ _ _ inv.1 c.in-Err.ensures.bytes,
       read_all (CallForMore keeps c.args.reader.now.limits) inv.0 (call_for_more keeps c.loop-count.consumer c.args.reader.now.limits inv.0 c.loop-count.reader given inv.4 inv.5),
-      read_failed (keeps c.loop-count.consumer) (g.C.Consumer.answers start c.loop-count.consumer) inv.0 (g.R.Read.remaining c.read_piece.new.input) c.loop-count.reader given inv.5,
+      read_failed (keeps c.loop-count.consumer) (g.C.Consumer.answers start c.loop-count.consumer) inv.0 (g.R.Input.remaining c.read_piece.new.self) c.loop-count.reader given inv.5,
     )
 
 pub end-requires-in-Ok-end : goal.end-requires-in-Ok-end
@@ -32,8 +32,8 @@ returns-in-Ok-end-clause-driven g c start kept =
     let given = inv.2 start kept in
     let keeps = g.C.Consumer.keeps start in
     let buf = c.read_piece.new.room in
-    let had = g.R.Read.remaining c.args.input.now in
-    let left = g.R.Read.remaining c.read_piece.new.input in
+    let had = g.R.Input.remaining c.args.input.now in
+    let left = g.R.Input.remaining c.read_piece.new.self in
     let room : 0 < length buf = omega arith in
     let none : inv.0 ++ take c.in-Ok.count buf ≡ inv.0 = ap (λ k. inv.0 ++ take k buf) c.if-count-eq0.true ∙ append-nil inv.0 in
     let well : ended_so c.loop-count.reader.at ≡ Ok tt = search rules in
@@ -51,8 +51,8 @@ returns-in-Err-end-clause-driven g c start kept =
     let keeps = g.C.Consumer.keeps start in
     let answers = g.C.Consumer.answers start c.loop-count.consumer in
     let buf = c.read_piece.new.room in
-    let had = g.R.Read.remaining c.args.input.now in
-    let left = g.R.Read.remaining c.read_piece.new.input in
+    let had = g.R.Input.remaining c.args.input.now in
+    let left = g.R.Input.remaining c.read_piece.new.self in
     let room : 0 < length buf = omega arith in
     let none : inv.0 ++ take c.in-Ok.count buf ≡ inv.0 = ap (λ k. inv.0 ++ take k buf) c.if-count-eq0.true ∙ append-nil inv.0 in
     let bad : ended_so c.loop-count.reader.at ≡ Err c.in-Err-end.fault = search rules in (
@@ -97,7 +97,7 @@ returns-in-Ok-Marker-clause-driven g c start kept =
     let keeps = g.C.Consumer.keeps start in
     let new = c.take_piece-next.new.reader in
     let next = c.take_piece-next.result.0 in
-    let left = g.R.Read.remaining c.read_piece.new.input in
+    let left = g.R.Input.remaining c.read_piece.new.self in
     let bytes = inv.0 ++ take c.in-Ok.count c.read_piece.new.room in
     let marked = c.in-Ok-Marker.is ∙ ap Ok (rw c.in-Ok-Marker.is at c.in-Ok-Marker.field-0-is) in
     let taken = subst (PieceTaken (keeps next) (g.C.Consumer.answers start next) bytes new) marked (c.take_piece-next.ensures.takes start inv.0 given) in
@@ -114,7 +114,7 @@ returns-in-Ok-Stopped-clause-driven g c start kept =
     let given = inv.2 start kept in
     let keeps = g.C.Consumer.keeps start in
     let next = c.take_piece-next.result.0 in
-    let left = g.R.Read.remaining c.read_piece.new.input in
+    let left = g.R.Input.remaining c.read_piece.new.self in
     let bytes = inv.0 ++ take c.in-Ok.count c.read_piece.new.room in
     let stopped = c.in-Ok-Stopped.is ∙ ap Ok (rw c.in-Ok-Stopped.is at c.in-Ok-Stopped.field-0-is) in (
       bytes,
@@ -129,7 +129,7 @@ returns-in-Err-progress-clause-driven g c start kept =
     let given = inv.2 start kept in
     let keeps = g.C.Consumer.keeps start in
     let next = c.take_piece-next.result.0 in
-    let left = g.R.Read.remaining c.read_piece.new.input in
+    let left = g.R.Input.remaining c.read_piece.new.self in
     let bytes = inv.0 ++ take c.in-Ok.count c.read_piece.new.room in (
       bytes,
       Consumes-trans _ _ _ _ _ inv.1 c.in-Ok.ensures.bytes.0,

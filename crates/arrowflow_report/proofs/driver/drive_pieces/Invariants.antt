@@ -10,7 +10,7 @@ use Rattle.arrowflow_report.proofs.driver.drive_pieces.Given as goal
 -- the messages of the bytes read so far were given to the consumer, which wants more, and the stream goes on
 abbrev pub invariant-loop-count : goal.invariant-loop-count
 invariant-loop-count g l = (bytes : List ℕ)
-    × Consumes (g.R.Read.remaining l.initial.input) (g.R.Read.remaining l.input) bytes
+    × Consumes (g.R.Input.remaining l.initial.input) (g.R.Input.remaining l.input) bytes
     × ((start : g.C.Consumer.Start) → g.C.Consumer.keeps start l.fn.consumer l.initial.reader.limits nothing_yet [] → AreGiven (g.C.Consumer.keeps start l.consumer) bytes l.reader)
     × StandsAt bytes l.reader
     × (l.reader.limits ≡ l.initial.reader.limits)

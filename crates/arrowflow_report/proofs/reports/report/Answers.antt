@@ -14,8 +14,8 @@ returns-clause-written g c has all =
     let teller = c.args.teller in
     let began : TellingBegan = record { report = teller.report; first = g.S.Sink.contents teller.output; failures = g.S.Sink.failed teller.output; rows = teller.left } in
     let own = c.new-reader.result.limits in
-    let had = g.R.Read.remaining c.args.input.now in
-    let left = g.R.Read.remaining c.drive-teller.new.input in
+    let had = g.R.Input.remaining c.args.input.now in
+    let left = g.R.Input.remaining c.drive-teller.new.input in
     let told = c.drive-teller.result.0 in
     let answer = c.drive-teller.result.1 in
     let driven = c.drive-teller.ensures.driven began (nothing_told g.S.Sink.contents g.S.Sink.failed g.S.Sink.is_passed_on began teller own refl refl refl refl c.requires.none c.requires.has c.requires.limited) in
@@ -31,8 +31,8 @@ returns-clause-first g c has rows n some =
     let teller = c.args.teller in
     let began : TellingBegan = record { report = teller.report; first = g.S.Sink.contents teller.output; failures = g.S.Sink.failed teller.output; rows = teller.left } in
     let own = c.new-reader.result.limits in
-    let had = g.R.Read.remaining c.args.input.now in
-    let left = g.R.Read.remaining c.drive-teller.new.input in
+    let had = g.R.Input.remaining c.args.input.now in
+    let left = g.R.Input.remaining c.drive-teller.new.input in
     let told = c.drive-teller.result.0 in
     let answer = c.drive-teller.result.1 in
     let driven = c.drive-teller.ensures.driven began (nothing_told g.S.Sink.contents g.S.Sink.failed g.S.Sink.is_passed_on began teller own refl refl refl refl c.requires.none c.requires.has c.requires.limited) in
@@ -48,8 +48,8 @@ returns-clause-lacks g c k is =
     let teller = c.args.teller in
     let began : TellingBegan = record { report = teller.report; first = g.S.Sink.contents teller.output; failures = g.S.Sink.failed teller.output; rows = teller.left } in
     let own = c.new-reader.result.limits in
-    let had = g.R.Read.remaining c.args.input.now in
-    let left = g.R.Read.remaining c.drive-teller.new.input in
+    let had = g.R.Input.remaining c.args.input.now in
+    let left = g.R.Input.remaining c.drive-teller.new.input in
     let told = c.drive-teller.result.0 in
     let answer = c.drive-teller.result.1 in
     let driven = c.drive-teller.ensures.driven began (nothing_told g.S.Sink.contents g.S.Sink.failed g.S.Sink.is_passed_on began teller own refl refl refl refl c.requires.none c.requires.has c.requires.limited) in
@@ -65,8 +65,8 @@ returns-clause-all g c none =
     let teller = c.args.teller in
     let began : TellingBegan = record { report = teller.report; first = g.S.Sink.contents teller.output; failures = g.S.Sink.failed teller.output; rows = teller.left } in
     let own = c.new-reader.result.limits in
-    let had = g.R.Read.remaining c.args.input.now in
-    let left = g.R.Read.remaining c.drive-teller.new.input in
+    let had = g.R.Input.remaining c.args.input.now in
+    let left = g.R.Input.remaining c.drive-teller.new.input in
     let told = c.drive-teller.result.0 in
     let answer = c.drive-teller.result.1 in
     let driven = c.drive-teller.ensures.driven began (nothing_told g.S.Sink.contents g.S.Sink.failed g.S.Sink.is_passed_on began teller own refl refl refl refl c.requires.none c.requires.has c.requires.limited) in
@@ -80,8 +80,8 @@ returns-clause-passed g c has =
     let teller = c.args.teller in
     let began : TellingBegan = record { report = teller.report; first = g.S.Sink.contents teller.output; failures = g.S.Sink.failed teller.output; rows = teller.left } in
     let own = c.new-reader.result.limits in
-    let had = g.R.Read.remaining c.args.input.now in
-    let left = g.R.Read.remaining c.drive-teller.new.input in
+    let had = g.R.Input.remaining c.args.input.now in
+    let left = g.R.Input.remaining c.drive-teller.new.input in
     let told = c.drive-teller.result.0 in
     let answer = c.drive-teller.result.1 in
     let driven = c.drive-teller.ensures.driven began (nothing_told g.S.Sink.contents g.S.Sink.failed g.S.Sink.is_passed_on began teller own refl refl refl refl c.requires.none c.requires.has c.requires.limited) in

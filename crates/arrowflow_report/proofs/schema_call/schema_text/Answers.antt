@@ -7,11 +7,11 @@ use Rattle.arrowflow_report.proofs.Driving.{read_while_so}
 use Rattle.arrowflow_report.proofs.Found.{keeping, more_waits, no_text}
 use Rattle.arrowflow_report.proofs.schema_call.schema_text.Goals as goal
 
-pub returns-in_err-answer : goal.returns-in_err-answer
-returns-in_err-answer g c =
+pub returns-in_err-answer-clause-answers : goal.returns-in_err-answer-clause-answers
+returns-in_err-answer-clause-answers g c =
     let driven = c.drive-lines.ensures.driven tt refl in
-    let had = g.R.Read.remaining c.args.input.now in
-    let left = g.R.Read.remaining c.drive-lines.new.input in
+    let had = g.R.Input.remaining c.args.input.now in
+    let left = g.R.Input.remaining c.drive-lines.new.input in
     let reader = c.drive-lines.new.reader in
     let own = c.new-reader.result.limits in
     let text = string_bytes c.drive-lines.result.0.text in
@@ -21,11 +21,11 @@ returns-in_err-answer g c =
     rw (failed.1, failed.2) (subst (λ l. AnswersInput l had left (Err fault)) (ap (λ (r : ReaderView). r.limits) c.new-reader.ensures.fresh)
     (driven.0, driven.1, read_while_so (more_waits own) driven.2, no_text own driven.0 left reader text same fault (subst (Driven keeping (HasText text) driven.0 left reader) c.in_err-answer.was driven.3)))
 
-pub returns : goal.returns
-returns g c =
+pub returns-clause-answers : goal.returns-clause-answers
+returns-clause-answers g c =
     let driven = c.drive-lines.ensures.driven tt refl in
-    let had = g.R.Read.remaining c.args.input.now in
-    let left = g.R.Read.remaining c.drive-lines.new.input in
+    let had = g.R.Input.remaining c.args.input.now in
+    let left = g.R.Input.remaining c.drive-lines.new.input in
     let reader = c.drive-lines.new.reader in
     let own = c.new-reader.result.limits in
     let text = c.drive-lines.result.0.text in

@@ -3,16 +3,14 @@ use Rattle.arrowflow_copy.specs.Target.{at_of}
 use Rattle.arrowflow_copy.proofs.Copied.{end_copied, end_writes}
 use Rattle.arrowflow_copy.proofs.copier.CopierConsumer.end.Goals as goal
 
-pub returns : goal.returns
-returns g c =
+pub returns-clause-ends : goal.returns-clause-ends
+returns-clause-ends g c began bytes left es ended x =
     let copier = c.args.self in
     let own = copier.terms.limits in
     let o = options_view copier.terms.options in
     let at = at_of g.S.Sink.contents g.S.Sink.failed copier.target in
     let at' = at_of g.S.Sink.contents g.S.Sink.failed c.close-target.result.0 in
-    let r = c.args._reader.now in record {
-      ends = λ began bytes left es ended x. (
-        end_copied began own o at copier.number c.args._marked r bytes left es ended x c.close-target.result.1 at' c.close-target.ensures.closes,
-        c.close-target.ensures.passed (end_writes began own o at copier.number c.args._marked r bytes left es ended x),
-      );
-    }
+    let r = c.args._reader.now in (
+      end_copied began own o at copier.number c.args._marked r bytes left es ended x c.close-target.result.1 at' c.close-target.ensures.closes,
+      c.close-target.ensures.passed (end_writes began own o at copier.number c.args._marked r bytes left es ended x),
+    )
