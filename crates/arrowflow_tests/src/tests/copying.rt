@@ -10,8 +10,8 @@ use arrow_stream_writer::Options;
 use arrow_test_streams::streams::{GROWING, ONE_BATCH};
 use arrow_types::Limits;
 use arrowflow_copy::copy;
+use arrowflow_report::Input;
 use std::alloc::Global;
-use std::io::Read;
 use std::process::Abort;
 
 pub(super) const NARROW: Options = Options {
@@ -30,7 +30,7 @@ pub(super) const WIDE: Options = Options {
 };
 
 /// What is written of an input, and the status and the line of the fault, if one came.
-pub(super) fn copied<R: Read>(
+pub(super) fn copied<R: Input>(
     rt: &impl Abort,
     alloc: Global,
     input: &mut R,

@@ -7,6 +7,7 @@ use arrow_sink::probe::{Failing, Narrow, Trickle};
 use arrow_test_streams::streams::ONE_BATCH;
 use arrow_types::Limits;
 use arrowflow_copy::copy;
+use arrowflow_report::Tried;
 use std::alloc::Global;
 use std::io::ErrorKind;
 use std::process::Abort;
@@ -100,6 +101,39 @@ fn copies_of_an_input_that_fails(rt: HostRuntime) {
     for place in 0..337 {
         assert_copied(&rt, rt.alloc(), place);
     }
+}
+
+#[test]
+fn an_input_tells_that_its_last_read_failed(rt: HostRuntime) {
+    let limits = Limits::standard();
+    let mut input = Tried::new(failing(100));
+    assert!(rt; !input.has_failed());
+    let text = told(&rt, rt.alloc(), Call::Check, &mut input, &limits);
+    assert_eq!(rt; text.as_str(), FAILED);
+    assert!(rt; input.has_failed());
+    assert_eq!(rt; input.into_inner().given(), 100);
+    let mut input = Tried::new(failing(200));
+    let (bytes, ending) = copied(&rt, rt.alloc(), &mut input, NARROW, &limits);
+    assert_eq!(rt; ending.as_str(), FAILED);
+    assert_eq!(rt; bytes.len(), 152);
+    assert!(rt; input.has_failed());
+}
+
+#[test]
+fn a_stream_that_is_cut_blames_no_input(rt: HostRuntime) {
+    let limits = Limits::standard();
+    for call in [Call::Check, Call::Quiet, Call::Show, Call::Schema] {
+        let cut = Trickle::new(ONE_BATCH.get(..100).expect(&rt, "so many bytes"), 7, None);
+        let mut input = Tried::new(cut);
+        let text = told(&rt, rt.alloc(), call, &mut input, &limits);
+        assert_eq!(rt; text.as_str(), "1 fault at byte 0: NoSchema");
+        assert!(rt; !input.has_failed());
+    }
+    let mut input = Tried::new(Trickle::new(ONE_BATCH.as_slice(), 7, None));
+    let (bytes, ending) = copied(&rt, rt.alloc(), &mut input, NARROW, &limits);
+    assert_eq!(rt; ending.as_str(), "");
+    assert_eq!(rt; bytes.len(), 336);
+    assert!(rt; !input.has_failed());
 }
 
 /// In a sink that takes so many bytes stands the beginning of the copy, and it was flushed and

@@ -5,11 +5,10 @@ use arrow_sink::Counted;
 use arrow_sink::probe::Trickle;
 use arrow_types::Limits;
 use arrowflow_report::{
-    ColumnsFault, Selection, ToolFault, check, check_quietly, schema_text, show, show_columns,
-    show_first,
+    ColumnsFault, Input, Selection, ToolFault, check, check_quietly, schema_text, show,
+    show_columns, show_first,
 };
 use std::alloc::{AllocError, Global};
-use std::io::Read;
 use std::process::Abort;
 
 /// The rows of the growing dictionary.
@@ -53,7 +52,7 @@ fn written(rt: &impl Abort, alloc: Global, taken: &[u8], answer: &Result<(), Too
 }
 
 /// The text of a schema as bytes.
-fn schema_bytes<R: Read>(
+fn schema_bytes<R: Input>(
     alloc: Global,
     input: &mut R,
     limits: &Limits,
@@ -65,7 +64,7 @@ fn schema_bytes<R: Read>(
 }
 
 /// What a call tells of an input.
-pub(super) fn told<R: Read>(
+pub(super) fn told<R: Input>(
     rt: &impl Abort,
     alloc: Global,
     call: Call,
@@ -97,7 +96,7 @@ pub(super) fn told<R: Read>(
 }
 
 /// What is shown of columns, and behind it the place of the one that the schema lacks.
-fn columns_told<R: Read>(
+fn columns_told<R: Input>(
     rt: &impl Abort,
     alloc: Global,
     input: &mut R,
@@ -119,7 +118,7 @@ fn columns_told<R: Read>(
 }
 
 /// A call tells this text of an input.
-fn assert_told_of<R: Read>(
+fn assert_told_of<R: Input>(
     rt: &impl Abort,
     alloc: Global,
     call: Call,
