@@ -276,19 +276,21 @@ static void bad_readers(void) {
     WANT(!reader.live);
 }
 
-/* Paths that lead nowhere, out of the columns of each batch of a stream. */
+/* Paths that lead nowhere, out of the columns of each batch of a stream. The reader stays where it was. */
 static void bad_paths(const uint8_t *bytes, size_t len) {
     arrowflow_reader reader = ARROWFLOW_CLOSED;
     arrowflow_step step = {0, 0, 0, 0, 0, 0, 0};
     WANT(arrowflow_reader_open(arrowflow_standard_limits(), &reader) == ARROWFLOW_FINE);
     for (size_t at = 0; at < len && step.kind == ARROWFLOW_FINE && step.what != ARROWFLOW_END_READ; at += step.taken) {
         step = arrowflow_reader_read(&reader, bytes + at, len - at);
+        arrowflow_fault end = arrowflow_reader_end(&reader);
         for (size_t k = 0; k < step.columns; k++) {
             size_t path[2] = {k, 0}, none[2] = {k, SIZE_MAX}, past[1] = {step.columns};
             arrowflow_column of = arrowflow_column_at(&reader, path, 1);
             WANT(of.slots == step.rows && of.slot == 0);
             WANT(is_no_column(&reader, path, 2) == (of.children == 0 && of.entries == 0));
             WANT(is_no_column(&reader, none, 2) && is_no_column(&reader, past, 1) && is_no_column(&reader, path, 0));
+            WANT(arrowflow_reader_end(&reader).kind == end.kind && arrowflow_reader_end(&reader).place == end.place);
         }
         if (step.what == ARROWFLOW_NOTHING) break;
     }
