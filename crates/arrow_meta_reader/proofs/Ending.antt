@@ -1,5 +1,5 @@
 -- Where the reading of a row ends, and where that of a spot does.
-use Rattle.std.proofs.Common.{◌≡◌, ℕ, zero, suc, ◌-◌, ◌<◌, ◌≤◌, Bool, false, List, [], ◌∷◌, Option, Some, None, option_map, slice_get, sym, ap, subst, ◌∙◌, arith}
+use Rattle.std.proofs.Common.{◌≡◌, ℕ, zero, suc, ◌-◌, ◌<◌, ◌≤◌, Bool, false, List, [], ◌∷◌, Option, Some, None, option_map, slice_get, refl, sym, ap, subst, ◌∙◌, arith}
 use Rattle.arrow_flatbuf.specs.Place.{behind}
 use Rattle.arrow_flatbuf.specs.Table.{table_at}
 use Rattle.arrow_meta_reader.specs.Reads.{Ends, RowEnds, ends_unreadable, ends_long, ends_refused, ends_first, ends_unkept, ends_later, Faulty}
@@ -97,3 +97,7 @@ ends_copy bytes s x n most old new fault long takes l a b = absurd a
 -- What takes no part of the room leaves it as it is.
 pub nothing_spent : (room : Room) → Spends room room 0 0 0
 nothing_spent room = record { visits_paid = omega arith; entries_paid = omega arith; text_paid = omega arith }
+
+-- the spot of an opened table that is there
+pub opened_spot : (opens : Option TableKind) (kind : TableKind) (place : Option ℕ) (p : ℕ) → opens ≡ Some kind → place ≡ Some p → opened opens place ≡ record { form = forms.Table kind; place = Some p }
+opened_spot opens kind place p o e = rw (o, e) refl

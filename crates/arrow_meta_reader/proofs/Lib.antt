@@ -15,6 +15,7 @@ pub mod Narrow
 pub mod Shallow
 pub mod Least
 pub mod OneAnswer
+pub mod OneEnd
 pub mod Decoding
 pub mod Counting
 pub mod Straight

@@ -38,7 +38,7 @@ unfolding behind
 leads bytes p q t e f = one_step (target_at bytes p) (λ q. table_at bytes q) q e ∙ f
 
 -- the table whose layer stands at an offset
-table_there : (bytes : List ℕ) (kind : TableKind) (p : ℕ) (l : Layer) → layer bytes (offset_at kind p) ≡ Some l → (t : TableAt) × (behind table_at bytes p ≡ Some t) × (table_layer kind (spots_of kind t) ≡ l)
+pub table_there : (bytes : List ℕ) (kind : TableKind) (p : ℕ) (l : Layer) → layer bytes (offset_at kind p) ≡ Some l → (t : TableAt) × (behind table_at bytes p ≡ Some t) × (table_layer kind (spots_of kind t) ≡ l)
 table_there bytes kind p l e = mapped (λ t. table_layer kind (spots_of kind t)) (behind table_at bytes p) l (sym (layer_there bytes (forms.Table kind) (Some p) p refl) ∙ e)
 
 -- A tree that stands at an offset lies where the offset leads.

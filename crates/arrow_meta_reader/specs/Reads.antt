@@ -67,11 +67,11 @@ mutual
     -- what a field holds is not readable
     ends_unreadable : {s : Spot} {most : ℕ} {room : Room} → layer bytes s ≡ None → Ends bytes false Metadata s most room room
     -- there is no room for a table
-    ends_unpaid : {v : Bool} {s : Spot} {most : ℕ} {room : Room} (kind : TableKind) →
-        s.form ≡ forms.Table kind → LacksRoom room kind most → Ends bytes v Metadata s most room room
+    ends_unpaid : {v : Bool} {s : Spot} {most : ℕ} {room : Room} (kind : TableKind) (p : ℕ) →
+        s ≡ record { form = forms.Table kind; place = Some p } → LacksRoom room kind most → Ends bytes v Metadata s most room room
     -- a table that is paid for is not readable
     ends_paid : {s : Spot} {most : ℕ} {room new : Room} (kind : TableKind) →
-        s.form ≡ forms.Table kind → layer bytes s ≡ None → Spends room new (visit kind) (entry kind) 0 →
+        s.form ≡ forms.Table kind → layer bytes s ≡ None → visit kind ≤ most → Spends room new (visit kind) (entry kind) 0 →
         Ends bytes true Metadata s most room new
     -- there is no room for a text or a string
     ends_long : {v : Bool} {s : Spot} {most : ℕ} {room : Room} (x : Leaf) →

@@ -3,8 +3,10 @@
 //! Each is the contract of a function that does nothing. In a law a number is any number.
 ghost use Rattle.std.specs.Prelude.{◌≡◌, ℕ, List};
 ghost use Rattle.arrow_meta_reader.specs.declared.fault.MetaFault.{MetaFault};
+ghost use Rattle.arrow_meta_reader.specs.declared.fault.MetaFault.TheVariants.{Memory};
 ghost use Rattle.arrow_meta_reader.specs.declared.kinds.TableKind.{TableKind};
-ghost use Rattle.arrow_meta_reader.specs.Judges.{MetadataMeans, MetadataFails};
+ghost use Rattle.arrow_meta_reader.specs.declared.work.Work.{Work};
+ghost use Rattle.arrow_meta_reader.specs.Judges.{CountsFailed, MetadataMeans, MetadataFails};
 ghost use Rattle.arrow_meta_reader.specs.Lies.{Lies};
 ghost use Rattle.arrow_meta_reader.specs.Means.{PlainMessage, Means};
 ghost use Rattle.arrow_meta_reader.specs.Trees.{Tree};
@@ -19,7 +21,8 @@ pub fn one_meaning()
         → Means max_body x m → Means max_body x n → m ≡ n }
 {}
 
-/// The bytes of a metadata mean at most one message, or have at most one fault, and never both.
+/// The bytes of a metadata mean at most one message, or have at most one fault, and never both. The
+/// work that is told with a fault other than want of memory is but one.
 pub fn one_answer()
     ensures message { (limits : LimitNumbers) (bytes : List ℕ) (m n : PlainMessage)
         → MetadataMeans limits bytes m → MetadataMeans limits bytes n → m ≡ n }
@@ -27,4 +30,7 @@ pub fn one_answer()
         → MetadataFails limits bytes f → MetadataFails limits bytes g → f ≡ g }
     ensures apart { (limits : LimitNumbers) (bytes : List ℕ) (m : PlainMessage) (f : MetaFault)
         → MetadataMeans limits bytes m → MetadataFails limits bytes f → ⊥ }
+    ensures work { (limits : LimitNumbers) (bytes : List ℕ) (e : MetaFault) (v w : Work)
+        → (e ≡ Memory → ⊥) → CountsFailed limits bytes e v → CountsFailed limits bytes e w
+        → v ≡ w }
 {}

@@ -145,7 +145,8 @@ impl Reader {
         ensures read { (s : Spot)
             → layer table.now.bytes s ≡ Some (table_layer kind (spots_of kind table.now))
             → ReadsTree plain result table.now.bytes s levels (room self.old) (room self.new) }
-        ensures ends { IfErr result (λ e. (v : Bool) (s : Spot) → s.form ≡ forms.Table kind
+        ensures ends { IfErr result (λ e. (v : Bool) (s : Spot) (p : ℕ)
+            → s ≡ record { form = forms.Table kind; place = Some p }
             → layer table.now.bytes s ≡ Some (table_layer kind (spots_of kind table.now))
             → Ends table.now.bytes v e s levels (room self.old) (room self.new)) }
         ensures max { self.new.counter.max_bytes ≡ self.old.counter.max_bytes }

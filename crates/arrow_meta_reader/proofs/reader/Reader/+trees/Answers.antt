@@ -1,20 +1,20 @@
-use Rattle.std.proofs.Common.{false, true, ◌≡◌, ℕ, ◌+◌, ◌*◌, ◌≤◌, List, Some, ap, sym, subst, ◌∙◌, option_map, arith, add-one, refl}
-use Rattle.std.proofs.lemmas.Result.{err_from_is_err_and}
+use Rattle.std.proofs.Common.{IfErr, Bool, false, true, ◌≡◌, ℕ, ◌+◌, ◌*◌, ◌≤◌, List, Some, ap, sym, subst, ◌∙◌, option_map, arith, add-one, refl}
+use Rattle.std.proofs.lemmas.Result.{err_from_is_err_and, IfErr-weaker}
 use Rattle.arrow_flatbuf.specs.Place.{behind}
-use Rattle.arrow_flatbuf.specs.Table.{field_place}
+use Rattle.arrow_flatbuf.specs.Table.{field_place, table_at}
 use Rattle.arrow_flatbuf.specs.Vector.{vector_at}
 use Rattle.arrow_meta_reader.specs.Reads.{Ends, RowEnds, ends_unpaid, ends_paid, ends_below, ends_inside, NoRowFits, Faulty, room}
-use Rattle.arrow_meta_reader.specs.Kinds.{Spot, spots_of}
+use Rattle.arrow_meta_reader.specs.Kinds.{Spot, opened, spots_of}
 use Rattle.arrow_meta_reader.specs.declared.fault.MetaFault.TheVariants.{Metadata}
 use Rattle.arrow_meta_reader.specs.Views.{plain, plain_all}
 use Rattle.arrow_meta_reader.specs.Trees.{Tree, table}
-use Rattle.arrow_meta_reader.specs.Within.{levels, levels_all, visits, visits_all, entries, entries_all, text_bytes, text_bytes_all, Spends}
-use Rattle.arrow_meta_reader.specs.Lies.{Stands, AllStand, table_layer, tables_layer, elements}
+use Rattle.arrow_meta_reader.specs.Within.{visit, levels, levels_all, visits, visits_all, entries, entries_all, text_bytes, text_bytes_all, Spends}
+use Rattle.arrow_meta_reader.specs.Lies.{Stands, AllStand, layer, table_layer, tables_layer, elements}
 use Rattle.arrow_meta_reader.specs.Grows.{RowGrows, table_grows, tables_grow}
 use Rattle.arrow_meta_reader.specs.declared.kinds.FieldForm.TheVariants as forms
 use Rattle.arrow_meta_reader.proofs.Layers.{layer_there, unreadable, unreadable_child, vector_layer, element_layer, no_room, no_room_at, no_fields, no_elements}
 use Rattle.arrow_meta_reader.proofs.Rows.{further, stuck, grown, begun, finished, plain_all-push}
-use Rattle.arrow_meta_reader.proofs.Ending.{row_ends, row_unkept, ends_there, ends_child}
+use Rattle.arrow_meta_reader.proofs.Ending.{opened_spot, row_ends, row_unkept, ends_there, ends_child}
 use Rattle.arrow_meta_reader.proofs.Spots.{field_get, element_get, length-elements, faulty_so}
 use Rattle.arrow_meta_reader.proofs.reader.Reader.+trees.Goals as goal
 
@@ -161,14 +161,14 @@ pub table-returns-in_err-below-clause-ends : goal.table-returns-in_err-below-cla
 table-returns-in_err-below-clause-ends t c =
     let lacks = c.in_err-below.ensures.paid in
     let p = err_from_is_err_and c.from_residual.result c.from_residual.ensures.1 in
-    rw (p.1, p.2, lacks.0) (λ v s f e. let here : Ends c.args.table.now.bytes v Metadata s c.args.levels (room c.args.self.now) (room c.args.self.now) = ends_unpaid c.args.kind f lacks.1 in
+    rw (p.1, p.2, lacks.0) (λ v s p f e. let here : Ends c.args.table.now.bytes v Metadata s c.args.levels (room c.args.self.now) (room c.args.self.now) = ends_unpaid c.args.kind p f lacks.1 in
     subst (λ left. Ends c.args.table.now.bytes v Metadata s c.args.levels (room c.args.self.now) left) (sym c.in_err-below.ensures.unpaid) here)
 
 pub table-returns-in_err-fields-clause-ends : goal.table-returns-in_err-fields-clause-ends
 table-returns-in_err-fields-clause-ends t c =
     let paid = c.in_ok-below.ensures.paid in
     let p = err_from_is_err_and c.from_residual-in_err-fields.result c.from_residual-in_err-fields.ensures.1 in
-    rw (p.1, p.2) (λ v s f e. ends_below e paid.0 paid.1 c.in_err-fields.ensures.ends)
+    rw (p.1, p.2) (λ v s p f e. ends_below e paid.0 paid.1 c.in_err-fields.ensures.ends)
 
 pub fields-returns-in_err-tree-clause-ends : goal.fields-returns-in_err-tree-clause-ends
 fields-returns-in_err-tree-clause-ends t c =
@@ -228,7 +228,7 @@ element-returns-in_err-below-clause-ends t c =
     let p = err_from_is_err_and c.from_residual.result c.from_residual.ensures.1 in
     let q = c.args.vector.now.place + c.args.index * 4 in
     let s : Spot = record { form = forms.Table c.args.kind; place = Some q } in
-    let here : Ends c.args.vector.now.bytes true Metadata s c.args.levels (room c.args.self.now) (room c.args.self.now) = ends_unpaid c.args.kind refl lacks.1 in
+    let here : Ends c.args.vector.now.bytes true Metadata s c.args.levels (room c.args.self.now) (room c.args.self.now) = ends_unpaid c.args.kind q refl lacks.1 in
     rw (p.1, p.2, lacks.0) (subst (λ left. Ends c.args.vector.now.bytes true Metadata s c.args.levels (room c.args.self.now) left) (sym c.in_err-below.ensures.unpaid) here)
 
 pub element-returns-in_err-table-clause-ends : goal.element-returns-in_err-table-clause-ends
@@ -236,7 +236,8 @@ element-returns-in_err-table-clause-ends t c =
     let q = c.args.vector.now.place + c.args.index * 4 in
     let failed = err_from_is_err_and c.from_residual-in_err-table.result c.from_residual-in_err-table.ensures.1 in
     let nothing = layer_there c.args.vector.now.bytes (forms.Table c.args.kind) (Some q) q refl ∙ ap (option_map (λ t. table_layer c.args.kind (spots_of c.args.kind t))) (sym c.in_err-table.ensures.value) in
-    rw (failed.1, failed.2) (ends_paid c.args.kind refl nothing c.in_ok-below.ensures.paid.1)
+    let deep : visit c.args.kind ≤ c.args.levels = omega (arith, c.in_ok-below.ensures.paid.0) in
+    rw (failed.1, failed.2) (ends_paid c.args.kind refl nothing deep c.in_ok-below.ensures.paid.1)
 
 pub element-returns-in_err-fields-clause-ends : goal.element-returns-in_err-fields-clause-ends
 element-returns-in_err-fields-clause-ends t c =
@@ -249,3 +250,17 @@ element-returns-in_err-fields-clause-ends t c =
     let P : List ℕ → Type 0 = λ bytes. RowEnds bytes false c.in_err-fields.field-0.0 ss c.in_ok-below.below (room c.enter.new.self) (room c.fields.new.self) in
     let p = err_from_is_err_and c.from_residual-in_err-fields.result c.from_residual-in_err-fields.ensures.1 in
     rw (p.1, p.2) (ends_below at paid.0 paid.1 (subst P there.bytes c.in_err-fields.ensures.ends))
+
+pub child-returns-in-Some-2-clause-ends : goal.child-returns-in-Some-2-clause-ends
+child-returns-in-Some-2-clause-ends t c =
+    let b = c.args.table.now.bytes in
+    let kind = c.in-Some.opened in
+    let child = c.in-Some-2.child in
+    let there : (p : ℕ) × (field_place c.args.table.now c.args.field ≡ Some p) × (behind table_at b p ≡ Some child) = rw c.in-Some-2.is at c.in_ok-table-in-Some.ensures.answer in
+    let same : child.bytes ≡ b = rw c.in-Some-2.is at c.in_ok-table-in-Some.ensures.bytes in
+    let s = opened c.args.kind (field_place c.args.table.now c.args.field) in
+    let at = opened_spot c.args.kind kind (field_place c.args.table.now c.args.field) there.0 c.in-Some.is there.1 in
+    let l : layer b s ≡ Some (table_layer kind (spots_of kind child)) = subst (λ r. layer b r ≡ Some (table_layer kind (spots_of kind child))) (sym at) (element_layer b kind there.0 child there.2) in
+    let P : List ℕ → Type 0 = λ bytes. IfErr c.table-in-Some-2.result (λ e. (v : Bool) (r : Spot) (p : ℕ) → r ≡ record { form = forms.Table kind; place = Some p } → layer bytes r ≡ Some (table_layer kind (spots_of kind child))
+    → Ends bytes v e r c.args.levels (room c.args.self.now) (room c.table-in-Some-2.new.self)) in
+    IfErr-weaker c.table-in-Some-2.result _ _ (λ e h. h false s there.0 at l) (subst P same c.table-in-Some-2.ensures.ends)

@@ -36,5 +36,5 @@ returns-in-Some-clause-ends c =
     let b = c.args.bytes.now in
     let there = c.in-Some.ensures in
     let l = table_layer (kinds.Message c.args.types) (spots_of (kinds.Message c.args.types) c.in-Some.table) in
-    let P : List ℕ → Type 0 = λ bytes. IfErr c.table.result (λ e. (v : Bool) (s : Spot) → s.form ≡ forms.Table (kinds.Message c.args.types) → layer bytes s ≡ Some l → Ends bytes v e s 32 (room c.args.self.now) (room c.table.new.self)) in
-    IfErr-weaker c.table.result _ _ (λ e h. h false (root c.args.types) refl (element_layer b (kinds.Message c.args.types) 0 c.in-Some.table (sym there.value))) (subst P there.bytes c.table.ensures.ends)
+    let P : List ℕ → Type 0 = λ bytes. IfErr c.table.result (λ e. (v : Bool) (s : Spot) (p : ℕ) → s ≡ record { form = forms.Table (kinds.Message c.args.types); place = Some p } → layer bytes s ≡ Some l → Ends bytes v e s 32 (room c.args.self.now) (room c.table.new.self)) in
+    IfErr-weaker c.table.result _ _ (λ e h. h false (root c.args.types) 0 refl (element_layer b (kinds.Message c.args.types) 0 c.in-Some.table (sym there.value))) (subst P there.bytes c.table.ensures.ends)
