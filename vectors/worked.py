@@ -159,6 +159,7 @@ EXAMPLES = {
         "falling_offsets.changes": ["batch.body.1[516] at * -> batches 0 rows 0 end Layout at *"], "falling_large_offsets.changes":
         ["batch.body.1[1032] at * -> batches 0 rows 0 end Layout at *"]}),
     "texts loaded, of which none is copied": (["growths/loading"], {}),
+    "metadata read into a tree once": (["growths/decoding"], {}),
     "zeros of each number of bits": (["arrow_small_tests/bits"],
         {"null_counts.changes": ["* := 6400000000000000 -> batches 1 rows 200 end clean"]}),
     "dictionaries of several segments": (["arrow_data_tests/dictionaries", "arrow_dict_tests/trackers", "arrow_body_tests/stored",
