@@ -2,14 +2,15 @@
 
 All edits that can stand side by side stand in one copy of the sources, each in a function of its own, under a crate that uses
 a moved value. The compiler refuses that last, once it has read every function and looked at its borrows, and states nothing
-that would have to be proved. So where it is the one thing that is refused, all edits compile.
+that would have to be proved. So where it is the one thing that is refused, all edits compile. An edit stands there in no cycle
+of calls: that its function still calls one of its own cycle, without which the cycle's name is refused, is seen in its text.
 """
 import os
 import re
 import subprocess
 import tempfile
 
-from crates import KIT, below, laid, listed, source
+from crates import KIT, below, laid, listed, source, sources
 from edits import CYCLE, TOP
 
 USES_A_MOVED_VALUE = """//! Ends the reading once all else was read.
@@ -21,6 +22,33 @@ fn moved_twice(it: Vec<u8>) -> Vec<u8> {
 }
 """
 ERROR = re.compile(r"(\S+?):(\d+):\d+: (error.*)")
+
+
+def edited(edit, function):
+    """The function as a whole, with the edit."""
+    whole = function.whole(source(edit.crate, function.path))
+    for _, old, new in edit.pairs:
+        whole = whole.replace(old, new)
+    return whole
+
+
+def leaves_its_cycle(edit):
+    """Whether the edit's function stands in a cycle of calls and calls none of the cycle any more."""
+    for function in edit.owners():
+        whole = edited(edit, function)
+        cycle = CYCLE.search(whole)
+        if cycle:
+            texts = [source(edit.crate, path) for path in sources_of(edit.crate)]
+            member = re.compile(rf"#\[cycle\({cycle[1]}\)\](?:\s*#\[.*\])*\s+(?:pub(?:\([^)]*\))?\s+)?fn\s+(\w+)")
+            names = {name for text in texts for name in member.findall(text)}
+            if not any(re.search(rf"(?<!fn )\b{name}(?:::<[^(]*>)?\(", whole) for name in names):
+                return True
+    return False
+
+
+def sources_of(crate):
+    """The paths of the code of a crate, in it."""
+    return [path for path in (os.path.relpath(it, f"{TOP}/crates/{crate}") for it in sources(crate)) if path.startswith("src/")]
 
 
 class Pass:
@@ -43,12 +71,9 @@ class Pass:
 
     def stand_again(self, edit, function, number):
         """Puts the edited function behind the one that stands there, under another name and in no cycle of calls."""
-        whole = function.whole(source(edit.crate, function.path))
-        for _, old, new in edit.pairs:
-            whole = whole.replace(old, new)
         other, text = function.again(number), self.text(edit.crate, function.path)
         _, end = function.span(text)
-        whole = CYCLE.sub("", function.renamed(whole, other))
+        whole = CYCLE.sub("", function.renamed(edited(edit, function), other))
         self.texts[edit.crate, function.path] = f"{text[:end]}\n\n{whole}{text[end:]}"
         self.places[edit] = [other]
 
@@ -123,6 +148,7 @@ def main(edits):
     failed = [(it, it.why) for it in edits if it.why]
     # (of a statement or a lemma the compiler reads nothing here)
     left, count = [it for it in edits if not it.why and all(path.startswith("src/") for path, _, _ in it.pairs)], len(edits)
+    failed += [(it, "its function is in no cycle of calls any more, and has the name of one") for it in left if leaves_its_cycle(it)]
     while left:
         tried = Pass(left)
         of_edits, others = tried.read()
