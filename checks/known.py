@@ -11,7 +11,7 @@ PUB = r"(?:pub(?:\([^)]*\))? )?"
 FUNCTION = re.compile(rf'^[ \t]*({PUB})(?:const )?(?:unsafe )?(?:extern "C" )?fn (\w+)', re.M)
 # What stands above a function that C calls.
 EXPORTED = "#[unsafe(no_mangle)]"
-CLAUSE = re.compile(r"^\s*(ensures|requires)(?: (\w+))? \{", re.M)
+CLAUSE = re.compile(r"^\s*(ensures|requires)\*?(?: (\w+))? \{", re.M)
 BLOCK = re.compile(r"^(pub )?(?:unsafe )?(impl|trait)\b([^{}]*)\{", re.M)
 # What an `impl` says of its type to the logic.
 SAID = re.compile(r"^    ghost (\w+)(?::| =)", re.M)

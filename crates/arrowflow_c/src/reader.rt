@@ -1,8 +1,10 @@
 //! Streams that come in pieces.
 
-ghost use Rattle.std.specs.Prelude.{◌≡◌, None};
+ghost use Rattle.std.specs.Borrow.{sem};
+ghost use Rattle.std.specs.Prelude.{◌≡◌, None, option_map};
 ghost use Rattle.arrowflow_c.specs.Cells.{CellIf};
 ghost use Rattle.arrowflow_c.specs.Columns.{ColumnIf};
+ghost use Rattle.arrowflow_c.specs.Lending.{KeepsReader};
 ghost use Rattle.arrowflow_c.specs.Reading.{Ends, Opens, ReadsIf};
 
 use crate::cells::{CellC, cell_at};
@@ -106,9 +108,17 @@ pub extern "C" fn arrowflow_reader_column<'a>(
     path: &[usize],
     column: &mut ColumnC<'a>,
 )
-    ensures { ColumnIf reader.old.slot.value path.now column.new }
+    ensures* kept { sem 𝓛 (KeepsReader reader.entry) }
+    ensures column { ColumnIf reader.old.slot.value path.now column.new }
 {
-    *column = match reader.reading() {
+    show_column(reader.reading(), path, column)
+}
+
+/// Tells of the column of a reader's batch that a path leads to.
+fn show_column<'a>(reading: Option<&'a Reading>, path: &[usize], column: &mut ColumnC<'a>)
+    ensures { ColumnIf (option_map (λ r. r.now) reading.entry) path.now column.new }
+{
+    *column = match reading {
         Some(reading) => column_at(&reading.batch, path),
         None => ColumnC::none(),
     };
