@@ -8,7 +8,7 @@ pub returns-in-Ok : goal.returns-in-Ok
 returns-in-Ok c =
     let within = c.in-Some.ensures in
     let left = Some c.schema_text.new.input.now in
-    let answers = subst (λ l. AnswersInput l (Some c.args.bytes.now) left c.schema_text.result) within.1 c.schema_text.ensures in
+    let answers = subst (λ l. AnswersInput l (Some c.args.bytes.now) left c.schema_text.result) within.1 c.schema_text.ensures.answers in
     let gave = subst (λ r. AnswersInput (numbers c.args.limits) (Some c.args.bytes.now) left r) c.in-Ok.is answers in record {
       told =
           inl (
@@ -28,7 +28,7 @@ pub returns-in-Err : goal.returns-in-Err
 returns-in-Err c =
     let within = c.in-Some.ensures in
     let left = Some c.schema_text.new.input.now in
-    let answers = subst (λ l. AnswersInput l (Some c.args.bytes.now) left c.schema_text.result) within.1 c.schema_text.ensures in
+    let answers = subst (λ l. AnswersInput l (Some c.args.bytes.now) left c.schema_text.result) within.1 c.schema_text.ensures.answers in
     let gave = subst (λ r. AnswersInput (numbers c.args.limits) (Some c.args.bytes.now) left r) c.in-Err.is answers in record {
       told =
           inl (
