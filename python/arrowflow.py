@@ -9,20 +9,21 @@ for C (c/arrowflow.h) over ctypes. `c/build` makes the shared library; ARROWFLOW
         for piece in pieces:
             for batch in reader.feed(piece):
                 print(batch.rows, batch.columns, batch.row(0))
-                ages = batch.column(1)    # layout, width, and the buffers as memoryviews, of which none is copied
+                ages = batch.column(1)    # layout, width, and the buffers as memoryviews, which stay as they are
                 if ages.layout == arrowflow.Layout.NUMBERS and ages.width == 4 and not ages.validity:
                     print(sum(ages.values.cast("i")))
         reader.end()
 
 A stream with floating-point columns is read by who asks for it: check(data, arrowflow.ALL_TYPES), Reader(arrowflow.ALL_TYPES).
 
-`data` and `piece` are bytes, or anything that `bytes` takes, which is copied first. With arguments it is a program:
+`data` and `piece` are bytes, or anything else that has a buffer, which is copied first. With arguments it is a program:
 arrowflow.py [--types core|all] schema|check|show IN, arrowflow.py [--types core|all] sanitize IN OUT.
 """
 import ctypes
 import enum
 import os
 import sys
+import threading
 
 
 class Kind(enum.IntEnum):
@@ -83,7 +84,8 @@ class Fault(Exception):
     messages before it gave."""
 
     def __init__(self, kind, place, text=b""):
-        super().__init__(f"fault at byte {place}: {Kind(kind)}")
+        refused = {Kind.SCHEMA_TOO_LARGE: "schema", Kind.BATCH_TOO_LARGE: f"batch {place}", Kind.END_TOO_LARGE: "end"}.get(kind)
+        super().__init__(f"refused {refused}: TooLarge" if refused else f"fault at byte {place}: {Kind(kind)}")
         self.kind, self.place, self.text = Kind(kind), place, text
 
 
@@ -175,35 +177,40 @@ ALL_TYPES = Limits(1 << 26, 1 << 36, (1 << 31) - 1, Types.ALL)
 _NONE = ctypes.c_ubyte()
 
 
+def _bytes(data):
+    """The bytes of what has a buffer. A TypeError of anything else, a number and a text among them."""
+    return data if type(data) is bytes else memoryview(data).tobytes()
+
+
 def check(data, limits=STANDARD):
     """What is reported of a stream. A fault is told, not raised."""
-    data = bytes(data)
+    data = _bytes(data)
     return _c["check"](data, len(data), limits)
 
 
 def sanitize(data, limits=STANDARD, resend=False, pad_to_8=False):
     """The stream written again: a valid stream of just the rows that were read, with nothing hidden in padding, under nulls or
     behind offsets. Raises Fault where there is a fault; its `text` has the batches before it, without an end marker."""
-    data, options = bytes(data), Options(resend, pad_to_8)
+    data, options = _bytes(data), Options(resend, pad_to_8)
     # (a copy is mostly about as long as the stream)
     return _given(lambda *room: _c["copy"](data, len(data), limits, options, *room), len(data) + len(data) // 4 + 512)
 
 
 def show(data, limits=STANDARD):
     """The rows as comma-separated values, as `arrowflow show` prints them. Raises Fault."""
-    data = bytes(data)
+    data = _bytes(data)
     return _given(lambda *room: _c["show"](data, len(data), limits, *room)).decode()
 
 
 def messages(data, limits=STANDARD):
     """A line for each message, as `arrowflow check` prints them. Raises Fault."""
-    data = bytes(data)
+    data = _bytes(data)
     return _given(lambda *room: _c["messages"](data, len(data), limits, *room)).decode()
 
 
 def schema(data, limits=STANDARD):
     """The schema, a line a field, as `arrowflow schema` prints it. Raises Fault."""
-    data = bytes(data)
+    data = _bytes(data)
     return _given(lambda *room: _c["schema"](data, len(data), limits, *room)).decode()
 
 
@@ -231,8 +238,8 @@ class Column:
     """A column of a batch, or what stands below one: its layout, how many slots it has, how many bytes a number, an index, a byte
     string of FIXED_BYTES or an offset takes, whether numbers have a sign, and its buffers as memoryviews of bytes. Bit i of
     `validity` says whether slot i has a value; where it is empty, each slot has one. `offsets` and `values` are little-endian, and
-    may have bytes behind those of the slots. The views hold until the reader is asked for the next batch, which releases them: of
-    parts that are made of a view no more than that is known, and they are let go before."""
+    may have bytes behind those of the slots. The buffers are copied out of the batch, so they and all that is made of them stay as
+    they are, whatever becomes of the reader; children and entries are asked for while the batch holds."""
 
     def __init__(self, batch, path):
         told = batch._column(path)
@@ -278,6 +285,7 @@ class Batch:
         return Column(self, [number])
 
     def _ask(self):
+        self._reader._ask()
         if self._reader._number != self._number:
             raise Fault(Kind.NO_READER, 0)
 
@@ -289,9 +297,7 @@ class Batch:
         return told
 
     def _view(self, at, size):
-        view = memoryview((ctypes.c_ubyte * size).from_address(at)).toreadonly().cast("B") if size else memoryview(b"")
-        self._reader._views.append(view)
-        return view
+        return memoryview(ctypes.string_at(at, size))
 
     def row(self, row):
         """The values of a row."""
@@ -299,38 +305,45 @@ class Batch:
 
 
 class Reader:
-    """A reader of a stream that comes in pieces. It stays on the thread that made it."""
+    """A reader of a stream that comes in pieces. It stays on the thread that made it: another one may not ask it anything
+    (RuntimeError). Where it is collected on another thread without having been closed, what it holds is never freed."""
 
     def __init__(self, limits=STANDARD):
-        self._handle, self._number, self._views = _Handle(None, False), 0, []
+        self._handle, self._number, self._thread, self._left = _Handle(None, False), 0, threading.get_ident(), []
         kind = _c["reader_open"](limits, self._handle)
         if kind:
             raise Fault(kind, 0)
 
     def feed(self, piece):
-        """The batches of a piece, one after another, all of which are taken before the next piece is fed. Raises Fault where the
-        stream has one."""
-        piece, at = bytes(piece), 0
-        start = ctypes.cast(ctypes.c_char_p(piece), ctypes.c_void_p).value
-        while True:
-            self._let_go()
-            step = _c["reader_read"](self._handle, start + at, len(piece) - at)
-            if step.kind:
-                raise Fault(step.kind, step.place)
-            at += step.taken
+        """Gives the reader a piece, and returns its batches one after another, as they are asked for. What of a piece was not asked
+        for stays: its batches come first in the next call, and `end` passes over them. Raises Fault where the stream has one."""
+        self._ask()
+        self._left.append((_bytes(piece), 0))
+        return self._batches()
+
+    def _batches(self):
+        while self._left:
+            piece, at = self._left[0]
+            start = ctypes.cast(ctypes.c_char_p(piece), ctypes.c_void_p).value
+            step = self._read(start + at, len(piece) - at)
+            if step.what in (0, 4):
+                self._left.pop(0)
+            else:
+                self._left[0] = piece, at + step.taken
             if step.what == 3:
                 yield Batch(self, step)
-            if step.what in (0, 4):
-                return
 
-    def _let_go(self):
+    def _read(self, start, size):
+        self._ask()
         self._number += 1
-        for view in self._views:
-            try:
-                view.release()
-            except BufferError: # the caller made another view of it
-                pass
-        self._views.clear()
+        step = _c["reader_read"](self._handle, start, size)
+        if step.kind:
+            raise Fault(step.kind, step.place)
+        return step
+
+    def _ask(self):
+        if self._thread != threading.get_ident():
+            raise RuntimeError("a reader stays on the thread that made it")
 
     def _cell(self, column, row):
         size = 64
@@ -345,14 +358,19 @@ class Reader:
         return text.decode() if cell.what == 4 else values[cell.what] if cell.what in values else Nested()
 
     def end(self):
-        """Raises Fault where a stream cannot end here."""
+        """Raises Fault where a stream cannot end behind what was fed."""
+        for _ in self._batches():
+            pass
+        self._ask()
         fault = _c["reader_end"](self._handle)
         if fault.kind:
             raise Fault(fault.kind, fault.place)
 
     def close(self):
         """Frees what the reader holds. It takes nothing afterwards."""
-        self._let_go()
+        self._ask()
+        self._number += 1
+        self._left.clear()
         _c["reader_close"](self._handle)
 
     def __enter__(self):
@@ -362,7 +380,7 @@ class Reader:
         self.close()
 
     def __del__(self):
-        if hasattr(self, "_handle"):
+        if getattr(self, "_thread", None) == threading.get_ident():
             self.close()
 
 

@@ -42,6 +42,16 @@ bool read_file(const char *name, Bytes &bytes) {
     return static_cast<bool>(input);
 }
 
+/* What the program says of a fault: where the stream has it, or what of it is refused, written again. */
+std::string line_of(arrowflow_text told) {
+    switch (told.kind) {
+    case ARROWFLOW_SCHEMA_TOO_LARGE: return "refused schema: TooLarge";
+    case ARROWFLOW_BATCH_TOO_LARGE: return "refused batch " + std::to_string(told.place) + ": TooLarge";
+    case ARROWFLOW_END_TOO_LARGE: return "refused end: TooLarge";
+    default: return "fault at byte " + std::to_string(told.place) + ": " + arrowflow_kind_name(told.kind);
+    }
+}
+
 int copy(const Bytes &stream, const char *out, std::uint32_t types) {
     Clean clean = sanitize(stream, types);
     std::ofstream output(out, std::ios::binary);
@@ -52,7 +62,7 @@ int copy(const Bytes &stream, const char *out, std::uint32_t types) {
         return 2;
     }
     if (clean.told.kind == ARROWFLOW_FINE) return 0;
-    std::cerr << "fault at byte " << clean.told.place << ": " << arrowflow_kind_name(clean.told.kind) << "\n";
+    std::cerr << line_of(clean.told) << "\n";
     return 1;
 }
 
