@@ -4,11 +4,8 @@ ghost use Rattle.std.specs.Borrow.{sem};
 ghost use Rattle.std.specs.Prelude.{◌≡◌, None, option_map};
 ghost use Rattle.arrowflow_c.specs.Cells.{CellIf};
 ghost use Rattle.arrowflow_c.specs.Columns.{ColumnIf};
-<<<<<<< HEAD
-ghost use Rattle.arrowflow_c.specs.Lending.{KeepsReader};
-=======
 ghost use Rattle.arrowflow_c.specs.Fields.{FieldIf};
->>>>>>> 687495d0afa1e5e36ee466926390750babb68e71
+ghost use Rattle.arrowflow_c.specs.Lending.{KeepsReader};
 ghost use Rattle.arrowflow_c.specs.Reading.{Ends, Opens, ReadsIf};
 
 use crate::cells::{CellC, cell_at};
