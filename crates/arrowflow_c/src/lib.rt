@@ -16,15 +16,22 @@
 //! | what a reader does between two calls | `specs/Reading.antt`: `ReadsIf`, `Opens`, `Ends` |
 //! | the value of a cell | `specs/Cells.antt`: `CellIf` |
 //! | a column as its buffers | `specs/Columns.antt`: `ColumnIf` |
+//! | the schema and its fields | `specs/Fields.antt`: `FieldIf`; `specs/Formats.antt`: `format_of` |
+//! | what is put into a room piece by piece | `specs/Pens.antt`: `Puts` |
 //! | what a handle owns, and lends | `specs/Owned.antt`, `specs/Lending.antt` |
 #![tactic(auto)]
 
 mod cells;
 mod columns;
 mod copying;
+mod fields;
+mod formats;
 mod handle;
 mod kinds;
 mod loose;
+mod metadata;
+mod pens;
+mod places;
 mod reader;
 mod reading;
 mod showing;
@@ -36,6 +43,7 @@ mod texts;
 
 pub use cells::CellC;
 pub use columns::ColumnC;
+pub use fields::FieldC;
 pub use handle::ReaderC;
 pub use slot::Slot;
 pub use steps::{FaultC, StepC};

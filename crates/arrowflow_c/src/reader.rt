@@ -4,11 +4,13 @@ ghost use Rattle.std.specs.Borrow.{sem};
 ghost use Rattle.std.specs.Prelude.{◌≡◌, None, option_map};
 ghost use Rattle.arrowflow_c.specs.Cells.{CellIf};
 ghost use Rattle.arrowflow_c.specs.Columns.{ColumnIf};
+ghost use Rattle.arrowflow_c.specs.Fields.{FieldIf};
 ghost use Rattle.arrowflow_c.specs.Lending.{KeepsReader};
 ghost use Rattle.arrowflow_c.specs.Reading.{Ends, Opens, ReadsIf};
 
 use crate::cells::{CellC, cell_at};
 use crate::columns::{ColumnC, column_at};
+use crate::fields::{FieldC, tell_field};
 use crate::handle::ReaderC;
 use crate::kinds::{BAD_LIMITS, MEMORY, NO_READER};
 use crate::reading::Reading;
@@ -122,6 +124,31 @@ fn show_column<'a>(reading: Option<&'a Reading>, path: &[usize], column: &mut Co
         Some(reading) => column_at(&reading.batch, path),
         None => ColumnC::none(),
     };
+}
+
+/// Tells of the reader's schema, or of the field that a path leads to: the number of the column, and
+/// behind it, from level to level, that of a child; below a dictionary-encoded field 0 leads to the
+/// field of the dictionary's values, which has its type and its children. All are counted from 0.
+/// The name, the format string and the metadata, as the Arrow C data interface writes them, are put
+/// into the room one after another, as much of their front as fits, and their lengths are told.
+#[unsafe(no_mangle)]
+pub extern "C" fn arrowflow_reader_field(
+    alloc: Global,
+    reader: &mut ReaderC,
+    path: &[usize],
+    room: &mut [u8],
+) -> FieldC
+    ensures { FieldIf reader.old.slot.value path.now room.old result room.new
+        reader.new.slot.value }
+{
+    match replace(reader, ReaderC::none()).into_box(alloc) {
+        Some(reading) => {
+            let field = tell_field(reading.reader.schema(), path, room);
+            *reader = ReaderC::of(reading);
+            field
+        }
+        None => FieldC::none(),
+    }
 }
 
 /// Ends the reader, if there is one, and frees what it holds.

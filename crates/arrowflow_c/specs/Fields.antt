@@ -1,0 +1,148 @@
+-- What is told of a schema and of its fields (Arrow C data interface, "The ArrowSchema structure").
+use Rattle.std.specs.Prelude.{◌≡◌, ℕ, zero, suc, pos, ◌+◌, Bool, true, false, if◌then◌else◌, List, [], ◌∷◌, ◌++◌, length, flat_map, Option, Some, None, MatchOption}
+use Rattle.arrow_bits.specs.Numbers.{number_bytes}
+use Rattle.arrow_types.specs.DataType.{int, struct}
+use Rattle.arrow_types.specs.Field.{Head, Fields, none, more, FieldShape, width}
+use Rattle.arrow_types.specs.Notes.{KeyValue, Notes, unnoted, noted, FieldNotes, SchemaShape}
+use Rattle.arrow_types.specs.View.{field_notes, field_view}
+use Rattle.arrow_types.specs.declared.field.Encoding.{Encoding}
+use Rattle.arrow_types.specs.declared.field.Field.{Field}
+use Rattle.arrowflow_c.specs.declared.fields.FieldC.{FieldC}
+use Rattle.arrowflow_c.specs.declared.places.Place.{Place}
+use Rattle.arrowflow_c.specs.declared.places.Place.TheVariants as places
+use Rattle.arrowflow_c.specs.declared.reading.Reading.{Reading}
+use Rattle.arrowflow_c.specs.Formats.{format_of}
+use Rattle.arrowflow_c.specs.Survey.{reported}
+use Rattle.arrowflow_c.specs.Texts.{filled}
+
+-- a field with its metadata and those below it
+pub record NotedField : Type 0 where
+  pub shape : FieldShape
+  pub notes : FieldNotes
+
+-- The schema as the field that has its columns for children ("an ArrowSchema of struct type").
+abbrev pub schema_field : SchemaShape → NotedField
+schema_field s = record {
+  shape = record { head = record { name = []; nullable = false; tag = struct; encoding = None }; children = s.fields };
+  notes = record { pairs = s.pairs; below = s.notes };
+}
+
+-- the field of a dictionary's values: without a name or metadata, and nullable
+abbrev pub values_field : NotedField → NotedField
+values_field f = record {
+  shape = record { head = record { name = []; nullable = true; tag = f.shape.head.tag; encoding = None }; children = f.shape.children };
+  notes = record { pairs = []; below = f.notes.below };
+}
+
+-- field n of those that stand side by side
+abbrev pub nth_field : Fields → Notes → ℕ → Option NotedField
+nth_field none notes n = None
+nth_field (more head children rest) unnoted n = None
+nth_field (more head children rest) (noted pairs below notes) zero =
+    Some (record { shape = record { head = head; children = children }; notes = record { pairs = pairs; below = below } })
+nth_field (more head children rest) (noted pairs below notes) (suc n) = nth_field rest notes n
+
+-- below a field that holds indices there is that of the dictionary's values, under 0
+abbrev pub values_below : NotedField → ℕ → Option NotedField
+values_below f zero = Some (values_field f)
+values_below f (suc n) = None
+
+-- what stands below a field under a number
+abbrev pub below_by : Option Encoding → NotedField → ℕ → Option NotedField
+below_by None f n = nth_field f.shape.children f.notes.below n
+below_by (Some encoding) f n = values_below f n
+
+-- the field that a path leads to, if there is one
+abbrev pub field_below : NotedField → List ℕ → Option NotedField
+field_below f [] = Some f
+field_below f (n ∷ path) = elim (below_by f.shape.head.encoding f n) [ None ↦ None | Some g ↦ field_below g path ]
+
+-- a field of the program
+abbrev pub noted_field : Field → NotedField
+noted_field f = record { shape = field_view f; notes = field_notes f }
+
+-- what the program points at: the schema, a field, or the field of a field's dictionary
+abbrev pub field_in : Place → NotedField
+field_in (places.Schema s) = schema_field s.now
+field_in (places.Field f) = noted_field f.now
+field_in (places.Values f) = values_field (noted_field f.now)
+
+-- a flag's number, where it is set ("ArrowSchema.flags")
+abbrev pub flag : Bool → ℕ → ℕ
+flag set n = if set then n else 0
+
+-- whether the order of a dictionary's values means something
+abbrev pub is_ordered : Option Encoding → Bool
+is_ordered None = false
+is_ordered (Some e) = e.ordered
+
+-- ARROW_FLAG_DICTIONARY_ORDERED 1, ARROW_FLAG_NULLABLE 2
+abbrev pub flags_of : Head → ℕ
+flags_of h = flag (is_ordered h.encoding) 1 + flag h.nullable 2
+
+-- the format string of a field: of one that holds indices that of their type
+abbrev pub field_format : Head → List ℕ
+field_format h = elim (h.encoding) [ None ↦ format_of h.tag | Some e ↦ format_of (int e.index.bits e.index.signed) ]
+
+-- bytes behind their number ("ArrowSchema.metadata": 32-bit lengths; here of a greater number the lowest 32 bits)
+abbrev pub counted : List ℕ → List ℕ
+counted bytes = number_bytes 4 (length bytes) ++ bytes
+
+-- a pair: its key and its value
+abbrev pub pair_bytes : KeyValue → List ℕ
+pair_bytes p = counted p.key ++ counted p.value
+
+-- metadata: the number of the pairs, and each pair; of none no bytes ("ArrowSchema.metadata")
+abbrev pub metadata_bytes : List KeyValue → List ℕ
+metadata_bytes [] = []
+metadata_bytes (p ∷ ps) = number_bytes 4 (length (p ∷ ps)) ++ flat_map pair_bytes (p ∷ ps)
+
+-- the texts of a field, one after another
+abbrev pub texts_of : NotedField → List ℕ
+texts_of f = f.shape.head.name ++ field_format f.shape.head ++ metadata_bytes f.notes.pairs
+
+-- no field
+abbrev pub no_field : FieldC
+no_field = record { found = 0; flags = 0; is_encoded = false; id = pos 0; children = 0; name_len = 0; format_len = 0; metadata_len = 0 }
+
+-- what is told of an encoding
+abbrev pub with_encoding : Option Encoding → FieldC → FieldC
+with_encoding None c = c
+with_encoding (Some e) c = record c { is_encoded = true; id = e.id; children = 0 }
+
+-- What is told of a field: of one that holds indices no children, which its dictionary's values have.
+abbrev pub field_told : ℕ → NotedField → FieldC
+field_told found f = with_encoding f.shape.head.encoding (record {
+  found = found;
+  flags = flags_of f.shape.head;
+  is_encoded = false;
+  id = pos 0;
+  children = width f.shape.children;
+  name_len = reported (length f.shape.head.name);
+  format_len = reported (length (field_format f.shape.head));
+  metadata_len = reported (length (metadata_bytes f.notes.pairs));
+})
+
+-- 1 the schema, 2 a field
+abbrev pub found_by : List ℕ → ℕ
+found_by [] = 1
+found_by (n ∷ path) = 2
+
+-- A field was told, and its texts put into the room, as much of their front as fits.
+pub record TellsField (found : ℕ) (f : NotedField) (old : List ℕ) (c : FieldC) (new : List ℕ) : Type 0 where
+  pub told : c ≡ field_told found f
+  pub room : new ≡ filled old (texts_of f)
+
+-- no field was told
+abbrev pub TellsNone : List ℕ → FieldC → List ℕ → Type 0
+TellsNone old c new = (c ≡ no_field) × (new ≡ old)
+
+-- the field of a schema was told that a path leads to, if there are such a schema and field
+abbrev pub FieldAt : Option SchemaShape → List ℕ → List ℕ → FieldC → List ℕ → Type 0
+FieldAt None path old c new = TellsNone old c new
+FieldAt (Some s) path old c new = MatchOption (field_below (schema_field s) path) (TellsNone old c new) (λ f. TellsField (found_by path) f old c new)
+
+-- the same of the schema of a reader, where there is one, which stays as it was
+abbrev pub FieldIf : Option Reading → List ℕ → List ℕ → FieldC → List ℕ → Option Reading → Type 0
+FieldIf None path old c new after = TellsNone old c new × (after ≡ None)
+FieldIf (Some r) path old c new after = FieldAt r.reader.at.state.schema path old c new × (after ≡ Some r)

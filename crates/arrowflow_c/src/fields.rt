@@ -1,0 +1,97 @@
+//! Fields of a reader's schema, as the Arrow C data interface tells them.
+
+ghost use Rattle.std.specs.Prelude.{◌≡◌, option_map};
+ghost use Rattle.arrowflow_c.specs.Fields.{FieldAt, TellsField, field_in, no_field, with_encoding};
+
+use crate::metadata::put_metadata;
+use crate::pens::Pen;
+use crate::places::{Place, place_below};
+use arrow_types::{Encoding, Schema};
+
+/// A field, or the schema.
+#[repr(C)]
+#[derive(Clone, Copy)]
+pub struct FieldC {
+    /// 0 no such field, 1 the schema, 2 a field.
+    pub found: u32,
+    /// 1 where the dictionary's order means something, and 2 where slots may be null, together.
+    pub flags: u32,
+    /// Whether the slots hold indices into a dictionary.
+    pub is_encoded: bool,
+    /// The id of the dictionary.
+    pub id: i64,
+    /// How many fields stand below: of the schema its columns; of a field that holds indices none.
+    pub children: u64,
+    /// How many bytes the name has, whether they fit into the room or not.
+    pub name_len: u64,
+    /// The same of the format string.
+    pub format_len: u64,
+    /// The same of the metadata.
+    pub metadata_len: u64,
+}
+
+impl FieldC {
+    /// No field.
+    pub(crate) fn none() -> FieldC
+        ensures { result ≡ no_field }
+    {
+        FieldC {
+            found: 0,
+            flags: 0,
+            is_encoded: false,
+            id: 0,
+            children: 0,
+            name_len: 0,
+            format_len: 0,
+            metadata_len: 0,
+        }
+    }
+
+    /// The same of slots that hold these indices.
+    fn encoded(self, encoding: Option<Encoding>) -> FieldC
+        ensures { result ≡ with_encoding encoding self }
+    {
+        match encoding {
+            Some(encoding) => FieldC {
+                is_encoded: true,
+                id: encoding.id,
+                children: 0,
+                ..self
+            },
+            None => self,
+        }
+    }
+
+    /// What is told of a place, whose texts are put into the room.
+    fn of(found: u32, place: Place<'_>, room: &mut [u8]) -> FieldC
+        ensures { TellsField found (field_in place.entry) room.old result room.new }
+    {
+        let name = Pen::new().put(room, place.name());
+        let format = place.put_format(room, name.next());
+        let metadata = put_metadata(room, format.next(), place.metadata());
+        FieldC {
+            found,
+            flags: place.flags(),
+            children: place.children().len() as u64,
+            name_len: name.size,
+            format_len: format.size,
+            metadata_len: metadata.size,
+            ..FieldC::none()
+        }
+        .encoded(place.encoding())
+    }
+}
+
+/// Tells of the field of a schema that a path leads to, if there is one.
+pub(crate) fn tell_field(schema: Option<&Schema>, path: &[usize], room: &mut [u8]) -> FieldC
+    ensures { FieldAt (option_map (λ s. s.now) schema.entry) path.now room.old result room.new }
+{
+    let found = if path.is_empty() { 1 } else { 2 };
+    match schema {
+        Some(schema) => match place_below(Place::Schema(schema), path) {
+            Some(place) => FieldC::of(found, place, room),
+            None => FieldC::none(),
+        },
+        None => FieldC::none(),
+    }
+}

@@ -1,0 +1,143 @@
+//! Where a path leads in a schema.
+
+ghost use Rattle.std.specs.Prelude.{◌≡◌, option_map};
+ghost use Rattle.arrow_types.specs.Notes.{pairs_view};
+ghost use Rattle.arrow_types.specs.View.{fields_view, notes_view};
+ghost use Rattle.arrowflow_c.specs.Fields.{below_by, field_below, field_format, field_in, flags_of};
+ghost use Rattle.arrowflow_c.specs.Fields.{nth_field};
+ghost use Rattle.arrowflow_c.specs.Pens.{Puts};
+
+use crate::formats::{int_format, put_type};
+use crate::pens::Pen;
+use arrow_types::{Encoding, Field, Schema};
+
+/// What a path leads to.
+#[derive(Clone, Copy)]
+pub(crate) enum Place<'a> {
+    /// The schema.
+    Schema(&'a Schema),
+    /// A field.
+    Field(&'a Field),
+    /// The field of the values of this field's dictionary.
+    Values(&'a Field),
+}
+
+impl<'a> Place<'a> {
+    /// The name, which a schema and the field of a dictionary's values have not.
+    pub(crate) fn name(self) -> &'a [u8]
+        ensures { result.now ≡ (field_in self.entry).shape.head.name }
+    {
+        match self {
+            Place::Field(field) => field.name.as_bytes(),
+            Place::Schema(_) | Place::Values(_) => &[],
+        }
+    }
+
+    /// Whether the slots hold indices, and into which dictionary.
+    pub(crate) fn encoding(self) -> Option<Encoding>
+        ensures { result ≡ (field_in self.entry).shape.head.encoding }
+    {
+        match self {
+            Place::Field(field) => field.dictionary,
+            Place::Schema(_) | Place::Values(_) => None,
+        }
+    }
+
+    /// Whether slots may be null.
+    fn is_nullable(self) -> bool
+        ensures { result ≡ (field_in self.entry).shape.head.nullable }
+    {
+        match self {
+            Place::Schema(_) => false,
+            Place::Field(field) => field.nullable,
+            Place::Values(_) => true,
+        }
+    }
+
+    /// The flags: 1 where the dictionary is ordered, 2 where slots may be null.
+    pub(crate) fn flags(self) -> u32
+        ensures { result ≡ flags_of (field_in self.entry).shape.head }
+    {
+        let nullable = if self.is_nullable() { 2 } else { 0 };
+        match self.encoding() {
+            Some(encoding) if encoding.ordered => nullable + 1,
+            Some(_) | None => nullable,
+        }
+    }
+
+    /// The fields below, or those below the values of the dictionary.
+    pub(crate) fn children(self) -> &'a [Field]
+        ensures fields { fields_view result.now ≡ (field_in self.entry).shape.children }
+        ensures notes { notes_view result.now ≡ (field_in self.entry).notes.below }
+    {
+        match self {
+            Place::Schema(schema) => schema.fields(),
+            Place::Field(field) | Place::Values(field) => field.children(),
+        }
+    }
+
+    /// The metadata, which the field of a dictionary's values has not.
+    pub(crate) fn metadata(self) -> &'a [(Vec<u8>, Vec<u8>)]
+        ensures { pairs_view result.now ≡ (field_in self.entry).notes.pairs }
+    {
+        match self {
+            Place::Schema(schema) => schema.metadata(),
+            Place::Field(field) => &field.metadata,
+            Place::Values(_) => &[],
+        }
+    }
+
+    /// Puts the format string into the room.
+    pub(crate) fn put_format(self, room: &mut [u8], pen: Pen) -> Pen
+        ensures { Puts room.old pen (field_format (field_in self.entry).shape.head)
+            result room.new }
+    {
+        match (self, self.encoding()) {
+            (Place::Schema(_), _) => pen.put(room, b"+s"),
+            (_, Some(Encoding { index, .. })) => {
+                pen.put(room, int_format(index.bits, index.signed).as_bytes())
+            }
+            (Place::Field(field) | Place::Values(field), None) => {
+                put_type(room, pen, &field.data_type)
+            }
+        }
+    }
+
+    /// What stands below under a number: a field, or under 0 that of the dictionary's values.
+    fn below(self, n: usize) -> Option<Place<'a>>
+        ensures { option_map field_in result
+            ≡ below_by (field_in self.entry).shape.head.encoding (field_in self.entry) n }
+    {
+        match self {
+            Place::Field(field) if field.dictionary.is_some() => match n {
+                0 => Some(Place::Values(field)),
+                _ => None,
+            },
+            _ => nth_field(self.children(), n),
+        }
+    }
+}
+
+/// Field `n` of those that stand side by side.
+fn nth_field(fields: &[Field], n: usize) -> Option<Place<'_>>
+    ensures { option_map field_in result
+        ≡ nth_field (fields_view fields.now) (notes_view fields.now) n }
+{
+    match fields.get(n) {
+        Some(field) => Some(Place::Field(field)),
+        None => None,
+    }
+}
+
+/// What a path leads to from a place.
+pub(crate) fn place_below<'a>(place: Place<'a>, path: &[usize]) -> Option<Place<'a>>
+    ensures { option_map field_in result ≡ field_below (field_in place.entry) path.now }
+{
+    match path.split_first() {
+        Some((n, rest)) => match place.below(*n) {
+            Some(next) => place_below(next, rest),
+            None => None,
+        },
+        None => Some(place),
+    }
+}
