@@ -21,8 +21,8 @@
  *             the thread that opened it.
  *
  * What a caller owes, and nothing checks:
- *  - A pointer to bytes or to a room may be NULL where the length beside it is 0. No other pointer is
- *    ever NULL. A length is at most PTRDIFF_MAX.
+ *  - A pointer to bytes, to a room or to a path may be NULL where the length beside it is 0. No other
+ *    pointer is ever NULL. A length is at most PTRDIFF_MAX.
  *  - Bytes stay as they are until the call has returned, in other threads and processes too: what
  *    lies in memory that a stranger can write is copied first.
  *  - A room, a handle and an arrowflow_column overlap with nothing else that is passed.
@@ -291,6 +291,50 @@ typedef struct {
 void arrowflow_reader_column(arrowflow_reader *reader, const size_t *path, size_t depth,
                              arrowflow_column *column);
 
+/* What was found where a path leads in the schema. */
+enum arrowflow_found {
+    ARROWFLOW_NO_FIELD = 0, /* no schema yet, or nothing where the path leads: all else is 0 */
+    ARROWFLOW_THE_SCHEMA = 1,
+    ARROWFLOW_A_FIELD = 2
+};
+
+/* The flags of a field: ARROW_FLAG_DICTIONARY_ORDERED and ARROW_FLAG_NULLABLE of the Arrow C data
+ * interface, of which the third flag is of a type that is not read. */
+enum arrowflow_flag {
+    ARROWFLOW_ORDERED = 1, /* the order of the dictionary's values means something */
+    ARROWFLOW_NULLABLE = 2 /* slots may be null: kept, and enforced nowhere */
+};
+
+/* A field, or the schema, as an ArrowSchema of the Arrow C data interface tells it. Its three texts
+ * stand one after another in the room, name, format and metadata, with nothing between them or behind
+ * them: as much of their front as fits, and what the room held behind it is as it was. Where
+ * name_len + format_len + metadata_len is at most `room` all of them are there; so a call with a room
+ * of 0 bytes measures. No text ends with a zero byte of its own. */
+typedef struct {
+    uint32_t found;        /* enum arrowflow_found */
+    uint32_t flags;        /* enum arrowflow_flag, added up; of the schema 0 */
+    bool is_encoded;       /* slots hold indices into a dictionary: the format is that of the indices */
+    int64_t id;            /* of the dictionary, which fields may share; of others 0 */
+    uint64_t children;     /* fields one level below; of the schema its columns, and of a dictionary-encoded
+                            * field 0: the field of the dictionary's values has them */
+    uint64_t name_len;     /* bytes of the name, UTF-8; of the schema and of a dictionary's values 0 */
+    uint64_t format_len;   /* bytes of the format string; of the schema it is "+s" */
+    uint64_t metadata_len; /* bytes of the custom metadata; of a dictionary's values, and where there are
+                            * no pairs, 0. Else the number of pairs, and for each the length of the key, the
+                            * key, the length of the value and the value, where numbers and lengths are
+                            * 32-bit and little-endian. Of a length that needs more bits there stand the
+                            * lowest 32 */
+} arrowflow_field;
+
+/* Tells of the reader's schema, at depth 0, or of the field that a path leads to. path[0] is the number
+ * of the column, and each number behind it leads a level down, to the child field of this number, from
+ * 0. Below a dictionary-encoded field there stands, under 0 alone, the field of the dictionary's values:
+ * without a name or metadata, nullable, with the values' format and children. Once the schema was read
+ * it answers the same of a path after each further call, until the reader is closed or opened anew. It
+ * changes nothing, and takes no memory. */
+arrowflow_field arrowflow_reader_field(arrowflow_reader *reader, const size_t *path, size_t depth,
+                                       uint8_t *out, size_t room);
+
 /* Ends the reader, if there is one, frees what it holds, and leaves the handle as
  * ARROWFLOW_CLOSED. */
 void arrowflow_reader_close(arrowflow_reader *reader);
@@ -311,12 +355,16 @@ static inline uint8_t *arrowflow_some_room(uint8_t *at) {
     return at == NULL ? &none : at;
 }
 
+static inline const size_t *arrowflow_some_path(const size_t *path) {
+    static const size_t nowhere = 0;
+    return path == NULL ? &nowhere : path;
+}
+
 /* A column as its buffers, by value. */
 static inline arrowflow_column arrowflow_column_at(arrowflow_reader *reader, const size_t *path, size_t depth) {
-    static const size_t nowhere = 0;
     const uint8_t *none = arrowflow_some(NULL);
     arrowflow_column column = {0, false, 0, 0, 0, 0, 0, none, 0, none, 0, none, 0};
-    arrowflow_reader_column(reader, path == NULL ? &nowhere : path, depth, &column);
+    arrowflow_reader_column(reader, arrowflow_some_path(path), depth, &column);
     return column;
 }
 
@@ -333,5 +381,7 @@ static inline arrowflow_column arrowflow_column_at(arrowflow_reader *reader, con
     arrowflow_reader_read(reader, arrowflow_some(piece), len)
 #define arrowflow_reader_cell(reader, column, row, out, room) \
     arrowflow_reader_cell(reader, column, row, arrowflow_some_room(out), room)
+#define arrowflow_reader_field(reader, path, depth, out, room) \
+    arrowflow_reader_field(reader, arrowflow_some_path(path), depth, arrowflow_some_room(out), room)
 
 #endif

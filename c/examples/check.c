@@ -2,7 +2,8 @@
  *
  * Prints what `arrowflow schema`, `check` and `show` print of a stream, and ends as they do. Before
  * that the stream is checked, and read again in pieces, which has to give the same, and each value
- * has to stand in the buffers of its column. With --bad each call is given what no stream is.
+ * has to stand in the buffers of its column; and the fields that a reader tells have to make the text
+ * of the schema. With --bad each call is given what no stream is, and paths that lead nowhere.
  */
 #include "arrowflow.h"
 
@@ -153,6 +154,140 @@ static bool is_same(arrowflow_report a, arrowflow_report b) {
         && a.rows == b.rows;
 }
 
+/* ---- the fields of a schema ---- */
+
+/* A text that grows. */
+typedef struct {
+    char *at;
+    size_t len, room;
+} text;
+
+static void add(text *to, const char *bytes, size_t len) {
+    if (to->len + len > to->room) {
+        to->room = 2 * (to->len + len);
+        to->at = realloc(to->at, to->room);
+        if (to->at == NULL) exit(4);
+    }
+    memcpy(to->at + to->len, bytes, len);
+    to->len += len;
+}
+
+static void add_word(text *to, const char *word) { add(to, word, strlen(word)); }
+
+/* Adds a name as it stands in the text of a schema. */
+static void add_escaped(text *to, const char *name, size_t len) {
+    for (size_t k = 0; k < len; k++) {
+        unsigned char byte = (unsigned char)name[k];
+        char number[8];
+        snprintf(number, sizeof number, "\\x%02x", byte);
+        if (byte < 32 || byte == 127 || byte == 92) add_word(to, number);
+        else add(to, name + k, 1);
+    }
+}
+
+/* What the text of a schema has for a format string that says all of a type. */
+static const char *const type_words[][2] = {
+    {"n", "null"},         {"b", "bool"},          {"c", "int8"},          {"C", "uint8"},         {"s", "int16"},
+    {"S", "uint16"},       {"i", "int32"},         {"I", "uint32"},        {"l", "int64"},         {"L", "uint64"},
+    {"e", "halffloat"},    {"f", "float"},         {"g", "double"},        {"z", "binary"},        {"Z", "large_binary"},
+    {"u", "utf8"},         {"U", "large_utf8"},    {"tdD", "date[day]"},   {"tdm", "date[ms]"},    {"tts", "time[s]"},
+    {"ttm", "time[ms]"},   {"ttu", "time[us]"},    {"ttn", "time[ns]"},    {"tDs", "duration[s]"}, {"tDm", "duration[ms]"},
+    {"tDu", "duration[us]"}, {"tDn", "duration[ns]"}, {"+l", "list"},      {"+L", "large_list"},   {"+s", "struct"},
+};
+
+/* What stands there of a unit of timestamps, behind "timestamp[". */
+static const char *unit_word(char unit) {
+    return unit == 's' ? "s" : unit == 'm' ? "ms" : unit == 'u' ? "us" : unit == 'n' ? "ns" : "?";
+}
+
+/* Adds the type that a format string tells. */
+static void add_type(text *to, const char *format, size_t len) {
+    if (len >= 2 && memcmp(format, "w:", 2) == 0) {
+        add_word(to, "fixed_size_binary[");
+        add(to, format + 2, len - 2);
+        add_word(to, "]");
+    } else if (len >= 4 && memcmp(format, "ts", 2) == 0 && format[3] == ':') {
+        add_word(to, "timestamp[");
+        add_word(to, unit_word(format[2]));
+        if (len > 4) add_word(to, ", ");
+        add_escaped(to, format + 4, len - 4);
+        add_word(to, "]");
+    } else {
+        for (size_t k = 0; k < sizeof type_words / sizeof *type_words; k++)
+            if (strlen(type_words[k][0]) == len && memcmp(type_words[k][0], format, len) == 0) add_word(to, type_words[k][1]);
+    }
+}
+
+/* The field that a path leads to, with its texts, which the caller frees: measured first. */
+static arrowflow_field field_at(arrowflow_reader *reader, const size_t *path, size_t depth, char **texts) {
+    arrowflow_field of = arrowflow_reader_field(reader, path, depth, NULL, 0);
+    size_t size = of.name_len + of.format_len + of.metadata_len;
+    *texts = malloc(size + 1);
+    if (*texts == NULL) exit(4);
+    return arrowflow_reader_field(reader, path, depth, (uint8_t *)*texts, size);
+}
+
+/* Adds the line of a field, and those of the fields below it, as they stand in the text of a schema. */
+static void add_field(text *to, arrowflow_reader *reader, size_t *path, size_t depth, size_t level) {
+    char *texts, *value_texts, id[64];
+    arrowflow_field of = field_at(reader, path, depth, &texts), values = of;
+    for (size_t k = 0; k < level; k++) add_word(to, "  ");
+    add_escaped(to, texts, of.name_len);
+    add_word(to, of.is_encoded ? ": dictionary<" : ": ");
+    add_type(to, texts + of.name_len, of.format_len);
+    if (of.is_encoded) {
+        path[depth++] = 0;
+        values = field_at(reader, path, depth, &value_texts);
+        add_word(to, ", ");
+        add_type(to, value_texts + values.name_len, values.format_len);
+        snprintf(id, sizeof id, "> id %lld", (long long)of.id);
+        add_word(to, id);
+        if (of.flags & ARROWFLOW_ORDERED) add_word(to, " ordered");
+        free(value_texts);
+    }
+    add_word(to, of.flags & ARROWFLOW_NULLABLE ? "\n" : " not null\n");
+    for (path[depth] = 0; path[depth] < values.children; path[depth]++) {
+        size_t child = path[depth];
+        add_field(to, reader, path, depth + 1, level + 1);
+        path[depth] = child;
+    }
+    free(texts);
+}
+
+/* How many bytes of a text say that a zone is the empty one: a format string tells none from that one. */
+static size_t empty_zone(const char *at, size_t len) { return len > 2 && memcmp(at, ", ]", 3) == 0 ? 2 : 0; }
+
+/* Whether two texts of a schema are the same but for that. */
+static bool is_same_text(const char *a, size_t a_len, const char *b, size_t b_len) {
+    size_t j = 0, k = 0;
+    while (true) {
+        j += empty_zone(a + j, a_len - j);
+        k += empty_zone(b + k, b_len - k);
+        if (j == a_len || k == b_len) return j == a_len && k == b_len;
+        if (a[j++] != b[k++]) return false;
+    }
+}
+
+/* Whether the fields that are told of the stream's schema make its text. */
+static bool has_fields(const uint8_t *bytes, size_t len, const char *wanted, size_t size) {
+    arrowflow_reader reader = ARROWFLOW_CLOSED;
+    text told = {NULL, 0, 0};
+    size_t path[72] = {0};
+    bool same = arrowflow_reader_open(wanted_limits(), &reader) == ARROWFLOW_FINE
+        && arrowflow_reader_read(&reader, bytes, len).what == ARROWFLOW_SCHEMA_READ;
+    arrowflow_field schema = arrowflow_reader_field(&reader, NULL, 0, NULL, 0);
+    for (size_t k = 0; k < schema.children; k++) {
+        path[0] = k;
+        add_field(&told, &reader, path, 1, 0);
+    }
+    same = same && is_same_text(told.at == NULL ? "" : told.at, told.len, wanted, size);
+    arrowflow_reader_close(&reader);
+    free(told.at);
+    return same;
+}
+
+/* ---- texts ---- */
+
 typedef arrowflow_text (*call)(const uint8_t *, size_t, arrowflow_limits, uint8_t *, size_t);
 
 /* The call that a command names, or NULL. */
@@ -163,16 +298,19 @@ static call named(const char *command) {
     return NULL;
 }
 
-/* Prints the text that a call gives of the stream: the first call measures, the second fills. */
-static arrowflow_text print(call give, const uint8_t *bytes, size_t len) {
+/* Prints the text that a call gives of the stream: the first call measures, the second fills. That of a
+ * schema has to be the text of the fields that a reader tells. */
+static arrowflow_text print(call give, const uint8_t *bytes, size_t len, bool *same) {
     arrowflow_limits limits = wanted_limits();
     uint8_t none;
     arrowflow_text told = give(bytes, len, limits, &none, 0);
-    uint8_t *text = malloc(told.size + 1);
-    if (text != NULL) told = give(bytes, len, limits, text, told.size);
-    if (text == NULL || fwrite(text, 1, told.size, stdout) != told.size || fflush(stdout) != 0)
+    uint8_t *out = malloc(told.size + 1);
+    if (out != NULL) told = give(bytes, len, limits, out, told.size);
+    if (out == NULL || fwrite(out, 1, told.size, stdout) != told.size || fflush(stdout) != 0)
         told.kind = ARROWFLOW_MEMORY;
-    free(text);
+    if (give == arrowflow_schema && told.kind == ARROWFLOW_FINE && !has_fields(bytes, len, (char *)out, told.size))
+        *same = false;
+    free(out);
     return told;
 }
 
@@ -186,7 +324,7 @@ static int tell(const char *command, const char *name) {
     }
     arrowflow_report report = arrowflow_check(bytes, len, wanted_limits());
     bool same = is_same(report, in_pieces(bytes, len, 7)) && is_same(report, in_pieces(bytes, len, len));
-    arrowflow_text told = print(give, bytes, len);
+    arrowflow_text told = print(give, bytes, len, &same);
     free(bytes);
     /* the schema's call looks at the first message alone */
     if (give != arrowflow_schema && told.kind != report.kind) same = false;
@@ -298,6 +436,123 @@ static void bad_paths(const uint8_t *bytes, size_t len) {
     WANT(is_no_column(&reader, NULL, 0));
 }
 
+/* What is told of a field of an example: where it stands, and its texts. */
+typedef struct {
+    size_t depth, path[3];
+    uint32_t flags;
+    bool is_encoded;
+    int64_t id;
+    uint64_t children;
+    const char *name, *format, *metadata;
+    size_t metadata_len;
+} wanted_field;
+
+#define BYTES(text) text, sizeof(text) - 1
+
+static const wanted_field of_every_type[] = {
+    {0, {0}, 0, false, 0, 44, "", "+s", BYTES("")},
+    {1, {0}, 2, false, 0, 0, "c0", "n", BYTES("")},
+    {1, {2}, 2, false, 0, 0, "c2", "c", BYTES("")},
+    {1, {3}, 2, false, 0, 0, "c3", "C", BYTES("")},
+    {1, {22}, 2, false, 0, 0, "in a zone", "tsu:Europe/Berlin", BYTES("")},
+    {1, {23}, 0, false, 0, 0, "never null", "i", BYTES("")},
+    {1, {24}, 2, false, 0, 0, "a\\b\tc", "u", BYTES("")},
+    {1, {25}, 2, false, 0, 1, "list", "+l", BYTES("")},
+    {2, {25, 0}, 2, false, 0, 0, "item", "l", BYTES("")},
+    {1, {26}, 0, false, 0, 1, "lists of structs", "+l", BYTES("")},
+    {2, {26, 0}, 2, false, 0, 2, "inner", "+s", BYTES("")},
+    {3, {26, 0, 1}, 0, false, 0, 0, "y", "u", BYTES("")},
+    {1, {27}, 2, true, 0, 0, "words", "i", BYTES("")},
+    {2, {27, 0}, 2, false, 0, 0, "", "u", BYTES("")},
+    {1, {28}, 1, true, -7, 0, "sizes", "C", BYTES("")},
+    {1, {30}, 2, true, 3, 0, "listed", "l", BYTES("")},
+    {2, {30, 0}, 2, false, 0, 1, "", "+l", BYTES("")},
+    {3, {30, 0, 0}, 2, false, 0, 0, "item", "b", BYTES("")},
+    {1, {33}, 2, false, 0, 0, "d2", "w:2147483647", BYTES("")},
+    {1, {43}, 0, true, -1, 0, "large listed", "l", BYTES("")},
+    {3, {43, 0, 0}, 2, false, 0, 0, "item", "tDm", BYTES("")},
+};
+
+static const wanted_field of_metadata[] = {
+    {0, {0}, 0, false, 0, 5, "", "+s",
+     BYTES("\3\0\0\0" "\6\0\0\0origin" "\4\0\0\0here" "\0\0\0\0" "\0\0\0\0" "\6\0\0\0origin" "\5\0\0\0there")},
+    {1, {0}, 2, true, 0, 0, "k", "i", BYTES("\1\0\0\0" "\2\0\0\0\377\376" "\2\0\0\0\0\200")},
+    {2, {0, 0}, 2, false, 0, 0, "", "u", BYTES("")},
+    {1, {1}, 2, false, 0, 1, "l", "+l", BYTES("")},
+    {2, {1, 0}, 2, false, 0, 0, "item", "i",
+     BYTES("\3\0\0\0" "\4\0\0\0unit" "\1\0\0\0m" "\4\0\0\0unit" "\1\0\0\0s" "\4\0\0\0unit" "\1\0\0\0m")},
+    {1, {2}, 2, false, 0, 1, "w", "+L", BYTES("\1\0\0\0" "\0\0\0\0" "\1\0\0\0w")},
+    {1, {3}, 2, false, 0, 2, "s", "+s", BYTES("\1\0\0\0" "\1\0\0\0k" "\1\0\0\0v")},
+    {3, {3, 1, 0}, 2, false, 0, 0, "item", "b", BYTES("\1\0\0\0" "\4\0\0\0deep" "\3\0\0\0est")},
+    {1, {4}, 2, false, 0, 0, "t", "tsu:UTC", BYTES("")},
+};
+
+/* Whether a field is told so, with each room from one of no bytes to one that has a byte too many. */
+static bool is_told(arrowflow_reader *reader, const wanted_field *want) {
+    uint8_t room[256], texts[256];
+    size_t name = strlen(want->name), format = strlen(want->format), all = name + format + want->metadata_len;
+    memcpy(texts, want->name, name);
+    memcpy(texts + name, want->format, format);
+    memcpy(texts + name + format, want->metadata, want->metadata_len);
+    for (size_t size = 0; size <= all + 1; size++) {
+        size_t put = size < all ? size : all;
+        memset(room, 170, sizeof room);
+        arrowflow_field of = arrowflow_reader_field(reader, want->path, want->depth, room, size);
+        if (of.found != (want->depth == 0 ? ARROWFLOW_THE_SCHEMA : ARROWFLOW_A_FIELD)) return false;
+        if (of.flags != want->flags || of.is_encoded != want->is_encoded || of.id != want->id) return false;
+        if (of.children != want->children || of.name_len != name || of.format_len != format) return false;
+        if (of.metadata_len != want->metadata_len || memcmp(room, texts, put) != 0 || room[put] != 170) return false;
+    }
+    return true;
+}
+
+/* Whether a path leads to no field: a struct of zeroes, and nothing is put into the room. */
+static bool is_no_field(arrowflow_reader *reader, const size_t *path, size_t depth) {
+    uint8_t room[2] = {9, 9};
+    arrowflow_field of = arrowflow_reader_field(reader, path, depth, room, sizeof room);
+    return of.found == ARROWFLOW_NO_FIELD && of.flags == 0 && !of.is_encoded && of.id == 0 && of.children == 0
+        && of.name_len == 0 && of.format_len == 0 && of.metadata_len == 0 && room[0] == 9 && room[1] == 9;
+}
+
+/* The fields that a path leads to below others, and paths that lead past all of them. */
+static void fields_below(arrowflow_reader *reader, size_t *path, size_t depth) {
+    arrowflow_field of = arrowflow_reader_field(reader, path, depth, NULL, 0);
+    uint64_t below = of.is_encoded ? 1 : of.children;
+    WANT(of.found == (depth == 0 ? ARROWFLOW_THE_SCHEMA : ARROWFLOW_A_FIELD) && (!of.is_encoded || of.children == 0));
+    path[depth] = below;
+    WANT(is_no_field(reader, path, depth + 1));
+    path[depth] = SIZE_MAX;
+    WANT(is_no_field(reader, path, depth + 1) && is_no_field(reader, path, depth + 2));
+    for (uint64_t k = 0; k < below; k++) {
+        path[depth] = k;
+        fields_below(reader, path, depth + 1);
+    }
+}
+
+/* The fields of a stream: each one's path, and what is wanted of those of two examples. */
+static void fields_of(const char *name, const uint8_t *bytes, size_t len) {
+    arrowflow_reader reader = ARROWFLOW_CLOSED;
+    size_t path[72] = {0};
+    const char *file = strrchr(name, '/') == NULL ? name : strrchr(name, '/') + 1;
+    WANT(is_no_field(&reader, NULL, 0));
+    WANT(arrowflow_reader_open(wanted_limits(), &reader) == ARROWFLOW_FINE);
+    WANT(is_no_field(&reader, NULL, 0) && is_no_field(&reader, path, 1));
+    arrowflow_step step = arrowflow_reader_read(&reader, bytes, len);
+    if (step.what != ARROWFLOW_SCHEMA_READ) {
+        WANT(is_no_field(&reader, NULL, 0) && is_no_field(&reader, path, 1));
+    } else {
+        fields_below(&reader, path, 0);
+        WANT(arrowflow_reader_read(&reader, bytes + step.taken, len - step.taken).what != ARROWFLOW_SCHEMA_READ);
+        fields_below(&reader, path, 0);
+    }
+    for (size_t k = 0; strcmp(file, "every_type.arrows") == 0 && k < sizeof of_every_type / sizeof *of_every_type; k++)
+        WANT(is_told(&reader, &of_every_type[k]));
+    for (size_t k = 0; strcmp(file, "metadata.arrows") == 0 && k < sizeof of_metadata / sizeof *of_metadata; k++)
+        WANT(is_told(&reader, &of_metadata[k]));
+    arrowflow_reader_close(&reader);
+    WANT(is_no_field(&reader, NULL, 0));
+}
+
 int main(int argc, char **argv) {
     size_t len;
     uint8_t *bytes;
@@ -307,6 +562,7 @@ int main(int argc, char **argv) {
         for (int k = 2; k < argc; k++) {
             WANT((bytes = read_file(argv[k], &len)) != NULL);
             bad_paths(bytes, len);
+            fields_of(argv[k], bytes, len);
             free(bytes);
         }
         return failed;

@@ -42,15 +42,11 @@ nth_field (more head children rest) (noted pairs below notes) zero =
     Some (record { shape = record { head = head; children = children }; notes = record { pairs = pairs; below = below } })
 nth_field (more head children rest) (noted pairs below notes) (suc n) = nth_field rest notes n
 
--- below a field that holds indices there is that of the dictionary's values, under 0
-abbrev pub values_below : NotedField → ℕ → Option NotedField
-values_below f zero = Some (values_field f)
-values_below f (suc n) = None
-
--- what stands below a field under a number
+-- What stands below a field under a number: a child; below one that holds indices that of the dictionary's values, under 0.
 abbrev pub below_by : Option Encoding → NotedField → ℕ → Option NotedField
 below_by None f n = nth_field f.shape.children f.notes.below n
-below_by (Some encoding) f n = values_below f n
+below_by (Some encoding) f zero = Some (values_field f)
+below_by (Some encoding) f (suc n) = None
 
 -- the field that a path leads to, if there is one
 abbrev pub field_below : NotedField → List ℕ → Option NotedField

@@ -22,7 +22,7 @@ pub struct FieldC {
     pub id: i64,
     /// How many fields stand below: of the schema its columns; of a field that holds indices none.
     pub children: u64,
-    /// How many bytes the name has, whether they fit into the room or not.
+    /// How many bytes the name has, whether they fit into the room or not, at most 2^64 - 1.
     pub name_len: u64,
     /// The same of the format string.
     pub format_len: u64,

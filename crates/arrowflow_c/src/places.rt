@@ -92,14 +92,12 @@ impl<'a> Place<'a> {
         ensures { Puts room.old pen (field_format (field_in self.entry).shape.head)
             result room.new }
     {
-        match (self, self.encoding()) {
-            (Place::Schema(_), _) => pen.put(room, b"+s"),
-            (_, Some(Encoding { index, .. })) => {
-                pen.put(room, int_format(index.bits, index.signed).as_bytes())
-            }
-            (Place::Field(field) | Place::Values(field), None) => {
-                put_type(room, pen, &field.data_type)
-            }
+        if let Some(Encoding { index, .. }) = self.encoding() {
+            return pen.put(room, int_format(index.bits, index.signed).as_bytes());
+        }
+        match self {
+            Place::Schema(_) => pen.put(room, b"+s"),
+            Place::Field(field) | Place::Values(field) => put_type(room, pen, &field.data_type),
         }
     }
 
@@ -113,7 +111,7 @@ impl<'a> Place<'a> {
                 0 => Some(Place::Values(field)),
                 _ => None,
             },
-            _ => nth_field(self.children(), n),
+            Place::Schema(_) | Place::Field(_) | Place::Values(_) => nth_field(self.children(), n),
         }
     }
 }
