@@ -358,7 +358,7 @@ static void copy_bits(uint8_t *to, size_t at, const uint8_t *bits, size_t bits_l
     }
     for (size_t k = 0; k < count; k++) {
         size_t i = run->start + k, j = at + k;
-        unsigned bit = bits_len == 0 ? 1u : bits[i / 8] >> i % 8 & 1u;
+        unsigned bit = bits_len == 0 || (bits[i / 8] >> i % 8 & 1) != 0;
         unsigned before = j % 8 == 0 ? 0u : to[j / 8] & ~(~0u << j % 8);
         to[j / 8] = (uint8_t)(before | bit << j % 8);
     }
