@@ -1,12 +1,13 @@
 /* usage: stream [--types core|all] show bytes|fd|SIZE FILE, stream [--types core|all] threads FILE,
- *        stream --bad FILE
+ *        stream ends FILE, stream --bad FILE
  *
  * Prints what `arrowflow show` prints of a stream, out of arrays of the Arrow C data interface, and ends as
  * it does; of floating-point numbers it has the digits of `show`, and lays them out in another way. Each
  * schema and each array is checked against the interface's text first, when the stream, the bytes and the
  * reader are gone. The stream comes from bytes, from a file descriptor or from a callback in pieces of this
  * size. Then one thread and another release the arrays, with children that were moved out. With `threads`
- * each array goes to a thread of its own while the stream is read on. With --bad sources fail.
+ * each array goes to a thread of its own while the stream is read on. With `ends` it is told how many arrays
+ * a stream gives, and what it says then. With --bad sources fail.
  */
 #define _POSIX_C_SOURCE 200809L
 #include "arrowflow_stream.h"
@@ -16,6 +17,7 @@
 #include <math.h>
 #include <pthread.h>
 #include <signal.h>
+#include <stdatomic.h>
 #include <stdio.h>
 #include <stdlib.h>
 #include <string.h>
@@ -485,6 +487,12 @@ static void release(struct ArrowArray *array) {
     WANT(array->release == NULL);
 }
 
+static void release_all(struct seen *seen) {
+    for (size_t k = 0; k < seen->count; k++) release(seen->arrays + k);
+    if (seen->schema.release != NULL) seen->schema.release(&seen->schema);
+    free(seen->arrays);
+}
+
 /* Checks an array, moves its last child out, and that one's dictionary or first child, and releases each. */
 static void take_apart(const struct ArrowSchema *schema, struct ArrowArray *array) {
     check_array(schema, array);
@@ -563,7 +571,7 @@ static void check_shared(const struct seen *seen, size_t batch, size_t column, b
 
 /* Reads the stream once more, to see which dictionaries come between batches. */
 static void check_dictionaries(const char *name, const struct seen *seen) {
-    enum { MOST_IDS = 64 };
+    enum { MOST_IDS = 256 };
     size_t len, at = 0, batch = 0, ids = 0;
     int64_t came[MOST_IDS];
     uint8_t *bytes = read_file(name, &len);
@@ -605,6 +613,17 @@ static int show(const char *how, const char *name) {
     int status = tell_end(&seen);
     let_go(&seen);
     return status;
+}
+
+/* Tells how many arrays come, none of which is looked at, and the text at the end. */
+static int tell_ends(const char *name) {
+    struct seen seen;
+    read_as("bytes", name, &seen);
+    bool is_long = strstr(seen.error, "too long") != NULL;
+    WANT(is_long == (seen.status == EOVERFLOW));
+    printf("%zu, %s\n", seen.count, seen.status == 0 ? "the end" : seen.error);
+    release_all(&seen);
+    return 0;
 }
 
 /* Hands each array to a thread as soon as it is there. */
@@ -662,12 +681,6 @@ static void bad_limits(void) {
     read_all(&stream, &seen);
     WANT(seen.status == EINVAL && strcmp(seen.error, "kind NoSchema at byte 0") == 0);
     stream.release(&stream);
-}
-
-static void release_all(struct seen *seen) {
-    for (size_t k = 0; k < seen->count; k++) release(seen->arrays + k);
-    if (seen->schema.release != NULL) seen->schema.release(&seen->schema);
-    free(seen->arrays);
 }
 
 /* A stream that breaks at each place: its arrays are the first ones, and the fault is told again. */
@@ -747,9 +760,9 @@ static void scarce_reads(const uint8_t *bytes, size_t len, size_t batches) {
     stream.release(&stream);
 }
 
-static volatile sig_atomic_t alarms = 0;
+static atomic_int alarms = 0;
 
-static void note_alarm(int number) { alarms += number == SIGALRM; }
+static void note_alarm(int number) { atomic_fetch_add(&alarms, number == SIGALRM); }
 
 /* Bytes that are written into a pipe when reads of it were interrupted. */
 struct late {
@@ -765,7 +778,7 @@ static void *write_late(void *state) {
     sigemptyset(&alarm);
     sigaddset(&alarm, SIGALRM);
     pthread_sigmask(SIG_BLOCK, &alarm, NULL);
-    while (alarms < 3) nanosleep(&pause, NULL);
+    while (atomic_load(&alarms) < 3) nanosleep(&pause, NULL);
     for (size_t at = 0; at < it->len;) {
         ssize_t put = write(it->fd, it->bytes + at, it->len - at < 1000 ? it->len - at : 1000);
         WANT(put > 0);
@@ -793,7 +806,7 @@ static void interrupted_reads(const uint8_t *bytes, size_t len, size_t batches) 
     WANT(arrowflow_stream_of_fd(ends[0], limits, &stream) == ARROWFLOW_FINE);
     read_all(&stream, &seen);
     WANT(setitimer(ITIMER_REAL, &never, NULL) == 0);
-    WANT(seen.status == 0 && seen.count == batches && alarms >= 3);
+    WANT(seen.status == 0 && seen.count == batches && atomic_load(&alarms) >= 3);
     WANT(pthread_join(thread, NULL) == 0);
     stream.release(&stream);
     release_all(&seen);
@@ -827,7 +840,8 @@ int main(int argc, char **argv) {
     }
     if (argc == 3 && strcmp(argv[1], "--bad") == 0) return bad(argv[2]);
     if (argc == 3 && strcmp(argv[1], "threads") == 0) return in_threads(argv[2]);
+    if (argc == 3 && strcmp(argv[1], "ends") == 0) return tell_ends(argv[2]);
     if (argc == 4 && strcmp(argv[1], "show") == 0) return show(argv[2], argv[3]);
-    fprintf(stderr, "usage: stream [--types core|all] show bytes|fd|SIZE FILE, stream [--types core|all] threads FILE, stream --bad FILE\n");
+    fprintf(stderr, "usage: stream [--types core|all] show bytes|fd|SIZE FILE, stream [--types core|all] threads FILE, stream ends FILE, stream --bad FILE\n");
     return 2;
 }
