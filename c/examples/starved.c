@@ -2,20 +2,24 @@
  *
  * Makes each call on a stream again and again, and refuses one growth of memory in each, the first one,
  * the second one, and so on: the call answers ARROWFLOW_MEMORY, or what it answers with all of its
- * memory. A reader goes on where the same call is made again, and has its batch until then. Of what a
- * call took nothing is left, and nothing of a reader that was closed or replaced. It is linked with
- * -Wl,--wrap=malloc,--wrap=realloc,--wrap=free.
+ * memory. A reader goes on where the same call is made again, and has its batch until then. So does an
+ * ArrowArrayStream, whose schemas and arrays are those of all memory in the end. Of what a call took nothing
+ * is left, and nothing of a reader that was closed or replaced, nor of a stream and its arrays. It is linked
+ * with -Wl,--wrap=malloc,--wrap=calloc,--wrap=realloc,--wrap=free.
  */
-#include "arrowflow.h"
+#include "arrowflow_stream.h"
 
+#include <errno.h>
 #include <stdio.h>
 #include <stdlib.h>
 #include <string.h>
 
 void *__real_malloc(size_t size);
+void *__real_calloc(size_t count, size_t size);
 void *__real_realloc(void *at, size_t size);
 void __real_free(void *at);
 void *__wrap_malloc(size_t size);
+void *__wrap_calloc(size_t count, size_t size);
 void *__wrap_realloc(void *at, size_t size);
 void __wrap_free(void *at);
 
@@ -36,6 +40,12 @@ static long blocks = 0;
 
 void *__wrap_malloc(size_t size) {
     void *at = is_refused() ? NULL : __real_malloc(size);
+    blocks += at != NULL;
+    return at;
+}
+
+void *__wrap_calloc(size_t count, size_t size) {
+    void *at = is_refused() ? NULL : __real_calloc(count, size);
     blocks += at != NULL;
     return at;
 }
@@ -193,6 +203,123 @@ static void let_go(void) {
     want(blocks == 0, "nothing left of the last reader");
 }
 
+/* ---- streams of arrays ---- */
+
+enum { MOST_ARRAYS = 64 };
+
+/* A sum of all that schemas and arrays have. */
+static uint64_t sum;
+
+static void add(const void *from, size_t size) {
+    const uint8_t *at = from;
+    for (size_t k = 0; k < size; k++) sum = (sum ^ at[k]) * UINT64_C(1099511628211);
+    sum = (sum ^ size) * UINT64_C(1099511628211);
+}
+
+static void add_schema(const struct ArrowSchema *schema) {
+    add(schema->format, strlen(schema->format));
+    add(schema->name, strlen(schema->name));
+    add(&schema->flags, sizeof schema->flags);
+    if (schema->metadata != NULL) add(schema->metadata, sizeof(int32_t));
+    for (int64_t k = 0; k < schema->n_children; k++) add_schema(schema->children[k]);
+    if (schema->dictionary != NULL) add_schema(schema->dictionary);
+}
+
+/* Bytes of a slot of these formats, which the core of the types has. */
+static size_t width_of(const char *format) {
+    if (strncmp(format, "w:", 2) == 0) return strtoul(format + 2, NULL, 10);
+    if (strcmp(format, "tdD") == 0 || strcmp(format, "tts") == 0 || strcmp(format, "ttm") == 0) return 4;
+    return strchr("cC", *format) ? 1 : strchr("sS", *format) ? 2 : strchr("iI", *format) ? 4 : 8;
+}
+
+/* The last of an array's offsets. */
+static size_t last_offset(const struct ArrowArray *array, size_t width) {
+    uint64_t last = 0;
+    memcpy(&last, (const uint8_t *)array->buffers[1] + width * (size_t)array->length, width);
+    return last;
+}
+
+static void add_array(const struct ArrowSchema *schema, const struct ArrowArray *array) {
+    const char *format = schema->format;
+    size_t slots = (size_t)array->length, bits = (slots + 7) / 8;
+    bool has_offsets = strchr("zuZU", *format) != NULL || (*format == '+' && format[1] != 's');
+    size_t width = strchr("zu", *format) || strcmp(format, "+l") == 0 ? 4 : 8;
+    add(&array->length, sizeof array->length);
+    add(&array->null_count, sizeof array->null_count);
+    if (array->n_buffers > 0 && array->buffers[0] != NULL) add(array->buffers[0], bits);
+    if (has_offsets) add(array->buffers[1], width * (slots + 1));
+    else if (array->n_buffers == 2) add(array->buffers[1], *format == 'b' ? bits : width_of(format) * slots);
+    if (array->n_buffers == 3) add(array->buffers[2], last_offset(array, width));
+    for (int64_t k = 0; k < array->n_children; k++) add_array(schema->children[k], array->children[k]);
+    if (array->dictionary != NULL) add_array(schema->dictionary, array->dictionary);
+}
+
+/* Gives the stream in pieces of 100 bytes. */
+static ptrdiff_t give_piece(void *state, uint8_t *room, size_t most) {
+    size_t *at = state, size = len - *at < 100 ? len - *at : 100;
+    if (size > most) size = most;
+    memcpy(room, bytes + *at, size);
+    *at += size;
+    return (ptrdiff_t)size;
+}
+
+static uint32_t open_arrays(bool in_pieces, size_t *at, struct ArrowArrayStream *stream) {
+    *at = 0;
+    return in_pieces ? arrowflow_stream_of(give_piece, at, arrowflow_standard_limits(), stream)
+                     : arrowflow_stream_of_bytes(bytes, len, arrowflow_standard_limits(), stream);
+}
+
+/* How many calls of a stream answered ENOMEM and gave what was asked for when they were made again. */
+static long again = 0;
+
+/* Whether a call is made again. */
+static bool is_starved(struct ArrowArrayStream *stream, int status, bool is_released) {
+    if (status != ENOMEM) return false;
+    want(is_released && stream->get_last_error(stream) != NULL, "nothing given, and a text, without memory");
+    again++;
+    return true;
+}
+
+/* Reads the stream as arrays with one growth refused, and sums up all that they have when it is gone. */
+static uint64_t sum_starved(long number, bool in_pieces) {
+    static struct ArrowArray arrays[MOST_ARRAYS];
+    struct ArrowArrayStream stream;
+    struct ArrowSchema schema;
+    size_t at, count = 0;
+    int status;
+    before = number;
+    sum = UINT64_C(14695981039346656037);
+    if (open_arrays(in_pieces, &at, &stream) == ARROWFLOW_MEMORY)
+        want(stream.release == NULL && open_arrays(in_pieces, &at, &stream) == ARROWFLOW_FINE, "a stream opened again");
+    while (is_starved(&stream, status = stream.get_schema(&stream, &schema), schema.release == NULL)) {}
+    while (status == 0 && count < MOST_ARRAYS) {
+        while (is_starved(&stream, status = stream.get_next(&stream, arrays + count), arrays[count].release == NULL)) {}
+        if (arrays[count].release == NULL) break;
+        count++;
+    }
+    add(&status, sizeof status);
+    if (status != 0) add(stream.get_last_error(&stream), strlen(stream.get_last_error(&stream)));
+    stream.release(&stream);
+    if (schema.release != NULL) add_schema(&schema);
+    for (size_t k = 0; k < count; k++) {
+        add_array(&schema, arrays + k);
+        arrays[k].release(arrays + k);
+    }
+    if (schema.release != NULL) schema.release(&schema);
+    want(blocks == 0, "nothing left of a stream and its arrays");
+    return sum;
+}
+
+static void starve_arrays(bool in_pieces) {
+    uint64_t whole = sum_starved(-1, in_pieces);
+    again = 0;
+    for (long number = 0;; number++) {
+        want(sum_starved(number, in_pieces) == whole, "the same arrays in the end");
+        if (before >= 0) break;
+    }
+    want(again > 0, "a call of a stream made again");
+}
+
 int main(int argc, char **argv) {
     FILE *file = argc == 2 ? fopen(argv[1], "rb") : NULL;
     if (file == NULL) {
@@ -207,6 +334,8 @@ int main(int argc, char **argv) {
     starve_reader(whole, 100);
     starve_reader(whole, len);
     let_go();
+    starve_arrays(false);
+    starve_arrays(true);
     want(refused > 0, "a growth was refused");
     want(kept > 0 || whole.batches < 2, "a growth was refused behind a batch");
     return 0;

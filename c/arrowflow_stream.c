@@ -1,0 +1,666 @@
+/* The Arrow C stream interface over a reader: arrowflow_stream.h says what it promises. */
+#define _POSIX_C_SOURCE 200809L
+#include "arrowflow_stream.h"
+
+#include <errno.h>
+#include <limits.h>
+#include <stdatomic.h>
+#include <stdio.h>
+#include <stdlib.h>
+#include <string.h>
+#include <unistd.h>
+
+_Static_assert(sizeof(size_t) >= 8, "counts of 64 bits are sizes here");
+#if defined(__BYTE_ORDER__) && __BYTE_ORDER__ != __ORDER_LITTLE_ENDIAN__
+#error "buffers are little-endian, and the interface asks for those of the machine"
+#endif
+
+enum { PIECE = 65536, ALIGNMENT = 64, ERROR_ROOM = 192, MOST_BUFFERS = 3 };
+
+/* ---- what the arrays and the schemas own ---- */
+
+/* Buffers, which lie behind it. Arrays of one dictionary own them together. */
+struct block {
+    atomic_size_t owners;
+};
+
+/* What an array owns besides: its children lie in it, and its dictionary behind them, and then the table
+ * of the children. */
+struct node {
+    struct block *block; /* or NULL */
+    const void *buffers[MOST_BUFFERS];
+    struct ArrowArray below[];
+};
+
+static void let_go(struct block *block) {
+    if (block != NULL && atomic_fetch_sub_explicit(&block->owners, 1, memory_order_acq_rel) == 1) free(block);
+}
+
+/* Releases an array that was not moved out or never made. */
+static void drop(struct ArrowArray *array) {
+    if (array->release != NULL) array->release(array);
+}
+
+static void release_array(struct ArrowArray *array) {
+    struct node *node = array->private_data;
+    for (int64_t k = 0; k < array->n_children; k++) drop(array->children[k]);
+    if (array->dictionary != NULL) drop(array->dictionary);
+    let_go(node->block);
+    free(node);
+    array->release = NULL;
+}
+
+/* Makes an array of no buffers, whose children and dictionary are released ones. */
+static bool new_array(struct ArrowArray *out, size_t children, bool has_dictionary) {
+    size_t below = children + has_dictionary;
+    struct node *node = calloc(1, sizeof *node + below * sizeof *out + children * sizeof(struct ArrowArray *));
+    memset(out, 0, sizeof *out);
+    if (node == NULL) return false;
+    out->n_children = (int64_t)children;
+    out->buffers = node->buffers;
+    out->children = (struct ArrowArray **)(void *)(node->below + below);
+    for (size_t k = 0; k < children; k++) out->children[k] = node->below + k;
+    if (has_dictionary) out->dictionary = node->below + children;
+    out->release = release_array;
+    out->private_data = node;
+    return true;
+}
+
+/* The size that a buffer takes with its padding, which is one of padding at least. */
+static size_t padded(size_t size) {
+    return size == 0 ? ALIGNMENT : (size + ALIGNMENT - 1) / ALIGNMENT * ALIGNMENT;
+}
+
+/* Takes room for the buffers of an array; the first one is the validity bitmap, which not each has. */
+static bool take_buffers(struct ArrowArray *array, const size_t *sizes, bool has_validity) {
+    struct node *node = array->private_data;
+    size_t all = 0, first = has_validity ? 0 : 1, count = (size_t)array->n_buffers;
+    for (size_t k = first; k < count; k++) all += padded(sizes[k]);
+    if (all == 0) return true;
+    node->block = malloc(sizeof *node->block + ALIGNMENT + all);
+    if (node->block == NULL) return false;
+    atomic_init(&node->block->owners, 1);
+    uint8_t *at = (uint8_t *)(node->block + 1);
+    at += (ALIGNMENT - (uintptr_t)at % ALIGNMENT) % ALIGNMENT;
+    for (size_t k = first; k < count; at += padded(sizes[k]), k++) {
+        node->buffers[k] = at;
+        memset(at + sizes[k], 0, padded(sizes[k]) - sizes[k]);
+    }
+    return true;
+}
+
+/* Makes another owner of an array's buffers, with children of its own. It has no dictionary. */
+static bool share(const struct ArrowArray *from, struct ArrowArray *out) {
+    const struct node *of = from->private_data;
+    if (!new_array(out, (size_t)from->n_children, false)) return false;
+    struct node *node = out->private_data;
+    out->length = from->length;
+    out->null_count = from->null_count;
+    out->n_buffers = from->n_buffers;
+    memcpy(node->buffers, of->buffers, sizeof node->buffers);
+    node->block = of->block;
+    if (node->block != NULL) atomic_fetch_add_explicit(&node->block->owners, 1, memory_order_relaxed);
+    for (int64_t k = 0; k < from->n_children; k++)
+        if (!share(from->children[k], out->children[k])) {
+            drop(out);
+            return false;
+        }
+    return true;
+}
+
+/* A schema owns one block: its children, its dictionary, the table of the children and its texts. */
+static void release_schema(struct ArrowSchema *schema) {
+    for (int64_t k = 0; k < schema->n_children; k++)
+        if (schema->children[k]->release != NULL) schema->children[k]->release(schema->children[k]);
+    if (schema->dictionary != NULL && schema->dictionary->release != NULL)
+        schema->dictionary->release(schema->dictionary);
+    free(schema->private_data);
+    schema->release = NULL;
+}
+
+/* ---- the stream ---- */
+
+/* The values of a dictionary, by its id. They are released where no batch asked for them since a message
+ * of the dictionary came. */
+struct kept {
+    int64_t id;
+    struct ArrowArray values;
+};
+
+/* What a stream owns. */
+struct source {
+    arrowflow_reader reader;
+    arrowflow_source read; /* NULL over bytes */
+    void *state;
+    int fd;
+    const uint8_t *piece; /* of which `at` bytes were taken */
+    size_t len, at;
+    bool is_dry; /* nothing comes after the piece */
+    bool has_schema, has_batch, has_ended;
+    size_t columns, rows; /* of the batch */
+    int status;           /* of a stream that failed, or 0 */
+    const char *told;     /* what get_last_error answers */
+    char error[ERROR_ROOM];
+    struct kept *kept; /* by rising ids */
+    size_t kept_count, kept_room;
+    size_t *path;
+    size_t path_room;
+    uint8_t room[];
+};
+
+/* Puts a number into the path, at this level. */
+static bool set_path(struct source *it, size_t level, size_t number) {
+    if (level >= it->path_room) {
+        size_t room = level + 16, *path = realloc(it->path, room * sizeof *path);
+        if (path == NULL) return false;
+        it->path = path;
+        it->path_room = room;
+    }
+    it->path[level] = number;
+    return true;
+}
+
+/* The stream is at an end: it answers this to each further call. */
+static int fail(struct source *it, int status) { return it->status = status; }
+
+static int fault(struct source *it, uint32_t kind, uint64_t place) {
+    if (kind == ARROWFLOW_MEMORY) return ENOMEM;
+    snprintf(it->error, sizeof it->error, "kind %s at byte %llu", arrowflow_kind_name(kind), (unsigned long long)place);
+    return fail(it, EINVAL);
+}
+
+static int failed_read(struct source *it, int number) {
+    char why[ERROR_ROOM / 2] = "";
+    if (number == ENOMEM) return ENOMEM;
+    if (strerror_r(number, why, sizeof why) != 0) snprintf(why, sizeof why, "error %d", number);
+    snprintf(it->error, sizeof it->error, "read failed: %s", why);
+    return fail(it, number);
+}
+
+/* Reads the next piece. */
+static int refill(struct source *it) {
+    ptrdiff_t got = it->read(it->state, it->room, PIECE);
+    if (got < 0) return failed_read(it, got < -INT_MAX ? EIO : (int)-got);
+    if (got > PIECE) return failed_read(it, EIO);
+    it->piece = it->room;
+    it->len = (size_t)got;
+    it->at = 0;
+    it->is_dry = got == 0;
+    return 0;
+}
+
+static int finish(struct source *it) {
+    arrowflow_fault end = arrowflow_reader_end(&it->reader);
+    if (end.kind != ARROWFLOW_FINE) return fault(it, end.kind, end.place);
+    it->has_ended = true;
+    return 0;
+}
+
+/* The first of the dictionaries kept whose id is not below this one. */
+static size_t place_of(const struct source *it, int64_t id) {
+    size_t low = 0, high = it->kept_count;
+    while (low < high) {
+        size_t middle = low + (high - low) / 2;
+        if (it->kept[middle].id < id) low = middle + 1;
+        else high = middle;
+    }
+    return low;
+}
+
+/* A message of this dictionary came: what is kept of it is no longer the stream's. */
+static void forget(struct source *it, int64_t id) {
+    size_t k = place_of(it, id);
+    if (k < it->kept_count && it->kept[k].id == id) drop(&it->kept[k].values);
+}
+
+/* Gives the reader what is there, up to the end of a message. */
+static int advance(struct source *it) {
+    if (it->at == it->len && !it->is_dry) {
+        int status = refill(it);
+        if (status != 0) return status;
+    }
+    if (it->at == it->len) return finish(it);
+    arrowflow_step step = arrowflow_reader_read(&it->reader, it->piece + it->at, it->len - it->at);
+    if (step.kind != ARROWFLOW_FINE) return fault(it, step.kind, step.place);
+    it->at += step.taken;
+    if (step.what == ARROWFLOW_SCHEMA_READ) it->has_schema = true;
+    if (step.what == ARROWFLOW_DICTIONARY_READ) forget(it, step.id);
+    if (step.what == ARROWFLOW_BATCH_READ) {
+        it->has_batch = true;
+        it->columns = step.columns;
+        it->rows = step.rows;
+    }
+    return step.what == ARROWFLOW_END_READ ? finish(it) : 0;
+}
+
+/* ---- schemas ---- */
+
+/* Makes room for a field's children, dictionary and texts, a zero byte behind the first two of these. */
+static char *new_schema(const arrowflow_field *field, struct ArrowSchema *out) {
+    size_t children = field->children, below = children + field->is_encoded;
+    size_t texts = field->name_len + field->format_len + field->metadata_len;
+    struct ArrowSchema *block = calloc(1, below * sizeof *out + children * sizeof(struct ArrowSchema *) + texts + 2);
+    memset(out, 0, sizeof *out);
+    if (block == NULL) return NULL;
+    out->flags = field->flags;
+    out->n_children = (int64_t)children;
+    out->children = (struct ArrowSchema **)(void *)(block + below);
+    for (size_t k = 0; k < children; k++) out->children[k] = block + k;
+    if (field->is_encoded) out->dictionary = block + children;
+    out->release = release_schema;
+    out->private_data = block;
+    return (char *)(out->children + children);
+}
+
+/* Moves the three texts apart, so that a zero byte ends the first two. */
+static void set_texts(const arrowflow_field *field, char *texts, struct ArrowSchema *out) {
+    char *format = texts + field->name_len, *metadata = format + field->format_len;
+    memmove(metadata + 2, metadata, field->metadata_len);
+    memmove(format + 1, format, field->format_len);
+    *format = metadata[1] = 0;
+    out->name = texts;
+    out->format = format + 1;
+    out->metadata = field->metadata_len > 0 ? metadata + 2 : NULL;
+}
+
+/* The schema of the field that the path leads to, or of all. */
+static int tell_field(struct source *it, size_t depth, struct ArrowSchema *out) {
+    arrowflow_field field = arrowflow_reader_field(&it->reader, it->path, depth, NULL, 0);
+    char *texts = new_schema(&field, out);
+    if (texts == NULL) return ENOMEM;
+    size_t room = field.name_len + field.format_len + field.metadata_len;
+    arrowflow_reader_field(&it->reader, it->path, depth, (uint8_t *)texts, room);
+    set_texts(&field, texts, out);
+    int status = 0;
+    for (size_t k = 0; k < field.children && status == 0; k++)
+        status = set_path(it, depth, k) ? tell_field(it, depth + 1, out->children[k]) : ENOMEM;
+    if (field.is_encoded) status = set_path(it, depth, 0) ? tell_field(it, depth + 1, out->dictionary) : ENOMEM;
+    if (status != 0) out->release(out);
+    return status;
+}
+
+/* ---- arrays ---- */
+
+/* Slots of a column, from `start` up to `end`. Of a dictionary's values it is the array that the value
+ * `entry` stands in, or what lies below it. */
+struct run {
+    size_t entry, start, end;
+};
+
+/* Slots that are joined. The path leads to their columns; where they are values of a dictionary the number
+ * at `level` is that of the run's entry. */
+struct slots {
+    size_t depth, level;
+    const struct run *runs;
+    size_t count;
+};
+
+/* The level of what is no dictionary's. */
+static const size_t NO_LEVEL = SIZE_MAX;
+
+/* An array that is filled: its buffers, how many slots it has so far, and how many lie inside these. */
+struct target {
+    uint8_t *validity, *offsets, *values;
+    size_t slots, inside;
+};
+
+static int build(struct source *it, const struct slots *from, struct ArrowArray *out);
+
+static arrowflow_column column_of(struct source *it, const struct slots *from, size_t k) {
+    if (from->level != NO_LEVEL) it->path[from->level] = from->runs[k].entry;
+    return arrowflow_column_at(&it->reader, it->path, from->depth);
+}
+
+static size_t count_of(const struct run *runs, size_t count) {
+    size_t slots = 0;
+    for (size_t k = 0; k < count; k++) slots += runs[k].end - runs[k].start;
+    return slots;
+}
+
+static bool has_offsets(uint32_t layout) {
+    return layout == ARROWFLOW_BINARIES || layout == ARROWFLOW_TEXTS || layout == ARROWFLOW_LISTS;
+}
+
+/* Whether offsets stay as they are: the slots are the front of one column. */
+static bool is_front(const struct slots *from) { return from->count == 1 && from->runs[0].start == 0; }
+
+static size_t offset_at(const arrowflow_column *of, size_t i) {
+    uint32_t narrow;
+    uint64_t wide;
+    if (of->width == sizeof wide) {
+        memcpy(&wide, of->offsets + sizeof wide * i, sizeof wide);
+        return wide;
+    }
+    memcpy(&narrow, of->offsets + sizeof narrow * i, sizeof narrow);
+    return narrow;
+}
+
+/* What lies inside slots with offsets: bytes, or slots of the child. */
+static void find_inside(struct source *it, const struct slots *from, struct run *inside) {
+    for (size_t k = 0; k < from->count; k++) {
+        const struct run *run = from->runs + k;
+        inside[k].entry = run->entry;
+        inside[k].start = inside[k].end = 0;
+        if (run->start == run->end) continue;
+        arrowflow_column of = column_of(it, from, k);
+        if (!is_front(from)) inside[k].start = offset_at(&of, run->start);
+        inside[k].end = offset_at(&of, run->end);
+    }
+}
+
+/* Copies bits, or sets them where there are none. All before bit `at` were copied, and those behind them
+ * up to the end of a byte are anything. */
+static void copy_bits(uint8_t *to, size_t at, const uint8_t *bits, size_t bits_len, const struct run *run) {
+    size_t count = run->end - run->start;
+    if (bits_len > 0 && at % 8 == 0 && run->start % 8 == 0) {
+        memcpy(to + at / 8, bits + run->start / 8, (count + 7) / 8);
+        return;
+    }
+    for (size_t k = 0; k < count; k++) {
+        size_t i = run->start + k, j = at + k;
+        unsigned bit = bits_len == 0 || (bits[i / 8] >> i % 8 & 1) != 0;
+        unsigned before = j % 8 == 0 ? 0u : to[j / 8] & ~(~0u << j % 8);
+        to[j / 8] = (uint8_t)(before | bit << j % 8);
+    }
+}
+
+/* Copies offsets, counted from where the run's own begin. */
+static void copy_offsets(struct target *to, const arrowflow_column *of, const struct slots *from, const struct run *run,
+                         size_t start) {
+    if (is_front(from)) {
+        memcpy(to->offsets, of->offsets, of->width * (run->end + 1));
+        return;
+    }
+    for (size_t k = 1; k <= run->end - run->start; k++) {
+        uint64_t offset = to->inside + offset_at(of, run->start + k) - start;
+        memcpy(to->offsets + of->width * (to->slots + k), &offset, of->width);
+    }
+}
+
+/* Copies what slots of one column have in its buffers. */
+static void copy_run(struct target *to, const arrowflow_column *of, const struct slots *from, const struct run *run,
+                     const struct run *inside) {
+    size_t slots = run->end - run->start;
+    if (slots == 0) return;
+    if (to->validity != NULL) copy_bits(to->validity, to->slots, of->validity, of->validity_len, run);
+    if (of->layout == ARROWFLOW_BITS) copy_bits(to->values, to->slots, of->values, of->values_len, run);
+    else if (has_offsets(of->layout)) {
+        copy_offsets(to, of, from, run, inside->start);
+        if (of->layout != ARROWFLOW_LISTS)
+            memcpy(to->values + to->inside, of->values + inside->start, inside->end - inside->start);
+        to->inside += inside->end - inside->start;
+    } else if (to->values != NULL) memcpy(to->values + of->width * to->slots, of->values + of->width * run->start, of->width * slots);
+    to->slots += slots;
+}
+
+/* Whether a slot may be without a value. */
+static bool has_nulls(struct source *it, const struct slots *from) {
+    for (size_t k = 0; k < from->count; k++)
+        if (from->runs[k].start < from->runs[k].end && column_of(it, from, k).validity_len > 0) return true;
+    return false;
+}
+
+/* Takes room for the buffers of an array of this layout, and tells their sizes. */
+static bool take_room(struct ArrowArray *out, const arrowflow_column *like, size_t inside, bool has_validity) {
+    size_t slots = (size_t)out->length, bits = (slots + 7) / 8, sizes[MOST_BUFFERS] = {bits, 0, inside};
+    out->n_buffers = 2;
+    sizes[1] = has_offsets(like->layout) ? like->width * (slots + 1) : like->width * slots;
+    switch (like->layout) {
+    case ARROWFLOW_NULLS: out->n_buffers = 0; break;
+    case ARROWFLOW_STRUCTS: out->n_buffers = 1; break;
+    case ARROWFLOW_BITS: sizes[1] = bits; break;
+    case ARROWFLOW_BINARIES:
+    case ARROWFLOW_TEXTS: out->n_buffers = 3; break;
+    default: break;
+    }
+    out->null_count = like->layout == ARROWFLOW_NULLS ? out->length : has_validity ? -1 : 0;
+    return take_buffers(out, sizes, has_validity && out->n_buffers > 0);
+}
+
+/* The buffers of an array that has its room. A first offset is 0. */
+static struct target target_of(const struct ArrowArray *out, uint32_t layout, size_t width) {
+    void *at[MOST_BUFFERS];
+    memcpy(at, out->buffers, sizeof at);
+    struct target to = {at[0], NULL, at[1], 0, 0};
+    if (has_offsets(layout)) {
+        to.offsets = at[1];
+        to.values = at[2];
+        memset(to.offsets, 0, width);
+    }
+    return to;
+}
+
+/* Builds each child, of the same slots as the array. */
+static int build_children(struct source *it, const struct slots *from, struct ArrowArray *out) {
+    struct slots below = *from;
+    below.depth++;
+    for (size_t k = 0; k < (size_t)out->n_children; k++) {
+        int status = set_path(it, from->depth, k) ? build(it, &below, out->children[k]) : ENOMEM;
+        if (status != 0) return status;
+    }
+    return 0;
+}
+
+/* An array of no slots, of a schema's type. */
+static int build_empty(const struct ArrowSchema *schema, struct ArrowArray *out) {
+    static const size_t sizes[MOST_BUFFERS] = {0, 0, 0};
+    const char *format = schema->format;
+    if (!new_array(out, (size_t)schema->n_children, false)) return ENOMEM;
+    out->n_buffers = *format == 'n' ? 0 : strcmp(format, "+s") == 0 ? 1 : strchr("zZuU", *format) != NULL ? 3 : 2;
+    if (!take_buffers(out, sizes, false)) return ENOMEM;
+    for (int64_t k = 0; k < schema->n_children; k++)
+        if (build_empty(schema->children[k], out->children[k]) != 0) return ENOMEM;
+    return 0;
+}
+
+/* The values of a dictionary that has none, whose field the path leads to. */
+static int build_no_values(struct source *it, size_t depth, struct ArrowArray *out) {
+    struct ArrowSchema values;
+    int status = set_path(it, depth, 0) ? tell_field(it, depth + 1, &values) : ENOMEM;
+    if (status != 0) return status;
+    status = build_empty(&values, out);
+    values.release(&values);
+    return status;
+}
+
+/* How many arrays the values of a dictionary stand in, or where each of them begins. */
+static size_t find_runs(struct source *it, size_t depth, size_t entries, struct run *runs) {
+    size_t count = 0;
+    for (size_t entry = 0; entry < entries; count++) {
+        it->path[depth] = entry;
+        size_t slots = arrowflow_column_at(&it->reader, it->path, depth + 1).slots;
+        if (runs != NULL) runs[count] = (struct run){entry, 0, slots};
+        entry += slots;
+    }
+    return count;
+}
+
+/* The values of a dictionary, joined. The path leads to a column of its indices. */
+static int build_values(struct source *it, size_t depth, size_t entries, struct ArrowArray *out) {
+    if (entries == 0) return build_no_values(it, depth, out);
+    if (!set_path(it, depth, 0)) return ENOMEM;
+    size_t count = find_runs(it, depth, entries, NULL);
+    struct run *runs = malloc(count * sizeof *runs);
+    if (runs == NULL) return ENOMEM;
+    find_runs(it, depth, entries, runs);
+    struct slots from = {depth + 1, depth, runs, count};
+    int status = build(it, &from, out);
+    free(runs);
+    return status;
+}
+
+/* What is kept of this dictionary: nothing, where it is new. NULL for want of memory. */
+static struct kept *keep(struct source *it, int64_t id) {
+    size_t k = place_of(it, id);
+    if (k < it->kept_count && it->kept[k].id == id) return it->kept + k;
+    if (it->kept_count == it->kept_room) {
+        size_t room = it->kept_room * 2 + 4;
+        struct kept *more = realloc(it->kept, room * sizeof *more);
+        if (more == NULL) return NULL;
+        it->kept = more;
+        it->kept_room = room;
+    }
+    memmove(it->kept + k + 1, it->kept + k, (it->kept_count - k) * sizeof *it->kept);
+    memset(it->kept + k, 0, sizeof *it->kept);
+    it->kept[k].id = id;
+    it->kept_count++;
+    return it->kept + k;
+}
+
+/* The dictionary of the column that the path leads to. */
+static int build_dictionary(struct source *it, size_t depth, size_t entries, struct ArrowArray *out) {
+    int64_t id = arrowflow_reader_field(&it->reader, it->path, depth, NULL, 0).id;
+    struct kept *kept = keep(it, id);
+    if (kept == NULL) return ENOMEM;
+    if (kept->values.release == NULL) {
+        int status = build_values(it, depth, entries, &kept->values);
+        if (status == EOVERFLOW)
+            snprintf(it->error, sizeof it->error, "the values of dictionary %lld are too long for offsets of 32 bits", (long long)id);
+        if (status != 0) {
+            drop(&kept->values);
+            return status;
+        }
+    }
+    return share(&kept->values, out) ? 0 : ENOMEM;
+}
+
+/* Fills an array, and builds what is below it. `inside` has room for a run for each one of the slots. */
+static int fill(struct source *it, const struct slots *from, struct run *inside, struct ArrowArray *out) {
+    arrowflow_column like = column_of(it, from, 0);
+    struct slots within = {from->depth + 1, from->level, inside, from->count};
+    size_t length = 0;
+    if (has_offsets(like.layout)) {
+        find_inside(it, from, inside);
+        length = count_of(inside, from->count);
+        if (like.width == sizeof(int32_t) && length > INT32_MAX) return EOVERFLOW;
+    }
+    if (!take_room(out, &like, length, has_nulls(it, from))) return ENOMEM;
+    struct target to = target_of(out, like.layout, like.width);
+    for (size_t k = 0; k < from->count; k++) {
+        arrowflow_column of = column_of(it, from, k);
+        copy_run(&to, &of, from, from->runs + k, inside + k);
+    }
+    switch (like.layout) {
+    case ARROWFLOW_STRUCTS: return build_children(it, from, out);
+    case ARROWFLOW_LISTS: return set_path(it, from->depth, 0) ? build(it, &within, out->children[0]) : ENOMEM;
+    case ARROWFLOW_INDICES: return build_dictionary(it, from->depth, like.entries, out->dictionary);
+    default: return 0;
+    }
+}
+
+/* An array of these slots. Where it answers no 0, what there is of the array is still to be released. */
+static int build(struct source *it, const struct slots *from, struct ArrowArray *out) {
+    arrowflow_column like = column_of(it, from, 0);
+    struct run one, *inside = from->count == 1 ? &one : malloc(from->count * sizeof *inside);
+    int status = ENOMEM;
+    if (inside != NULL && new_array(out, like.children, like.layout == ARROWFLOW_INDICES)) {
+        out->length = (int64_t)count_of(from->runs, from->count);
+        status = fill(it, from, inside, out);
+    }
+    if (inside != &one) free(inside);
+    return status;
+}
+
+/* The reader's batch as one array. */
+static int build_batch(struct source *it, struct ArrowArray *out) {
+    struct run rows = {0, 0, it->rows};
+    struct slots from = {0, NO_LEVEL, &rows, 1};
+    if (!new_array(out, it->columns, false)) return ENOMEM;
+    out->length = (int64_t)it->rows;
+    out->n_buffers = 1;
+    int status = build_children(it, &from, out);
+    if (status == 0) it->has_batch = false;
+    else drop(out);
+    return status == 0 || status == ENOMEM ? status : fail(it, status);
+}
+
+/* ---- the four calls of a stream ---- */
+
+/* What a call answers, with its text. */
+static int answer(struct source *it, int status) {
+    it->told = status == 0 ? NULL : status == ENOMEM ? "kind Memory: the call may be made again" : it->error;
+    return status;
+}
+
+static int get_schema(struct ArrowArrayStream *stream, struct ArrowSchema *out) {
+    struct source *it = stream->private_data;
+    int status = it->has_schema ? 0 : it->status;
+    out->release = NULL;
+    while (status == 0 && !it->has_schema) status = advance(it);
+    return answer(it, status == 0 ? tell_field(it, 0, out) : status);
+}
+
+static int get_next(struct ArrowArrayStream *stream, struct ArrowArray *out) {
+    struct source *it = stream->private_data;
+    int status = it->status;
+    out->release = NULL;
+    while (status == 0 && !it->has_batch && !it->has_ended) status = advance(it);
+    return answer(it, status == 0 && it->has_batch ? build_batch(it, out) : status);
+}
+
+static const char *get_last_error(struct ArrowArrayStream *stream) {
+    const struct source *it = stream->private_data;
+    return it->told;
+}
+
+static void release_stream(struct ArrowArrayStream *stream) {
+    struct source *it = stream->private_data;
+    arrowflow_reader_close(&it->reader);
+    for (size_t k = 0; k < it->kept_count; k++) drop(&it->kept[k].values);
+    free(it->kept);
+    free(it->path);
+    free(it);
+    stream->release = NULL;
+}
+
+/* Makes a stream of nothing yet, with room for a piece. */
+static uint32_t open_stream(arrowflow_limits limits, size_t room, struct ArrowArrayStream *out) {
+    struct source *it = calloc(1, sizeof *it + room);
+    memset(out, 0, sizeof *out);
+    if (it == NULL) return ARROWFLOW_MEMORY;
+    uint32_t kind = arrowflow_reader_open(limits, &it->reader);
+    if (kind != ARROWFLOW_FINE) {
+        arrowflow_reader_close(&it->reader);
+        free(it);
+        return kind;
+    }
+    *out = (struct ArrowArrayStream){get_schema, get_next, get_last_error, release_stream, it};
+    return ARROWFLOW_FINE;
+}
+
+uint32_t arrowflow_stream_of_bytes(const uint8_t *bytes, size_t len, arrowflow_limits limits, struct ArrowArrayStream *out) {
+    uint32_t kind = open_stream(limits, 0, out);
+    if (kind != ARROWFLOW_FINE) return kind;
+    struct source *it = out->private_data;
+    it->piece = arrowflow_some(bytes);
+    it->len = len;
+    it->is_dry = true;
+    return kind;
+}
+
+uint32_t arrowflow_stream_of(arrowflow_source read, void *state, arrowflow_limits limits, struct ArrowArrayStream *out) {
+    uint32_t kind = open_stream(limits, PIECE, out);
+    if (kind != ARROWFLOW_FINE) return kind;
+    struct source *it = out->private_data;
+    it->read = read;
+    it->state = state;
+    it->piece = it->room;
+    return kind;
+}
+
+static ptrdiff_t read_fd(void *state, uint8_t *room, size_t len) {
+    const int *fd = state;
+    ssize_t got;
+    do got = read(*fd, room, len);
+    while (got < 0 && errno == EINTR);
+    return got < 0 ? -(ptrdiff_t)errno : got;
+}
+
+uint32_t arrowflow_stream_of_fd(int fd, arrowflow_limits limits, struct ArrowArrayStream *out) {
+    uint32_t kind = arrowflow_stream_of(read_fd, NULL, limits, out);
+    if (kind != ARROWFLOW_FINE) return kind;
+    struct source *it = out->private_data;
+    it->fd = fd;
+    it->state = &it->fd;
+    return kind;
+}

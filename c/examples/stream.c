@@ -1,0 +1,847 @@
+/* usage: stream [--types core|all] show bytes|fd|SIZE FILE, stream [--types core|all] threads FILE,
+ *        stream ends FILE, stream --bad FILE
+ *
+ * Prints what `arrowflow show` prints of a stream, out of arrays of the Arrow C data interface, and ends as
+ * it does; of floating-point numbers it has the digits of `show`, and lays them out in another way. Each
+ * schema and each array is checked against the interface's text first, when the stream, the bytes and the
+ * reader are gone. The stream comes from bytes, from a file descriptor or from a callback in pieces of this
+ * size. Then one thread and another release the arrays, with children that were moved out. With `threads`
+ * each array goes to a thread of its own while the stream is read on. With `ends` it is told how many arrays
+ * a stream gives, and what it says then. With --bad sources fail.
+ */
+#define _POSIX_C_SOURCE 200809L
+#include "arrowflow_stream.h"
+
+#include <errno.h>
+#include <fcntl.h>
+#include <math.h>
+#include <pthread.h>
+#include <signal.h>
+#include <stdatomic.h>
+#include <stdio.h>
+#include <stdlib.h>
+#include <string.h>
+#include <sys/time.h>
+#include <unistd.h>
+
+#define WANT(fact)                                                              \
+    do {                                                                        \
+        if (!(fact)) {                                                          \
+            fprintf(stderr, "%s:%d: not so: %s\n", __FILE__, __LINE__, #fact);  \
+            exit(3);                                                            \
+        }                                                                       \
+    } while (0)
+
+static arrowflow_limits limits;
+
+/* ---- what formats say ---- */
+
+static bool is_format(const struct ArrowSchema *schema, const char *format) { return strcmp(schema->format, format) == 0; }
+
+static bool is_one_of(const struct ArrowSchema *schema, const char *letters) {
+    return schema->format[1] == 0 && strchr(letters, *schema->format) != NULL;
+}
+
+static bool is_list(const struct ArrowSchema *schema) { return is_format(schema, "+l") || is_format(schema, "+L"); }
+
+/* Bytes of an offset, or 0 where there are none. */
+static size_t offset_width(const struct ArrowSchema *schema) {
+    if (is_one_of(schema, "zu") || is_format(schema, "+l")) return 4;
+    return is_one_of(schema, "ZU") || is_format(schema, "+L") ? 8 : 0;
+}
+
+/* Bytes of a slot's value that is a number or a byte string of one length. */
+static size_t value_width(const struct ArrowSchema *schema) {
+    const char *format = schema->format;
+    if (is_one_of(schema, "cC")) return 1;
+    if (is_one_of(schema, "sSe")) return 2;
+    if (is_one_of(schema, "iIf") || is_format(schema, "tdD") || is_format(schema, "tts") || is_format(schema, "ttm")) return 4;
+    if (strncmp(format, "w:", 2) == 0) return strtoul(format + 2, NULL, 10);
+    WANT(is_one_of(schema, "lLg") || is_format(schema, "tdm") || is_format(schema, "ttu") || is_format(schema, "ttn")
+         || (strncmp(format, "ts", 2) == 0 && format[2] != 0 && strchr("smun", format[2]) != NULL && format[3] == ':')
+         || (strncmp(format, "tD", 2) == 0 && format[2] != 0 && strchr("smun", format[2]) != NULL && format[3] == 0));
+    return 8;
+}
+
+static int64_t buffers_of(const struct ArrowSchema *schema) {
+    if (is_format(schema, "n")) return 0;
+    if (is_format(schema, "+s")) return 1;
+    return is_one_of(schema, "zZuU") ? 3 : 2;
+}
+
+/* ---- checks of what the interface asks for ---- */
+
+/* The pairs that metadata begin with a count of are there: a byte that is not is told by a sanitizer. */
+static void check_metadata(const char *at) {
+    int32_t pairs, len;
+    unsigned sum = 0;
+    memcpy(&pairs, at, sizeof pairs);
+    WANT(pairs > 0);
+    at += sizeof pairs;
+    for (int64_t k = 0; k < 2 * (int64_t)pairs; k++) {
+        memcpy(&len, at, sizeof len);
+        WANT(len >= 0);
+        at += sizeof len;
+        for (int32_t i = 0; i < len; i++) sum += (unsigned char)*at++;
+    }
+    WANT(sum < UINT32_MAX);
+}
+
+static void check_schema(const struct ArrowSchema *schema) {
+    WANT(schema->release != NULL && schema->format != NULL && schema->name != NULL);
+    WANT((schema->flags & ~(int64_t)(ARROW_FLAG_DICTIONARY_ORDERED | ARROW_FLAG_NULLABLE)) == 0);
+    WANT(is_format(schema, "+s") || schema->n_children == (is_list(schema) ? 1 : 0));
+    if (schema->metadata != NULL) check_metadata(schema->metadata);
+    for (int64_t k = 0; k < schema->n_children; k++) check_schema(schema->children[k]);
+    if (schema->dictionary == NULL) {
+        WANT((schema->flags & ARROW_FLAG_DICTIONARY_ORDERED) == 0);
+        return;
+    }
+    WANT(is_one_of(schema, "cCsSiIlL"));
+    check_schema(schema->dictionary);
+    WANT(schema->dictionary->dictionary == NULL);
+}
+
+static uint64_t number_at(const void *bytes, size_t width) {
+    const uint8_t *at = bytes;
+    uint64_t number = 0;
+    for (size_t k = width; k-- > 0;) number = number << 8 | at[k];
+    return number;
+}
+
+static bool bit_at(const void *bits, size_t i) { return ((const uint8_t *)bits)[i / 8] >> i % 8 & 1; }
+
+static bool has_value(const struct ArrowArray *array, size_t i) {
+    if (array->n_buffers == 0) return false;
+    return array->buffers[0] == NULL || bit_at(array->buffers[0], i);
+}
+
+static size_t offset_at(const struct ArrowSchema *schema, const struct ArrowArray *array, size_t i) {
+    size_t width = offset_width(schema);
+    return number_at((const uint8_t *)array->buffers[1] + width * i, width);
+}
+
+/* How long the front of the bytes is that is one letter in UTF-8, or 0. */
+static size_t letter(const uint8_t *at, size_t len) {
+    size_t size = at[0] < 0x80 ? 1 : at[0] >= 0xc2 && at[0] < 0xe0 ? 2 : at[0] >= 0xe0 && at[0] < 0xf0 ? 3 : at[0] >= 0xf0 && at[0] < 0xf5 ? 4 : 0;
+    if (size == 0 || size > len) return 0;
+    for (size_t k = 1; k < size; k++)
+        if (at[k] >> 6 != 2) return 0;
+    if ((at[0] == 0xe0 && at[1] < 0xa0) || (at[0] == 0xed && at[1] >= 0xa0)) return 0;
+    if ((at[0] == 0xf0 && at[1] < 0x90) || (at[0] == 0xf4 && at[1] >= 0x90)) return 0;
+    return size;
+}
+
+static bool is_utf8(const uint8_t *at, size_t len) {
+    for (size_t size; len > 0; at += size, len -= size)
+        if ((size = letter(at, len)) == 0) return false;
+    return true;
+}
+
+/* A buffer of so many bytes: it is aligned, and zeros fill it up to 64 bytes. */
+static void check_buffer(const void *buffer, size_t size) {
+    const uint8_t *at = buffer;
+    WANT(at != NULL && (uintptr_t)at % 64 == 0);
+    for (size_t k = size; k % 64 != 0; k++) WANT(at[k] == 0);
+}
+
+static void check_nulls(const struct ArrowArray *array) {
+    size_t length = (size_t)array->length;
+    int64_t nulls = 0;
+    for (size_t i = 0; i < length; i++) nulls += !has_value(array, i);
+    WANT(array->null_count == -1 || array->null_count == nulls);
+    if (array->n_buffers == 0) return;
+    if (array->buffers[0] == NULL) WANT(array->null_count == 0);
+    else check_buffer(array->buffers[0], (length + 7) / 8);
+}
+
+/* Offsets that never fall, and texts that are UTF-8. */
+static void check_offsets(const struct ArrowSchema *schema, const struct ArrowArray *array) {
+    size_t length = (size_t)array->length, end = offset_at(schema, array, length);
+    check_buffer(array->buffers[1], offset_width(schema) * (length + 1));
+    WANT(end <= INT64_MAX && (offset_width(schema) == 8 || end <= INT32_MAX));
+    for (size_t i = 0; i < length; i++) WANT(offset_at(schema, array, i) <= offset_at(schema, array, i + 1));
+    if (is_list(schema)) {
+        WANT(end <= (size_t)array->children[0]->length);
+        return;
+    }
+    check_buffer(array->buffers[2], end);
+    for (size_t i = 0; i < length && is_one_of(schema, "uU"); i++) {
+        size_t start = offset_at(schema, array, i);
+        if (has_value(array, i)) WANT(is_utf8((const uint8_t *)array->buffers[2] + start, offset_at(schema, array, i + 1) - start));
+    }
+}
+
+/* The number of a slot, a negative one as two's complement of 64 bits. */
+static uint64_t number_of(const struct ArrowSchema *schema, const struct ArrowArray *array, size_t i) {
+    size_t width = value_width(schema);
+    uint64_t number = number_at((const uint8_t *)array->buffers[1] + width * i, width);
+    bool is_negative = !is_one_of(schema, "CSIL") && width < 8 && number >> (8 * width - 1);
+    return is_negative ? number | UINT64_MAX << 8 * width : number;
+}
+
+static void check_array(const struct ArrowSchema *schema, const struct ArrowArray *array) {
+    WANT(array->release != NULL && array->length >= 0 && array->offset == 0);
+    WANT(array->n_buffers == buffers_of(schema) && array->n_children == schema->n_children);
+    WANT((array->dictionary == NULL) == (schema->dictionary == NULL));
+    size_t length = (size_t)array->length;
+    check_nulls(array);
+    for (int64_t k = 0; k < array->n_children; k++) {
+        check_array(schema->children[k], array->children[k]);
+        if (is_format(schema, "+s")) WANT(array->children[k]->length == array->length);
+    }
+    if (offset_width(schema) > 0) check_offsets(schema, array);
+    else if (is_format(schema, "b")) check_buffer(array->buffers[1], (length + 7) / 8);
+    else if (array->n_buffers == 2) check_buffer(array->buffers[1], value_width(schema) * length);
+    if (schema->dictionary == NULL) return;
+    check_array(schema->dictionary, array->dictionary);
+    for (size_t i = 0; i < length; i++)
+        if (has_value(array, i)) WANT(number_of(schema, array, i) < (uint64_t)array->dictionary->length);
+}
+
+/* ---- the text of a value, as `arrowflow show` has it ---- */
+
+/* A field's text. */
+struct text {
+    char *at;
+    size_t len, room;
+};
+
+static void add(struct text *to, const void *bytes, size_t len) {
+    if (to->room - to->len < len) {
+        to->room = 2 * to->room + len;
+        to->at = realloc(to->at, to->room);
+        WANT(to->at != NULL);
+    }
+    if (len > 0) memcpy(to->at + to->len, bytes, len);
+    to->len += len;
+}
+
+static void add_words(struct text *to, const char *words) { add(to, words, strlen(words)); }
+
+static void add_hex(struct text *to, const uint8_t *at, size_t len) {
+    char digits[3];
+    for (size_t k = 0; k < len; k++) {
+        snprintf(digits, sizeof digits, "%02x", at[k]);
+        add_words(to, digits);
+    }
+}
+
+/* The floating-point number of two bytes (IEEE 754, binary16). */
+static float half_at(uint64_t bits) {
+    int exponent = bits >> 10 & 31;
+    float digits = (float)(bits & 1023), size = ldexpf(exponent == 0 ? digits : digits + 1024, (exponent ? exponent : 1) - 25);
+    if (exponent == 31) size = digits > 0 ? (float)NAN : (float)INFINITY;
+    return bits >> 15 ? -size : size;
+}
+
+/* The fewest digits that read back as the number. */
+static void add_float(struct text *to, double real, bool is_single) {
+    char digits[40];
+    if (isnan(real)) add_words(to, "NaN");
+    else if (isinf(real)) add_words(to, real < 0 ? "-inf" : "inf");
+    else {
+        for (int more = 0; more < 18; more++) {
+            snprintf(digits, sizeof digits, "%.*e", more, real);
+            if (is_single ? strtof(digits, NULL) == (float)real : strtod(digits, NULL) == real) break;
+        }
+        char *plus = strchr(digits, '+');
+        if (plus != NULL) memmove(plus, plus + 1, strlen(plus));
+        add_words(to, digits);
+    }
+}
+
+static void add_number(struct text *to, const struct ArrowSchema *schema, const struct ArrowArray *array, size_t i) {
+    uint64_t number = number_of(schema, array, i);
+    uint32_t single_bits = (uint32_t)number;
+    char digits[32];
+    float single;
+    double real;
+    memcpy(&single, &single_bits, sizeof single);
+    memcpy(&real, &number, sizeof real);
+    if (is_one_of(schema, "e")) add_float(to, (double)half_at(number & 0xffff), true);
+    else if (is_one_of(schema, "f")) add_float(to, (double)single, true);
+    else if (is_one_of(schema, "g")) add_float(to, real, false);
+    else {
+        if (is_one_of(schema, "CSIL")) snprintf(digits, sizeof digits, "%llu", (unsigned long long)number);
+        else snprintf(digits, sizeof digits, "%lld", (long long)number);
+        add_words(to, digits);
+    }
+}
+
+static void add_value(struct text *to, const struct ArrowSchema *schema, const struct ArrowArray *array, size_t i, const char *null);
+
+static void add_list(struct text *to, const struct ArrowSchema *schema, const struct ArrowArray *array, size_t i) {
+    size_t start = offset_at(schema, array, i), end = offset_at(schema, array, i + 1);
+    add_words(to, "[");
+    for (size_t k = start; k < end; k++) {
+        if (k > start) add_words(to, ";");
+        add_value(to, schema->children[0], array->children[0], k, "null");
+    }
+    add_words(to, "]");
+}
+
+static void add_struct(struct text *to, const struct ArrowSchema *schema, const struct ArrowArray *array, size_t i) {
+    add_words(to, "{");
+    for (int64_t k = 0; k < array->n_children; k++) {
+        if (k > 0) add_words(to, ";");
+        add_words(to, schema->children[k]->name);
+        add_words(to, "=");
+        add_value(to, schema->children[k], array->children[k], i, "null");
+    }
+    add_words(to, "}");
+}
+
+static void add_value(struct text *to, const struct ArrowSchema *schema, const struct ArrowArray *array, size_t i, const char *null) {
+    if (!has_value(array, i)) add_words(to, null);
+    else if (schema->dictionary != NULL) add_value(to, schema->dictionary, array->dictionary, number_of(schema, array, i), null);
+    else if (is_format(schema, "+s")) add_struct(to, schema, array, i);
+    else if (is_list(schema)) add_list(to, schema, array, i);
+    else if (is_format(schema, "b")) add_words(to, bit_at(array->buffers[1], i) ? "true" : "false");
+    else if (is_one_of(schema, "zZuU")) {
+        size_t start = offset_at(schema, array, i), len = offset_at(schema, array, i + 1) - start;
+        const uint8_t *at = (const uint8_t *)array->buffers[2] + start;
+        if (is_one_of(schema, "uU")) add(to, at, len);
+        else add_hex(to, at, len);
+    } else if (strncmp(schema->format, "w:", 2) == 0)
+        add_hex(to, (const uint8_t *)array->buffers[1] + value_width(schema) * i, value_width(schema));
+    else add_number(to, schema, array, i);
+}
+
+/* Prints a field behind a comma, in quotes where it has to be, and empties it. */
+static void print(struct text *of) {
+    bool is_quoted = false;
+    for (size_t k = 0; k < of->len; k++) is_quoted |= of->at[k] != 0 && strchr(",\"\r\n", of->at[k]) != NULL;
+    fputs(is_quoted ? ",\"" : ",", stdout);
+    for (size_t k = 0; k < of->len; k++) {
+        if (of->at[k] == '"') putchar('"');
+        putchar(of->at[k]);
+    }
+    if (is_quoted) putchar('"');
+    of->len = 0;
+}
+
+static void print_names(const struct ArrowSchema *schema) {
+    struct text name = {NULL, 0, 0};
+    fputs("batch", stdout);
+    for (int64_t k = 0; k < schema->n_children; k++) {
+        add_words(&name, schema->children[k]->name);
+        print(&name);
+    }
+    putchar('\n');
+    free(name.at);
+}
+
+static void print_rows(size_t number, const struct ArrowSchema *schema, const struct ArrowArray *array) {
+    struct text field = {NULL, 0, 0};
+    for (size_t i = 0; i < (size_t)array->length; i++) {
+        printf("%zu", number);
+        for (int64_t k = 0; k < array->n_children; k++) {
+            add_value(&field, schema->children[k], array->children[k], i, "");
+            print(&field);
+        }
+        putchar('\n');
+    }
+    free(field.at);
+}
+
+/* ---- sources ---- */
+
+/* What a callback gives of: bytes in pieces, and at a place a failure instead, so many times. */
+struct given {
+    const uint8_t *bytes;
+    size_t len, at, piece;
+    size_t fails_at;
+    int failure, times;
+    bool has_ended;
+};
+
+static ptrdiff_t give(void *state, uint8_t *room, size_t len) {
+    struct given *it = state;
+    size_t left = it->len - it->at, size = left < it->piece ? left : it->piece;
+    WANT(len > 0 && !it->has_ended);
+    if (it->at >= it->fails_at && it->times > 0) {
+        it->times--;
+        return it->failure;
+    }
+    if (size > len) size = len;
+    if (size > 0) memcpy(room, it->bytes + it->at, size);
+    it->at += size;
+    it->has_ended = size == 0;
+    return (ptrdiff_t)size;
+}
+
+/* All of a file, which the caller frees. */
+static uint8_t *read_file(const char *name, size_t *len) {
+    FILE *file = fopen(name, "rb");
+    size_t room = 65536;
+    uint8_t *bytes = malloc(room);
+    if (file == NULL) {
+        fprintf(stderr, "cannot read %s\n", name);
+        exit(2);
+    }
+    for (*len = 0; (*len += fread(bytes + *len, 1, room - *len, file)) == room;) {
+        bytes = realloc(bytes, room *= 2);
+        WANT(bytes != NULL);
+    }
+    fclose(file);
+    return bytes;
+}
+
+/* ---- a stream, and what it gave ---- */
+
+enum { MOST_THREADS = 64 };
+
+struct seen {
+    struct ArrowSchema schema;
+    struct ArrowArray *arrays;
+    size_t count;
+    int status;
+    char error[256];
+};
+
+/* Asks for the next array once more, where a stream is at an end: it answers the same. */
+static void ask_again(struct ArrowArrayStream *stream, const struct seen *seen) {
+    struct ArrowArray array;
+    WANT(stream->get_next(stream, &array) == seen->status && array.release == NULL);
+    if (seen->status == 0) WANT(stream->get_last_error(stream) == NULL);
+    else WANT(strcmp(stream->get_last_error(stream), seen->error) == 0);
+}
+
+static void note_error(struct ArrowArrayStream *stream, struct seen *seen) {
+    const char *error = stream->get_last_error(stream);
+    WANT((error == NULL) == (seen->status == 0));
+    snprintf(seen->error, sizeof seen->error, "%s", error == NULL ? "" : error);
+}
+
+/* Reads a stream to its end or its fault. */
+static void read_all(struct ArrowArrayStream *stream, struct seen *seen) {
+    struct ArrowArray array;
+    memset(seen, 0, sizeof *seen);
+    seen->status = stream->get_schema(stream, &seen->schema);
+    note_error(stream, seen);
+    WANT((seen->schema.release != NULL) == (seen->status == 0));
+    while (seen->status == 0) {
+        seen->status = stream->get_next(stream, &array);
+        note_error(stream, seen);
+        if (array.release == NULL) break;
+        seen->arrays = realloc(seen->arrays, (seen->count + 1) * sizeof array);
+        WANT(seen->arrays != NULL && seen->status == 0);
+        seen->arrays[seen->count++] = array; /* moved, as the interface allows */
+    }
+    ask_again(stream, seen);
+    ask_again(stream, seen);
+}
+
+/* A schema that is asked for again is the same one. */
+static void check_same(const struct ArrowSchema *a, const struct ArrowSchema *b) {
+    WANT(strcmp(a->name, b->name) == 0 && strcmp(a->format, b->format) == 0 && a->flags == b->flags);
+    WANT((a->metadata == NULL) == (b->metadata == NULL) && a->n_children == b->n_children);
+    WANT((a->dictionary == NULL) == (b->dictionary == NULL));
+    for (int64_t k = 0; k < a->n_children; k++) check_same(a->children[k], b->children[k]);
+    if (a->dictionary != NULL) check_same(a->dictionary, b->dictionary);
+}
+
+/* Opens a stream of the file in the way named. */
+static uint32_t open_as(const char *how, const char *name, struct given *given, int *fd, struct ArrowArrayStream *stream) {
+    if (strcmp(how, "bytes") == 0) return arrowflow_stream_of_bytes(given->bytes, given->len, limits, stream);
+    given->piece = strtoul(how, NULL, 10);
+    if (strcmp(how, "fd") != 0) return arrowflow_stream_of(give, given, limits, stream);
+    *fd = open(name, O_RDONLY);
+    WANT(*fd >= 0);
+    return arrowflow_stream_of_fd(*fd, limits, stream);
+}
+
+/* Reads a file as a stream, which is gone when this returns, as are its bytes. */
+static void read_as(const char *how, const char *name, struct seen *seen) {
+    struct ArrowArrayStream stream;
+    struct ArrowSchema again;
+    int fd = -1;
+    struct given given = {NULL, 0, 0, 0, SIZE_MAX, 0, 0, false};
+    uint8_t *bytes = read_file(name, &given.len);
+    given.bytes = bytes;
+    WANT(open_as(how, name, &given, &fd, &stream) == ARROWFLOW_FINE);
+    WANT(stream.get_last_error(&stream) == NULL);
+    read_all(&stream, seen);
+    WANT((stream.get_schema(&stream, &again) == 0) == (seen->schema.release != NULL));
+    if (again.release != NULL) {
+        check_same(&seen->schema, &again);
+        again.release(&again);
+        WANT(again.release == NULL);
+    }
+    stream.release(&stream);
+    WANT(stream.release == NULL);
+    free(bytes);
+    if (fd >= 0) WANT(close(fd) == 0);
+}
+
+/* Moves an array out of its parent. */
+static struct ArrowArray moved(struct ArrowArray *from) {
+    struct ArrowArray to = *from;
+    from->release = NULL;
+    return to;
+}
+
+static void release(struct ArrowArray *array) {
+    array->release(array);
+    WANT(array->release == NULL);
+}
+
+static void release_all(struct seen *seen) {
+    for (size_t k = 0; k < seen->count; k++) release(seen->arrays + k);
+    if (seen->schema.release != NULL) seen->schema.release(&seen->schema);
+    free(seen->arrays);
+}
+
+/* Checks an array, moves its last child out, and that one's dictionary or first child, and releases each. */
+static void take_apart(const struct ArrowSchema *schema, struct ArrowArray *array) {
+    check_array(schema, array);
+    if (array->n_children == 0) {
+        release(array);
+        return;
+    }
+    const struct ArrowSchema *of = schema->children[array->n_children - 1], *of_below;
+    struct ArrowArray child = moved(array->children[array->n_children - 1]), below;
+    release(array);
+    check_array(of, &child);
+    bool is_nested = child.dictionary != NULL || child.n_children > 0;
+    if (is_nested) {
+        of_below = of->dictionary != NULL ? of->dictionary : of->children[0];
+        below = moved(child.dictionary != NULL ? child.dictionary : child.children[0]);
+    }
+    release(&child);
+    if (is_nested) {
+        check_array(of_below, &below);
+        release(&below);
+    }
+}
+
+/* The arrays of a stream that one thread takes: every second one. */
+struct share {
+    const struct seen *seen;
+    size_t first, step;
+};
+
+static void *take_share(void *state) {
+    const struct share *it = state;
+    for (size_t k = it->first; k < it->seen->count; k += it->step) take_apart(&it->seen->schema, it->seen->arrays + k);
+    return NULL;
+}
+
+/* Releases all arrays, on two threads, and the schema. */
+static void let_go(struct seen *seen) {
+    struct share here = {seen, 0, 2}, there = {seen, 1, 2};
+    pthread_t thread;
+    WANT(pthread_create(&thread, NULL, take_share, &there) == 0);
+    take_share(&here);
+    WANT(pthread_join(thread, NULL) == 0);
+    if (seen->schema.release != NULL) seen->schema.release(&seen->schema);
+    WANT(seen->schema.release == NULL);
+    free(seen->arrays);
+}
+
+/* Tells how a stream ended, as the program does. */
+static int tell_end(const struct seen *seen) {
+    char kind[32];
+    unsigned long long place;
+    if (seen->status == 0) return 0;
+    WANT(seen->status == EINVAL && sscanf(seen->error, "kind %31s at byte %llu", kind, &place) == 2);
+    fflush(stdout);
+    fprintf(stderr, "fault at byte %llu: %s\n", place, kind);
+    return 1;
+}
+
+/* Whether two arrays of a dictionary are the same memory; of Null values there is none. */
+static bool is_one_memory(const struct ArrowArray *a, const struct ArrowArray *b) {
+    if (a->n_buffers > 1) return a->buffers[1] == b->buffers[1];
+    return a->n_children > 0 && is_one_memory(a->children[0], b->children[0]);
+}
+
+static bool has_memory(const struct ArrowArray *of) {
+    return of->n_buffers > 1 || (of->n_children > 0 && has_memory(of->children[0]));
+}
+
+/* A batch's columns by the dictionary of this id share it with the batch before just where none came between. */
+static void check_shared(const struct seen *seen, size_t batch, size_t column, bool is_new) {
+    if (batch == 0) return;
+    const struct ArrowArray *now = seen->arrays[batch].children[column]->dictionary;
+    const struct ArrowArray *last = seen->arrays[batch - 1].children[column]->dictionary;
+    if (has_memory(now)) WANT(is_one_memory(now, last) == !is_new);
+}
+
+/* Reads the stream once more, to see which dictionaries come between batches. */
+static void check_dictionaries(const char *name, const struct seen *seen) {
+    enum { MOST_IDS = 256 };
+    size_t len, at = 0, batch = 0, ids = 0;
+    int64_t came[MOST_IDS];
+    uint8_t *bytes = read_file(name, &len);
+    arrowflow_reader reader = ARROWFLOW_CLOSED;
+    WANT(arrowflow_reader_open(limits, &reader) == ARROWFLOW_FINE);
+    while (batch < seen->count) {
+        arrowflow_step step = arrowflow_reader_read(&reader, bytes + at, len - at);
+        WANT(step.kind == ARROWFLOW_FINE && step.what != ARROWFLOW_NOTHING && ids < MOST_IDS);
+        at += step.taken;
+        if (step.what == ARROWFLOW_DICTIONARY_READ) came[ids++] = step.id;
+        for (size_t k = 0; k < step.columns; k++) {
+            arrowflow_field field = arrowflow_reader_field(&reader, &k, 1, NULL, 0);
+            bool is_new = false;
+            for (size_t i = 0; i < ids; i++) is_new |= came[i] == field.id;
+            if (field.is_encoded) check_shared(seen, batch, k, is_new);
+        }
+        if (step.what != ARROWFLOW_BATCH_READ) continue;
+        batch++;
+        ids = 0;
+    }
+    arrowflow_reader_close(&reader);
+    free(bytes);
+}
+
+static int show(const char *how, const char *name) {
+    struct seen seen;
+    read_as(how, name, &seen);
+    check_dictionaries(name, &seen);
+    if (seen.schema.release != NULL) {
+        check_schema(&seen.schema);
+        WANT(is_format(&seen.schema, "+s"));
+        print_names(&seen.schema);
+    }
+    for (size_t k = 0; k < seen.count; k++) {
+        check_array(&seen.schema, seen.arrays + k);
+        WANT(seen.arrays[k].buffers[0] == NULL);
+        print_rows(k, &seen.schema, seen.arrays + k);
+    }
+    int status = tell_end(&seen);
+    let_go(&seen);
+    return status;
+}
+
+/* Tells how many arrays come, none of which is looked at, and the text at the end. */
+static int tell_ends(const char *name) {
+    struct seen seen;
+    read_as("bytes", name, &seen);
+    bool is_long = strstr(seen.error, "too long") != NULL;
+    WANT(is_long == (seen.status == EOVERFLOW));
+    printf("%zu, %s\n", seen.count, seen.status == 0 ? "the end" : seen.error);
+    release_all(&seen);
+    return 0;
+}
+
+/* Hands each array to a thread as soon as it is there. */
+static int in_threads(const char *name) {
+    struct ArrowArrayStream stream;
+    struct ArrowArray array;
+    pthread_t threads[MOST_THREADS];
+    struct seen seen[MOST_THREADS];
+    struct share all[MOST_THREADS];
+    size_t len, count = 0;
+    uint8_t *bytes = read_file(name, &len);
+    int status = 0;
+    WANT(arrowflow_stream_of_bytes(bytes, len, limits, &stream) == ARROWFLOW_FINE);
+    while (status == 0 && count < MOST_THREADS) {
+        struct seen *it = seen + count;
+        memset(it, 0, sizeof *it);
+        status = stream.get_schema(&stream, &it->schema);
+        if (status == 0) status = stream.get_next(&stream, &array);
+        if (status != 0 || array.release == NULL) {
+            if (it->schema.release != NULL) it->schema.release(&it->schema);
+            break;
+        }
+        it->arrays = malloc(sizeof array);
+        it->count = 1;
+        it->arrays[0] = array;
+        all[count] = (struct share){it, 0, 1};
+        WANT(pthread_create(threads + count, NULL, take_share, all + count) == 0);
+        count++;
+    }
+    stream.release(&stream);
+    for (size_t k = 0; k < count; k++) {
+        WANT(pthread_join(threads[k], NULL) == 0);
+        seen[k].schema.release(&seen[k].schema);
+        free(seen[k].arrays);
+    }
+    free(bytes);
+    return status != 0;
+}
+
+/* ---- what fails ---- */
+
+/* Limits that are none, and streams that are let go before anything was read. */
+static void bad_limits(void) {
+    struct ArrowArrayStream stream;
+    struct given given = {NULL, 0, 0, 1, SIZE_MAX, 0, 0, false};
+    arrowflow_limits high = limits;
+    high.max_rows = UINT64_MAX;
+    WANT(arrowflow_stream_of_bytes(NULL, 0, high, &stream) == ARROWFLOW_BAD_LIMITS && stream.release == NULL);
+    WANT(arrowflow_stream_of_fd(0, high, &stream) == ARROWFLOW_BAD_LIMITS && stream.release == NULL);
+    WANT(arrowflow_stream_of(give, &given, high, &stream) == ARROWFLOW_BAD_LIMITS && stream.release == NULL);
+    WANT(arrowflow_stream_of(give, &given, limits, &stream) == ARROWFLOW_FINE);
+    stream.release(&stream);
+    WANT(arrowflow_stream_of_bytes(NULL, 0, limits, &stream) == ARROWFLOW_FINE);
+    struct seen seen;
+    read_all(&stream, &seen);
+    WANT(seen.status == EINVAL && strcmp(seen.error, "kind NoSchema at byte 0") == 0);
+    stream.release(&stream);
+}
+
+/* A stream that breaks at each place: its arrays are the first ones, and the fault is told again. */
+static void bad_ends(const uint8_t *bytes, size_t len, size_t batches) {
+    size_t arrays = 0;
+    for (size_t cut = 0; cut < len; cut++) {
+        struct ArrowArrayStream stream;
+        struct seen seen;
+        char wanted[96];
+        uint8_t *front = malloc(cut + 1);
+        memcpy(front, bytes, cut);
+        arrowflow_report report = arrowflow_check(front, cut, limits);
+        WANT(arrowflow_stream_of_bytes(front, cut, limits, &stream) == ARROWFLOW_FINE);
+        read_all(&stream, &seen);
+        stream.release(&stream);
+        free(front);
+        snprintf(wanted, sizeof wanted, "kind %s at byte %llu", arrowflow_kind_name(report.kind), (unsigned long long)report.place);
+        WANT(seen.status == (report.kind == ARROWFLOW_FINE ? 0 : EINVAL) && seen.count == report.batches);
+        WANT(report.kind == ARROWFLOW_FINE || strcmp(seen.error, wanted) == 0);
+        arrays += seen.count;
+        for (size_t k = 0; k < seen.count; k++) check_array(&seen.schema, seen.arrays + k);
+        release_all(&seen);
+    }
+    WANT(batches == 0 || arrays > 0);
+}
+
+/* Reads through a callback that fails at a place so many times. */
+static int read_failing(struct given given, struct seen *seen, struct ArrowArrayStream *stream) {
+    struct given *kept = malloc(sizeof given);
+    *kept = given;
+    WANT(arrowflow_stream_of(give, kept, limits, stream) == ARROWFLOW_FINE);
+    read_all(stream, seen);
+    int left = kept->times;
+    stream->release(stream);
+    free(kept);
+    return left;
+}
+
+/* Callbacks that fail: once is enough, and the text says why. A count beyond the room is a failure. */
+static void bad_reads(const uint8_t *bytes, size_t len, size_t batches) {
+    const int failures[] = {-EIO, -ECONNRESET, 65537, INT32_MIN};
+    const int statuses[] = {EIO, ECONNRESET, EIO, EIO};
+    for (size_t k = 0; k < sizeof failures / sizeof *failures; k++)
+        for (size_t at = 0; at <= len; at += len / 7 + 1) {
+            struct ArrowArrayStream stream;
+            struct seen seen;
+            struct given given = {bytes, len, 0, 13, at, failures[k], 3, false};
+            int left = read_failing(given, &seen, &stream);
+            WANT(left == 2 && seen.status == statuses[k]);
+            WANT(strncmp(seen.error, "read failed: ", 13) == 0 && strcmp(seen.error + 13, strerror(statuses[k])) == 0);
+            WANT(seen.count <= batches);
+            release_all(&seen);
+        }
+}
+
+/* Want of memory in a callback is no end: the stream goes on where it is asked again. */
+static void scarce_reads(const uint8_t *bytes, size_t len, size_t batches) {
+    struct ArrowArrayStream stream;
+    struct given given = {bytes, len, 0, 13, len / 2, -ENOMEM, 3, false};
+    size_t count = 0, refused = 0;
+    WANT(arrowflow_stream_of(give, &given, limits, &stream) == ARROWFLOW_FINE);
+    for (;;) {
+        struct ArrowArray array;
+        int status = stream.get_next(&stream, &array);
+        WANT((status == 0) == (stream.get_last_error(&stream) == NULL));
+        if (status == ENOMEM) {
+            WANT(array.release == NULL);
+            refused++;
+            continue;
+        }
+        WANT(status == 0);
+        if (array.release == NULL) break;
+        release(&array);
+        count++;
+    }
+    WANT(count == batches && refused == 3);
+    stream.release(&stream);
+}
+
+static atomic_int alarms = 0;
+
+static void note_alarm(int number) { atomic_fetch_add(&alarms, number == SIGALRM); }
+
+/* Bytes that are written into a pipe when reads of it were interrupted. */
+struct late {
+    const uint8_t *bytes;
+    size_t len;
+    int fd;
+};
+
+static void *write_late(void *state) {
+    const struct late *it = state;
+    const struct timespec pause = {0, 2000000};
+    sigset_t alarm;
+    sigemptyset(&alarm);
+    sigaddset(&alarm, SIGALRM);
+    pthread_sigmask(SIG_BLOCK, &alarm, NULL);
+    while (atomic_load(&alarms) < 3) nanosleep(&pause, NULL);
+    for (size_t at = 0; at < it->len;) {
+        ssize_t put = write(it->fd, it->bytes + at, it->len - at < 1000 ? it->len - at : 1000);
+        WANT(put > 0);
+        at += (size_t)put;
+    }
+    WANT(close(it->fd) == 0);
+    return NULL;
+}
+
+/* A read that a signal interrupts is made again; a file descriptor that is closed is a failure. */
+static void interrupted_reads(const uint8_t *bytes, size_t len, size_t batches) {
+    const struct itimerval often = {{0, 1000}, {0, 1000}}, never = {{0, 0}, {0, 0}};
+    struct ArrowArrayStream stream;
+    struct sigaction action;
+    struct seen seen;
+    pthread_t thread;
+    int ends[2];
+    WANT(pipe(ends) == 0);
+    struct late late = {bytes, len, ends[1]};
+    memset(&action, 0, sizeof action);
+    action.sa_handler = note_alarm;
+    WANT(sigaction(SIGALRM, &action, NULL) == 0);
+    WANT(pthread_create(&thread, NULL, write_late, &late) == 0);
+    WANT(setitimer(ITIMER_REAL, &often, NULL) == 0);
+    WANT(arrowflow_stream_of_fd(ends[0], limits, &stream) == ARROWFLOW_FINE);
+    read_all(&stream, &seen);
+    WANT(setitimer(ITIMER_REAL, &never, NULL) == 0);
+    WANT(seen.status == 0 && seen.count == batches && atomic_load(&alarms) >= 3);
+    WANT(pthread_join(thread, NULL) == 0);
+    stream.release(&stream);
+    release_all(&seen);
+    WANT(close(ends[0]) == 0);
+    WANT(arrowflow_stream_of_fd(ends[0], limits, &stream) == ARROWFLOW_FINE);
+    read_all(&stream, &seen);
+    WANT(seen.status == EBADF && seen.schema.release == NULL);
+    stream.release(&stream);
+}
+
+static int bad(const char *name) {
+    size_t len;
+    uint8_t *bytes = read_file(name, &len);
+    arrowflow_report report = arrowflow_check(bytes, len, limits);
+    WANT(report.kind == ARROWFLOW_FINE && report.batches > 0);
+    bad_limits();
+    bad_ends(bytes, len, report.batches);
+    bad_reads(bytes, len, report.batches);
+    scarce_reads(bytes, len, report.batches);
+    interrupted_reads(bytes, len, report.batches);
+    free(bytes);
+    return 0;
+}
+
+int main(int argc, char **argv) {
+    limits = arrowflow_standard_limits();
+    if (argc > 3 && strcmp(argv[1], "--types") == 0) {
+        limits.types = strcmp(argv[2], "all") == 0 ? ARROWFLOW_ALL_TYPES : ARROWFLOW_CORE_TYPES;
+        argv += 2;
+        argc -= 2;
+    }
+    if (argc == 3 && strcmp(argv[1], "--bad") == 0) return bad(argv[2]);
+    if (argc == 3 && strcmp(argv[1], "threads") == 0) return in_threads(argv[2]);
+    if (argc == 3 && strcmp(argv[1], "ends") == 0) return tell_ends(argv[2]);
+    if (argc == 4 && strcmp(argv[1], "show") == 0) return show(argv[2], argv[3]);
+    fprintf(stderr, "usage: stream [--types core|all] show bytes|fd|SIZE FILE, stream [--types core|all] threads FILE, stream ends FILE, stream --bad FILE\n");
+    return 2;
+}
