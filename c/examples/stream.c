@@ -6,7 +6,7 @@
  * schema and each array is checked against the interface's text first, when the stream, the bytes and the
  * reader are gone. The stream comes from bytes, from a file descriptor or from a callback in pieces of this
  * size. Then one thread and another release the arrays, with children that were moved out. With `threads`
- * each array goes to a thread of its own while the stream is read on. With `ends` it is told how many arrays
+ * each array is asked for on a thread of its own, and goes to another one while the stream is read on. With `ends` it is told how many arrays
  * a stream gives, and what it says then. With --bad sources fail.
  */
 #define _POSIX_C_SOURCE 200809L
@@ -569,27 +569,62 @@ static void check_shared(const struct seen *seen, size_t batch, size_t column, b
     if (has_memory(now)) WANT(is_one_memory(now, last) == !is_new);
 }
 
-/* Reads the stream once more, to see which dictionaries come between batches. */
-static void check_dictionaries(const char *name, const struct seen *seen) {
-    enum { MOST_IDS = 256 };
-    size_t len, at = 0, batch = 0, ids = 0;
+/* Whether a text is this one, up to its first zero byte. */
+static bool is_text(const char *text, const uint8_t *at, size_t len) {
+    const uint8_t *zero = len == 0 ? NULL : memchr(at, 0, len);
+    size_t size = zero == NULL ? len : (size_t)(zero - at);
+    return strlen(text) == size && memcmp(text, at, size) == 0;
+}
+
+/* A schema says what the reader tells of the field that the path leads to, and so do those below it. */
+static void check_told(arrowflow_reader *reader, size_t *path, size_t depth, const struct ArrowSchema *schema) {
+    arrowflow_field field = arrowflow_reader_field(reader, path, depth, NULL, 0);
+    uint8_t *texts = malloc(field.name_len + field.format_len + field.metadata_len + 1), *format, *metadata;
+    arrowflow_reader_field(reader, path, depth, texts, field.name_len + field.format_len + field.metadata_len);
+    format = texts + field.name_len;
+    metadata = format + field.format_len;
+    WANT(is_text(schema->name, texts, field.name_len) && is_text(schema->format, format, field.format_len));
+    WANT((schema->metadata == NULL) == (field.metadata_len == 0));
+    if (schema->metadata != NULL) WANT(memcmp(schema->metadata, metadata, field.metadata_len) == 0);
+    WANT(schema->flags == field.flags && (uint64_t)schema->n_children == field.children);
+    WANT((schema->dictionary != NULL) == field.is_encoded);
+    free(texts);
+    for (size_t k = 0; k < field.children; k++) {
+        path[depth] = k;
+        check_told(reader, path, depth + 1, schema->children[k]);
+    }
+    path[depth] = 0;
+    if (field.is_encoded) check_told(reader, path, depth + 1, schema->dictionary);
+}
+
+/* Checks which columns of the reader's batch share their dictionaries with the batch before, where
+ * dictionaries of these ids came between. */
+static void check_columns(arrowflow_reader *reader, const struct seen *seen, size_t batch, const int64_t *came, size_t ids) {
+    for (size_t k = 0; k < (size_t)seen->schema.n_children; k++) {
+        arrowflow_field field = arrowflow_reader_field(reader, &k, 1, NULL, 0);
+        bool is_new = false;
+        for (size_t i = 0; i < ids; i++) is_new |= came[i] == field.id;
+        if (field.is_encoded) check_shared(seen, batch, k, is_new);
+    }
+}
+
+/* Reads the stream once more, to see what the schema is, and which dictionaries come between batches. */
+static void check_beside_reader(const char *name, const struct seen *seen) {
+    enum { MOST_IDS = 256, MOST_LEVELS = 64 };
+    size_t len, at = 0, batch = 0, ids = 0, path[MOST_LEVELS];
     int64_t came[MOST_IDS];
     uint8_t *bytes = read_file(name, &len);
     arrowflow_reader reader = ARROWFLOW_CLOSED;
+    arrowflow_step step = {0, 0, 0, 0, 0, 0, 0};
     WANT(arrowflow_reader_open(limits, &reader) == ARROWFLOW_FINE);
-    while (batch < seen->count) {
-        arrowflow_step step = arrowflow_reader_read(&reader, bytes + at, len - at);
+    while (batch < seen->count || step.what == ARROWFLOW_NOTHING) {
+        step = arrowflow_reader_read(&reader, bytes + at, len - at);
         WANT(step.kind == ARROWFLOW_FINE && step.what != ARROWFLOW_NOTHING && ids < MOST_IDS);
         at += step.taken;
+        if (step.what == ARROWFLOW_SCHEMA_READ) check_told(&reader, path, 0, &seen->schema);
         if (step.what == ARROWFLOW_DICTIONARY_READ) came[ids++] = step.id;
-        for (size_t k = 0; k < step.columns; k++) {
-            arrowflow_field field = arrowflow_reader_field(&reader, &k, 1, NULL, 0);
-            bool is_new = false;
-            for (size_t i = 0; i < ids; i++) is_new |= came[i] == field.id;
-            if (field.is_encoded) check_shared(seen, batch, k, is_new);
-        }
         if (step.what != ARROWFLOW_BATCH_READ) continue;
-        batch++;
+        check_columns(&reader, seen, batch++, came, ids);
         ids = 0;
     }
     arrowflow_reader_close(&reader);
@@ -599,10 +634,10 @@ static void check_dictionaries(const char *name, const struct seen *seen) {
 static int show(const char *how, const char *name) {
     struct seen seen;
     read_as(how, name, &seen);
-    check_dictionaries(name, &seen);
     if (seen.schema.release != NULL) {
         check_schema(&seen.schema);
         WANT(is_format(&seen.schema, "+s"));
+        check_beside_reader(name, &seen);
         print_names(&seen.schema);
     }
     for (size_t k = 0; k < seen.count; k++) {
@@ -626,10 +661,31 @@ static int tell_ends(const char *name) {
     return 0;
 }
 
-/* Hands each array to a thread as soon as it is there. */
+/* A call of get_next, on a thread of its own. */
+struct asked {
+    struct ArrowArrayStream *stream;
+    struct ArrowArray array;
+    int status;
+};
+
+static void *ask(void *state) {
+    struct asked *it = state;
+    it->status = it->stream->get_next(it->stream, &it->array);
+    return NULL;
+}
+
+static int ask_elsewhere(struct ArrowArrayStream *stream, struct ArrowArray *out) {
+    struct asked asked = {stream, *out, 0};
+    pthread_t thread;
+    WANT(pthread_create(&thread, NULL, ask, &asked) == 0 && pthread_join(thread, NULL) == 0);
+    *out = asked.array;
+    return asked.status;
+}
+
+/* Asks for each array on a thread, and hands it to another one as soon as it is there. */
 static int in_threads(const char *name) {
     struct ArrowArrayStream stream;
-    struct ArrowArray array;
+    struct ArrowArray array = {0, 0, 0, 0, 0, NULL, NULL, NULL, NULL, NULL};
     pthread_t threads[MOST_THREADS];
     struct seen seen[MOST_THREADS];
     struct share all[MOST_THREADS];
@@ -641,7 +697,7 @@ static int in_threads(const char *name) {
         struct seen *it = seen + count;
         memset(it, 0, sizeof *it);
         status = stream.get_schema(&stream, &it->schema);
-        if (status == 0) status = stream.get_next(&stream, &array);
+        if (status == 0) status = ask_elsewhere(&stream, &array);
         if (status != 0 || array.release == NULL) {
             if (it->schema.release != NULL) it->schema.release(&it->schema);
             break;
