@@ -385,7 +385,8 @@ static void copy_run(struct target *to, const arrowflow_column *of, const struct
         if (of->layout != ARROWFLOW_LISTS)
             memcpy(to->values + to->inside, of->values + inside->start, inside->end - inside->start);
         to->inside += inside->end - inside->start;
-    } else if (to->values != NULL) memcpy(to->values + of->width * to->slots, of->values + of->width * run->start, of->width * slots);
+    } else if (to->values != NULL)
+        memcpy(to->values + of->width * to->slots, of->values + of->width * run->start, of->width * slots);
     to->slots += slots;
 }
 
@@ -511,7 +512,8 @@ static int build_dictionary(struct source *it, size_t depth, size_t entries, str
     if (kept->values.release == NULL) {
         int status = build_values(it, depth, entries, &kept->values);
         if (status == EOVERFLOW)
-            snprintf(it->error, sizeof it->error, "the values of dictionary %lld are too long for offsets of 32 bits", (long long)id);
+            snprintf(it->error, sizeof it->error, "the values of dictionary %lld are too long for offsets of 32 bits",
+                     (long long)id);
         if (status != 0) {
             drop(&kept->values);
             return status;

@@ -19,7 +19,7 @@
  *             each further call, but a schema that came is told on. ENOMEM changes nothing: the call may be
  *             made again, and no row is lost.
  * Arrays      Buffers are aligned and padded to 64 bytes and their padding is 0. Each one is copied once
- *             out of the reader, by one memcpy. A column without a validity bitmap has none and a
+ *             out of the reader, by one memcpy but for dictionaries that are joined. A column without a validity bitmap has none and a
  *             null_count of 0; else null_count is -1, not counted, but of the Null type. `offset` is 0. What
  *             is under a null, and what no offset reaches, is what the stream had there.
  * Memory      malloc, calloc, realloc and free are called. Buffers of a stranger's stream may overlap in a

@@ -6,8 +6,8 @@
  * schema and each array is checked against the interface's text first, when the stream, the bytes and the
  * reader are gone. The stream comes from bytes, from a file descriptor or from a callback in pieces of this
  * size. Then one thread and another release the arrays, with children that were moved out. With `threads`
- * each array is asked for on a thread of its own, and goes to another one while the stream is read on. With `ends` it is told how many arrays
- * a stream gives, and what it says then. With --bad sources fail.
+ * each array is asked for on a thread of its own, and goes to another one while the stream is read on. With
+ * `ends` it is told how many arrays a stream gives, and what it says then. With --bad sources fail.
  */
 #define _POSIX_C_SOURCE 200809L
 #include "arrowflow_stream.h"
@@ -55,7 +55,8 @@ static size_t value_width(const struct ArrowSchema *schema) {
     const char *format = schema->format;
     if (is_one_of(schema, "cC")) return 1;
     if (is_one_of(schema, "sSe")) return 2;
-    if (is_one_of(schema, "iIf") || is_format(schema, "tdD") || is_format(schema, "tts") || is_format(schema, "ttm")) return 4;
+    if (is_one_of(schema, "iIf") || is_format(schema, "tdD")) return 4;
+    if (is_format(schema, "tts") || is_format(schema, "ttm")) return 4;
     if (strncmp(format, "w:", 2) == 0) return strtoul(format + 2, NULL, 10);
     WANT(is_one_of(schema, "lLg") || is_format(schema, "tdm") || is_format(schema, "ttu") || is_format(schema, "ttn")
          || (strncmp(format, "ts", 2) == 0 && format[2] != 0 && strchr("smun", format[2]) != NULL && format[3] == ':')
@@ -123,8 +124,8 @@ static size_t offset_at(const struct ArrowSchema *schema, const struct ArrowArra
 
 /* How long the front of the bytes is that is one letter in UTF-8, or 0. */
 static size_t letter(const uint8_t *at, size_t len) {
-    size_t size = at[0] < 0x80 ? 1 : at[0] >= 0xc2 && at[0] < 0xe0 ? 2 : at[0] >= 0xe0 && at[0] < 0xf0 ? 3 : at[0] >= 0xf0 && at[0] < 0xf5 ? 4 : 0;
-    if (size == 0 || size > len) return 0;
+    size_t size = at[0] < 0x80 ? 1 : at[0] < 0xe0 ? 2 : at[0] < 0xf0 ? 3 : 4;
+    if ((at[0] >= 0x80 && at[0] < 0xc2) || at[0] >= 0xf5 || size > len) return 0;
     for (size_t k = 1; k < size; k++)
         if (at[k] >> 6 != 2) return 0;
     if ((at[0] == 0xe0 && at[1] < 0xa0) || (at[0] == 0xed && at[1] >= 0xa0)) return 0;
@@ -167,8 +168,8 @@ static void check_offsets(const struct ArrowSchema *schema, const struct ArrowAr
     }
     check_buffer(array->buffers[2], end);
     for (size_t i = 0; i < length && is_one_of(schema, "uU"); i++) {
-        size_t start = offset_at(schema, array, i);
-        if (has_value(array, i)) WANT(is_utf8((const uint8_t *)array->buffers[2] + start, offset_at(schema, array, i + 1) - start));
+        size_t start = offset_at(schema, array, i), len = offset_at(schema, array, i + 1) - start;
+        if (has_value(array, i)) WANT(is_utf8((const uint8_t *)array->buffers[2] + start, len));
     }
 }
 
@@ -230,7 +231,8 @@ static void add_hex(struct text *to, const uint8_t *at, size_t len) {
 /* The floating-point number of two bytes (IEEE 754, binary16). */
 static float half_at(uint64_t bits) {
     int exponent = bits >> 10 & 31;
-    float digits = (float)(bits & 1023), size = ldexpf(exponent == 0 ? digits : digits + 1024, (exponent ? exponent : 1) - 25);
+    float digits = (float)(bits & 1023);
+    float size = ldexpf(exponent == 0 ? digits : digits + 1024, (exponent ? exponent : 1) - 25);
     if (exponent == 31) size = digits > 0 ? (float)NAN : (float)INFINITY;
     return bits >> 15 ? -size : size;
 }
@@ -269,7 +271,8 @@ static void add_number(struct text *to, const struct ArrowSchema *schema, const 
     }
 }
 
-static void add_value(struct text *to, const struct ArrowSchema *schema, const struct ArrowArray *array, size_t i, const char *null);
+static void add_value(struct text *to, const struct ArrowSchema *schema, const struct ArrowArray *array, size_t i,
+                      const char *null);
 
 static void add_list(struct text *to, const struct ArrowSchema *schema, const struct ArrowArray *array, size_t i) {
     size_t start = offset_at(schema, array, i), end = offset_at(schema, array, i + 1);
@@ -292,9 +295,11 @@ static void add_struct(struct text *to, const struct ArrowSchema *schema, const 
     add_words(to, "}");
 }
 
-static void add_value(struct text *to, const struct ArrowSchema *schema, const struct ArrowArray *array, size_t i, const char *null) {
+static void add_value(struct text *to, const struct ArrowSchema *schema, const struct ArrowArray *array, size_t i,
+                      const char *null) {
     if (!has_value(array, i)) add_words(to, null);
-    else if (schema->dictionary != NULL) add_value(to, schema->dictionary, array->dictionary, number_of(schema, array, i), null);
+    else if (schema->dictionary != NULL)
+        add_value(to, schema->dictionary, array->dictionary, number_of(schema, array, i), null);
     else if (is_format(schema, "+s")) add_struct(to, schema, array, i);
     else if (is_list(schema)) add_list(to, schema, array, i);
     else if (is_format(schema, "b")) add_words(to, bit_at(array->buffers[1], i) ? "true" : "false");
@@ -753,7 +758,8 @@ static void bad_ends(const uint8_t *bytes, size_t len, size_t batches) {
         read_all(&stream, &seen);
         stream.release(&stream);
         free(front);
-        snprintf(wanted, sizeof wanted, "kind %s at byte %llu", arrowflow_kind_name(report.kind), (unsigned long long)report.place);
+        const char *kind = arrowflow_kind_name(report.kind);
+        snprintf(wanted, sizeof wanted, "kind %s at byte %llu", kind, (unsigned long long)report.place);
         WANT(seen.status == (report.kind == ARROWFLOW_FINE ? 0 : EINVAL) && seen.count == report.batches);
         WANT(report.kind == ARROWFLOW_FINE || strcmp(seen.error, wanted) == 0);
         arrays += seen.count;
@@ -898,6 +904,7 @@ int main(int argc, char **argv) {
     if (argc == 3 && strcmp(argv[1], "threads") == 0) return in_threads(argv[2]);
     if (argc == 3 && strcmp(argv[1], "ends") == 0) return tell_ends(argv[2]);
     if (argc == 4 && strcmp(argv[1], "show") == 0) return show(argv[2], argv[3]);
-    fprintf(stderr, "usage: stream [--types core|all] show bytes|fd|SIZE FILE, stream [--types core|all] threads FILE, stream ends FILE, stream --bad FILE\n");
+    fprintf(stderr, "usage: stream [--types core|all] show bytes|fd|SIZE FILE, stream [--types core|all] threads FILE, "
+                    "stream ends FILE, stream --bad FILE\n");
     return 2;
 }
