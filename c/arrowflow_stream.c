@@ -89,7 +89,8 @@ static bool take_buffers(struct ArrowArray *array, const size_t *sizes, bool has
     return true;
 }
 
-/* Makes another owner of an array's buffers, with children of its own. It has no dictionary. */
+/* Makes another owner of an array's buffers, with children of its own. It has no dictionary. Where memory is
+ * wanting, what there is of it is still to be released. */
 static bool share(const struct ArrowArray *from, struct ArrowArray *out) {
     const struct node *of = from->private_data;
     if (!new_array(out, (size_t)from->n_children, false)) return false;
@@ -101,10 +102,7 @@ static bool share(const struct ArrowArray *from, struct ArrowArray *out) {
     node->block = of->block;
     if (node->block != NULL) atomic_fetch_add_explicit(&node->block->owners, 1, memory_order_relaxed);
     for (int64_t k = 0; k < from->n_children; k++)
-        if (!share(from->children[k], out->children[k])) {
-            drop(out);
-            return false;
-        }
+        if (!share(from->children[k], out->children[k])) return false;
     return true;
 }
 
@@ -135,7 +133,6 @@ struct source {
     int fd;
     const uint8_t *piece; /* of which `at` bytes were taken */
     size_t len, at;
-    bool is_dry; /* nothing comes after the piece */
     bool has_schema, has_batch, has_ended;
     size_t columns, rows; /* of the batch */
     int status;           /* of a stream that failed, or 0 */
@@ -185,7 +182,6 @@ static int refill(struct source *it) {
     it->piece = it->room;
     it->len = (size_t)got;
     it->at = 0;
-    it->is_dry = got == 0;
     return 0;
 }
 
@@ -215,7 +211,7 @@ static void forget(struct source *it, int64_t id) {
 
 /* Gives the reader what is there, up to the end of a message. */
 static int advance(struct source *it) {
-    if (it->at == it->len && !it->is_dry) {
+    if (it->at == it->len && it->read != NULL) {
         int status = refill(it);
         if (status != 0) return status;
     }
@@ -389,7 +385,8 @@ static void copy_run(struct target *to, const arrowflow_column *of, const struct
         if (of->layout != ARROWFLOW_LISTS)
             memcpy(to->values + to->inside, of->values + inside->start, inside->end - inside->start);
         to->inside += inside->end - inside->start;
-    } else if (to->values != NULL) memcpy(to->values + of->width * to->slots, of->values + of->width * run->start, of->width * slots);
+    } else if (to->values != NULL)
+        memcpy(to->values + of->width * to->slots, of->values + of->width * run->start, of->width * slots);
     to->slots += slots;
 }
 
@@ -515,7 +512,8 @@ static int build_dictionary(struct source *it, size_t depth, size_t entries, str
     if (kept->values.release == NULL) {
         int status = build_values(it, depth, entries, &kept->values);
         if (status == EOVERFLOW)
-            snprintf(it->error, sizeof it->error, "the values of dictionary %lld are too long for offsets of 32 bits", (long long)id);
+            snprintf(it->error, sizeof it->error, "the values of dictionary %lld are too long for offsets of 32 bits",
+                     (long long)id);
         if (status != 0) {
             drop(&kept->values);
             return status;
@@ -634,7 +632,6 @@ uint32_t arrowflow_stream_of_bytes(const uint8_t *bytes, size_t len, arrowflow_l
     struct source *it = out->private_data;
     it->piece = arrowflow_some(bytes);
     it->len = len;
-    it->is_dry = true;
     return kind;
 }
 

@@ -7,8 +7,10 @@
  *             interface says: the struct is copied, and `release` of the one that stays is set to NULL.
  *             Bytes, a file descriptor and a callback's state stay the caller's, and are used until the
  *             stream is released, not by its arrays.
- * Threads     A stream is used by one thread, the one that made it. Schemas and arrays go to any thread
- *             and are released there: arrays that share a dictionary count their owners atomically.
+ * Threads     Calls of one stream come one after another, as the interface asks, from whatever threads: this
+ *             is tried, while arrowflow.h promises a reader to one thread alone. Schemas and arrays go to
+ *             any thread and are released there, at once with other calls too: arrays that share a
+ *             dictionary count their owners atomically.
  * Errors      get_schema and get_next answer 0 or a number of errno.h, and get_last_error the text, until
  *             the next call, or NULL after success: EINVAL for a fault of the stream (`kind Truncated at
  *             byte 976`), the number that a read gave (`read failed: ..`), EOVERFLOW for a dictionary
@@ -17,9 +19,12 @@
  *             each further call, but a schema that came is told on. ENOMEM changes nothing: the call may be
  *             made again, and no row is lost.
  * Arrays      Buffers are aligned and padded to 64 bytes and their padding is 0. Each one is copied once
- *             out of the reader, by one memcpy. A column without a validity bitmap has none and a
+ *             out of the reader, by one memcpy but for dictionaries that are joined. A column without a validity bitmap has none and a
  *             null_count of 0; else null_count is -1, not counted, but of the Null type. `offset` is 0. What
  *             is under a null, and what no offset reaches, is what the stream had there.
+ * Memory      malloc, calloc, realloc and free are called. Buffers of a stranger's stream may overlap in a
+ *             body, so that the arrays of a batch may take the body's bytes once for each buffer: what
+ *             bounds them together is max_body, the number of fields and malloc.
  * Dictionary  The values of a dictionary are one array, joined where the stream sent them in parts. Batches
  *             share it as long as no message of the dictionary comes, and then all of it is copied anew:
  *             a stream that adds a little before each batch makes copies as long as the dictionary.

@@ -6,8 +6,8 @@
  * schema and each array is checked against the interface's text first, when the stream, the bytes and the
  * reader are gone. The stream comes from bytes, from a file descriptor or from a callback in pieces of this
  * size. Then one thread and another release the arrays, with children that were moved out. With `threads`
- * each array goes to a thread of its own while the stream is read on. With `ends` it is told how many arrays
- * a stream gives, and what it says then. With --bad sources fail.
+ * each array is asked for on a thread of its own, and goes to another one while the stream is read on. With
+ * `ends` it is told how many arrays a stream gives, and what it says then. With --bad sources fail.
  */
 #define _POSIX_C_SOURCE 200809L
 #include "arrowflow_stream.h"
@@ -55,7 +55,8 @@ static size_t value_width(const struct ArrowSchema *schema) {
     const char *format = schema->format;
     if (is_one_of(schema, "cC")) return 1;
     if (is_one_of(schema, "sSe")) return 2;
-    if (is_one_of(schema, "iIf") || is_format(schema, "tdD") || is_format(schema, "tts") || is_format(schema, "ttm")) return 4;
+    if (is_one_of(schema, "iIf") || is_format(schema, "tdD")) return 4;
+    if (is_format(schema, "tts") || is_format(schema, "ttm")) return 4;
     if (strncmp(format, "w:", 2) == 0) return strtoul(format + 2, NULL, 10);
     WANT(is_one_of(schema, "lLg") || is_format(schema, "tdm") || is_format(schema, "ttu") || is_format(schema, "ttn")
          || (strncmp(format, "ts", 2) == 0 && format[2] != 0 && strchr("smun", format[2]) != NULL && format[3] == ':')
@@ -123,8 +124,8 @@ static size_t offset_at(const struct ArrowSchema *schema, const struct ArrowArra
 
 /* How long the front of the bytes is that is one letter in UTF-8, or 0. */
 static size_t letter(const uint8_t *at, size_t len) {
-    size_t size = at[0] < 0x80 ? 1 : at[0] >= 0xc2 && at[0] < 0xe0 ? 2 : at[0] >= 0xe0 && at[0] < 0xf0 ? 3 : at[0] >= 0xf0 && at[0] < 0xf5 ? 4 : 0;
-    if (size == 0 || size > len) return 0;
+    size_t size = at[0] < 0x80 ? 1 : at[0] < 0xe0 ? 2 : at[0] < 0xf0 ? 3 : 4;
+    if ((at[0] >= 0x80 && at[0] < 0xc2) || at[0] >= 0xf5 || size > len) return 0;
     for (size_t k = 1; k < size; k++)
         if (at[k] >> 6 != 2) return 0;
     if ((at[0] == 0xe0 && at[1] < 0xa0) || (at[0] == 0xed && at[1] >= 0xa0)) return 0;
@@ -167,8 +168,8 @@ static void check_offsets(const struct ArrowSchema *schema, const struct ArrowAr
     }
     check_buffer(array->buffers[2], end);
     for (size_t i = 0; i < length && is_one_of(schema, "uU"); i++) {
-        size_t start = offset_at(schema, array, i);
-        if (has_value(array, i)) WANT(is_utf8((const uint8_t *)array->buffers[2] + start, offset_at(schema, array, i + 1) - start));
+        size_t start = offset_at(schema, array, i), len = offset_at(schema, array, i + 1) - start;
+        if (has_value(array, i)) WANT(is_utf8((const uint8_t *)array->buffers[2] + start, len));
     }
 }
 
@@ -230,7 +231,8 @@ static void add_hex(struct text *to, const uint8_t *at, size_t len) {
 /* The floating-point number of two bytes (IEEE 754, binary16). */
 static float half_at(uint64_t bits) {
     int exponent = bits >> 10 & 31;
-    float digits = (float)(bits & 1023), size = ldexpf(exponent == 0 ? digits : digits + 1024, (exponent ? exponent : 1) - 25);
+    float digits = (float)(bits & 1023);
+    float size = ldexpf(exponent == 0 ? digits : digits + 1024, (exponent ? exponent : 1) - 25);
     if (exponent == 31) size = digits > 0 ? (float)NAN : (float)INFINITY;
     return bits >> 15 ? -size : size;
 }
@@ -269,7 +271,8 @@ static void add_number(struct text *to, const struct ArrowSchema *schema, const 
     }
 }
 
-static void add_value(struct text *to, const struct ArrowSchema *schema, const struct ArrowArray *array, size_t i, const char *null);
+static void add_value(struct text *to, const struct ArrowSchema *schema, const struct ArrowArray *array, size_t i,
+                      const char *null);
 
 static void add_list(struct text *to, const struct ArrowSchema *schema, const struct ArrowArray *array, size_t i) {
     size_t start = offset_at(schema, array, i), end = offset_at(schema, array, i + 1);
@@ -292,9 +295,11 @@ static void add_struct(struct text *to, const struct ArrowSchema *schema, const 
     add_words(to, "}");
 }
 
-static void add_value(struct text *to, const struct ArrowSchema *schema, const struct ArrowArray *array, size_t i, const char *null) {
+static void add_value(struct text *to, const struct ArrowSchema *schema, const struct ArrowArray *array, size_t i,
+                      const char *null) {
     if (!has_value(array, i)) add_words(to, null);
-    else if (schema->dictionary != NULL) add_value(to, schema->dictionary, array->dictionary, number_of(schema, array, i), null);
+    else if (schema->dictionary != NULL)
+        add_value(to, schema->dictionary, array->dictionary, number_of(schema, array, i), null);
     else if (is_format(schema, "+s")) add_struct(to, schema, array, i);
     else if (is_list(schema)) add_list(to, schema, array, i);
     else if (is_format(schema, "b")) add_words(to, bit_at(array->buffers[1], i) ? "true" : "false");
@@ -569,27 +574,62 @@ static void check_shared(const struct seen *seen, size_t batch, size_t column, b
     if (has_memory(now)) WANT(is_one_memory(now, last) == !is_new);
 }
 
-/* Reads the stream once more, to see which dictionaries come between batches. */
-static void check_dictionaries(const char *name, const struct seen *seen) {
-    enum { MOST_IDS = 256 };
-    size_t len, at = 0, batch = 0, ids = 0;
+/* Whether a text is this one, up to its first zero byte. */
+static bool is_text(const char *text, const uint8_t *at, size_t len) {
+    const uint8_t *zero = len == 0 ? NULL : memchr(at, 0, len);
+    size_t size = zero == NULL ? len : (size_t)(zero - at);
+    return strlen(text) == size && memcmp(text, at, size) == 0;
+}
+
+/* A schema says what the reader tells of the field that the path leads to, and so do those below it. */
+static void check_told(arrowflow_reader *reader, size_t *path, size_t depth, const struct ArrowSchema *schema) {
+    arrowflow_field field = arrowflow_reader_field(reader, path, depth, NULL, 0);
+    uint8_t *texts = malloc(field.name_len + field.format_len + field.metadata_len + 1), *format, *metadata;
+    arrowflow_reader_field(reader, path, depth, texts, field.name_len + field.format_len + field.metadata_len);
+    format = texts + field.name_len;
+    metadata = format + field.format_len;
+    WANT(is_text(schema->name, texts, field.name_len) && is_text(schema->format, format, field.format_len));
+    WANT((schema->metadata == NULL) == (field.metadata_len == 0));
+    if (schema->metadata != NULL) WANT(memcmp(schema->metadata, metadata, field.metadata_len) == 0);
+    WANT(schema->flags == field.flags && (uint64_t)schema->n_children == field.children);
+    WANT((schema->dictionary != NULL) == field.is_encoded);
+    free(texts);
+    for (size_t k = 0; k < field.children; k++) {
+        path[depth] = k;
+        check_told(reader, path, depth + 1, schema->children[k]);
+    }
+    path[depth] = 0;
+    if (field.is_encoded) check_told(reader, path, depth + 1, schema->dictionary);
+}
+
+/* Checks which columns of the reader's batch share their dictionaries with the batch before, where
+ * dictionaries of these ids came between. */
+static void check_columns(arrowflow_reader *reader, const struct seen *seen, size_t batch, const int64_t *came, size_t ids) {
+    for (size_t k = 0; k < (size_t)seen->schema.n_children; k++) {
+        arrowflow_field field = arrowflow_reader_field(reader, &k, 1, NULL, 0);
+        bool is_new = false;
+        for (size_t i = 0; i < ids; i++) is_new |= came[i] == field.id;
+        if (field.is_encoded) check_shared(seen, batch, k, is_new);
+    }
+}
+
+/* Reads the stream once more, to see what the schema is, and which dictionaries come between batches. */
+static void check_beside_reader(const char *name, const struct seen *seen) {
+    enum { MOST_IDS = 256, MOST_LEVELS = 64 };
+    size_t len, at = 0, batch = 0, ids = 0, path[MOST_LEVELS];
     int64_t came[MOST_IDS];
     uint8_t *bytes = read_file(name, &len);
     arrowflow_reader reader = ARROWFLOW_CLOSED;
+    arrowflow_step step = {0, 0, 0, 0, 0, 0, 0};
     WANT(arrowflow_reader_open(limits, &reader) == ARROWFLOW_FINE);
-    while (batch < seen->count) {
-        arrowflow_step step = arrowflow_reader_read(&reader, bytes + at, len - at);
+    while (batch < seen->count || step.what == ARROWFLOW_NOTHING) {
+        step = arrowflow_reader_read(&reader, bytes + at, len - at);
         WANT(step.kind == ARROWFLOW_FINE && step.what != ARROWFLOW_NOTHING && ids < MOST_IDS);
         at += step.taken;
+        if (step.what == ARROWFLOW_SCHEMA_READ) check_told(&reader, path, 0, &seen->schema);
         if (step.what == ARROWFLOW_DICTIONARY_READ) came[ids++] = step.id;
-        for (size_t k = 0; k < step.columns; k++) {
-            arrowflow_field field = arrowflow_reader_field(&reader, &k, 1, NULL, 0);
-            bool is_new = false;
-            for (size_t i = 0; i < ids; i++) is_new |= came[i] == field.id;
-            if (field.is_encoded) check_shared(seen, batch, k, is_new);
-        }
         if (step.what != ARROWFLOW_BATCH_READ) continue;
-        batch++;
+        check_columns(&reader, seen, batch++, came, ids);
         ids = 0;
     }
     arrowflow_reader_close(&reader);
@@ -599,10 +639,10 @@ static void check_dictionaries(const char *name, const struct seen *seen) {
 static int show(const char *how, const char *name) {
     struct seen seen;
     read_as(how, name, &seen);
-    check_dictionaries(name, &seen);
     if (seen.schema.release != NULL) {
         check_schema(&seen.schema);
         WANT(is_format(&seen.schema, "+s"));
+        check_beside_reader(name, &seen);
         print_names(&seen.schema);
     }
     for (size_t k = 0; k < seen.count; k++) {
@@ -626,10 +666,31 @@ static int tell_ends(const char *name) {
     return 0;
 }
 
-/* Hands each array to a thread as soon as it is there. */
+/* A call of get_next, on a thread of its own. */
+struct asked {
+    struct ArrowArrayStream *stream;
+    struct ArrowArray array;
+    int status;
+};
+
+static void *ask(void *state) {
+    struct asked *it = state;
+    it->status = it->stream->get_next(it->stream, &it->array);
+    return NULL;
+}
+
+static int ask_elsewhere(struct ArrowArrayStream *stream, struct ArrowArray *out) {
+    struct asked asked = {stream, *out, 0};
+    pthread_t thread;
+    WANT(pthread_create(&thread, NULL, ask, &asked) == 0 && pthread_join(thread, NULL) == 0);
+    *out = asked.array;
+    return asked.status;
+}
+
+/* Asks for each array on a thread, and hands it to another one as soon as it is there. */
 static int in_threads(const char *name) {
     struct ArrowArrayStream stream;
-    struct ArrowArray array;
+    struct ArrowArray array = {0, 0, 0, 0, 0, NULL, NULL, NULL, NULL, NULL};
     pthread_t threads[MOST_THREADS];
     struct seen seen[MOST_THREADS];
     struct share all[MOST_THREADS];
@@ -641,7 +702,7 @@ static int in_threads(const char *name) {
         struct seen *it = seen + count;
         memset(it, 0, sizeof *it);
         status = stream.get_schema(&stream, &it->schema);
-        if (status == 0) status = stream.get_next(&stream, &array);
+        if (status == 0) status = ask_elsewhere(&stream, &array);
         if (status != 0 || array.release == NULL) {
             if (it->schema.release != NULL) it->schema.release(&it->schema);
             break;
@@ -697,7 +758,8 @@ static void bad_ends(const uint8_t *bytes, size_t len, size_t batches) {
         read_all(&stream, &seen);
         stream.release(&stream);
         free(front);
-        snprintf(wanted, sizeof wanted, "kind %s at byte %llu", arrowflow_kind_name(report.kind), (unsigned long long)report.place);
+        const char *kind = arrowflow_kind_name(report.kind);
+        snprintf(wanted, sizeof wanted, "kind %s at byte %llu", kind, (unsigned long long)report.place);
         WANT(seen.status == (report.kind == ARROWFLOW_FINE ? 0 : EINVAL) && seen.count == report.batches);
         WANT(report.kind == ARROWFLOW_FINE || strcmp(seen.error, wanted) == 0);
         arrays += seen.count;
@@ -842,6 +904,7 @@ int main(int argc, char **argv) {
     if (argc == 3 && strcmp(argv[1], "threads") == 0) return in_threads(argv[2]);
     if (argc == 3 && strcmp(argv[1], "ends") == 0) return tell_ends(argv[2]);
     if (argc == 4 && strcmp(argv[1], "show") == 0) return show(argv[2], argv[3]);
-    fprintf(stderr, "usage: stream [--types core|all] show bytes|fd|SIZE FILE, stream [--types core|all] threads FILE, stream ends FILE, stream --bad FILE\n");
+    fprintf(stderr, "usage: stream [--types core|all] show bytes|fd|SIZE FILE, stream [--types core|all] threads FILE, "
+                    "stream ends FILE, stream --bad FILE\n");
     return 2;
 }
