@@ -141,7 +141,8 @@ typedef struct {
 /* Writes a stream again: with ARROWFLOW_FINE the bytes are a valid stream with this one's schema and
  * batches, end marker included. No byte of what came is passed on but values, those of dictionaries
  * that no index refers to among them, names and custom metadata of schema and fields: padding, what
- * is under a null and what no offset reaches are not. */
+ * is under a null and what no offset reaches are not. So streams with one schema whose batches hold the
+ * same are written as the same bytes. */
 arrowflow_text arrowflow_copy(const uint8_t *bytes, size_t len, arrowflow_limits limits,
                               arrowflow_options options, uint8_t *out, size_t room);
 
