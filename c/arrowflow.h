@@ -278,7 +278,7 @@ typedef struct {
 } arrowflow_column;
 
 /* Tells in *column where the buffers lie of a column of the reader's batch. path[0] is the number of
- * the column, and each number behind it leads a level down: below LISTS it is 0, below STRUCTS that of
+ * the column, and each number after it leads a level down: below LISTS it is 0, below STRUCTS that of
  * a field, and below INDICES that of a value of the dictionary, which leads to the array that this
  * value stands in, at `slot`. The array's other slots are the dictionary's values around it, one after
  * another, so that value n - slot + slots is the first of the next array. Depth 0 leads nowhere.
@@ -307,8 +307,8 @@ enum arrowflow_flag {
 };
 
 /* A field, or the schema, as an ArrowSchema of the Arrow C data interface tells it. Its three texts
- * stand one after another in the room, name, format and metadata, with nothing between them or behind
- * them: as much of their front as fits, and what the room held behind it is as it was. Where
+ * stand one after another in the room, name, format and metadata, with nothing between them or after
+ * them: as much of their front as fits, and what the room held after it is as it was. Where
  * name_len + format_len + metadata_len is at most `room` all of them are there; so a call with a room
  * of 0 bytes measures. No text ends with a zero byte of its own. */
 typedef struct {
@@ -328,7 +328,7 @@ typedef struct {
 } arrowflow_field;
 
 /* Tells of the reader's schema, at depth 0, or of the field that a path leads to. path[0] is the number
- * of the column, and each number behind it leads a level down, to the child field of this number, from
+ * of the column, and each number after it leads a level down, to the child field of this number, from
  * 0. Below a dictionary-encoded field there stands, under 0 alone, the field of the dictionary's values:
  * without a name or metadata, nullable, with the values' format and children. Once the schema was read
  * it answers the same of a path after each further call, until the reader is closed or opened anew. It

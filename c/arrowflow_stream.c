@@ -19,12 +19,12 @@ enum { PIECE = 65536, ALIGNMENT = 64, ERROR_ROOM = 192, MOST_BUFFERS = 3 };
 
 /* ---- what the arrays and the schemas own ---- */
 
-/* Buffers, which lie behind it. Arrays of one dictionary own them together. */
+/* Buffers, which lie after it. Arrays of one dictionary own them together. */
 struct block {
     atomic_size_t owners;
 };
 
-/* What an array owns besides: its children lie in it, and its dictionary behind them, and then the table
+/* What an array owns besides: its children lie in it, and its dictionary after them, and then the table
  * of the children. */
 struct node {
     struct block *block; /* or NULL */
@@ -231,7 +231,7 @@ static int advance(struct source *it) {
 
 /* ---- schemas ---- */
 
-/* Makes room for a field's children, dictionary and texts, a zero byte behind the first two of these. */
+/* Makes room for a field's children, dictionary and texts, a zero byte after the first two of these. */
 static char *new_schema(const arrowflow_field *field, struct ArrowSchema *out) {
     size_t children = field->children, below = children + field->is_encoded;
     size_t texts = field->name_len + field->format_len + field->metadata_len;
@@ -344,7 +344,7 @@ static void find_inside(struct source *it, const struct slots *from, struct run 
     }
 }
 
-/* Copies bits, or sets them where there are none. All before bit `at` were copied, and those behind them
+/* Copies bits, or sets them where there are none. All before bit `at` were copied, and those after them
  * up to the end of a byte are anything. */
 static void copy_bits(uint8_t *to, size_t at, const uint8_t *bits, size_t bits_len, const struct run *run) {
     size_t count = run->end - run->start;

@@ -33,7 +33,7 @@ def edited(edit, function):
 
 
 def leaves_its_cycle(edit):
-    """Whether the edit's function stands in a cycle of calls and calls none of the cycle any more."""
+    """Whether the edit's function is one of a cycle of calls and calls none of the cycle any more."""
     for function in edit.owners():
         whole = edited(edit, function)
         cycle = CYCLE.search(whole)

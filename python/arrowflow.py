@@ -238,7 +238,7 @@ class Column:
     """A column of a batch, or what stands below one: its layout, how many slots it has, how many bytes a number, an index, a byte
     string of FIXED_BYTES or an offset takes, whether numbers have a sign, and its buffers as memoryviews of bytes. Bit i of
     `validity` says whether slot i has a value; where it is empty, each slot has one. `offsets` and `values` are little-endian, and
-    may have bytes behind those of the slots. The buffers are copied out of the batch, so they and all that is made of them stay as
+    may have bytes after those of the slots. The buffers are copied out of the batch, so they and all that is made of them stay as
     they are, whatever becomes of the reader; children and entries are asked for while the batch holds."""
 
     def __init__(self, batch, path):
@@ -358,7 +358,7 @@ class Reader:
         return text.decode() if cell.what == 4 else values[cell.what] if cell.what in values else Nested()
 
     def end(self):
-        """Raises Fault where a stream cannot end behind what was fed."""
+        """Raises Fault where a stream cannot end after what was fed."""
         for _ in self._batches():
             pass
         self._ask()

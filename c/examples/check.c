@@ -174,7 +174,7 @@ static void add(text *to, const char *bytes, size_t len) {
 
 static void add_word(text *to, const char *word) { add(to, word, strlen(word)); }
 
-/* Adds a name as it stands in the text of a schema. */
+/* Adds a name as the text of a schema has it. */
 static void add_escaped(text *to, const char *name, size_t len) {
     for (size_t k = 0; k < len; k++) {
         unsigned char byte = (unsigned char)name[k];
@@ -195,7 +195,7 @@ static const char *const type_words[][2] = {
     {"tDu", "duration[us]"}, {"tDn", "duration[ns]"}, {"+l", "list"},      {"+L", "large_list"},   {"+s", "struct"},
 };
 
-/* What stands there of a unit of timestamps, behind "timestamp[". */
+/* The text of a unit of timestamps, after "timestamp[". */
 static const char *unit_word(char unit) {
     return unit == 's' ? "s" : unit == 'm' ? "ms" : unit == 'u' ? "us" : unit == 'n' ? "ns" : "?";
 }
@@ -436,7 +436,7 @@ static void bad_paths(const uint8_t *bytes, size_t len) {
     WANT(is_no_column(&reader, NULL, 0));
 }
 
-/* What is told of a field of an example: where it stands, and its texts. */
+/* A field of an example: its path, and its texts. */
 typedef struct {
     size_t depth, path[3];
     uint32_t flags;
@@ -487,7 +487,7 @@ static const wanted_field of_metadata[] = {
     {1, {4}, 2, false, 0, 0, "t", "tsu:UTC", BYTES("")},
 };
 
-/* Whether a field is told so, with each room from one of no bytes to one that has a byte too many. */
+/* Whether the call gives this field, with each room from one of no bytes to one that has a byte too many. */
 static bool is_told(arrowflow_reader *reader, const wanted_field *want) {
     uint8_t room[256], texts[256];
     size_t name = strlen(want->name), format = strlen(want->format), all = name + format + want->metadata_len;

@@ -337,6 +337,6 @@ int main(int argc, char **argv) {
     starve_arrays(false);
     starve_arrays(true);
     want(refused > 0, "a growth was refused");
-    want(kept > 0 || whole.batches < 2, "a growth was refused behind a batch");
+    want(kept > 0 || whole.batches < 2, "a growth was refused after a batch");
     return 0;
 }

@@ -72,7 +72,7 @@ static int64_t buffers_of(const struct ArrowSchema *schema) {
 
 /* ---- checks of what the interface asks for ---- */
 
-/* The pairs that metadata begin with a count of are there: a byte that is not is told by a sanitizer. */
+/* The pairs that metadata begin with a count of are there: a sanitizer reports a byte that is not. */
 static void check_metadata(const char *at) {
     int32_t pairs, len;
     unsigned sum = 0;
@@ -313,7 +313,7 @@ static void add_value(struct text *to, const struct ArrowSchema *schema, const s
     else add_number(to, schema, array, i);
 }
 
-/* Prints a field behind a comma, in quotes where it has to be, and empties it. */
+/* Prints a field after a comma, in quotes where it has to be, and empties it. */
 static void print(struct text *of) {
     bool is_quoted = false;
     for (size_t k = 0; k < of->len; k++) is_quoted |= of->at[k] != 0 && strchr(",\"\r\n", of->at[k]) != NULL;
@@ -744,7 +744,7 @@ static void bad_limits(void) {
     stream.release(&stream);
 }
 
-/* A stream that breaks at each place: its arrays are the first ones, and the fault is told again. */
+/* A stream that breaks at each place: its arrays are the first ones, and the fault comes again. */
 static void bad_ends(const uint8_t *bytes, size_t len, size_t batches) {
     size_t arrays = 0;
     for (size_t cut = 0; cut < len; cut++) {

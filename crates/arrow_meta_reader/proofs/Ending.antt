@@ -38,7 +38,7 @@ later_paid old mid y ys paid = record {
   text_paid = omega (arith, paid.text_paid);
 }
 
--- what stands read of the rest of a row
+-- the rest of a row, as it was read
 later_done : (bytes : List ℕ) (r : Spot) (rs : List Spot) (most : ℕ) (old mid : Room) (i : ℕ) (y : Tree) (ys : Trees) → Done bytes (r ∷ rs) most old mid (suc i) (more y ys) →
     Done bytes rs most (after old y) mid i ys
 later_done bytes r rs most old mid i y ys d = record { lie = d.lie.1; deep = omega (arith, d.deep); paid = later_paid old mid y ys d.paid }

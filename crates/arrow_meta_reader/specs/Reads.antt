@@ -76,7 +76,7 @@ mutual
     -- there is no room for a text or a string
     ends_long : {v : Bool} {s : Spot} {most : ℕ} {room : Room} (x : Leaf) →
         layer bytes s ≡ Some (leaf_layer x) → room.text < text_length x → Ends bytes v Metadata s most room room
-    -- a growth for what stands in a field is refused, and a text or a string there is paid for
+    -- a growth for the value of a field is refused, and a text or a string there is paid for
     ends_refused : {v : Bool} {s : Spot} {most : ℕ} {room new : Room} (x : Leaf) →
         layer bytes s ≡ Some (leaf_layer x) → TakesMemory x room → Spends room new 0 0 (text_length x) →
         Ends bytes v Memory s most room new

@@ -22,7 +22,7 @@ pub fn one_meaning()
 {}
 
 /// The bytes of a metadata mean at most one message, or have at most one fault, and never both. The
-/// work that is told with a fault other than want of memory is but one.
+/// work that is counted with a fault other than want of memory is but one.
 pub fn one_answer()
     ensures message { (limits : LimitNumbers) (bytes : List ℕ) (m n : PlainMessage)
         → MetadataMeans limits bytes m → MetadataMeans limits bytes n → m ≡ n }

@@ -1,9 +1,8 @@
 //! The metadata of Arrow messages: from a stranger's bytes to a schema, a dictionary batch or a
 //! record batch, or to the least fault.
 //!
-//! The layer takes the bytes of one metadata and the limits of `arrow_types`, and stands on
-//! `arrow_flatbuf` for what is readable at a place. It works in two steps, which can be called by
-//! themselves:
+//! The layer takes the bytes of one metadata and the limits of `arrow_types`, and reads tables by
+//! `arrow_flatbuf`. It works in two steps, which can be called by themselves:
 //!
 //! - [`tree`] reads what is looked at into a [`MessageTree`], within the limits.
 //! - [`judge`] answers the [`Message`] that the tree means, or the [`MetaFault`] with the least
@@ -14,10 +13,9 @@
 //!
 //! Each answer is pinned in both directions: a fault comes exactly where its condition holds and no
 //! condition of a lower number does, and a message exactly where none holds. Of a tree `Memory`, a
-//! refused growth, is answered only where no fault holds: every fault is told before the memory of
-//! a message is taken, and where a growth is refused to the test of shared dictionary ids, that
-//! goes on without memory. Of bytes it says only that reading them asks for memory, since their
-//! tree is kept in memory.
+//! refused growth, is answered only where no fault holds: every fault comes before the memory of a
+//! message is taken, and the test of shared dictionary ids goes on without memory where its growth
+//! is refused. Of bytes it says only that reading them asks for memory, which their tree takes.
 //!
 //! | Notion | Definition |
 //! |---|---|

@@ -57,7 +57,7 @@ pub fn tree(alloc: Global, bytes: &[u8], limits: &Limits) -> Result<MessageTree,
 /// The same, with what it came to. The work is 0 first, whatever it was, and then counts each Field
 /// table and each KeyValue table before it is opened, and each byte of a name, a zone, a key or a
 /// value before it is copied. It keeps to the limits whatever is answered. Where a tree is, it counts
-/// just what that has; after a fault just what stands before the place where reading ended with it,
+/// just what that has; after a fault just what was read before the place where reading ended with it,
 /// and a table or a copy that it ended at, where there was room for that.
 pub fn tree_counted(
     alloc: Global,

@@ -66,7 +66,7 @@ message_of content body = record { version = versions.V5; header = content; body
 -- b is the frame of this content and this body: the continuation and the size of the metadata, which is not 0, in eight bytes; the
 -- metadata, which mean a message of version V5 with the content and the length of the body; the body (Columnar Format,
 -- "Encapsulated message format"; Schema.fbs, enum "MetadataVersion"). Of all metadata that mean this message they are those that the
--- function `metadata` gives, and zero bytes behind them.
+-- function `metadata` gives, and zero bytes after them.
 pub record IsFrameOf (limits : LimitNumbers) (size : ℕ) (content : PlainHeader) (body b : List ℕ) : Type 0 where
   pub prefix : List ℕ
   pub metadata : List ℕ

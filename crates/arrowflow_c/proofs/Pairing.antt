@@ -11,7 +11,7 @@ use Rattle.arrowflow_c.specs.Fields.{counted, metadata_bytes, pair_bytes}
 abbrev pub Pair : Type 0
 Pair = Vec ℕ Global × Vec ℕ Global
 
--- one more pair stands behind those before
+-- one more pair comes after those before
 pub pairs_next : (ps : List Pair) (k : ℕ) (p : Pair) (key value : List ℕ) → take (k + 1) ps ≡ take k ps ++ p ∷ [] → key ≡ p.0.items → value ≡ p.1.items
     → (flat_map pair_bytes (pairs_view (take k ps)) ++ counted key) ++ counted value ≡ flat_map pair_bytes (pairs_view (take (k + 1) ps))
 pairs_next ps k p key value next is_key is_value =

@@ -25,14 +25,14 @@ filled_by (x ∷ room) (y ∷ text) (suc k) e = ap (λ l. y ∷ l) (filled_by ro
 pub filled_over : (room text : List ℕ) → filled room text ≡ over room zero text
 filled_over room text = filled_by room text (min (length text) (length room)) refl
 
--- and behind a place from there on
+-- and past a place from there on
 pub written_over : (room : List ℕ) (at : ℕ) (text : List ℕ) → written room at text ≡ over room at text
 written_over [] zero text = filled_over [] text
 written_over [] (suc at) text = filled_over [] text
 written_over (x ∷ room) zero text = filled_over (x ∷ room) text
 written_over (x ∷ room) (suc at) text = ap (λ l. x ∷ l) (written_over room at text)
 
--- a text behind a text, from where that ends or behind the room
+-- a text after a text, from where that ends or past the room
 over_more : (room : List ℕ) (at : ℕ) (u v : List ℕ) (next : ℕ) (most : ℕ) → length room ≤ most → next ≡ min (at + length u) most
     → over (over room at u) next v ≡ over room at (u ++ v)
 over_more [] at u v next most fits e = refl
@@ -49,7 +49,7 @@ over_more (x ∷ room) (suc at) u v (suc next) most fits e =
 abbrev pub IsTold : ℕ → Type 0
 IsTold n = n ≤ 2 ^ 64 - 1
 
--- a pen behind two texts
+-- a pen after two texts
 pens_same : (p : Pen) (u v : List ℕ) → moved (moved p u) v ≡ moved p (u ++ v)
 pens_same p u v =
     let sum = length-append u v in
@@ -61,13 +61,13 @@ pens_same p u v =
     size : length (u ++ v) ≡ length u + length v → (moved (moved p u) v).size ≡ (moved p (u ++ v)).size
     size sum = omega (arith, sum)
 
--- the room behind two texts
+-- the room after two texts
 room_more : (old between new : List ℕ) (at next : ℕ) (u v : List ℕ) → IsTold (length old) → next ≡ reported (at + length u) → between ≡ written old at u → new ≡ written between next v → new ≡ written old at (u ++ v)
 room_more old between new at next u v fits is first then =
     then ∙ written_over between next v ∙ ap (λ room. over room next v) (first ∙ written_over old at u)
     ∙ over_more old at u v next (2 ^ 64 - 1) fits is ∙ sym (written_over old at (u ++ v))
 
--- a text was put behind a text
+-- a text was put after a text
 pub puts_more : (old between new : List ℕ) (p q s : Pen) (u v : List ℕ) → IsTold (length old) → Puts old p u q between → Puts between q v s new → Puts old p (u ++ v) s new
 puts_more old between new p q s u v fits first then =
     record {

@@ -1,4 +1,4 @@
--- What is told of a schema and of its fields (Arrow C data interface, "The ArrowSchema structure").
+-- A schema and its fields as a caller gets them (Arrow C data interface, "The ArrowSchema structure").
 use Rattle.std.specs.Prelude.{◌≡◌, ℕ, zero, suc, pos, ◌+◌, Bool, true, false, if◌then◌else◌, List, [], ◌∷◌, ◌++◌, length, flat_map, Option, Some, None, MatchOption}
 use Rattle.arrow_bits.specs.Numbers.{number_bytes}
 use Rattle.arrow_types.specs.DataType.{int, struct}
@@ -42,7 +42,7 @@ nth_field (more head children rest) (noted pairs below notes) zero =
     Some (record { shape = record { head = head; children = children }; notes = record { pairs = pairs; below = below } })
 nth_field (more head children rest) (noted pairs below notes) (suc n) = nth_field rest notes n
 
--- What stands below a field under a number: a child; below one that holds indices that of the dictionary's values, under 0.
+-- The field below a field by its number: a child; below one that holds indices, under 0, that of the dictionary's values.
 abbrev pub below_by : Option Encoding → NotedField → ℕ → Option NotedField
 below_by None f n = nth_field f.shape.children f.notes.below n
 below_by (Some encoding) f zero = Some (values_field f)
@@ -80,7 +80,7 @@ flags_of h = flag (is_ordered h.encoding) 1 + flag h.nullable 2
 abbrev pub field_format : Head → List ℕ
 field_format h = elim (h.encoding) [ None ↦ format_of h.tag | Some e ↦ format_of (int e.index.bits e.index.signed) ]
 
--- bytes behind their number ("ArrowSchema.metadata": 32-bit lengths; here of a greater number the lowest 32 bits)
+-- bytes after their number ("ArrowSchema.metadata": 32-bit lengths; here of a greater number the lowest 32 bits)
 abbrev pub counted : List ℕ → List ℕ
 counted bytes = number_bytes 4 (length bytes) ++ bytes
 
@@ -101,12 +101,12 @@ texts_of f = f.shape.head.name ++ field_format f.shape.head ++ metadata_bytes f.
 abbrev pub no_field : FieldC
 no_field = record { found = 0; flags = 0; is_encoded = false; id = pos 0; children = 0; name_len = 0; format_len = 0; metadata_len = 0 }
 
--- what is told of an encoding
+-- with the id of an encoding
 abbrev pub with_encoding : Option Encoding → FieldC → FieldC
 with_encoding None c = c
 with_encoding (Some e) c = record c { is_encoded = true; id = e.id; children = 0 }
 
--- What is told of a field: of one that holds indices no children, which its dictionary's values have.
+-- The struct of a field: one that holds indices has no children, which its dictionary's values have.
 abbrev pub field_told : ℕ → NotedField → FieldC
 field_told found f = with_encoding f.shape.head.encoding (record {
   found = found;

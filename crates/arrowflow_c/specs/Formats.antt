@@ -6,7 +6,7 @@ use Rattle.arrow_types.specs.declared.data_type.DateUnit.TheVariants as dates
 use Rattle.arrow_types.specs.declared.data_type.Precision.TheVariants.{Half, Single, Double}
 use Rattle.arrow_types.specs.declared.data_type.TimeUnit.TheVariants as times
 
--- what stands behind a timestamp's colon: the name of its zone, where it has one
+-- what follows a timestamp's colon: the name of its zone, where it has one
 abbrev pub zone_name : Option (List ℕ) → List ℕ
 zone_name None = []
 zone_name (Some zone) = zone

@@ -4,11 +4,11 @@ use Rattle.arrowflow_c.specs.declared.pens.Pen.{Pen}
 use Rattle.arrowflow_c.specs.Survey.{reported}
 use Rattle.arrowflow_c.specs.Texts.{filled}
 
--- the room behind a text that was put at a place: as much of its front as fits
+-- the room after a text was put at a place: as much of its front as fits
 abbrev pub written : List ℕ → ℕ → List ℕ → List ℕ
 written room at text = take at room ++ filled (drop at room) text
 
--- the pen behind a text
+-- the pen after a text
 abbrev pub moved : Pen → List ℕ → Pen
 moved p text = record { at = reported (p.at + length text); size = reported (p.size + length text) }
 

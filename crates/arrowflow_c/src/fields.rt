@@ -62,7 +62,7 @@ impl FieldC {
         }
     }
 
-    /// What is told of a place, whose texts are put into the room.
+    /// The field of a place, whose texts are put into the room.
     fn of(found: u32, place: Place<'_>, room: &mut [u8]) -> FieldC
         ensures { TellsField found (field_in place.entry) room.old result room.new }
     {

@@ -110,7 +110,7 @@ fn time_format(unit: TimeUnit) -> &'static str
     }
 }
 
-/// The format string of timestamps without a zone, behind which a zone's name stands.
+/// The format string of timestamps without a zone, which a zone's name follows.
 fn timestamp_front(unit: TimeUnit) -> &'static str
     ensures { result.now ≡ format_of (timestamp unit None) }
 {

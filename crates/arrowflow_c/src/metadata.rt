@@ -31,7 +31,7 @@ fn put_pairs(room: &mut [u8], pen: Pen, pairs: &[(Vec<u8>, Vec<u8>)]) -> Pen
     pen
 }
 
-/// Puts bytes into the room behind their number.
+/// Puts bytes into the room after their number.
 fn put_counted(room: &mut [u8], pen: Pen, bytes: &[u8]) -> Pen
     ensures puts { Puts room.old pen (counted bytes.now) result room.new }
     ensures fits { length room.old < 2 ^ 64 }

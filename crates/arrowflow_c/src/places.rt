@@ -101,7 +101,7 @@ impl<'a> Place<'a> {
         }
     }
 
-    /// What stands below under a number: a field, or under 0 that of the dictionary's values.
+    /// The field below by its number: a child, or under 0 that of the dictionary's values.
     fn below(self, n: usize) -> Option<Place<'a>>
         ensures { option_map field_in result
             ≡ below_by (field_in self.entry).shape.head.encoding (field_in self.entry) n }

@@ -127,7 +127,7 @@ fn show_column<'a>(reading: Option<&'a Reading>, path: &[usize], column: &mut Co
 }
 
 /// Tells of the reader's schema, or of the field that a path leads to: the number of the column, and
-/// behind it, from level to level, that of a child; below a dictionary-encoded field 0 leads to the
+/// after it, from level to level, that of a child; below a dictionary-encoded field 0 leads to the
 /// field of the dictionary's values, which has its type and its children. All are counted from 0.
 /// The name, the format string and the metadata, as the Arrow C data interface writes them, are put
 /// into the room one after another, as much of their front as fits, and their lengths are told.

@@ -19,7 +19,7 @@ pub fn copy_of_front()
 /// A copy that ended well wrote just the bytes that are sent of the schema and of what the batches
 /// hold. So two streams with one schema, whose batches hold the same raw values, rows and
 /// dictionaries, are copied to equal bytes: whatever else stood in their metadata, in gaps, in
-/// padding, under nulls or behind lengths is gone, and nothing of it can be told from the copy.
+/// padding, under nulls or past lengths is gone, and the copy shows nothing of it.
 pub fn copies_are_equal()
     ensures sent { CopyIsSent }
     ensures equal { CopiesAreEqual }

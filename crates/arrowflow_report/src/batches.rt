@@ -11,7 +11,7 @@ use arrow_stream_reader::{Item, StreamReader};
 use std::alloc::AllocError;
 
 /// A list of batches is a consumer: it keeps those of its stream, in the order of their messages,
-/// behind what it held. What [`crate::drive`] promises of it is promised of a list that is empty
+/// after what it held. What [`crate::drive`] promises of it is promised of a list that is empty
 /// at first.
 /// `Memory` where a growth was refused; it never has enough, and answers `Ok` to an end.
 impl Consumer for Vec<Batch> {

@@ -7,7 +7,7 @@ use Rattle.arrowflow_c.specs.Pens.{Puts}
 use Rattle.arrowflow_c.proofs.Writing.{puts_more}
 use Rattle.arrowflow_c.proofs.formats.put_type.Goals as goal
 
--- the width stands behind the front
+-- the width follows the front
 pub returns-in-FixedSizeBinary : goal.returns-in-FixedSizeBinary
 returns-in-FixedSizeBinary c =
     let tag : Tag = (type_view c.args.data_type.now).tag in
@@ -21,7 +21,7 @@ returns-in-FixedSizeBinary c =
     (puts_more c.args.room.now c.put-pen.new.room c.put.new.room c.args.pen c.put-pen.result c.put.result c.as_bytes.result.now digits
     (omega (arith, c.put-pen.ensures.fits)) c.put-pen.ensures.puts c.put.ensures.puts)
 
--- the zone stands behind the front
+-- the zone follows the front
 pub returns-in-Timestamp-default-Some : goal.returns-in-Timestamp-default-Some
 returns-in-Timestamp-default-Some c =
     let tag : Tag = (type_view c.args.data_type.now).tag in

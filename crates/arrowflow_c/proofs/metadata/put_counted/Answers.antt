@@ -3,7 +3,7 @@ use Rattle.arrow_bits.specs.Numbers.{number_bytes}
 use Rattle.arrowflow_c.proofs.Writing.{puts_more}
 use Rattle.arrowflow_c.proofs.metadata.put_counted.Goals as goal
 
--- the bytes stand behind their number
+-- the bytes follow their number
 pub returns-clause-puts : goal.returns-clause-puts
 returns-clause-puts c =
     let bytes = c.args.bytes.now in

@@ -7,7 +7,7 @@ use Rattle.arrowflow_c.proofs.Pairing.{metadata_some}
 use Rattle.arrowflow_c.proofs.Writing.{puts_more}
 use Rattle.arrowflow_c.proofs.metadata.put_metadata.Goals as goal
 
--- the pairs stand behind their number
+-- the pairs follow their number
 pub returns : goal.returns
 returns c =
     let pairs = c.args.pairs.now in
