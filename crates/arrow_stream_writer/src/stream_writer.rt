@@ -14,6 +14,7 @@ use arrow_dict::{Tracker, Updates};
 use arrow_sink::{Sink, Status, WriteFault, send};
 use arrow_types::{Limits, Schema};
 use std::alloc::Global;
+use std::mem::replace;
 
 /// How a writer sends.
 #[derive(Clone, Copy, Debug, PartialEq, Eq)]
@@ -183,6 +184,20 @@ impl<S: Sink> StreamWriter<S> {
         ensures { result.now ≡ self.now.sink }
     {
         &self.sink
+    }
+
+    /// Puts another sink in the place of the writer's, and answers that one: what is sent from here on goes to the other.
+    /// Takes no memory.
+    pub fn replace_sink(&mut self, sink: S) -> S
+        ensures sink { result ≡ self.old.sink }
+        ensures placed { self.new.sink ≡ sink }
+        ensures kept { shown S.contents S.failed self.new
+            ≡ record (shown S.contents S.failed self.old) {
+              contents = S.contents sink;
+              failures = S.failed sink;
+            } }
+    {
+        replace(&mut self.sink, sink)
     }
 
     /// The sink, without the writer. Takes no memory.

@@ -18,7 +18,7 @@ use std::alloc::Global;
 
 /// What came of a piece.
 #[derive(Clone, Copy)]
-pub(crate) enum Progress {
+pub enum Progress {
     /// The stream goes on.
     GoesOn,
     /// It ended with its end marker.
@@ -93,8 +93,13 @@ fn drive_pieces<R: Input, C: Consumer>(
     }
 }
 
-/// Gives the reader a piece, and its messages to a consumer.
-pub(crate) fn take_piece<C: Consumer>(
+/// Gives the reader a piece of its stream, and the messages that are whole with it to a consumer, which is handed back.
+///
+/// Where a caller has its stream in pieces, this is what [`drive`] does with each piece of an input: after
+/// `GoesOn` the next piece may be given, or the consumer is told of the end, which it is after `Marker` too; after
+/// `Stopped` and after a fault it is done. A fault is the consumer's; or `Stream` where the stream is refused,
+/// and `Memory` where a growth was refused: some messages of the piece may have been given before.
+pub fn take_piece<C: Consumer>(
     reader: &mut StreamReader,
     mut consumer: C,
     piece: &[u8],

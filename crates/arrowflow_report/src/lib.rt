@@ -57,7 +57,7 @@ mod what;
 
 pub use columns::{ColumnsFault, Selection};
 pub use consumer::{Consumer, Wants};
-pub use driver::drive;
+pub use driver::{Progress, drive, take_piece};
 pub use input::{Input, Tried};
 pub use reports::{check, check_quietly, show, show_columns, show_first};
 pub use schema_call::schema_text;

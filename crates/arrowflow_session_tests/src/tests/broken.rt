@@ -131,3 +131,27 @@ fn sinks_that_take_all(rt: HostRuntime) {
         assert_sink(&rt, &batches, *taking, *end);
     }
 }
+
+/// What is sent once another sink stands in the place of a writer's goes there, and the stream goes on.
+#[test]
+fn a_sink_in_the_place_of_another(rt: HostRuntime) {
+    let batches = all_batches(&rt);
+    let sink = Narrow::new(rt.alloc(), 100, 5_000, ByError);
+    let schema = batches.first().expect(&rt, "a batch").schema();
+    let started = StreamWriter::start(rt.alloc(), sink, schema, DELTA, Limits::standard());
+    let mut writer = started.map_err(|(fault, _)| fault).expect(&rt, "a schema");
+    for (batch, (begin, end)) in batches.iter().zip(&PARTS) {
+        assert!(rt;
+            called(&rt, &mut writer, Some(batch)).is_none(),
+            "at {begin}"
+        );
+        let part = writer.replace_sink(Narrow::new(rt.alloc(), 100, 5_000, ByError));
+        let begin = if *begin == 200 { 0 } else { *begin };
+        assert!(rt;
+            GROWING.get(begin..*end) == Some(part.taken()),
+            "at {begin}"
+        );
+    }
+    assert!(rt; called(&rt, &mut writer, None).is_none());
+    assert!(rt; GROWING.get(1368..) == Some(writer.sink().taken()));
+}
