@@ -1,31 +1,32 @@
-/* arrowflow.h: Arrow IPC streams in memory, checked, written again and shown; and a reader of
- * streams that come in pieces.
+/* arrowflow.h: Arrow IPC streams in memory, checked, written again and shown; a reader and a copier of
+ * streams that come in pieces. arrowflow_stream.h hands a stream to other Arrow tools.
  *
- * What a call answers is proved for all bytes, whatever a stranger's stream says: its contract stands
- * in crates/arrowflow_c/src, and docs/PROMISES.md says it in words. Each call returns, and touches no
- * memory but what it was given and what malloc gave it.
+ * What a call answers is proved for all bytes, whatever a stranger's stream says: its contract stands in
+ * crates/arrowflow_c/src, and docs/PROMISES.md says it in words. arrowflow.c, which is plain C and tested,
+ * passes each call on to a proved one: it keeps NULL out, and puts handles of readers and of copiers behind
+ * pointers. Each call returns, and touches no memory but what it was given and what malloc gave it.
  *
- * Ownership   Nothing that a call answers has to be freed, but for a reader: what
- *             arrowflow_reader_open made, arrowflow_reader_close frees. A call keeps no pointer:
- *             bytes and rooms may be freed or changed as soon as it has returned. The pointers that
- *             arrowflow_reader_column gives are the reader's: they are read alone, and until the
- *             next call of arrowflow_reader_read, _open or _close.
- * Errors      A call answers a struct whose `kind` is ARROWFLOW_FINE or says why not (enum
- *             arrowflow_kind; arrowflow_kind_name has its name). It never aborts, prints or sets
- *             errno.
+ * Ownership   Nothing that a call answers has to be freed, but for a reader and a copier: what _open makes,
+ *             _close frees. A call keeps no pointer: bytes and rooms may be freed or changed as soon as it
+ *             has returned. The pointers that arrowflow_reader_column gives are the reader's: they are
+ *             only read, and only until the next call of arrowflow_reader_read or _close.
+ * Errors      A call answers a kind (enum arrowflow_kind), or a struct with one: ARROWFLOW_KIND_FINE, or why
+ *             not. arrowflow_kind_name has its name, arrowflow_error_text a sentence. No call aborts,
+ *             prints or sets errno.
  * Memory      malloc, realloc and free are called. Where malloc gives NULL the call ends with
- *             ARROWFLOW_MEMORY. arrowflow_show takes as much as its text has, which may be far more
+ *             ARROWFLOW_KIND_MEMORY. arrowflow_show takes as much as its text has, which may be far more
  *             than the stream: a batch without columns has many rows in few bytes. `max_rows` bounds
  *             the rows of a batch.
- * Threads     Calls share nothing: any number of threads may make them at once. A reader stays on
- *             the thread that opened it.
+ * Threads     Calls share nothing: any number of threads may make them at once. A reader and a copier stay
+ *             on the thread that opened them.
  *
  * What a caller owes, and nothing checks:
- *  - A pointer to bytes, to a room or to a path may be NULL where the length beside it is 0. No other
- *    pointer is ever NULL. A length is at most PTRDIFF_MAX.
+ *  - A pointer to bytes, to a room or to a path may be NULL where the length beside it is 0, and a reader or
+ *    a copier may be NULL: there is none then. No other pointer is ever NULL. A length is at most
+ *    PTRDIFF_MAX.
  *  - Bytes stay as they are until the call has returned, in other threads and processes too: what
  *    lies in memory that a stranger can write is copied first.
- *  - A room, a handle and an arrowflow_column overlap with nothing else that is passed.
+ *  - A room overlaps with nothing else that is passed.
  *  - A bool is 0 or 1.
  *  - malloc, realloc and free are those of one allocator, and align as the C standard asks.
  *  - No call comes from a signal handler, or from the forked child of a process with threads.
@@ -41,55 +42,68 @@
 extern "C" {
 #endif
 
-/* How a call ended. 1 to 18 are faults of the stream, with the names that the program prints. */
+/* The version of this header. Until 1.0 another minor version may change calls, structs and numbers. */
+#define ARROWFLOW_VERSION_MAJOR 0
+#define ARROWFLOW_VERSION_MINOR 1
+#define ARROWFLOW_VERSION_PATCH 0
+#define ARROWFLOW_VERSION "0.1.0"
+
+/* The version of the library, which is that of the header that it was built with. */
+const char *arrowflow_version(void);
+
+/* ---- how a call ended ---- */
+
+/* 1 to 18 are faults of the stream, with the names that the program prints. */
 enum arrowflow_kind {
-    ARROWFLOW_FINE = 0,
-    ARROWFLOW_CONTINUATION = 1,  /* a message does not begin with FF FF FF FF */
-    ARROWFLOW_METADATA_SIZE = 2, /* the metadata's size is below 0 or above the limit */
-    ARROWFLOW_METADATA = 3,      /* the metadata are not readable, or too deep or large */
-    ARROWFLOW_VERSION = 4,       /* neither of version V4 nor of V5 */
-    ARROWFLOW_HEADER = 5,        /* no header, or none that is read */
-    ARROWFLOW_BODY_LENGTH = 6,   /* the body's length is below 0 or above the limit */
-    ARROWFLOW_ORDER = 7,         /* a second schema, or a batch before the schema */
-    ARROWFLOW_UNSUPPORTED = 8,   /* big-endian, or a type that is not read or not asked for */
-    ARROWFLOW_SCHEMA = 9,        /* a width, unit, precision or number of children that there is not */
-    ARROWFLOW_COMPRESSED = 10,   /* the body is compressed */
-    ARROWFLOW_UNKNOWN_ID = 11,   /* a dictionary that no field has */
-    ARROWFLOW_NO_BASE = 12,      /* a delta of no dictionary */
-    ARROWFLOW_ROWS = 13,         /* a length below 0 or above the limit */
-    ARROWFLOW_LAYOUT = 14,       /* the body contradicts its nodes and buffers */
-    ARROWFLOW_TEXT = 15,         /* a valid text is not UTF-8 */
-    ARROWFLOW_INDEX = 16,        /* a valid index has no value */
-    ARROWFLOW_NO_SCHEMA = 17,    /* the stream ended before a schema */
-    ARROWFLOW_TRUNCATED = 18,    /* the stream ended inside a message */
-    ARROWFLOW_MEMORY = 19,       /* malloc gave NULL: nothing is said of the stream */
-    ARROWFLOW_BAD_LIMITS = 20,   /* a limit is above its ceiling, or `types` is no set: nothing was read */
-    ARROWFLOW_NO_READER = 21,    /* the handle has no reader */
-    /* arrowflow_copy alone: the stream is sound, and written again it would be past a limit */
-    ARROWFLOW_SCHEMA_TOO_LARGE = 32,
-    ARROWFLOW_BATCH_TOO_LARGE = 42, /* the place is the number of the batch, from 0 */
-    ARROWFLOW_END_TOO_LARGE = 52
+    ARROWFLOW_KIND_FINE = 0,
+    ARROWFLOW_KIND_CONTINUATION = 1,  /* a message does not begin with FF FF FF FF */
+    ARROWFLOW_KIND_METADATA_SIZE = 2, /* the metadata's size is below 0 or above the limit */
+    ARROWFLOW_KIND_METADATA = 3,      /* the metadata are not readable, or too deep or large */
+    ARROWFLOW_KIND_VERSION = 4,       /* neither of version V4 nor of V5 */
+    ARROWFLOW_KIND_HEADER = 5,        /* no header, or none that is read */
+    ARROWFLOW_KIND_BODY_LENGTH = 6,   /* the body's length is below 0 or above the limit */
+    ARROWFLOW_KIND_ORDER = 7,         /* a second schema, or a batch before the schema */
+    ARROWFLOW_KIND_UNSUPPORTED = 8,   /* big-endian, or a type that is not read or not asked for */
+    ARROWFLOW_KIND_SCHEMA = 9,        /* a width, unit, precision or number of children that there is not */
+    ARROWFLOW_KIND_COMPRESSED = 10,   /* the body is compressed */
+    ARROWFLOW_KIND_UNKNOWN_ID = 11,   /* a dictionary that no field has */
+    ARROWFLOW_KIND_NO_BASE = 12,      /* a delta of no dictionary */
+    ARROWFLOW_KIND_ROWS = 13,         /* a length below 0 or above the limit */
+    ARROWFLOW_KIND_LAYOUT = 14,       /* the body contradicts its nodes and buffers */
+    ARROWFLOW_KIND_TEXT = 15,         /* a valid text is not UTF-8 */
+    ARROWFLOW_KIND_INDEX = 16,        /* a valid index has no value */
+    ARROWFLOW_KIND_NO_SCHEMA = 17,    /* the stream ended before a schema */
+    ARROWFLOW_KIND_TRUNCATED = 18,    /* the stream ended inside a message */
+    ARROWFLOW_KIND_MEMORY = 19,       /* malloc gave NULL: nothing is said of the stream */
+    ARROWFLOW_KIND_BAD_LIMITS = 20,   /* a limit is above its ceiling, or `types` is no set: nothing was read */
+    ARROWFLOW_KIND_NO_HANDLE = 21,    /* there is no reader, or no copier */
+    ARROWFLOW_KIND_INPUT = 22,        /* an input could not be read: of bytes in memory it does not come */
+    /* A copy alone: the stream is sound, and cannot be written again. The place is that of no byte, but of a
+     * batch its number, from 0. A stream that was read has one schema and one dictionary for each id, so that
+     * 41 and 43 do not come either. */
+    ARROWFLOW_KIND_SCHEMA_TOO_LARGE = 32, /* its frame would be past a limit */
+    ARROWFLOW_KIND_BATCH_SCHEMA_DIFFERS = 41,
+    ARROWFLOW_KIND_BATCH_TOO_LARGE = 42, /* its frames would be past a limit, or end past place 2^62 */
+    ARROWFLOW_KIND_BATCH_DICTIONARIES_DIFFER = 43,
+    ARROWFLOW_KIND_END_TOO_LARGE = 52 /* the end marker would end past place 2^62 */
 };
 
-/* The name of a kind, which the program prints for a fault of a stream. Never NULL. */
-static inline const char *arrowflow_kind_name(uint32_t kind) {
-    static const char *const names[] = {
-        "Fine",        "Continuation", "MetadataSize", "Metadata", "Version",   "Header",
-        "BodyLength",  "Order",        "Unsupported",  "Schema",   "Compressed", "UnknownId",
-        "NoBase",      "Rows",         "Layout",       "Text",     "Index",     "NoSchema",
-        "Truncated",   "Memory",       "BadLimits",    "NoReader"};
-    if (kind < sizeof names / sizeof *names) return names[kind];
-    return kind == ARROWFLOW_SCHEMA_TOO_LARGE  ? "SchemaTooLarge"
-           : kind == ARROWFLOW_BATCH_TOO_LARGE ? "BatchTooLarge"
-           : kind == ARROWFLOW_END_TOO_LARGE   ? "EndTooLarge"
-                                               : "Unknown";
-}
+/* The name of a kind, which the program prints for a fault of a stream; "Unknown" for a number of no kind.
+ * Never NULL. */
+const char *arrowflow_kind_name(uint32_t kind);
 
-/* Which types are read. A stream with another one is ARROWFLOW_UNSUPPORTED. */
+/* Puts a sentence on an error into the room, as much of it as fits before a zero byte, and answers how long
+ * it is without that. `place` is the one that came with the kind. It is the program's line, with what the
+ * kind means: "fault at byte 976: Truncated, the stream ended inside a message". */
+size_t arrowflow_error_text(uint32_t kind, uint64_t place, char *out, size_t room);
+
+/* ---- limits ---- */
+
+/* Which types are read. A stream with another one is ARROWFLOW_KIND_UNSUPPORTED. */
 enum arrowflow_types {
-    ARROWFLOW_CORE_TYPES = 0, /* Null, Bool, Int, Binary, Utf8 and these Large, FixedSizeBinary, Date,
+    ARROWFLOW_TYPES_CORE = 0, /* Null, Bool, Int, Binary, Utf8 and these Large, FixedSizeBinary, Date,
                                * Time, Timestamp, Duration, List, LargeList, Struct: never others */
-    ARROWFLOW_ALL_TYPES = 1   /* also FloatingPoint, and what later versions of the library read */
+    ARROWFLOW_TYPES_ALL = 1   /* also FloatingPoint, and what later versions of the library read */
 };
 
 /* How much a stranger's stream may ask for, and which types it may have. */
@@ -101,16 +115,14 @@ typedef struct {
 } arrowflow_limits;
 
 /* The limits of the program: 64 MiB, 64 GiB, 2^31 - 1, the core of the types. */
-static inline arrowflow_limits arrowflow_standard_limits(void) {
-    arrowflow_limits limits = {UINT64_C(1) << 26, UINT64_C(1) << 36, INT32_MAX, ARROWFLOW_CORE_TYPES};
-    return limits;
-}
+arrowflow_limits arrowflow_standard_limits(void);
 
-/* What is reported of a stream. Under ARROWFLOW_MEMORY and ARROWFLOW_BAD_LIMITS all but the kind
- * is 0. */
+/* ---- streams in memory ---- */
+
+/* What is reported of a stream. Under ARROWFLOW_KIND_MEMORY and _BAD_LIMITS all but the kind is 0. */
 typedef struct {
     uint32_t kind;    /* FINE, a fault of the stream, MEMORY or BAD_LIMITS */
-    bool ended;       /* the end marker came; what stands behind it was not looked at */
+    bool ended;       /* the end marker came; what follows it was not looked at */
     uint64_t place;   /* of the message at fault or of the end, in bytes from the beginning */
     uint64_t batches; /* how many came whole before it */
     uint64_t rows;    /* how many they have together */
@@ -119,12 +131,10 @@ typedef struct {
 /* Reads a whole stream. With FINE it is a valid stream of so many batches and rows. */
 arrowflow_report arrowflow_check(const uint8_t *bytes, size_t len, arrowflow_limits limits);
 
-/* ---- texts, put into the caller's room ---- */
-
-/* What is told of a text. As much of its front as fits stands in the room, and what the room held
- * behind it is as it was. Where `size` is at most `room` it is all there; so a call with a room of
- * 0 bytes measures. With a fault the text is what the whole messages before the fault gave (with
- * ARROWFLOW_MEMORY a beginning of that; of arrowflow_schema none). */
+/* What is told of a text, or of a stream that was written again. As much of its front as fits stands in the
+ * room, and what the room held after it is as it was. Where `size` is at most `room` it is all there; so a
+ * call with a room of 0 bytes measures. With a fault the text is what the whole messages before the fault
+ * gave (with ARROWFLOW_KIND_MEMORY a beginning of that; of arrowflow_schema none). */
 typedef struct {
     uint32_t kind;
     uint64_t place; /* of the message at fault, in bytes; or the number of the batch refused */
@@ -138,7 +148,7 @@ typedef struct {
     bool pad_to_8; /* buffers are padded to 8 bytes */
 } arrowflow_options;
 
-/* Writes a stream again: with ARROWFLOW_FINE the bytes are a valid stream with this one's schema and
+/* Writes a stream again: with ARROWFLOW_KIND_FINE the bytes are a valid stream with this one's schema and
  * batches, end marker included. No byte of what came is passed on but values, those of dictionaries
  * that no index refers to among them, names and custom metadata of schema and fields: padding, what
  * is under a null and what no offset reaches are not. So streams with one schema whose batches hold the
@@ -158,31 +168,59 @@ arrowflow_text arrowflow_messages(const uint8_t *bytes, size_t len, arrowflow_li
 arrowflow_text arrowflow_schema(const uint8_t *bytes, size_t len, arrowflow_limits limits,
                                 uint8_t *out, size_t room);
 
-/* ---- streams that come in pieces ---- */
+/* ---- copies of streams that come in pieces ---- */
 
-/* A handle: of a reader, or of none. A caller makes one as ARROWFLOW_CLOSED, changes neither field,
- * and closes it at the end. A copy of it is of the same reader: of a handle and its copies one is
- * used from then on, and the others never again. */
+/* A stream that is written again as its pieces come: what arrowflow_copy does, for streams that do not fit
+ * into memory. What a copier holds is bounded by a message and what it is written as. */
+typedef struct arrowflow_copier arrowflow_copier;
+
+/* What is told of a copy so far. */
 typedef struct {
-    void *at;
-    bool live;
-} arrowflow_reader;
+    uint32_t kind;    /* FINE, a fault of the stream, MEMORY, NO_HANDLE, or why the writer refused */
+    bool is_over;     /* it takes no more bytes: after a fault, the end marker or arrowflow_copier_end */
+    uint64_t place;   /* of the message at fault, in bytes; or the number of the batch refused */
+    uint64_t waiting; /* bytes that are written and were not taken yet */
+} arrowflow_copied;
 
-#define ARROWFLOW_CLOSED {NULL, false}
+/* Makes a copier in *copier, and answers ARROWFLOW_KIND_FINE; or ARROWFLOW_KIND_MEMORY or _BAD_LIMITS, and
+ * then *copier is NULL. */
+uint32_t arrowflow_copier_open(arrowflow_limits limits, arrowflow_options options, arrowflow_copier **copier);
 
-/* What was whole. */
-enum arrowflow_what {
-    ARROWFLOW_NOTHING = 0, /* no message of the piece: all of it was taken */
-    ARROWFLOW_SCHEMA_READ = 1,
-    ARROWFLOW_DICTIONARY_READ = 2,
-    ARROWFLOW_BATCH_READ = 3,
-    ARROWFLOW_END_READ = 4
+/* Gives the copier the next piece of its stream, all of which it takes, and tells how the copy stands. What
+ * the messages that are whole with it are written as waits, to be taken. How a stream is cut changes nothing
+ * of the bytes that come out in all. Once the copy is over, the answer stays and pieces are not looked at:
+ * after a fault, ARROWFLOW_KIND_MEMORY among them, for good; what was written before it may still be taken,
+ * which is of the batches before the fault, without an end marker. */
+arrowflow_copied arrowflow_copier_put(arrowflow_copier *copier, const uint8_t *piece, size_t len);
+
+/* Tells the copier that its stream ends here: the end marker is written, or the stream's fault is answered,
+ * which it has where it ended inside a message or before a schema. With ARROWFLOW_KIND_FINE all that was
+ * taken, and what is waiting after it, is what arrowflow_copy would give of all pieces. */
+arrowflow_copied arrowflow_copier_end(arrowflow_copier *copier);
+
+/* Moves the first bytes that wait into the room, as many as it has place for, and answers how many. */
+size_t arrowflow_copier_take(arrowflow_copier *copier, uint8_t *out, size_t room);
+
+/* Frees the copier, and what was not taken. */
+void arrowflow_copier_close(arrowflow_copier *copier);
+
+/* ---- readers of streams that come in pieces ---- */
+
+typedef struct arrowflow_reader arrowflow_reader;
+
+/* The message that was whole. */
+enum arrowflow_message {
+    ARROWFLOW_MESSAGE_NONE = 0, /* none: all of the piece was taken */
+    ARROWFLOW_MESSAGE_SCHEMA = 1,
+    ARROWFLOW_MESSAGE_DICTIONARY = 2,
+    ARROWFLOW_MESSAGE_BATCH = 3,
+    ARROWFLOW_MESSAGE_END = 4
 };
 
 /* What a reader told of a piece. */
 typedef struct {
-    uint32_t kind;    /* FINE, a fault of the stream, MEMORY or NO_READER */
-    uint32_t what;    /* what was whole: enum arrowflow_what */
+    uint32_t kind;    /* FINE, a fault of the stream, MEMORY or NO_HANDLE */
+    uint32_t message; /* what was whole: enum arrowflow_message */
     uint64_t taken;   /* bytes of the piece; what is left of it is given again */
     uint64_t place;   /* of the message at fault, in bytes from the stream's beginning */
     int64_t id;       /* of the dictionary */
@@ -196,24 +234,44 @@ typedef struct {
     uint64_t place;
 } arrowflow_fault;
 
+/* Makes a reader of a new stream in *reader, and answers ARROWFLOW_KIND_FINE; or ARROWFLOW_KIND_MEMORY or
+ * _BAD_LIMITS, and then *reader is NULL. */
+uint32_t arrowflow_reader_open(arrowflow_limits limits, arrowflow_reader **reader);
+
+/* Gives the reader a piece, of which it takes the bytes up to the end of one message, or all where
+ * none is whole. Where a stream was cut changes no answer. After a fault of the stream it takes
+ * nothing and answers the same again; after the end marker it takes nothing. The batch that a call
+ * gives is the reader's until the next call. After ARROWFLOW_KIND_MEMORY nothing has changed, as though the
+ * call had not been made: it may be made again. */
+arrowflow_step arrowflow_reader_read(arrowflow_reader *reader, const uint8_t *piece, size_t len);
+
+/* What a stream answers that ends here: ARROWFLOW_KIND_NO_SCHEMA, ARROWFLOW_KIND_TRUNCATED, the fault that
+ * came, or ARROWFLOW_KIND_FINE. It changes nothing. */
+arrowflow_fault arrowflow_reader_end(const arrowflow_reader *reader);
+
+/* Frees the reader, and what it holds. */
+void arrowflow_reader_close(arrowflow_reader *reader);
+
+/* ---- values of a reader's batch ---- */
+
 /* What a cell holds. */
-enum arrowflow_cell_kind {
-    ARROWFLOW_NULL = 0,
-    ARROWFLOW_BOOL = 1,   /* `truth` */
-    ARROWFLOW_NUMBER = 2, /* `number`; of a date, a time, a timestamp or a duration its units */
-    ARROWFLOW_BYTES = 3,  /* `size` bytes in the room */
-    ARROWFLOW_UTF8 = 4,   /* the same, and UTF-8 */
-    ARROWFLOW_LIST = 5,   /* not told here */
-    ARROWFLOW_STRUCT = 6, /* not told here */
-    ARROWFLOW_LARGE = 7,  /* `large`, a number above INT64_MAX */
-    ARROWFLOW_NO_CELL = 8, /* no batch, or no such column or row */
-    ARROWFLOW_HUGE = 9,    /* a number that takes more than 64 bits: no type has one yet */
-    ARROWFLOW_FLOAT = 10   /* `real`, a floating-point number */
+enum arrowflow_cell_type {
+    ARROWFLOW_CELL_NULL = 0,
+    ARROWFLOW_CELL_BOOL = 1,   /* `truth` */
+    ARROWFLOW_CELL_NUMBER = 2, /* `number`; of a date, a time, a timestamp or a duration its units */
+    ARROWFLOW_CELL_BYTES = 3,  /* `size` bytes in the room */
+    ARROWFLOW_CELL_TEXT = 4,   /* the same, and UTF-8 */
+    ARROWFLOW_CELL_LIST = 5,   /* not told here */
+    ARROWFLOW_CELL_STRUCT = 6, /* not told here */
+    ARROWFLOW_CELL_LARGE = 7,  /* `large`, a number above INT64_MAX */
+    ARROWFLOW_CELL_NONE = 8,   /* no batch, or no such column or row */
+    ARROWFLOW_CELL_HUGE = 9,   /* a number that takes more than 64 bits: no type has one yet */
+    ARROWFLOW_CELL_FLOAT = 10  /* `real`, a floating-point number */
 };
 
 /* A value of a batch. */
 typedef struct {
-    uint32_t what; /* enum arrowflow_cell_kind */
+    uint32_t type; /* enum arrowflow_cell_type */
     bool truth;
     int64_t number;
     uint64_t large;
@@ -221,41 +279,26 @@ typedef struct {
     uint64_t size; /* of a byte string or a text, whether it fits or not */
 } arrowflow_cell;
 
-/* Makes a reader of a new stream, in place of the one that the handle has, which is freed:
- * ARROWFLOW_FINE, or ARROWFLOW_MEMORY or ARROWFLOW_BAD_LIMITS, and then the handle has none. */
-uint32_t arrowflow_reader_open(arrowflow_limits limits, arrowflow_reader *reader);
-
-/* Gives the reader a piece, of which it takes the bytes up to the end of one message, or all where
- * none is whole. Where a stream was cut changes no answer. After a fault of the stream it takes
- * nothing and answers the same again; after the end marker it takes nothing. The batch that a call
- * gives is the reader's until the next call. After ARROWFLOW_MEMORY nothing has changed, as though the
- * call had not been made: it may be made again. */
-arrowflow_step arrowflow_reader_read(arrowflow_reader *reader, const uint8_t *piece, size_t len);
-
-/* What a stream answers that ends here: ARROWFLOW_NO_SCHEMA, ARROWFLOW_TRUNCATED, the fault that
- * came, or ARROWFLOW_FINE. It changes nothing. */
-arrowflow_fault arrowflow_reader_end(arrowflow_reader *reader);
-
 /* The value in a row and a column, both from 0, of the reader's batch, with indices looked up in the
  * dictionaries as they stood at that batch. As much of a byte string or a text as fits stands in the
  * room. */
-arrowflow_cell arrowflow_reader_cell(arrowflow_reader *reader, size_t column, size_t row,
+arrowflow_cell arrowflow_reader_cell(const arrowflow_reader *reader, size_t column, size_t row,
                                      uint8_t *out, size_t room);
 
 /* How the slots of a column lie in its buffers: Arrow Columnar Format, "Physical Memory Layout". */
 enum arrowflow_layout {
-    ARROWFLOW_NO_COLUMN = 0,   /* no batch, or nothing where the path leads */
-    ARROWFLOW_NULLS = 1,       /* no buffer: no slot has a value */
-    ARROWFLOW_BITS = 2,        /* slot i is bit i of `values` */
-    ARROWFLOW_NUMBERS = 3,     /* slot i is the number of `width` bytes at byte width * i */
-    ARROWFLOW_BINARIES = 4,    /* slot i is `values` from offset i up to offset i + 1 */
-    ARROWFLOW_TEXTS = 5,       /* the same, and UTF-8 */
-    ARROWFLOW_FIXED_BYTES = 6, /* slot i is the `width` bytes at byte width * i */
-    ARROWFLOW_LISTS = 7,       /* slot i are the child's slots from offset i up to offset i + 1 */
-    ARROWFLOW_STRUCTS = 8,     /* slot i is slot i of each child */
-    ARROWFLOW_INDICES = 9,     /* slot i is the number of a value of the dictionary, as NUMBERS */
-    ARROWFLOW_FLOATS = 10      /* slot i is the floating-point number (IEEE 754) of `width` bytes, 2, 4 or
-                                * 8, at byte width * i, bit for bit as it came */
+    ARROWFLOW_LAYOUT_NONE = 0,        /* no batch, or nothing where the path leads */
+    ARROWFLOW_LAYOUT_NULLS = 1,       /* no buffer: no slot has a value */
+    ARROWFLOW_LAYOUT_BITS = 2,        /* slot i is bit i of `values` */
+    ARROWFLOW_LAYOUT_NUMBERS = 3,     /* slot i is the number of `width` bytes at byte width * i */
+    ARROWFLOW_LAYOUT_BINARIES = 4,    /* slot i is `values` from offset i up to offset i + 1 */
+    ARROWFLOW_LAYOUT_TEXTS = 5,       /* the same, and UTF-8 */
+    ARROWFLOW_LAYOUT_FIXED_BYTES = 6, /* slot i is the `width` bytes at byte width * i */
+    ARROWFLOW_LAYOUT_LISTS = 7,       /* slot i are the child's slots from offset i up to offset i + 1 */
+    ARROWFLOW_LAYOUT_STRUCTS = 8,     /* slot i is slot i of each child */
+    ARROWFLOW_LAYOUT_INDICES = 9,     /* slot i is the number of a value of the dictionary, as NUMBERS */
+    ARROWFLOW_LAYOUT_FLOATS = 10      /* slot i is the floating-point number (IEEE 754) of `width` bytes, 2,
+                                       * 4 or 8, at byte width * i, bit for bit as it came */
 };
 
 /* A column as its buffers. Numbers and offsets are little-endian, and may lie at any address: they
@@ -277,33 +320,30 @@ typedef struct {
     size_t values_len;
 } arrowflow_column;
 
-/* Tells in *column where the buffers lie of a column of the reader's batch. path[0] is the number of
- * the column, and each number after it leads a level down: below LISTS it is 0, below STRUCTS that of
- * a field, and below INDICES that of a value of the dictionary, which leads to the array that this
- * value stands in, at `slot`. The array's other slots are the dictionary's values around it, one after
- * another, so that value n - slot + slots is the first of the next array. Depth 0 leads nowhere.
+/* Tells where the buffers lie of a column of the reader's batch. path[0] is the number of the column, and
+ * each number after it leads a level down: below LISTS it is 0, below STRUCTS that of a field, and below
+ * INDICES that of a value of the dictionary, which leads to the array that this value stands in, at `slot`.
+ * The array's other slots are the dictionary's values around it, one after another, so that value
+ * n - slot + slots is the first of the next array. Depth 0 leads nowhere.
  * All of it was tested when the batch was read: offsets never fall and end inside the child or the
  * values, and in a slot that has a value an index is below `entries` and a text is UTF-8. What stands
- * in a slot without a value says nothing.
- * Before the call *column is a whole one, of which nothing is read: `has_sign` is 0 or 1, and at each
- * of its three pointers, none of them NULL, lie as many bytes as the length beside it says, as they
- * are until the call has returned. So it is no struct that was never set, nor one that was told of a
- * batch that is gone. arrowflow_column_at sees to all of this, and to a path that is NULL. */
-void arrowflow_reader_column(arrowflow_reader *reader, const size_t *path, size_t depth,
-                             arrowflow_column *column);
+ * in a slot without a value says nothing. */
+arrowflow_column arrowflow_reader_column(const arrowflow_reader *reader, const size_t *path, size_t depth);
+
+/* ---- the reader's schema ---- */
 
 /* What was found where a path leads in the schema. */
 enum arrowflow_found {
-    ARROWFLOW_NO_FIELD = 0, /* no schema yet, or nothing where the path leads: all else is 0 */
-    ARROWFLOW_THE_SCHEMA = 1,
-    ARROWFLOW_A_FIELD = 2
+    ARROWFLOW_FOUND_NONE = 0, /* no schema yet, or nothing where the path leads: all else is 0 */
+    ARROWFLOW_FOUND_SCHEMA = 1,
+    ARROWFLOW_FOUND_FIELD = 2
 };
 
 /* The flags of a field: ARROW_FLAG_DICTIONARY_ORDERED and ARROW_FLAG_NULLABLE of the Arrow C data
  * interface, of which the third flag is of a type that is not read. */
 enum arrowflow_flag {
-    ARROWFLOW_ORDERED = 1, /* the order of the dictionary's values means something */
-    ARROWFLOW_NULLABLE = 2 /* slots may be null: kept, and enforced nowhere */
+    ARROWFLOW_FLAG_ORDERED = 1, /* the order of the dictionary's values means something */
+    ARROWFLOW_FLAG_NULLABLE = 2 /* slots may be null: kept, and enforced nowhere */
 };
 
 /* A field, or the schema, as an ArrowSchema of the Arrow C data interface tells it. Its three texts
@@ -331,58 +371,13 @@ typedef struct {
  * of the column, and each number after it leads a level down, to the child field of this number, from
  * 0. Below a dictionary-encoded field there stands, under 0 alone, the field of the dictionary's values:
  * without a name or metadata, nullable, with the values' format and children. Once the schema was read
- * it answers the same of a path after each further call, until the reader is closed or opened anew. It
- * changes nothing, and takes no memory. */
-arrowflow_field arrowflow_reader_field(arrowflow_reader *reader, const size_t *path, size_t depth,
+ * it answers the same of a path after each further call, until the reader is closed. It changes nothing,
+ * and takes no memory. */
+arrowflow_field arrowflow_reader_field(const arrowflow_reader *reader, const size_t *path, size_t depth,
                                        uint8_t *out, size_t room);
-
-/* Ends the reader, if there is one, frees what it holds, and leaves the handle as
- * ARROWFLOW_CLOSED. */
-void arrowflow_reader_close(arrowflow_reader *reader);
 
 #ifdef __cplusplus
 }
 #endif
-
-/* The calls themselves take no NULL. An empty vector's data may be one: these put an address in
- * its place. */
-static inline const uint8_t *arrowflow_some(const uint8_t *at) {
-    static const uint8_t none = 0;
-    return at == NULL ? &none : at;
-}
-
-static inline uint8_t *arrowflow_some_room(uint8_t *at) {
-    static uint8_t none = 0;
-    return at == NULL ? &none : at;
-}
-
-static inline const size_t *arrowflow_some_path(const size_t *path) {
-    static const size_t nowhere = 0;
-    return path == NULL ? &nowhere : path;
-}
-
-/* A column as its buffers, by value. */
-static inline arrowflow_column arrowflow_column_at(arrowflow_reader *reader, const size_t *path, size_t depth) {
-    const uint8_t *none = arrowflow_some(NULL);
-    arrowflow_column column = {0, false, 0, 0, 0, 0, 0, none, 0, none, 0, none, 0};
-    arrowflow_reader_column(reader, arrowflow_some_path(path), depth, &column);
-    return column;
-}
-
-#define arrowflow_check(bytes, len, limits) arrowflow_check(arrowflow_some(bytes), len, limits)
-#define arrowflow_copy(bytes, len, limits, options, out, room) \
-    arrowflow_copy(arrowflow_some(bytes), len, limits, options, arrowflow_some_room(out), room)
-#define arrowflow_show(bytes, len, limits, out, room) \
-    arrowflow_show(arrowflow_some(bytes), len, limits, arrowflow_some_room(out), room)
-#define arrowflow_messages(bytes, len, limits, out, room) \
-    arrowflow_messages(arrowflow_some(bytes), len, limits, arrowflow_some_room(out), room)
-#define arrowflow_schema(bytes, len, limits, out, room) \
-    arrowflow_schema(arrowflow_some(bytes), len, limits, arrowflow_some_room(out), room)
-#define arrowflow_reader_read(reader, piece, len) \
-    arrowflow_reader_read(reader, arrowflow_some(piece), len)
-#define arrowflow_reader_cell(reader, column, row, out, room) \
-    arrowflow_reader_cell(reader, column, row, arrowflow_some_room(out), room)
-#define arrowflow_reader_field(reader, path, depth, out, room) \
-    arrowflow_reader_field(reader, arrowflow_some_path(path), depth, arrowflow_some_room(out), room)
 
 #endif

@@ -1,0 +1,49 @@
+/* proved.h: the calls of the crate arrowflow_c, as c/build names them. arrowflow.c passes the calls of
+ * arrowflow.h on to them; nobody else calls them.
+ *
+ * No pointer that a call takes is NULL. Each call is proved for what its contract in crates/arrowflow_c/src
+ * says, where it has the name of the call of arrowflow.h.
+ */
+#ifndef ARROWFLOW_PROVED_H
+#define ARROWFLOW_PROVED_H
+
+#include "arrowflow.h"
+
+/* A handle: of what a call opened, or of nothing. A copy of it is of the same: of a handle and its copies one
+ * is used from then on. */
+typedef struct {
+    void *at;
+    bool live;
+} arrowflow_handle;
+
+arrowflow_report arrowflow_proved_check(const uint8_t *bytes, size_t len, arrowflow_limits limits);
+arrowflow_text arrowflow_proved_copy(const uint8_t *bytes, size_t len, arrowflow_limits limits,
+                                     arrowflow_options options, uint8_t *out, size_t room);
+arrowflow_text arrowflow_proved_show(const uint8_t *bytes, size_t len, arrowflow_limits limits, uint8_t *out,
+                                     size_t room);
+arrowflow_text arrowflow_proved_messages(const uint8_t *bytes, size_t len, arrowflow_limits limits, uint8_t *out,
+                                         size_t room);
+arrowflow_text arrowflow_proved_schema(const uint8_t *bytes, size_t len, arrowflow_limits limits, uint8_t *out,
+                                       size_t room);
+
+/* What the handle has before is let go. */
+uint32_t arrowflow_proved_copier_open(arrowflow_limits limits, arrowflow_options options, arrowflow_handle *copier);
+arrowflow_copied arrowflow_proved_copier_put(arrowflow_handle *copier, const uint8_t *piece, size_t len);
+arrowflow_copied arrowflow_proved_copier_end(arrowflow_handle *copier);
+size_t arrowflow_proved_copier_take(arrowflow_handle *copier, uint8_t *out, size_t room);
+void arrowflow_proved_copier_close(arrowflow_handle *copier);
+
+uint32_t arrowflow_proved_reader_open(arrowflow_limits limits, arrowflow_handle *reader);
+arrowflow_step arrowflow_proved_reader_read(arrowflow_handle *reader, const uint8_t *piece, size_t len);
+arrowflow_fault arrowflow_proved_reader_end(arrowflow_handle *reader);
+arrowflow_cell arrowflow_proved_reader_cell(arrowflow_handle *reader, size_t column, size_t row, uint8_t *out,
+                                            size_t room);
+/* Before the call *column is a whole one, of which nothing is read: `has_sign` is 0 or 1, and at each of its
+ * pointers lie as many bytes as the length beside it says. */
+void arrowflow_proved_reader_column(arrowflow_handle *reader, const size_t *path, size_t depth,
+                                    arrowflow_column *column);
+arrowflow_field arrowflow_proved_reader_field(arrowflow_handle *reader, const size_t *path, size_t depth,
+                                              uint8_t *out, size_t room);
+void arrowflow_proved_reader_close(arrowflow_handle *reader);
+
+#endif
