@@ -16,8 +16,8 @@ abbrev pub bad_limits : ℕ
 bad_limits = 20
 
 -- the handle has no reader
-abbrev pub no_reader : ℕ
-no_reader = 21
+abbrev pub no_handle : ℕ
+no_handle = 21
 
 -- the number of a stream's ending: 0 without fault, else that of the fault's kind
 abbrev pub kind_by : Result (Unit {0}) Fault → ℕ

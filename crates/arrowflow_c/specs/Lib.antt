@@ -11,3 +11,7 @@ pub mod Lending
 pub mod Formats
 pub mod Pens
 pub mod Fields
+pub mod Copied
+pub mod OwnedCopier
+pub mod Culprit
+pub mod Blame

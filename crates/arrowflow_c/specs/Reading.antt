@@ -12,7 +12,7 @@ use Rattle.arrowflow_c.specs.declared.reading.Reading.{Reading}
 use Rattle.arrowflow_c.specs.declared.steps.FaultC.{FaultC}
 use Rattle.arrowflow_c.specs.declared.steps.StepC.{StepC}
 use Rattle.arrowflow_c.specs.declared.terms.LimitsC.{LimitsC}
-use Rattle.arrowflow_c.specs.Kinds.{bad_limits, no_reader, out_of_memory}
+use Rattle.arrowflow_c.specs.Kinds.{bad_limits, no_handle, out_of_memory}
 use Rattle.arrowflow_c.specs.Steps.{end_told, fault_step, step_told}
 use Rattle.arrowflow_c.specs.Terms.{AreLimits, numbers}
 
@@ -46,12 +46,12 @@ pub record Reads (old : Reading) (piece : List ℕ) (step : StepC) (new : Readin
 
 -- the same, where there is a reader
 abbrev pub ReadsIf : Option Reading → List ℕ → StepC → Option Reading → Type 0
-ReadsIf None piece step new = (step ≡ fault_step no_reader 0) × (new ≡ None)
+ReadsIf None piece step new = (step ≡ fault_step no_handle 0) × (new ≡ None)
 ReadsIf (Some old) piece step new = (r : Reading) × Reads old piece step r × (new ≡ Some r)
 
 -- What a stream answers that ends here was told, where there is a reader, which stays as it was.
 abbrev pub Ends : Option Reading → FaultC → Option Reading → Type 0
-Ends None fault new = (fault ≡ record { kind = no_reader; place = 0 }) × (new ≡ None)
+Ends None fault new = (fault ≡ record { kind = no_handle; place = 0 }) × (new ≡ None)
 Ends (Some old) fault new = (fault ≡ end_told (ended_so old.reader.at)) × (new ≡ Some old)
 
 -- A reader to which nothing was given was made; or none, where memory was wanting, a limit is above its

@@ -13,7 +13,7 @@ pub(crate) const MEMORY: u32 = 19;
 pub(crate) const BAD_LIMITS: u32 = 20;
 
 /// The handle has no reader.
-pub(crate) const NO_READER: u32 = 21;
+pub(crate) const NO_HANDLE: u32 = 21;
 
 /// The number of a stream's ending: 0 without fault, else that of the fault's kind, 1 to 18.
 pub(crate) fn kind_by(answer: Result<(), Fault>) -> u32

@@ -12,8 +12,10 @@
 //! |---|---|
 //! | how a call ended, by a number | `specs/Kinds.antt`: `kind_of`, `kind_by` |
 //! | what is reported of a stream | `specs/Survey.antt`: `Checks` |
+//! | which column is at fault | `specs/Culprit.antt`: `Blames`, `IsAtFault` |
 //! | what is put into the caller's room | `specs/Texts.antt`: `Gives`, `filled` |
 //! | what a reader does between two calls | `specs/Reading.antt`: `ReadsIf`, `Opens`, `Ends` |
+//! | what a copier does between two calls | `specs/Copied.antt`: `OpensCopier`, `PutsIf`, `EndsCopy`, `TakesIf` |
 //! | the value of a cell | `specs/Cells.antt`: `CellIf` |
 //! | a column as its buffers | `specs/Columns.antt`: `ColumnIf` |
 //! | the schema and its fields | `specs/Fields.antt`: `FieldIf`; `specs/Formats.antt`: `format_of` |
@@ -23,7 +25,11 @@
 
 mod cells;
 mod columns;
+mod copier;
+mod copier_handle;
+mod copier_slot;
 mod copying;
+mod culprit;
 mod fields;
 mod formats;
 mod handle;
@@ -31,6 +37,7 @@ mod kinds;
 mod loose;
 mod metadata;
 mod pens;
+mod pieces;
 mod places;
 mod reader;
 mod reading;
@@ -43,8 +50,12 @@ mod texts;
 
 pub use cells::CellC;
 pub use columns::ColumnC;
+pub use copier_handle::CopierC;
+pub use copier_slot::CopierSlot;
+pub use culprit::CulpritC;
 pub use fields::FieldC;
 pub use handle::ReaderC;
+pub use pieces::{CopiedC, Copying};
 pub use slot::Slot;
 pub use steps::{FaultC, StepC};
 pub use survey::ReportC;

@@ -12,7 +12,7 @@ use crate::cells::{CellC, cell_at};
 use crate::columns::{ColumnC, column_at};
 use crate::fields::{FieldC, tell_field};
 use crate::handle::ReaderC;
-use crate::kinds::{BAD_LIMITS, MEMORY, NO_READER};
+use crate::kinds::{BAD_LIMITS, MEMORY, NO_HANDLE};
 use crate::reading::Reading;
 use crate::steps::{FaultC, StepC};
 use crate::terms::LimitsC;
@@ -53,7 +53,7 @@ pub extern "C" fn arrowflow_reader_read(alloc: Global, reader: &mut ReaderC, pie
             *reader = ReaderC::of(reading);
             step
         }
-        None => StepC::fault(NO_READER, 0),
+        None => StepC::fault(NO_HANDLE, 0),
     }
 }
 
@@ -69,7 +69,7 @@ pub extern "C" fn arrowflow_reader_end(alloc: Global, reader: &mut ReaderC) -> F
             fault
         }
         None => FaultC {
-            kind: NO_READER,
+            kind: NO_HANDLE,
             place: 0,
         },
     }

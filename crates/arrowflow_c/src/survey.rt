@@ -73,7 +73,7 @@ fn report_of(alloc: Global, bytes: &[u8], limits: Limits) -> ReportC
 
 /// Gives the reader all of the bytes, and counts what comes. `AllocError` where a growth was
 /// refused.
-fn survey(reader: &mut StreamReader, bytes: &[u8]) -> Result<Counts, AllocError>
+pub(crate) fn survey(reader: &mut StreamReader, bytes: &[u8]) -> Result<Counts, AllocError>
     requires start { ReaderStands reader.old [] [] }
     ensures counted { IfOk result (λ n. HasCounted bytes.now n reader.new) }
     ensures limits { reader.new.limits ≡ reader.old.limits }
@@ -104,7 +104,7 @@ fn survey(reader: &mut StreamReader, bytes: &[u8]) -> Result<Counts, AllocError>
 /// How many batches came, how many rows they have together, each at most 2^64 - 1, and whether the
 /// end marker came.
 #[derive(Clone, Copy)]
-struct Counts {
+pub(crate) struct Counts {
     batches: u64,
     rows: u64,
     ended: bool,

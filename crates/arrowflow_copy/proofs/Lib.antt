@@ -1,3 +1,6 @@
 mod Copied
 pub mod OfFront
 mod Equal
+mod Taken
+mod Pieces
+mod Parts

@@ -3,3 +3,8 @@ pub mod OfFront
 pub mod Copying
 pub mod Target
 pub mod Equal
+pub mod Outbox
+pub mod Taken
+pub mod Parted
+pub mod Pieces
+pub mod CopierShown

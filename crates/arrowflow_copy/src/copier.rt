@@ -72,18 +72,7 @@ impl<S: Sink> Consumer for Copier<S> {
     }
 
     fn end(self, _reader: &StreamReader, _marked: bool) -> (Self, Result<(), ToolFault>) {
-        let Copier {
-            terms,
-            target,
-            number,
-        } = self;
-        let (target, answer) = close(target);
-        let copier = Copier {
-            terms,
-            target,
-            number,
-        };
-        (copier, answer)
+        self.finish()
     }
 }
 
@@ -141,7 +130,7 @@ fn take_one<S: Sink>(
 impl<S: Sink> Copier<S> {
     /// What is made of a message that the reader has just read: the first one, the schema, starts
     /// the writer.
-    fn take(self, reader: &StreamReader, item: &Item) -> (Self, Result<(), ToolFault>)
+    pub(crate) fn take(self, reader: &StreamReader, item: &Item) -> (Self, Result<(), ToolFault>)
         requires { failures_at (at_of S.contents S.failed self.target) < 2 ^ 64 - 1 }
         ensures takes { TakesItem self.terms.limits (options_view self.terms.options)
             reader.now.at.state.schema (given item.now)
@@ -177,6 +166,30 @@ impl<S: Sink> Copier<S> {
                 (copier, answer)
             }
         }
+    }
+
+    /// Writes the end marker after the last batch.
+    pub(crate) fn finish(self) -> (Self, Result<(), ToolFault>)
+        requires { failures_at (at_of S.contents S.failed self.target) < 2 ^ 64 - 1 }
+        ensures closes { Closes (at_of S.contents S.failed self.target) result.1
+            (at_of S.contents S.failed result.0.target) }
+        ensures terms { result.0.terms ≡ self.terms }
+        ensures number { result.0.number ≡ self.number }
+        ensures passed { IsWriting (at_of S.contents S.failed self.target)
+            → OnOk result.1 (IsPassedOn S.is_passed_on result.0.target) }
+    {
+        let Copier {
+            terms,
+            target,
+            number,
+        } = self;
+        let (target, answer) = close(target);
+        let copier = Copier {
+            terms,
+            target,
+            number,
+        };
+        (copier, answer)
     }
 }
 

@@ -17,5 +17,9 @@
 mod copier;
 mod copying;
 pub mod laws;
+mod outbox;
+mod part_copier;
+mod stream_copier;
 
 pub use copying::copy;
+pub use stream_copier::StreamCopier;

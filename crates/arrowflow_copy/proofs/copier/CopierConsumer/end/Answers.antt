@@ -9,8 +9,8 @@ returns-clause-ends g c began bytes left es ended x =
     let own = copier.terms.limits in
     let o = options_view copier.terms.options in
     let at = at_of g.S.Sink.contents g.S.Sink.failed copier.target in
-    let at' = at_of g.S.Sink.contents g.S.Sink.failed c.close-target.result.0 in
+    let at' = at_of g.S.Sink.contents g.S.Sink.failed c.finish.result.0.target in
     let r = c.args._reader.now in (
-      end_copied began own o at copier.number c.args._marked r bytes left es ended x c.close-target.result.1 at' c.close-target.ensures.closes,
-      c.close-target.ensures.passed (end_writes began own o at copier.number c.args._marked r bytes left es ended x),
+      end_copied began own o at copier.number c.args._marked r bytes left es ended x c.finish.result.1 at' c.finish.ensures.closes,
+      c.finish.ensures.passed (end_writes began own o at copier.number c.args._marked r bytes left es ended x),
     )

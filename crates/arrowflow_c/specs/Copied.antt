@@ -1,0 +1,63 @@
+-- What is told of a stream that is written again as its pieces come.
+use Rattle.std.specs.Prelude.{◌≡◌, ◌⊎◌, ℕ, List, [], length, Option, None, Some, is_some, true, Result, Ok, Err}
+use Rattle.arrow_types.specs.Limits.{LimitNumbers}
+use Rattle.arrow_stream_laws.specs.Sizes.{Options}
+use Rattle.arrowflow_copy.specs.Pieces.{Answer, CopierView, GoesOnAt, PutsEnd, PutsPiece, TakesWritten, copier_view}
+use Rattle.arrowflow_c.specs.declared.pieces.CopiedC.{CopiedC}
+use Rattle.arrowflow_c.specs.declared.pieces.Copying.{Copying}
+use Rattle.arrowflow_c.specs.declared.terms.LimitsC.{LimitsC}
+use Rattle.arrowflow_c.specs.declared.terms.OptionsC.{OptionsC}
+use Rattle.arrowflow_c.specs.Kinds.{bad_limits, kind_of, no_handle, out_of_memory, place_of}
+use Rattle.arrowflow_c.specs.Terms.{AreLimits, numbers, options_by}
+
+-- the number of how a copy ended, 0 while it goes on
+abbrev pub kind_so : Option Answer → ℕ
+kind_so None = 0
+kind_so (Some (Ok done)) = 0
+kind_so (Some (Err fault)) = kind_of fault
+
+-- the place of the fault with which it ended
+abbrev pub place_so : Option Answer → ℕ
+place_so None = 0
+place_so (Some (Ok done)) = 0
+place_so (Some (Err fault)) = place_of fault
+
+-- what is told of a copy
+abbrev pub copied_told : CopierView → CopiedC
+copied_told v = record { kind = kind_so v.ended; is_over = is_some v.ended; place = place_so v.ended; waiting = length v.waiting }
+
+-- what is told where there is none
+abbrev pub no_copier : CopiedC
+no_copier = record { kind = no_handle; is_over = true; place = 0; waiting = 0 }
+
+-- a copier on these terms to which nothing was given
+pub record IsFresh (limits : LimitNumbers) (o : Options) (v : CopierView) : Type 0 where
+  pub limits_are : v.limits ≡ limits
+  pub options_are : v.options ≡ o
+  pub goes_on : v.ended ≡ None
+  pub nothing : GoesOnAt v []
+  pub past : v.past ≡ []
+
+-- One was made; or none, where an allocation failed, a limit is above its ceiling or there is no such set of types.
+abbrev pub OpensCopier : LimitsC → OptionsC → ℕ → Option Copying → Type 0
+OpensCopier limits options kind new =
+    (AreLimits limits
+    × (((kind ≡ 0) × ((c : Copying) × (new ≡ Some c) × IsFresh (numbers limits) (options_by options) (copier_view c.copier)))
+    ⊎ ((kind ≡ out_of_memory) × (new ≡ None))))
+    ⊎ ((AreLimits limits → ⊥) × (kind ≡ bad_limits) × (new ≡ None))
+
+-- A copier was given a piece, where there is one, and what came of it was told.
+abbrev pub PutsIf : Option Copying → List ℕ → CopiedC → Option Copying → Type 0
+PutsIf None piece told new = (told ≡ no_copier) × (new ≡ None)
+PutsIf (Some old) piece told new =
+    (c : Copying) × PutsPiece (copier_view old.copier) piece (copier_view c.copier) × (told ≡ copied_told (copier_view c.copier)) × (new ≡ Some c)
+
+-- Its stream ended, and what came of it was told.
+abbrev pub EndsCopy : Option Copying → CopiedC → Option Copying → Type 0
+EndsCopy None told new = (told ≡ no_copier) × (new ≡ None)
+EndsCopy (Some old) told new = (c : Copying) × PutsEnd (copier_view old.copier) (copier_view c.copier) × (told ≡ copied_told (copier_view c.copier)) × (new ≡ Some c)
+
+-- So many bytes that waited were moved into a room, where there is a copier.
+abbrev pub TakesIf : Option Copying → List ℕ → ℕ → Option Copying → List ℕ → Type 0
+TakesIf None room n new room' = (n ≡ 0) × (room' ≡ room) × (new ≡ None)
+TakesIf (Some old) room n new room' = (c : Copying) × TakesWritten (copier_view old.copier) room n (copier_view c.copier) room' × (new ≡ Some c)

@@ -1,0 +1,251 @@
+//! The column at fault of a stream in memory.
+
+ghost use Rattle.std.specs.Prelude.{◌≡◌, ◌↔◌, ◌<◌, Err, IsTrue, MatchOption, drop, slice_index, take};
+ghost use Rattle.arrow_meta_reader.specs.Means.{batch_view, message_view};
+ghost use Rattle.arrow_stream_reader.specs.Batch.{Loads};
+ghost use Rattle.arrow_stream_reader.specs.Frame.{number_at};
+ghost use Rattle.arrow_types.specs.View.{fields_view};
+ghost use Rattle.arrow_body_reader.specs.Held.{count_of};
+ghost use Rattle.arrowflow_c.specs.Blame.{IsFaultOf, TellsSo, body_fault, ending_fault, refusal_by};
+ghost use Rattle.arrowflow_c.specs.Culprit.{Blames, IsAtFault, TellsContent};
+ghost use Rattle.arrowflow_c.specs.Culprit.{TellsCulprit, no_culprit};
+
+use crate::kinds::{BAD_LIMITS, MEMORY};
+use crate::survey::survey;
+use crate::terms::LimitsC;
+use arrow_body_reader::{BodyFault, check, have_length};
+use arrow_data::Dictionary;
+use arrow_meta_reader::{Header, Message, MetaFault, RecordBatch, decode};
+use arrow_stream_reader::{Fault, Kind, StreamReader};
+use arrow_types::{Field, Limits};
+use std::alloc::Global;
+
+/// Which column of a record batch is at fault.
+#[repr(C)]
+#[derive(Clone, Copy)]
+pub struct CulpritC {
+    /// 0; 19 where an allocation failed, 20 for limits above their ceilings or of types that are no
+    /// set.
+    pub kind: u32,
+    /// Whether a column is at fault.
+    pub found: bool,
+    /// The number of the column, from 0.
+    pub column: u64,
+}
+
+impl CulpritC {
+    /// No column, for this reason.
+    fn none(kind: u32) -> CulpritC
+        ensures { result ≡ no_culprit kind }
+    {
+        CulpritC {
+            kind,
+            found: false,
+            column: 0,
+        }
+    }
+}
+
+/// Tells which column is at fault of a stream whose fault is of a record batch's body: the first one
+/// with which the body is refused by the stream's kind.
+#[unsafe(no_mangle)]
+pub extern "C" fn arrowflow_fault_column(alloc: Global, bytes: &[u8], limits: LimitsC) -> CulpritC
+    ensures { Blames limits bytes.now result }
+{
+    match limits.limits() {
+        Some(limits) => culprit_in(alloc, bytes, limits),
+        None => CulpritC::none(BAD_LIMITS),
+    }
+}
+
+/// The column at fault of these bytes.
+fn culprit_in(alloc: Global, bytes: &[u8], limits: Limits) -> CulpritC
+    ensures { TellsCulprit limits bytes.now result }
+{
+    let mut reader = StreamReader::new(alloc, limits);
+    if survey(&mut reader, bytes).is_err() {
+        return CulpritC::none(MEMORY);
+    }
+    match ending_fault(reader.end()) {
+        Some(fault) => {
+            let message = tail(bytes, reader.place() as usize);
+            culprit_of(alloc, &limits, fault, &reader, message)
+        }
+        None => CulpritC::none(0),
+    }
+}
+
+/// The fault of a body with which a stream ends.
+fn ending_fault(answer: Result<(), Fault>) -> Option<BodyFault>
+    ensures { result ≡ ending_fault answer }
+{
+    match answer {
+        Ok(()) => None,
+        Err(fault) => body_fault(fault.kind),
+    }
+}
+
+/// The fault of a body that a kind is of.
+fn body_fault(kind: Kind) -> Option<BodyFault>
+    ensures { result ≡ body_fault kind }
+{
+    match kind {
+        Kind::Layout => Some(BodyFault::Layout),
+        Kind::Text => Some(BodyFault::Text),
+        Kind::Index => Some(BodyFault::Index),
+        Kind::Continuation | Kind::MetadataSize | Kind::Metadata | Kind::Version => None,
+        Kind::Header | Kind::BodyLength | Kind::Order | Kind::Unsupported | Kind::Schema => None,
+        Kind::Compressed | Kind::UnknownId | Kind::NoBase | Kind::Rows => None,
+        Kind::NoSchema | Kind::Truncated | Kind::Memory => None,
+    }
+}
+
+/// The column at fault of the message at the front of these bytes, at which the reader stands.
+fn culprit_of(
+    alloc: Global,
+    limits: &Limits,
+    fault: BodyFault,
+    reader: &StreamReader,
+    message: &[u8],
+) -> CulpritC
+    ensures { TellsSo limits.now fault reader.now.at message.now result }
+{
+    let (size, rest) = (metadata_size(message), tail(message, 8));
+    match decode(alloc, head(rest, size), limits) {
+        Ok(message) => in_message(&message, fault, reader, tail(rest, size)),
+        Err(MetaFault::Memory) => CulpritC::none(MEMORY),
+        Err(MetaFault::Metadata | MetaFault::Version | MetaFault::Header) => CulpritC::none(0),
+        Err(MetaFault::BodyLength | MetaFault::Unsupported { .. }) => CulpritC::none(0),
+        Err(MetaFault::Schema { .. } | MetaFault::Compressed { .. }) => CulpritC::none(0),
+    }
+}
+
+/// The column at fault of a message, whose body is at the front of these bytes.
+fn in_message(message: &Message, fault: BodyFault, reader: &StreamReader, after: &[u8]) -> CulpritC
+    ensures { TellsContent (refusal_by fault) reader.now.at after.now
+        (message_view message.now).body_len (message_view message.now).header result }
+{
+    let Header::Batch(record_batch) = &message.header else {
+        return CulpritC::none(0);
+    };
+    let body = Body {
+        record_batch,
+        bytes: head(after, message.body_len as usize),
+        dictionaries: reader.dictionaries().entries(),
+    };
+    let fields = match reader.schema() {
+        Some(schema) => schema.fields(),
+        None => &[],
+    };
+    match body.first_at_fault(fields, fault) {
+        Some(column) => CulpritC {
+            kind: 0,
+            found: true,
+            column: column as u64,
+        },
+        None => CulpritC::none(0),
+    }
+}
+
+/// The body of a record batch, and the dictionaries in which its indices are looked up.
+#[derive(Clone, Copy)]
+struct Body<'a> {
+    record_batch: &'a RecordBatch,
+    bytes: &'a [u8],
+    dictionaries: &'a [(i64, Dictionary)],
+}
+
+impl Body<'_> {
+    /// The first field with which the body has this fault, or none where it does not have it. Takes
+    /// as many checks of the body as the number of fields has bits.
+    fn first_at_fault(&self, fields: &[Field], fault: BodyFault) -> Option<usize>
+        ensures { MatchOption result
+            (Loads self.now.bytes.now self.now.dictionaries.now (fields_view fields.now)
+            (batch_view self.now.record_batch.now) (Err (refusal_by fault)) → ⊥)
+            (λ n. IsAtFault (refusal_by fault) self.now.bytes.now self.now.dictionaries.now
+            (fields_view fields.now) (batch_view self.now.record_batch.now) n) }
+    {
+        if fields.is_empty() || !self.has_fault(fields, fault) {
+            return None;
+        }
+        let (mut sound, mut refused) = (0, fields.len());
+        while refused - sound > 1 {
+            let middle = sound + (refused - sound) / 2;
+            if self.has_fault(&fields[..middle], fault) {
+                refused = middle;
+            } else {
+                sound = middle;
+            }
+        }
+        Some(sound)
+    }
+
+    /// Whether the body has this fault, where these are its columns.
+    fn has_fault(&self, fields: &[Field], fault: BodyFault) -> bool
+        ensures { IsTrue result
+            ↔ Loads self.now.bytes.now self.now.dictionaries.now (fields_view fields.now)
+            (batch_view self.now.record_batch.now) (Err (refusal_by fault)) }
+    {
+        match self.fault(fields) {
+            Some(found) => found == fault,
+            None => false,
+        }
+    }
+
+    /// The fault of the body, where these are its columns.
+    fn fault(&self, fields: &[Field]) -> Option<BodyFault>
+        ensures { IsFaultOf result self.now.bytes.now self.now.dictionaries.now
+            (fields_view fields.now) (batch_view self.now.record_batch.now) }
+    {
+        let batch = self.record_batch;
+        if !have_length(fields, &batch.nodes, row_count(batch)) {
+            return Some(BodyFault::Layout);
+        }
+        let checked = check(
+            fields,
+            &batch.nodes,
+            &batch.buffers,
+            self.bytes,
+            self.dictionaries,
+        );
+        checked.err()
+    }
+}
+
+/// How many rows a batch has, 0 where its length is negative.
+fn row_count(record_batch: &RecordBatch) -> usize
+    ensures { result ≡ count_of record_batch.now.length }
+{
+    record_batch.length.max(0) as usize
+}
+
+/// How long the metadata are, by the prefix at the front of these bytes; a byte that is missing is 0.
+fn metadata_size(message: &[u8]) -> usize
+    ensures { result ≡ number_at message.now 4 }
+{
+    let low = byte_at(message, 4) + 256 * byte_at(message, 5);
+    let high = byte_at(message, 6) + 256 * byte_at(message, 7);
+    low + 65536 * high
+}
+
+/// A byte, or 0 where there is none.
+fn byte_at(bytes: &[u8], at: usize) -> usize
+    ensures value { result ≡ slice_index bytes.now at }
+    ensures small { result < 256 }
+{
+    bytes.get(at).map_or(0, |byte| *byte as usize)
+}
+
+/// The bytes from a place on, none past the end.
+fn tail(bytes: &[u8], at: usize) -> &[u8]
+    ensures { result.now ≡ drop at bytes.now }
+{
+    bytes.get(at..).unwrap_or(&[])
+}
+
+/// The first bytes, as many as there are of them.
+fn head(bytes: &[u8], count: usize) -> &[u8]
+    ensures { result.now ≡ take count bytes.now }
+{
+    bytes.get(..count).unwrap_or(bytes)
+}
