@@ -1,6 +1,6 @@
 -- Which column is at fault: a body is refused by one kind, and what is told of a stream's last message.
 use Rattle.std.proofs.Common.{◌≡◌, ◌≤◌, ◌<◌, ℕ, ℤ, zero, suc, ◌+◌, ◌-◌, List, [], ◌∷◌, take, drop, map, Option, None, Some, Result, Ok, Err, refl, sym, ap, ◌∙◌, subst, arith, inl, inr}
-use Rattle.std.specs.Prelude.{IsTrue, Bool, true, false, is_some, length}
+use Rattle.std.specs.Prelude.{◌↔◌, IsTrue, Bool, true, false, not, length}
 use Rattle.arrow_types.specs.Field.{Fields, none, more, fields_of}
 use Rattle.arrow_types.specs.View.{field_view, fields_view}
 use Rattle.arrow_types.specs.declared.field.Field.{Field}
@@ -8,11 +8,26 @@ use Rattle.arrow_body_reader.specs.declared.body.BodyFault.{BodyFault}
 use Rattle.arrow_body_reader.specs.declared.body.BodyFault.TheVariants as bodies
 use Rattle.arrow_data.specs.Column.{Column, ValueList}
 use Rattle.arrow_meta_reader.specs.Means.{PlainBatch}
-use Rattle.arrow_stream_reader.specs.Batch.{Loads, columns, bad_layout, bad_text, bad_index}
+use Rattle.arrow_body_reader.specs.Sound.{Explains}
+use Rattle.arrow_stream_reader.specs.Batch.{AreLong, Loads, columns, bad_layout, bad_text, bad_index}
+use Rattle.arrow_stream_reader.proofs.Holdings.{fault_holds}
 use Rattle.arrow_stream_reader.specs.declared.kind.Refusal.{Refusal}
 use Rattle.arrow_stream_reader.specs.declared.kind.Refusal.TheVariants as refusals
-use Rattle.arrowflow_c.specs.Blame.{IsFaultOf, refusal_by}
-use Rattle.arrowflow_c.specs.Culprit.{first_fields}
+use Rattle.arrow_types.specs.Limits.{LimitNumbers}
+use Rattle.arrow_meta_reader.specs.Judges.{Decodes, MetadataFails, MetadataMeans}
+use Rattle.arrow_meta_reader.specs.Means.{PlainMessage}
+use Rattle.arrow_meta_reader.specs.declared.fault.MetaFault.{MetaFault}
+use Rattle.arrow_meta_reader.specs.declared.fault.MetaFault.TheVariants as faults
+use Rattle.arrow_stream_reader.specs.Frame.{number_at}
+use Rattle.arrow_stream_reader.specs.Kind.{kind_of}
+use Rattle.arrow_stream_reader.specs.Meaning.{announced}
+use Rattle.arrow_stream_reader.specs.State.{StreamState}
+use Rattle.arrow_stream_reader.specs.Stream.{ended_by}
+use Rattle.arrow_stream_reader.specs.declared.reader.Verdict.{Verdict}
+use Rattle.arrow_stream_reader.specs.declared.reader.Verdict.TheVariants.{Open, Done, Bad}
+use Rattle.arrowflow_c.specs.Blame.{IsFaultOf, body_fault, ending_fault, refusal_by}
+use Rattle.arrowflow_c.specs.Culprit.{TellsContent, TellsMessage, TellsRefused, TellsVerdict, first_fields, is_of_body, no_culprit}
+use Rattle.arrowflow_c.specs.declared.culprit.CulpritC.{CulpritC}
 
 module _ {body : List ℕ} {ds : List (ℤ × ValueList)} {fields : Fields} {record_batch : PlainBatch} where
   -- a body that is read is not refused
@@ -52,6 +67,31 @@ refusals_differ bodies.Memory bodies.Text e = absurd (cc)
 refusals_differ bodies.Memory bodies.Index e = absurd (cc)
 refusals_differ bodies.Memory bodies.Memory e = refl
 
+module _ (body : List ℕ) (ds : List (ℤ × ValueList)) (fields : Fields) (record_batch : PlainBatch) where
+  -- a body that is refused by this fault
+  pub refuses : (f : BodyFault) → AreLong fields record_batch → (f ≡ bodies.Memory → ⊥) → Explains f body ds fields record_batch.nodes record_batch.buffers → Loads body ds fields record_batch (Err (refusal_by f))
+  refuses bodies.Layout long n e = fault_holds body ds fields record_batch bodies.Layout long e
+  refuses bodies.Text long n e = fault_holds body ds fields record_batch bodies.Text long e
+  refuses bodies.Index long n e = fault_holds body ds fields record_batch bodies.Index long e
+  refuses bodies.Memory long n e = absurd (n refl)
+
+  -- whether that is this fault
+  pub is_this : (found fault : BodyFault) (same : Bool) → (IsTrue same ↔ (found ≡ fault)) → IsFaultOf (Some found) body ds fields record_batch → IsTrue same ↔ Loads body ds fields record_batch (Err (refusal_by fault))
+  is_this found fault same e h = (
+    λ t. subst (λ (f : BodyFault). Loads body ds fields record_batch (Err (refusal_by f))) (e.0 t) h.1,
+    λ l. e.1 (refusals_differ found fault (one_refusal h.1 l)),
+  )
+
+  -- a body without a fault does not have it
+  pub is_none : (fault : BodyFault) → IsFaultOf None body ds fields record_batch → IsTrue false ↔ Loads body ds fields record_batch (Err (refusal_by fault))
+  is_none fault h = (λ t. absurd (cc), λ l. absurd (no_refusal h.1 l))
+
+-- without fields there is no fault
+pub nothing_refused : (body : List ℕ) (ds : List (ℤ × ValueList)) (record_batch : PlainBatch) (k : Refusal) → Loads body ds none record_batch (Err k) → ⊥
+nothing_refused body ds record_batch k (bad_layout n) = n (record { there = (omega arith, omega arith); laid = tt; long = tt })
+nothing_refused body ds record_batch k (bad_text l n) = n tt
+nothing_refused body ds record_batch k (bad_index l t n) = n tt
+
 -- the first fields of a list are those of its front
 pub first_of : (n : ℕ) (fs : List Field) → fields_view (take n fs) ≡ first_fields n (fields_view fs)
 first_of zero fs = refl
@@ -64,3 +104,103 @@ first_all zero [] e = refl
 first_all (suc n) [] e = refl
 first_all zero (f ∷ fs) e = absurd (omega (arith, e))
 first_all (suc n) (f ∷ fs) e = ap (λ (rest : Fields). more (field_view f).head (field_view f).children rest) (first_all n fs (omega (arith, e)))
+
+-- what is not so is not true
+pub not_true : (b : Bool) → b ≡ false → IsTrue b → ⊥
+not_true b e t = let q : false ≡ true = sym e ∙ t in absurd (cc)
+
+-- ---- the last message
+
+-- metadata that mean no message
+pub no_message : (limits : LimitNumbers) (kind : Refusal) (s : StreamState) (message metadata : List ℕ) (fault : MetaFault) (told : CulpritC) → metadata ≡ take (number_at message 4) (drop 8 message) → (fault ≡ faults.Memory → ⊥) → Decodes (Err fault) limits metadata → told ≡ no_culprit 0
+    → TellsMessage limits kind s message told
+no_message limits kind s message metadata fault told is other decodes q = (Err fault, subst (λ b. MetadataFails limits b fault) is (fails fault other decodes), q)
+  where
+    fails : (f : MetaFault) → (f ≡ faults.Memory → ⊥) → Decodes (Err f) limits metadata → MetadataFails limits metadata f
+    fails faults.Metadata n d = d
+    fails faults.Version n d = d
+    fails faults.Header n d = d
+    fails faults.BodyLength n d = d
+    fails (faults.Unsupported body_len) n d = d
+    fails (faults.Schema body_len) n d = d
+    fails (faults.Compressed where_found body_len) n d = d
+    fails faults.Memory n d = absurd (n refl)
+
+-- metadata that mean one
+pub one_message : (limits : LimitNumbers) (kind : Refusal) (s : StreamState) (message metadata after : List ℕ) (m : PlainMessage) (told : CulpritC) → metadata ≡ take (number_at message 4) (drop 8 message) → after ≡ drop (number_at message 4) (drop 8 message)
+    → MetadataMeans limits metadata m → TellsContent kind s after m.body_len m.header told → TellsMessage limits kind s message told
+one_message limits kind s message metadata after m told is then means says =
+    (Ok (announced m), (m, subst (λ b. MetadataMeans limits b m) is means, refl), subst (λ b. TellsContent kind s b m.body_len m.header told) then says)
+
+-- a stream that ends by a body's fault is refused by its kind
+pub record IsBadFor (v : Verdict) (f : BodyFault) : Type 0 where
+  pub kind : Refusal
+  pub bad : v ≡ Bad kind
+  pub of_body : is_of_body kind ≡ true
+  pub is : refusal_by f ≡ kind
+
+bad_for : (k : Refusal) (f : BodyFault) → body_fault (kind_of k) ≡ Some f → IsBadFor (Bad k) f
+bad_for refusals.Continuation f e = absurd (cc)
+bad_for refusals.MetadataSize f e = absurd (cc)
+bad_for refusals.Metadata f e = absurd (cc)
+bad_for refusals.Version f e = absurd (cc)
+bad_for refusals.Header f e = absurd (cc)
+bad_for refusals.BodyLength f e = absurd (cc)
+bad_for refusals.Order f e = absurd (cc)
+bad_for refusals.Unsupported f e = absurd (cc)
+bad_for refusals.Schema f e = absurd (cc)
+bad_for refusals.Compressed f e = absurd (cc)
+bad_for refusals.UnknownId f e = absurd (cc)
+bad_for refusals.NoBase f e = absurd (cc)
+bad_for refusals.Rows f e = absurd (cc)
+bad_for refusals.Layout bodies.Layout e = record { kind = refusals.Layout; bad = refl; of_body = refl; is = refl }
+bad_for refusals.Layout bodies.Text e = absurd (cc)
+bad_for refusals.Layout bodies.Index e = absurd (cc)
+bad_for refusals.Layout bodies.Memory e = absurd (cc)
+bad_for refusals.Text bodies.Text e = record { kind = refusals.Text; bad = refl; of_body = refl; is = refl }
+bad_for refusals.Text bodies.Layout e = absurd (cc)
+bad_for refusals.Text bodies.Index e = absurd (cc)
+bad_for refusals.Text bodies.Memory e = absurd (cc)
+bad_for refusals.Index bodies.Index e = record { kind = refusals.Index; bad = refl; of_body = refl; is = refl }
+bad_for refusals.Index bodies.Layout e = absurd (cc)
+bad_for refusals.Index bodies.Text e = absurd (cc)
+bad_for refusals.Index bodies.Memory e = absurd (cc)
+bad_for refusals.NoSchema f e = absurd (cc)
+
+pub ends_bad : (v : Verdict) (has_schema : Bool) (rest : List ℕ) (place : ℕ) (f : BodyFault) → ending_fault (ended_by v has_schema rest place) ≡ Some f → IsBadFor v f
+ends_bad (Bad k) has_schema rest place f e = bad_for k f e
+ends_bad Done has_schema rest place f e = absurd (cc)
+ends_bad Open false rest place f e = absurd (cc)
+ends_bad Open true [] place f e = absurd (cc)
+ends_bad Open true (x ∷ rest) place f e = absurd (cc)
+
+-- what is told of its message is told of the stream
+pub told_bad : (limits : LimitNumbers) (v : Verdict) (f : BodyFault) (s : StreamState) (message : List ℕ) (told : CulpritC) → IsBadFor v f → TellsMessage limits (refusal_by f) s message told → TellsVerdict limits v s message told
+told_bad limits v f s message told b says =
+    subst (λ x. TellsVerdict limits x s message told) (sym b.bad)
+    (subst (λ (x : Bool). TellsRefused x limits b.kind s message told) (sym b.of_body) (subst (λ k. TellsMessage limits k s message told) b.is says))
+
+-- of another one no column is
+none_bad : (limits : LimitNumbers) (k : Refusal) (s : StreamState) (message : List ℕ) (told : CulpritC) → body_fault (kind_of k) ≡ None → told ≡ no_culprit 0 → TellsRefused (is_of_body k) limits k s message told
+none_bad limits refusals.Continuation s message told e q = q
+none_bad limits refusals.MetadataSize s message told e q = q
+none_bad limits refusals.Metadata s message told e q = q
+none_bad limits refusals.Version s message told e q = q
+none_bad limits refusals.Header s message told e q = q
+none_bad limits refusals.BodyLength s message told e q = q
+none_bad limits refusals.Order s message told e q = q
+none_bad limits refusals.Unsupported s message told e q = q
+none_bad limits refusals.Schema s message told e q = q
+none_bad limits refusals.Compressed s message told e q = q
+none_bad limits refusals.UnknownId s message told e q = q
+none_bad limits refusals.NoBase s message told e q = q
+none_bad limits refusals.Rows s message told e q = q
+none_bad limits refusals.Layout s message told e q = absurd (cc)
+none_bad limits refusals.Text s message told e q = absurd (cc)
+none_bad limits refusals.Index s message told e q = absurd (cc)
+none_bad limits refusals.NoSchema s message told e q = q
+
+pub told_none : (limits : LimitNumbers) (v : Verdict) (has_schema : Bool) (rest : List ℕ) (place : ℕ) (s : StreamState) (message : List ℕ) (told : CulpritC) → ending_fault (ended_by v has_schema rest place) ≡ None → told ≡ no_culprit 0 → TellsVerdict limits v s message told
+told_none limits Open has_schema rest place s message told e q = q
+told_none limits Done has_schema rest place s message told e q = q
+told_none limits (Bad k) has_schema rest place s message told e q = none_bad limits k s message told e q

@@ -7,14 +7,15 @@ use Rattle.arrow_body_reader.specs.declared.body.BodyFault.{BodyFault}
 use Rattle.arrow_body_reader.specs.declared.body.BodyFault.TheVariants as bodies
 use Rattle.arrow_meta_reader.specs.Means.{PlainBatch}
 use Rattle.arrow_stream_reader.specs.Batch.{Loads}
-use Rattle.arrow_stream_reader.specs.Front.{Standing}
+use Rattle.arrow_stream_reader.specs.State.{StreamState}
+use Rattle.arrow_stream_reader.specs.declared.reader.Verdict.{Verdict}
 use Rattle.arrow_stream_reader.specs.declared.fault.Fault.{Fault}
 use Rattle.arrow_stream_reader.specs.declared.kind.Kind.{Kind}
 use Rattle.arrow_stream_reader.specs.declared.kind.Kind.TheVariants as kinds
 use Rattle.arrow_stream_reader.specs.declared.kind.Refusal.{Refusal}
 use Rattle.arrow_stream_reader.specs.declared.kind.Refusal.TheVariants as refusals
 use Rattle.arrowflow_c.specs.declared.culprit.CulpritC.{CulpritC}
-use Rattle.arrowflow_c.specs.Culprit.{TellsMessage, no_culprit}
+use Rattle.arrowflow_c.specs.Culprit.{TellsMessage, TellsVerdict, no_culprit}
 use Rattle.arrowflow_c.specs.Kinds.{out_of_memory}
 
 -- the kind of a body's fault; of a check, which takes no memory, the last one does not come
@@ -52,8 +53,12 @@ ending_fault (Ok done) = None
 ending_fault (Err fault) = body_fault fault.kind
 
 -- what is told of a message whose body has this fault, or that an allocation failed
-abbrev pub TellsSo : LimitNumbers → BodyFault → Standing → List ℕ → CulpritC → Type 0
-TellsSo limits fault e message told = TellsMessage limits (refusal_by fault) e message told ⊎ (told ≡ no_culprit out_of_memory)
+abbrev pub TellsSo : LimitNumbers → BodyFault → StreamState → List ℕ → CulpritC → Type 0
+TellsSo limits fault s message told = TellsMessage limits (refusal_by fault) s message told ⊎ (told ≡ no_culprit out_of_memory)
+
+-- the same of a stream with this verdict
+abbrev pub TellsEnding : LimitNumbers → Verdict → StreamState → List ℕ → CulpritC → Type 0
+TellsEnding limits verdict s message told = TellsVerdict limits verdict s message told ⊎ (told ≡ no_culprit out_of_memory)
 
 -- This is the fault of a body with these columns, or there is none.
 abbrev pub IsFaultOf : Option BodyFault → List ℕ → List (ℤ × ValueList) → Fields → PlainBatch → Type 0

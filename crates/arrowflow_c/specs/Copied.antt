@@ -2,7 +2,8 @@
 use Rattle.std.specs.Prelude.{◌≡◌, ◌⊎◌, ℕ, List, [], length, Option, None, Some, is_some, true, Result, Ok, Err}
 use Rattle.arrow_types.specs.Limits.{LimitNumbers}
 use Rattle.arrow_stream_laws.specs.Sizes.{Options}
-use Rattle.arrowflow_copy.specs.Pieces.{Answer, CopierView, GoesOnAt, PutsEnd, PutsPiece, TakesWritten, copier_view}
+use Rattle.arrowflow_copy.specs.Pieces.{Answer, CopierView, GoesOnAt, PutsEnd, PutsPiece, TakesWritten}
+use Rattle.arrowflow_copy.specs.CopierShown.{copier_view}
 use Rattle.arrowflow_c.specs.declared.pieces.CopiedC.{CopiedC}
 use Rattle.arrowflow_c.specs.declared.pieces.Copying.{Copying}
 use Rattle.arrowflow_c.specs.declared.terms.LimitsC.{LimitsC}
@@ -32,11 +33,8 @@ no_copier = record { kind = no_handle; is_over = true; place = 0; waiting = 0 }
 
 -- a copier on these terms to which nothing was given
 pub record IsFresh (limits : LimitNumbers) (o : Options) (v : CopierView) : Type 0 where
-  pub limits_are : v.limits ≡ limits
-  pub options_are : v.options ≡ o
   pub goes_on : v.ended ≡ None
-  pub nothing : GoesOnAt v []
-  pub past : v.past ≡ []
+  pub nothing : GoesOnAt limits o v [] []
 
 -- One was made; or none, where an allocation failed, a limit is above its ceiling or there is no such set of types.
 abbrev pub OpensCopier : LimitsC → OptionsC → ℕ → Option Copying → Type 0

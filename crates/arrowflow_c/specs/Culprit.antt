@@ -1,5 +1,5 @@
 -- Which column of a record batch is at fault (Columnar Format, "RecordBatch message").
-use Rattle.std.specs.Prelude.{◌≡◌, ◌⊎◌, ℕ, ℤ, zero, suc, List, take, drop, if◌then◌else◌, Bool, true, false, Result, Ok, Err}
+use Rattle.std.specs.Prelude.{◌≡◌, ◌⊎◌, ℕ, ℤ, zero, suc, List, take, drop, Bool, true, false, Result, Ok, Err}
 use Rattle.arrow_types.specs.Field.{Fields, none, more}
 use Rattle.arrow_types.specs.Limits.{LimitNumbers}
 use Rattle.arrow_data.specs.Column.{ValueList}
@@ -10,7 +10,7 @@ use Rattle.arrow_stream_reader.specs.Frame.{number_at}
 use Rattle.arrow_stream_reader.specs.Front.{Entry, Standing, FrontOf}
 use Rattle.arrow_stream_reader.specs.Meaning.{Means}
 use Rattle.arrow_stream_reader.specs.Message.{Message}
-use Rattle.arrow_stream_reader.specs.State.{fields_in}
+use Rattle.arrow_stream_reader.specs.State.{StreamState, fields_in}
 use Rattle.arrow_stream_reader.specs.declared.kind.Refusal.{Refusal}
 use Rattle.arrow_stream_reader.specs.declared.kind.Refusal.TheVariants as refusals
 use Rattle.arrow_stream_reader.specs.declared.reader.Verdict.{Verdict}
@@ -42,21 +42,21 @@ TellsColumn kind body ds fields record_batch told =
     ⊎ ((told ≡ no_culprit 0) × (Loads body ds fields record_batch (Err kind) → ⊥))
 
 -- of a message a record batch alone has columns; its body is at the front of these bytes
-abbrev pub TellsContent : Refusal → Standing → List ℕ → ℕ → PlainHeader → CulpritC → Type 0
-TellsContent kind e after body_len (schema shape) told = told ≡ no_culprit 0
-TellsContent kind e after body_len (dictionary id delta record_batch) told = told ≡ no_culprit 0
-TellsContent kind e after body_len (batch record_batch) told = TellsColumn kind (take body_len after) e.state.dictionaries (fields_in e.state.schema) record_batch told
+abbrev pub TellsContent : Refusal → StreamState → List ℕ → ℕ → PlainHeader → CulpritC → Type 0
+TellsContent kind s after body_len (schema shape) told = told ≡ no_culprit 0
+TellsContent kind s after body_len (dictionary id delta record_batch) told = told ≡ no_culprit 0
+TellsContent kind s after body_len (batch record_batch) told = TellsColumn kind (take body_len after) s.dictionaries (fields_in s.schema) record_batch told
 
 -- what is told of what metadata mean that these bytes follow
-abbrev pub TellsMeant : Refusal → Standing → List ℕ → Result Message MetaFault → CulpritC → Type 0
-TellsMeant kind e after (Err fault) told = told ≡ no_culprit 0
-TellsMeant kind e after (Ok m) told = TellsContent kind e after m.body_len m.content told
+abbrev pub TellsMeant : Refusal → StreamState → List ℕ → Result Message MetaFault → CulpritC → Type 0
+TellsMeant kind s after (Err fault) told = told ≡ no_culprit 0
+TellsMeant kind s after (Ok m) told = TellsContent kind s after m.body_len m.content told
 
 -- what is told of the message at these bytes, by its metadata, which are as long as its prefix says
-abbrev pub TellsMessage : LimitNumbers → Refusal → Standing → List ℕ → CulpritC → Type 0
-TellsMessage limits kind e message told =
+abbrev pub TellsMessage : LimitNumbers → Refusal → StreamState → List ℕ → CulpritC → Type 0
+TellsMessage limits kind s message told =
     (meant : Result Message MetaFault) × Means limits (take (number_at message 4) (drop 8 message)) meant
-    × TellsMeant kind e (drop (number_at message 4) (drop 8 message)) meant told
+    × TellsMeant kind s (drop (number_at message 4) (drop 8 message)) meant told
 
 -- the kinds that a body decides
 abbrev pub is_of_body : Refusal → Bool
@@ -78,20 +78,21 @@ is_of_body refusals.Text = true
 is_of_body refusals.Index = true
 is_of_body refusals.NoSchema = false
 
--- what is told of a message that is refused by this kind
-abbrev pub TellsRefused : LimitNumbers → Refusal → Standing → List ℕ → CulpritC → Type 0
-TellsRefused limits kind e message told = if is_of_body kind then TellsMessage limits kind e message told else (told ≡ no_culprit 0)
+-- what is told of a message that is refused, by its body or not
+abbrev pub TellsRefused : Bool → LimitNumbers → Refusal → StreamState → List ℕ → CulpritC → Type 0
+TellsRefused true limits kind s message told = TellsMessage limits kind s message told
+TellsRefused false limits kind s message told = told ≡ no_culprit 0
 
--- what is told of a stream with this verdict, whose last message is at these bytes
-abbrev pub TellsVerdict : LimitNumbers → Verdict → Standing → List ℕ → CulpritC → Type 0
-TellsVerdict limits Open e message told = told ≡ no_culprit 0
-TellsVerdict limits Done e message told = told ≡ no_culprit 0
-TellsVerdict limits (Bad kind) e message told = TellsRefused limits kind e message told
+-- what is told of a stream with this verdict and this state, whose last message is at these bytes
+abbrev pub TellsVerdict : LimitNumbers → Verdict → StreamState → List ℕ → CulpritC → Type 0
+TellsVerdict limits Open s message told = told ≡ no_culprit 0
+TellsVerdict limits Done s message told = told ≡ no_culprit 0
+TellsVerdict limits (Bad kind) s message told = TellsRefused (is_of_body kind) limits kind s message told
 
 -- Which column is at fault of a stream with these bytes; or that an allocation failed.
 abbrev pub TellsCulprit : LimitNumbers → List ℕ → CulpritC → Type 0
 TellsCulprit limits bytes told =
-    ((entries : List Entry) × ((e : Standing) × FrontOf limits bytes entries e × TellsVerdict limits e.verdict e (drop e.place bytes) told))
+    ((entries : List Entry) × ((e : Standing) × FrontOf limits bytes entries e × TellsVerdict limits e.verdict e.state (drop e.place bytes) told))
     ⊎ (told ≡ no_culprit out_of_memory)
 
 -- The same, or limits are above their ceilings or there is no such set of types.

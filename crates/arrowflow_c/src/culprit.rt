@@ -1,12 +1,13 @@
 //! The column at fault of a stream in memory.
 
-ghost use Rattle.std.specs.Prelude.{◌≡◌, ◌↔◌, ◌<◌, Err, IsTrue, MatchOption, drop, slice_index, take};
+ghost use Rattle.std.specs.Prelude.{◌≡◌, ◌↔◌, ◌<◌, Err, IsTrue, MatchBool, MatchOption, drop, slice_index, take};
 ghost use Rattle.arrow_meta_reader.specs.Means.{batch_view, message_view};
+ghost use Rattle.arrow_meta_reader.specs.declared.fault.MetaFault.TheVariants.{Memory};
 ghost use Rattle.arrow_stream_reader.specs.Batch.{Loads};
 ghost use Rattle.arrow_stream_reader.specs.Frame.{number_at};
 ghost use Rattle.arrow_types.specs.View.{fields_view};
 ghost use Rattle.arrow_body_reader.specs.Held.{count_of};
-ghost use Rattle.arrowflow_c.specs.Blame.{IsFaultOf, TellsSo, body_fault, ending_fault, refusal_by};
+ghost use Rattle.arrowflow_c.specs.Blame.{IsFaultOf, TellsEnding, TellsSo, body_fault, ending_fault, refusal_by};
 ghost use Rattle.arrowflow_c.specs.Culprit.{Blames, IsAtFault, TellsContent};
 ghost use Rattle.arrowflow_c.specs.Culprit.{TellsCulprit, no_culprit};
 
@@ -63,13 +64,21 @@ fn culprit_in(alloc: Global, bytes: &[u8], limits: Limits) -> CulpritC
     ensures { TellsCulprit limits bytes.now result }
 {
     let mut reader = StreamReader::new(alloc, limits);
-    if survey(&mut reader, bytes).is_err() {
-        return CulpritC::none(MEMORY);
+    match survey(&mut reader, bytes) {
+        Ok(_) => culprit_at(alloc, &limits, &reader, bytes),
+        Err(_) => CulpritC::none(MEMORY),
     }
+}
+
+/// The same, of bytes that the reader has read to their end.
+fn culprit_at(alloc: Global, limits: &Limits, reader: &StreamReader, bytes: &[u8]) -> CulpritC
+    ensures { TellsEnding limits.now reader.now.at.verdict reader.now.at.state
+        (drop reader.now.at.place bytes.now) result }
+{
     match ending_fault(reader.end()) {
         Some(fault) => {
             let message = tail(bytes, reader.place() as usize);
-            culprit_of(alloc, &limits, fault, &reader, message)
+            culprit_of(alloc, limits, fault, reader, message)
         }
         None => CulpritC::none(0),
     }
@@ -108,21 +117,31 @@ fn culprit_of(
     reader: &StreamReader,
     message: &[u8],
 ) -> CulpritC
-    ensures { TellsSo limits.now fault reader.now.at message.now result }
+    ensures { TellsSo limits.now fault reader.now.at.state message.now result }
 {
     let (size, rest) = (metadata_size(message), tail(message, 8));
     match decode(alloc, head(rest, size), limits) {
         Ok(message) => in_message(&message, fault, reader, tail(rest, size)),
-        Err(MetaFault::Memory) => CulpritC::none(MEMORY),
-        Err(MetaFault::Metadata | MetaFault::Version | MetaFault::Header) => CulpritC::none(0),
-        Err(MetaFault::BodyLength | MetaFault::Unsupported { .. }) => CulpritC::none(0),
-        Err(MetaFault::Schema { .. } | MetaFault::Compressed { .. }) => CulpritC::none(0),
+        Err(fault) if is_memory(fault) => CulpritC::none(MEMORY),
+        Err(_) => CulpritC::none(0),
+    }
+}
+
+/// Whether an allocation failed.
+fn is_memory(fault: MetaFault) -> bool
+    ensures { MatchBool result (fault ≡ Memory) (fault ≡ Memory → ⊥) }
+{
+    match fault {
+        MetaFault::Memory => true,
+        MetaFault::Metadata | MetaFault::Version | MetaFault::Header => false,
+        MetaFault::BodyLength | MetaFault::Unsupported { .. } => false,
+        MetaFault::Schema { .. } | MetaFault::Compressed { .. } => false,
     }
 }
 
 /// The column at fault of a message, whose body is at the front of these bytes.
 fn in_message(message: &Message, fault: BodyFault, reader: &StreamReader, after: &[u8]) -> CulpritC
-    ensures { TellsContent (refusal_by fault) reader.now.at after.now
+    ensures { TellsContent (refusal_by fault) reader.now.at.state after.now
         (message_view message.now).body_len (message_view message.now).header result }
 {
     let Header::Batch(record_batch) = &message.header else {
@@ -201,14 +220,16 @@ impl Body<'_> {
         if !have_length(fields, &batch.nodes, row_count(batch)) {
             return Some(BodyFault::Layout);
         }
-        let checked = check(
+        match check(
             fields,
             &batch.nodes,
             &batch.buffers,
             self.bytes,
             self.dictionaries,
-        );
-        checked.err()
+        ) {
+            Ok(()) => None,
+            Err(fault) => Some(fault),
+        }
     }
 }
 

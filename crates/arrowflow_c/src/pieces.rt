@@ -1,7 +1,8 @@
 //! A stream that is written again as its pieces come.
 
 ghost use Rattle.std.specs.Prelude.{◌≡◌, option_map};
-ghost use Rattle.arrowflow_copy.specs.Pieces.{PutsEnd, PutsPiece, TakesWritten, copier_view};
+ghost use Rattle.arrowflow_copy.specs.CopierShown.{copier_view};
+ghost use Rattle.arrowflow_copy.specs.Pieces.{PutsEnd, PutsPiece, TakesWritten};
 ghost use Rattle.arrow_stream_writer.specs.Shown.{options_view};
 ghost use Rattle.arrowflow_c.specs.Copied.{IsFresh, copied_told, no_copier, place_so, kind_so};
 
