@@ -5,6 +5,8 @@
 #include <stdio.h>
 #include <stdlib.h>
 
+enum { NAME_ROOM = 64 };
+
 /* ---- NULL, which an empty vector's data may be ---- */
 
 static const uint8_t *some(const uint8_t *bytes) {
@@ -104,6 +106,43 @@ arrowflow_limits arrowflow_standard_limits(void) {
 
 arrowflow_report arrowflow_check(const uint8_t *bytes, size_t len, arrowflow_limits limits) {
     return arrowflow_proved_check(some(bytes), len, limits);
+}
+
+arrowflow_culprit arrowflow_fault_column(const uint8_t *bytes, size_t len, arrowflow_limits limits) {
+    return arrowflow_proved_fault_column(some(bytes), len, limits);
+}
+
+/* What of a column's name is told, with other signs for control characters: its front, without a part of a
+ * character, where it is long. Answers its length. */
+static int name_of(const uint8_t *bytes, size_t len, arrowflow_limits limits, size_t column, char name[NAME_ROOM]) {
+    arrowflow_reader *reader;
+    size_t size = 0;
+    if (arrowflow_reader_open(limits, &reader) == ARROWFLOW_KIND_FINE
+        && arrowflow_reader_read(reader, bytes, len).message == ARROWFLOW_MESSAGE_SCHEMA)
+        size = arrowflow_reader_field(reader, &column, 1, (uint8_t *)name, NAME_ROOM).name_len;
+    arrowflow_reader_close(reader);
+    if (size > NAME_ROOM) {
+        size = NAME_ROOM;
+        while (size > 0 && ((unsigned char)name[size - 1] & 0xc0) == 0x80) size--;
+        if (size > 0 && (unsigned char)name[size - 1] >= 0xc0) size--;
+    }
+    for (size_t k = 0; k < size; k++)
+        if ((unsigned char)name[k] < ' ' || name[k] == 127) name[k] = '?';
+    return (int)size;
+}
+
+size_t arrowflow_fault_text(const uint8_t *bytes, size_t len, arrowflow_limits limits, char *out, size_t room) {
+    arrowflow_report report = arrowflow_check(bytes, len, limits);
+    char name[NAME_ROOM], none;
+    if (room > 0) *out = 0;
+    if (report.kind == ARROWFLOW_KIND_FINE) return 0;
+    size_t size = arrowflow_error_text(report.kind, report.place, out, room);
+    arrowflow_culprit culprit = arrowflow_fault_column(bytes, len, limits);
+    if (!culprit.found) return size;
+    int shown = name_of(bytes, len, limits, culprit.column, name);
+    size_t left = size < room ? room - size : 0;
+    int more = snprintf(left > 0 ? out + size : &none, left, ", in column %llu, \"%.*s\"", (unsigned long long)culprit.column, shown, name);
+    return more < 0 ? size : size + (size_t)more;
 }
 
 arrowflow_text arrowflow_copy(const uint8_t *bytes, size_t len, arrowflow_limits limits, arrowflow_options options,

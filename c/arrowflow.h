@@ -131,6 +131,23 @@ typedef struct {
 /* Reads a whole stream. With FINE it is a valid stream of so many batches and rows. */
 arrowflow_report arrowflow_check(const uint8_t *bytes, size_t len, arrowflow_limits limits);
 
+/* Which column is at fault. */
+typedef struct {
+    uint32_t kind; /* FINE, MEMORY or BAD_LIMITS */
+    bool found;
+    uint64_t column; /* its number, from 0 */
+} arrowflow_culprit;
+
+/* Finds the column at fault of a stream that is refused for the body of a record batch (LAYOUT, TEXT or INDEX):
+ * with the columns up to this one the body is refused by the same kind, and with those before it alone it is
+ * not. Of another fault, of a dictionary's body too, none is found. It reads the whole stream. */
+arrowflow_culprit arrowflow_fault_column(const uint8_t *bytes, size_t len, arrowflow_limits limits);
+
+/* Puts a sentence on the first fault of a stream into the room, as arrowflow_error_text does, with the number and
+ * the name of the column at fault where there is one: "fault at byte 592: Text, a text is not UTF-8, in column 1,
+ * \"city\"". Of a stream without fault the sentence is empty. */
+size_t arrowflow_fault_text(const uint8_t *bytes, size_t len, arrowflow_limits limits, char *out, size_t room);
+
 /* What is told of a text, or of a stream that was written again. As much of its front as fits stands in the
  * room, and what the room held after it is as it was. Where `size` is at most `room` it is all there; so a
  * call with a room of 0 bytes measures. With a fault the text is what the whole messages before the fault

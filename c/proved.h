@@ -17,6 +17,7 @@ typedef struct {
 } arrowflow_handle;
 
 arrowflow_report arrowflow_proved_check(const uint8_t *bytes, size_t len, arrowflow_limits limits);
+arrowflow_culprit arrowflow_proved_fault_column(const uint8_t *bytes, size_t len, arrowflow_limits limits);
 arrowflow_text arrowflow_proved_copy(const uint8_t *bytes, size_t len, arrowflow_limits limits,
                                      arrowflow_options options, uint8_t *out, size_t room);
 arrowflow_text arrowflow_proved_show(const uint8_t *bytes, size_t len, arrowflow_limits limits, uint8_t *out,
