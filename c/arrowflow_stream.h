@@ -99,7 +99,7 @@ struct ArrowArrayStream {
  * consumer asks again; any other failure is the stream's for good. */
 typedef ptrdiff_t (*arrowflow_source)(void *state, uint8_t *room, size_t len);
 
-/* Each makes a stream and answers ARROWFLOW_FINE; or ARROWFLOW_MEMORY or ARROWFLOW_BAD_LIMITS, and then
+/* Each makes a stream and answers ARROWFLOW_KIND_FINE; or ARROWFLOW_KIND_MEMORY or ARROWFLOW_KIND_BAD_LIMITS, and then
  * there is none and out->release is NULL. Nothing is read before the first call of get_schema, which reads
  * up to the schema's message, or of get_next, which reads up to the next batch and gives an array that is
  * released, `release` being NULL, at the end. What comes after the end marker is not looked at, though

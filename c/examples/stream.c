@@ -465,7 +465,7 @@ static void read_as(const char *how, const char *name, struct seen *seen) {
     struct given given = {NULL, 0, 0, 0, SIZE_MAX, 0, 0, false};
     uint8_t *bytes = read_file(name, &given.len);
     given.bytes = bytes;
-    WANT(open_as(how, name, &given, &fd, &stream) == ARROWFLOW_FINE);
+    WANT(open_as(how, name, &given, &fd, &stream) == ARROWFLOW_KIND_FINE);
     WANT(stream.get_last_error(&stream) == NULL);
     read_all(&stream, seen);
     WANT((stream.get_schema(&stream, &again) == 0) == (seen->schema.release != NULL));
@@ -619,20 +619,20 @@ static void check_beside_reader(const char *name, const struct seen *seen) {
     size_t len, at = 0, batch = 0, ids = 0, path[MOST_LEVELS];
     int64_t came[MOST_IDS];
     uint8_t *bytes = read_file(name, &len);
-    arrowflow_reader reader = ARROWFLOW_CLOSED;
+    arrowflow_reader *reader = NULL;
     arrowflow_step step = {0, 0, 0, 0, 0, 0, 0};
-    WANT(arrowflow_reader_open(limits, &reader) == ARROWFLOW_FINE);
-    while (batch < seen->count || step.what == ARROWFLOW_NOTHING) {
-        step = arrowflow_reader_read(&reader, bytes + at, len - at);
-        WANT(step.kind == ARROWFLOW_FINE && step.what != ARROWFLOW_NOTHING && ids < MOST_IDS);
+    WANT(arrowflow_reader_open(limits, &reader) == ARROWFLOW_KIND_FINE);
+    while (batch < seen->count || step.message == ARROWFLOW_MESSAGE_NONE) {
+        step = arrowflow_reader_read(reader, bytes + at, len - at);
+        WANT(step.kind == ARROWFLOW_KIND_FINE && step.message != ARROWFLOW_MESSAGE_NONE && ids < MOST_IDS);
         at += step.taken;
-        if (step.what == ARROWFLOW_SCHEMA_READ) check_told(&reader, path, 0, &seen->schema);
-        if (step.what == ARROWFLOW_DICTIONARY_READ) came[ids++] = step.id;
-        if (step.what != ARROWFLOW_BATCH_READ) continue;
-        check_columns(&reader, seen, batch++, came, ids);
+        if (step.message == ARROWFLOW_MESSAGE_SCHEMA) check_told(reader, path, 0, &seen->schema);
+        if (step.message == ARROWFLOW_MESSAGE_DICTIONARY) came[ids++] = step.id;
+        if (step.message != ARROWFLOW_MESSAGE_BATCH) continue;
+        check_columns(reader, seen, batch++, came, ids);
         ids = 0;
     }
-    arrowflow_reader_close(&reader);
+    arrowflow_reader_close(reader);
     free(bytes);
 }
 
@@ -697,7 +697,7 @@ static int in_threads(const char *name) {
     size_t len, count = 0;
     uint8_t *bytes = read_file(name, &len);
     int status = 0;
-    WANT(arrowflow_stream_of_bytes(bytes, len, limits, &stream) == ARROWFLOW_FINE);
+    WANT(arrowflow_stream_of_bytes(bytes, len, limits, &stream) == ARROWFLOW_KIND_FINE);
     while (status == 0 && count < MOST_THREADS) {
         struct seen *it = seen + count;
         memset(it, 0, sizeof *it);
@@ -732,12 +732,12 @@ static void bad_limits(void) {
     struct given given = {NULL, 0, 0, 1, SIZE_MAX, 0, 0, false};
     arrowflow_limits high = limits;
     high.max_rows = UINT64_MAX;
-    WANT(arrowflow_stream_of_bytes(NULL, 0, high, &stream) == ARROWFLOW_BAD_LIMITS && stream.release == NULL);
-    WANT(arrowflow_stream_of_fd(0, high, &stream) == ARROWFLOW_BAD_LIMITS && stream.release == NULL);
-    WANT(arrowflow_stream_of(give, &given, high, &stream) == ARROWFLOW_BAD_LIMITS && stream.release == NULL);
-    WANT(arrowflow_stream_of(give, &given, limits, &stream) == ARROWFLOW_FINE);
+    WANT(arrowflow_stream_of_bytes(NULL, 0, high, &stream) == ARROWFLOW_KIND_BAD_LIMITS && stream.release == NULL);
+    WANT(arrowflow_stream_of_fd(0, high, &stream) == ARROWFLOW_KIND_BAD_LIMITS && stream.release == NULL);
+    WANT(arrowflow_stream_of(give, &given, high, &stream) == ARROWFLOW_KIND_BAD_LIMITS && stream.release == NULL);
+    WANT(arrowflow_stream_of(give, &given, limits, &stream) == ARROWFLOW_KIND_FINE);
     stream.release(&stream);
-    WANT(arrowflow_stream_of_bytes(NULL, 0, limits, &stream) == ARROWFLOW_FINE);
+    WANT(arrowflow_stream_of_bytes(NULL, 0, limits, &stream) == ARROWFLOW_KIND_FINE);
     struct seen seen;
     read_all(&stream, &seen);
     WANT(seen.status == EINVAL && strcmp(seen.error, "kind NoSchema at byte 0") == 0);
@@ -754,14 +754,14 @@ static void bad_ends(const uint8_t *bytes, size_t len, size_t batches) {
         uint8_t *front = malloc(cut + 1);
         memcpy(front, bytes, cut);
         arrowflow_report report = arrowflow_check(front, cut, limits);
-        WANT(arrowflow_stream_of_bytes(front, cut, limits, &stream) == ARROWFLOW_FINE);
+        WANT(arrowflow_stream_of_bytes(front, cut, limits, &stream) == ARROWFLOW_KIND_FINE);
         read_all(&stream, &seen);
         stream.release(&stream);
         free(front);
         const char *kind = arrowflow_kind_name(report.kind);
         snprintf(wanted, sizeof wanted, "kind %s at byte %llu", kind, (unsigned long long)report.place);
-        WANT(seen.status == (report.kind == ARROWFLOW_FINE ? 0 : EINVAL) && seen.count == report.batches);
-        WANT(report.kind == ARROWFLOW_FINE || strcmp(seen.error, wanted) == 0);
+        WANT(seen.status == (report.kind == ARROWFLOW_KIND_FINE ? 0 : EINVAL) && seen.count == report.batches);
+        WANT(report.kind == ARROWFLOW_KIND_FINE || strcmp(seen.error, wanted) == 0);
         arrays += seen.count;
         for (size_t k = 0; k < seen.count; k++) check_array(&seen.schema, seen.arrays + k);
         release_all(&seen);
@@ -773,7 +773,7 @@ static void bad_ends(const uint8_t *bytes, size_t len, size_t batches) {
 static int read_failing(struct given given, struct seen *seen, struct ArrowArrayStream *stream) {
     struct given *kept = malloc(sizeof given);
     *kept = given;
-    WANT(arrowflow_stream_of(give, kept, limits, stream) == ARROWFLOW_FINE);
+    WANT(arrowflow_stream_of(give, kept, limits, stream) == ARROWFLOW_KIND_FINE);
     read_all(stream, seen);
     int left = kept->times;
     stream->release(stream);
@@ -803,7 +803,7 @@ static void scarce_reads(const uint8_t *bytes, size_t len, size_t batches) {
     struct ArrowArrayStream stream;
     struct given given = {bytes, len, 0, 13, len / 2, -ENOMEM, 3, false};
     size_t count = 0, refused = 0;
-    WANT(arrowflow_stream_of(give, &given, limits, &stream) == ARROWFLOW_FINE);
+    WANT(arrowflow_stream_of(give, &given, limits, &stream) == ARROWFLOW_KIND_FINE);
     for (;;) {
         struct ArrowArray array;
         int status = stream.get_next(&stream, &array);
@@ -865,7 +865,7 @@ static void interrupted_reads(const uint8_t *bytes, size_t len, size_t batches) 
     WANT(sigaction(SIGALRM, &action, NULL) == 0);
     WANT(pthread_create(&thread, NULL, write_late, &late) == 0);
     WANT(setitimer(ITIMER_REAL, &often, NULL) == 0);
-    WANT(arrowflow_stream_of_fd(ends[0], limits, &stream) == ARROWFLOW_FINE);
+    WANT(arrowflow_stream_of_fd(ends[0], limits, &stream) == ARROWFLOW_KIND_FINE);
     read_all(&stream, &seen);
     WANT(setitimer(ITIMER_REAL, &never, NULL) == 0);
     WANT(seen.status == 0 && seen.count == batches && atomic_load(&alarms) >= 3);
@@ -873,7 +873,7 @@ static void interrupted_reads(const uint8_t *bytes, size_t len, size_t batches) 
     stream.release(&stream);
     release_all(&seen);
     WANT(close(ends[0]) == 0);
-    WANT(arrowflow_stream_of_fd(ends[0], limits, &stream) == ARROWFLOW_FINE);
+    WANT(arrowflow_stream_of_fd(ends[0], limits, &stream) == ARROWFLOW_KIND_FINE);
     read_all(&stream, &seen);
     WANT(seen.status == EBADF && seen.schema.release == NULL);
     stream.release(&stream);
@@ -883,7 +883,7 @@ static int bad(const char *name) {
     size_t len;
     uint8_t *bytes = read_file(name, &len);
     arrowflow_report report = arrowflow_check(bytes, len, limits);
-    WANT(report.kind == ARROWFLOW_FINE && report.batches > 0);
+    WANT(report.kind == ARROWFLOW_KIND_FINE && report.batches > 0);
     bad_limits();
     bad_ends(bytes, len, report.batches);
     bad_reads(bytes, len, report.batches);
@@ -896,7 +896,7 @@ static int bad(const char *name) {
 int main(int argc, char **argv) {
     limits = arrowflow_standard_limits();
     if (argc > 3 && strcmp(argv[1], "--types") == 0) {
-        limits.types = strcmp(argv[2], "all") == 0 ? ARROWFLOW_ALL_TYPES : ARROWFLOW_CORE_TYPES;
+        limits.types = strcmp(argv[2], "all") == 0 ? ARROWFLOW_TYPES_ALL : ARROWFLOW_TYPES_CORE;
         argv += 2;
         argc -= 2;
     }
