@@ -1,0 +1,199 @@
+"""What a stream is read from: bytes, a file by its path, an open file, pieces of an iterable, pieces that are fed."""
+from __future__ import annotations
+
+import collections
+import ctypes
+import errno
+import io
+import os
+from typing import TYPE_CHECKING, Any, Callable, Deque, Iterable, Iterator, Optional, Union
+
+from ._library import ArrowArrayStream, CLimits, Kept, READ, calls
+
+if TYPE_CHECKING:
+    from typing import Protocol
+
+    from typing_extensions import Buffer
+
+    class Reads(Protocol):
+        """A binary file that is read."""
+
+        def read(self, size: int, /) -> Optional[Buffer]: ...
+
+    class ReadsInto(Protocol):
+        """A binary file that reads into a buffer."""
+
+        def readinto(self, room: bytearray, /) -> Optional[int]: ...
+
+    Data = Buffer
+    Input = Union[str, os.PathLike[str], Buffer, Reads, ReadsInto, Iterable[Buffer]]
+else:
+    Data = Input = Any
+
+PIECE = 65536
+
+
+def bytes_of(data: Data) -> bytes:
+    """The bytes of what has a buffer, copied where another one could change them. A TypeError of anything else."""
+    return data if type(data) is bytes else memoryview(data).tobytes()
+
+
+class NoDataYet(Exception):
+    """All that was fed was read."""
+
+
+class Source:
+    """What a stream is read from. `raised` is the exception that ended it."""
+
+    raised: Optional[BaseException] = None
+    is_waiting = False  # the last read found no data yet
+
+    def start(self, limits: CLimits, stream: ArrowArrayStream) -> int:
+        """Makes a stream of the library that reads from here, and answers a kind."""
+        raise NotImplementedError
+
+    def pieces(self) -> Iterator[bytes]:
+        """All bytes, in pieces."""
+        raise NotImplementedError
+
+    def close(self) -> None:
+        """Lets go what was opened for the stream; the library reads no more."""
+
+
+class OfBytes(Source):
+    """Bytes in memory."""
+
+    def __init__(self, data: bytes) -> None:
+        self._data = data
+
+    def start(self, limits: CLimits, stream: ArrowArrayStream) -> int:
+        at = ctypes.cast(ctypes.c_char_p(self._data), ctypes.c_void_p)
+        return int(calls["stream_of_bytes"](at, len(self._data), limits, stream))
+
+    def pieces(self) -> Iterator[bytes]:
+        for at in range(0, len(self._data), PIECE):
+            yield self._data[at:at + PIECE]
+
+
+class OfPath(Source):
+    """A file by its path, which the library reads without Python."""
+
+    def __init__(self, path: Union[str, "os.PathLike[str]"]) -> None:
+        self._file = io.FileIO(os.fspath(path), "rb")
+
+    def start(self, limits: CLimits, stream: ArrowArrayStream) -> int:
+        return int(calls["stream_of_fd"](self._file.fileno(), limits, stream))
+
+    def pieces(self) -> Iterator[bytes]:
+        while piece := self._file.read(PIECE):
+            yield piece
+
+    def close(self) -> None:
+        self._file.close()
+
+
+class OfPieces(Source):
+    """What a function gives piece by piece, and b"" at the end. What it raises ends the stream, and is raised to its caller."""
+
+    def __init__(self, next_piece: Callable[[], bytes]) -> None:
+        self._next_piece, self._left, self._number = next_piece, memoryview(b""), 0
+
+    def start(self, limits: CLimits, stream: ArrowArrayStream) -> int:
+        self._number = _sources.add(self)
+        return int(calls["stream_of"](_read, self._number, limits, stream))
+
+    def pieces(self) -> Iterator[bytes]:
+        while piece := self._next_piece():
+            yield piece
+
+    def fill(self, room: int, size: int) -> int:
+        """Puts bytes into a room of this size: how many, 0 at the end, or the negative of a number of errno.h."""
+        try:
+            piece = self._left or memoryview(self._next_piece())
+        except NoDataYet:
+            self.is_waiting = True
+            return -errno.ENOMEM
+        except BaseException as why:
+            self.raised = why
+            return -errno.EIO
+        part, self._left = bytes(piece[:size]), piece[size:]
+        ctypes.memmove(room, part, len(part))
+        return len(part)
+
+    def close(self) -> None:
+        if self._number:
+            _sources.drop(self._number)
+            self._number = 0
+
+
+class OfFed(OfPieces):
+    """Pieces that are fed."""
+
+    def __init__(self) -> None:
+        super().__init__(self._next)
+        self._fed: Deque[bytes] = collections.deque()
+        self.is_ended = False
+
+    def feed(self, piece: bytes) -> None:
+        if piece:
+            self._fed.append(piece)
+
+    def clear(self) -> None:
+        """Lets go the pieces that were not read."""
+        self._fed.clear()
+
+    def _next(self) -> bytes:
+        if self._fed:
+            return self._fed.popleft()
+        if self.is_ended:
+            return b""
+        raise NoDataYet
+
+
+_sources = Kept()
+
+
+@READ
+def _read(state: int, room: int, size: int) -> int:
+    return int(_sources.get(state).fill(room, size))
+
+
+# ---- what a caller names
+
+
+def source_of(given: Input) -> Source:
+    """The source that a caller names. A TypeError of what is none, an OSError of a file that is not opened."""
+    if isinstance(given, (str, os.PathLike)):
+        return OfPath(given)
+    try:
+        data = bytes_of(given)
+    except TypeError:
+        return OfPieces(_pieces_of(given))
+    return OfBytes(data)
+
+
+def _pieces_of(given: Any) -> Callable[[], bytes]:
+    """A function that gives the next piece of an open file or of an iterable."""
+    if isinstance(given, io.TextIOBase):
+        raise TypeError("the file is open for text: it has to be opened with mode 'rb'")
+    read = getattr(given, "read1", None) or getattr(given, "read", None)
+    if read is not None:
+        return lambda: _from_file(read(PIECE))
+    if hasattr(given, "readinto"):
+        return lambda: _read_into(given.readinto)
+    if hasattr(given, "__iter__"):
+        pieces = iter(given)
+        return lambda: next(filter(None, map(bytes_of, pieces)), b"")
+    raise TypeError(f"a stream is read from a path, a binary file, bytes or pieces of bytes, not {type(given).__name__}")
+
+
+def _from_file(piece: Optional[Data]) -> bytes:
+    if piece is None:
+        raise BlockingIOError(errno.EAGAIN, "the file has no data yet: it has to be one that blocks")
+    return bytes_of(piece)
+
+
+def _read_into(readinto: Callable[[bytearray], Optional[int]]) -> bytes:
+    room = bytearray(PIECE)
+    size = readinto(room)
+    return _from_file(None if size is None else bytes(room[:size]))
