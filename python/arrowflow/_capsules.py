@@ -1,9 +1,9 @@
 """The Arrow PyCapsule interface: structs of the Arrow C data and C stream interfaces in capsules, which release what no consumer
 moved out.
 
-A struct that is made here refers to Python objects by a number in `private_data`; they are let go by its `release`. The library
-cannot call a destructor of capsules or a `release` of this module while an exception is pending without losing it, since these are
-functions of ctypes: `called_by_c` says what becomes of it.
+A struct that is made here refers to Python objects by a number in `private_data`; they are let go by its `release`. C code that lets
+go of a capsule or a struct while an exception is pending in it loses that exception, since these are functions of ctypes:
+`called_by_c` has it reported.
 """
 from __future__ import annotations
 

@@ -113,6 +113,11 @@ class OfPieces(Source):
         except NoDataYet:
             self.is_waiting = True
             return -errno.ENOMEM
+        except StopIteration as why:
+            # which would end the loop of the caller as though the stream had ended
+            self.raised = RuntimeError("what the stream is read from raised StopIteration")
+            self.raised.__cause__ = why
+            return -errno.EIO
         except BaseException as why:
             self.raised = why
             return -errno.EIO
