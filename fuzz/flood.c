@@ -7,7 +7,7 @@
  * with a signal where the calls on one stream take more than 20 seconds of a processor. Prints how
  * many streams there were of each kind, also where it is interrupted.
  */
-#include "../c/arrowflow.h"
+#include "arrowflow.h"
 
 #include <signal.h>
 #include <stdio.h>
