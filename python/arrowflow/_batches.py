@@ -27,12 +27,7 @@ class Owned:
 class Column:
     """A column of a batch, or what lies below one: the child of a list, a field of a struct, the values of a dictionary. It keeps the
     memory of its batch alive. `len(column)` is how many slots it has, `column[3]` the value in a slot, and a loop goes through all
-    values.
-
-    field        its Field
-    children     the columns below it: of a list one, whose slots are cut by the offsets, of a struct one for each field
-    dictionary   the values of its dictionary as a column, which its slots are numbers into; None where it is not dictionary-encoded
-    """
+    values. `field` is its Field."""
 
     def __init__(self, owned: Owned, array: ArrowArray, field: Field) -> None:
         self._owned, self._array, self.field = owned, array, field
@@ -57,10 +52,12 @@ class Column:
 
     @property
     def children(self) -> "List[Column]":
+        """The columns below it: of a list one, whose slots the offsets cut, of a struct one for each field."""
         return [Column(self._owned, self._array.children[k].contents, it) for k, it in enumerate(self.field.children)]
 
     @property
     def dictionary(self) -> "Optional[Column]":
+        """The values of its dictionary as a column, which its slots are numbers into; None where it is not dictionary-encoded."""
         return Column(self._owned, self._array.dictionary.contents, self.field.dictionary) if self.field.dictionary else None
 
     @property
@@ -158,27 +155,25 @@ class Column:
 
 
 class Batch:
-    """A record batch. It owns its memory: it stays as it is whatever becomes of the stream, and goes to any thread.
-
-    schema        the Schema of its stream
-    num_rows      how many rows it has, which is also len(batch)
-    num_columns   how many columns
-    columns       all of them
-    """
+    """A record batch. It owns its memory: it stays as it is whatever becomes of the stream, and goes to any thread. `schema` is the
+    Schema of its stream."""
 
     def __init__(self, owned: Owned, schema: Schema) -> None:
         self._owned, self.schema = owned, schema
 
     @property
     def num_rows(self) -> int:
+        """How many rows it has, which is also len(batch)."""
         return int(self._owned.array.length)
 
     @property
     def num_columns(self) -> int:
+        """How many columns it has."""
         return len(self.schema)
 
     @property
     def columns(self) -> List[Column]:
+        """All columns."""
         return self._whole().children
 
     def column(self, which: Union[int, str]) -> Column:

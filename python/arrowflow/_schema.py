@@ -18,15 +18,11 @@ class Field:
 
     name             its name, "" for the values of a dictionary; it ends at a first zero byte, as the Arrow C data interface has it
     format           the format string of the Arrow C data interface; of a dictionary-encoded field that of the indices
-    type             the same in words, as `arrowflow schema` prints it: "int32", "timestamp[us, Europe/Berlin]",
-                     "dictionary<int32, utf8>"
     nullable         whether slots may be null, as the stream says: it is not enforced
     ordered          whether the order of the dictionary's values means something
-    time_zone        of a timestamp with a zone its name, else None
     children         the fields below it: of a list one, of a struct each
     dictionary       the field of the dictionary's values, or None where it is not dictionary-encoded
     metadata_pairs   the custom metadata as pairs of key and value, in bytes, in their order
-    metadata         the same as a dict, in which the last value of a key counts
     """
 
     def __init__(self, format: str, name: str, flags: int = _NULLABLE, metadata_pairs: Pairs = (),
@@ -37,15 +33,18 @@ class Field:
 
     @property
     def type(self) -> str:
+        """The type in words, as `arrowflow schema` prints it: "int32", "timestamp[us, Europe/Berlin]", "dictionary<int32, utf8>"."""
         words = words_of(self.format)
         return f"dictionary<{words}, {self.dictionary.type}>" if self.dictionary else words
 
     @property
     def time_zone(self) -> Optional[str]:
+        """Of a timestamp with a zone its name, else None."""
         return zone_of(self.format)
 
     @property
     def metadata(self) -> Dict[bytes, bytes]:
+        """The custom metadata as a dict, in which the last value of a key counts."""
         return dict(self.metadata_pairs)
 
     @property
@@ -75,10 +74,8 @@ class Schema:
     """The columns of a stream. `len(schema)` is how many there are, `schema[0]` and `schema["name"]` are fields, and a loop goes
     through all of them.
 
-    fields           the field of each column
-    names            their names
+    fields           the Field of each column
     metadata_pairs   the custom metadata of the schema, as those of a Field
-    metadata         the same as a dict, in which the last value of a key counts
     """
 
     def __init__(self, root: Field) -> None:
@@ -86,10 +83,12 @@ class Schema:
 
     @property
     def names(self) -> Tuple[str, ...]:
+        """The names of the columns."""
         return tuple(it.name for it in self.fields)
 
     @property
     def metadata(self) -> Dict[bytes, bytes]:
+        """The custom metadata of the schema as a dict, in which the last value of a key counts."""
         return dict(self.metadata_pairs)
 
     def __len__(self) -> int:

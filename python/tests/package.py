@@ -41,7 +41,7 @@ def annotations():
         takes = [it for it in signature.parameters.values() if it.name != "self"]
         if any(it.annotation is it.empty for it in takes) or signature.return_annotation is signature.empty:
             bare.append(name)
-        if not call.__doc__ and not short.startswith("__") and short not in described(call):
+        if not call.__doc__ and not short.startswith("__"):
             silent.append(name)
     yield "functions without annotations", bare, []
     yield "functions without a description", silent, []
@@ -51,12 +51,6 @@ def annotations():
     hints = [name for name, call, _ in public() if not typing.get_type_hints(call)]
     yield "annotations that are not read", hints, []
     yield "names that are not there", [it for it in arrowflow.__all__ if not hasattr(arrowflow, it)], []
-
-
-def described(call):
-    """The names that the description of a class has of its own."""
-    of = getattr(arrowflow, call.__qualname__.split(".")[0], None)
-    return re.findall(r"^ +(\w+)  +\S", of.__doc__ or "", re.M) if of else []
 
 
 def page():
