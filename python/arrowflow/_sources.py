@@ -6,9 +6,10 @@ import ctypes
 import errno
 import io
 import os
+from _ctypes import CFuncPtr, FUNCFLAG_CDECL
 from typing import TYPE_CHECKING, Any, Callable, Deque, Iterable, Iterator, Optional, Union
 
-from ._library import ArrowArrayStream, CLimits, Kept, READ, calls
+from ._library import ArrowArrayStream, CLimits, READ, calls
 
 if TYPE_CHECKING:
     from typing import Protocol
@@ -56,6 +57,9 @@ class Source:
         """All bytes, in pieces."""
         raise NotImplementedError
 
+    def mind(self) -> None:
+        """Is called after each call of the library that reads from here."""
+
     def close(self) -> None:
         """Lets go what was opened for the stream; the library reads no more."""
 
@@ -96,20 +100,28 @@ class OfPieces(Source):
     """What a function gives piece by piece, and b"" at the end. What it raises ends the stream, and is raised to its caller."""
 
     def __init__(self, next_piece: Callable[[], bytes]) -> None:
-        self._next_piece, self._left, self._number = next_piece, memoryview(b""), 0
+        self._next_piece, self._left = next_piece, memoryview(b"")
+        self._callback: Any = None
+        self._asked = self._filled = 0
 
     def start(self, limits: CLimits, stream: ArrowArrayStream) -> int:
-        self._number = _sources.add(self)
-        return int(calls["stream_of"](_read, self._number, limits, stream))
+        self._callback = callback_of(self.fill, self._minding())
+        return int(calls["stream_of"](ctypes.cast(self._callback, READ), None, limits, stream))
 
     def pieces(self) -> Iterator[bytes]:
         while piece := self._next_piece():
             yield piece
 
-    def fill(self, room: int, size: int) -> int:
+    def fill(self, state: Optional[int], room: int, size: Any) -> int:
         """Puts bytes into a room of this size: how many, 0 at the end, or the negative of a number of errno.h."""
         try:
+            self._filled += 1
+            if self.raised is not None:
+                return -errno.EIO
             piece = self._left or memoryview(self._next_piece())
+            part, self._left = bytes(piece[:size.value]), piece[size.value:]
+            ctypes.memmove(room, part, len(part))
+            return len(part)
         except NoDataYet:
             self.is_waiting = True
             return -errno.ENOMEM
@@ -121,14 +133,27 @@ class OfPieces(Source):
         except BaseException as why:
             self.raised = why
             return -errno.EIO
-        part, self._left = bytes(piece[:size]), piece[size:]
-        ctypes.memmove(room, part, len(part))
-        return len(part)
+
+    def _minding(self) -> Iterator[None]:
+        """Is resumed before each call of `fill`, and keeps what a handler of signals raises then, as for Ctrl-C."""
+        while True:
+            try:
+                while True:
+                    yield
+                    self._asked += 1
+            except GeneratorExit:
+                return
+            except BaseException as why:
+                self.raised = why
+                self._asked += 1
+
+    def mind(self) -> None:
+        """Notes that a call of `fill` was lost, in the moment between."""
+        if self.raised is None and self._asked != self._filled:
+            self.raised = KeyboardInterrupt("a signal came while a stream asked for bytes")
 
     def close(self) -> None:
-        if self._number:
-            _sources.drop(self._number)
-            self._number = 0
+        self._callback = None
 
 
 class OfFed(OfPieces):
@@ -155,12 +180,16 @@ class OfFed(OfPieces):
         raise NoDataYet
 
 
-_sources = Kept()
-
-
-@READ
-def _read(state: int, room: int, size: int) -> int:
-    return int(_sources.get(state).fill(room, size))
+def callback_of(fill: Callable[..., int], minding: Iterator[None]) -> Any:
+    """A function of C that calls this one. A handler of signals may run when Python begins to run the function, and what it raises
+    ctypes would pass over, with anything for an answer: bytes would come twice. So `minding` is resumed first, as the __init__ of the
+    last argument, and meets what is raised."""
+    next(minding)
+    size = type("Size", (ctypes.c_size_t,), {"__init__": minding.__next__})
+    # CFUNCTYPE would keep the prototype for good
+    prototype = type("Read", (CFuncPtr,), {"_argtypes_": (ctypes.c_void_p, ctypes.c_void_p, size), "_restype_": ctypes.c_ssize_t,
+                                           "_flags_": FUNCFLAG_CDECL})
+    return prototype(fill)
 
 
 # ---- what a caller names

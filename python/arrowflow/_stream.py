@@ -62,7 +62,8 @@ class Handle:
             raise ValueError("the stream is closed, or was handed on")
         stream, self._source.is_waiting = self._stream, False
         status = prototype(getattr(stream, call))(ctypes.byref(stream), ctypes.byref(out))
-        if not status:
+        self._source.mind()
+        if not status and self._source.raised is None:
             return
         if self._source.is_waiting:
             raise NoDataYet

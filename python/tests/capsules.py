@@ -173,4 +173,4 @@ def pending(room, compiler):
 def kept_empty():
     """At the end nothing is lent."""
     gc.collect()
-    yield "what is lent at the end", (lent(), len(_capsules.kept)), ((0, 0, 0, 0), 0)
+    yield "what is lent at the end", (lent(), len(_capsules.kept)), ((0, 0, 0), 0)

@@ -5,7 +5,7 @@ import threading
 
 import arrowflow
 from arrowflow import Kind
-from arrowflow import _capsules, _library, _sources
+from arrowflow import _capsules, _library
 
 from common import EVERY_TYPE, GROWING, NESTED, cut, elsewhere, raised_by, raises
 from shown import Buffers
@@ -13,7 +13,7 @@ from shown import Buffers
 
 def lent():
     """How many objects C code refers to."""
-    return len(_capsules.kept), len(_capsules._structs), len(_capsules._moved), len(_sources._sources)
+    return len(_capsules.kept), len(_capsules._structs), len(_capsules._moved)
 
 
 def churned():
