@@ -9,7 +9,8 @@ STREAMS = sorted([*(TOP / "examples").glob("*.arrows"), *(TOP / "vectors").glob(
 # Streams whose types are not all in the core, which are given with both sets of types.
 OF_ALL_TYPES = sorted([TOP / "examples/floats.arrows", *(TOP / "vectors/all").glob("*.arrows")])
 GROWING = TOP / "examples/growing_dictionary.arrows"
-EVERY_TYPE = TOP / "examples/every_type.arrows"
+# Three batches of nine rows, with a column of each type, and one of none.
+EVERY_TYPE = TOP / "vectors/each_type_untold.arrows"
 NESTED = TOP / "examples/nested_values.arrows"
 
 

@@ -12,7 +12,8 @@ from shown import Buffers
 
 
 def lent():
-    """How many objects C code refers to."""
+    """How many objects C code refers to, once what nothing else refers to is collected."""
+    gc.collect()
     return len(_capsules.kept), len(_capsules._structs), len(_capsules._moved)
 
 

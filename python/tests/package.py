@@ -58,7 +58,7 @@ def page():
     for it in ("pyarrow.table(", "polars.DataFrame(", "duckdb.sql(", "ArrowflowError", "Limits", "ALL_TYPES", "python -m arrowflow"):
         yield f"help has {it}", it in arrowflow.__doc__, True
     text, _, status = python("-c", "import arrowflow; help(arrowflow)", env={**os.environ, "PYTHONPATH": str(TOP / "python")})
-    for it in (b"class Stream", b"class Reader", b"class Column", b"class Kind", b"def open", b"sanitize_pieces"):
+    for it in (b"class Stream", b"class Reader", b"class Column", b"class Kind", b"    open(", b"sanitize_pieces"):
         yield f"help shows {it.decode()}", (it in text, status), (True, 0)
 
 

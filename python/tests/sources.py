@@ -62,21 +62,21 @@ def that_raise():
     """What a source raises is raised to the caller as it is, by each call from then on; what came before was handed out."""
     data = GROWING.read_bytes()
     for why in (OSError(5, "the disk"), KeyError("key"), KeyboardInterrupt(), MemoryError(), GeneratorExit(), RuntimeError("odd")):
-        stream, batches = arrowflow.open(Failing(data[:1000], why)), []
+        stream, batches = arrowflow.open(Failing(data[:975], why)), []
         found = raised_by(read_on, stream, batches)
         yield f"batches before {why!r}", [len(it) for it in batches], [3]
         yield f"{why!r} as it is", found is why, True
         yield f"{why!r} again", raised_by(stream.__next__) is why, True
         yield f"a schema before {why!r}", stream.schema == arrowflow.open(data).schema, True
-        yield f"{why!r} of a copy", raised_by(list, arrowflow.sanitize_pieces(Failing(data[:1000], why))) is why, True
+        yield f"{why!r} of a copy", raised_by(list, arrowflow.sanitize_pieces(Failing(data[:975], why))) is why, True
         yield f"{why!r} before a schema", raised_by(lambda why=why: arrowflow.open(Failing(data[:9], why)).schema) is why, True
     for call in (arrowflow.open, arrowflow.sanitize_pieces):
-        yield "a file that stops a loop", raises(RuntimeError, list, call(Failing(data[:1000], StopIteration()))), True
+        yield "a file that stops a loop", raises(RuntimeError, list, call(Failing(data[:975], StopIteration()))), True
     texts = arrowflow.open(Failing("text", None))
     yield "a file of text", raises(TypeError, next, texts), True
     none = arrowflow.open(Failing(None, None))
     yield "a file that does not block", raises(BlockingIOError, next, none), True
-    cut_off = arrowflow.open(io.BytesIO(data[:1000]))
+    cut_off = arrowflow.open(io.BytesIO(data[:975]))
     yield "a file that ends early", [len(next(cut_off)), raised_by(next, cut_off).kind], [3, Kind.TRUNCATED]
 
 
