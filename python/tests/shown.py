@@ -103,7 +103,7 @@ def single(number):
     bits = struct.pack("<f", number)
     tried = (f"{number:.{more}e}" for more in range(17))
     # one that is rounded up may be past the largest number of 32 bits
-    return next(it for it in tried if abs(float(it)) < 3.4028235677973366e38 and struct.pack("<f", float(it)) == bits)
+    return repr(next(float(it) for it in tried if abs(float(it)) < 3.4028235677973366e38 and struct.pack("<f", float(it)) == bits))
 
 
 def text_of(value, of, null):

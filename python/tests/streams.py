@@ -165,8 +165,10 @@ def compare_values(stream, limits, shown):
     for batch in seen.batches:
         columns = [(it, Buffers(it)) for it in batch.columns]
         for column, of in columns:
-            values = [of.value(i) for i in range(of.slots)]
-            unlike += compare_column(column, values)
+            unlike += compare_column(column, [of.value(i) for i in range(of.slots)])
+            nulls = sum(not of.has_value(i) for i in range(of.slots))
+            if (column.null_count, len(column)) != (nulls, len(batch)):
+                unlike.append(f"{column.name}: {column.null_count} nulls in {len(column)} slots")
         unlike += compare_rows(batch)
     yield "values, buffers and null counts", unlike, []
     # the schema stands in `show` where a stream has one
@@ -178,8 +180,6 @@ def compare_values(stream, limits, shown):
 
 def compare_column(column, values):
     """What is not so of a column with these values."""
-    if column.null_count != sum(it is None for it in values) or len(column) != len(values):
-        yield f"{column.name}: {column.null_count} nulls"
     if has_one_name_twice(column.field):
         if values and raised_by(column.to_pylist) is None:
             yield f"{column.name}: a dict of one name twice"
