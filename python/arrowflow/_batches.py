@@ -20,8 +20,9 @@ class Owned:
         self.array = ArrowArray()
 
     def __del__(self, release_array: Any = RELEASE_ARRAY, byref: Any = ctypes.byref) -> None:
-        if self.array.release:
-            release_array(self.array.release)(byref(self.array))
+        array = getattr(self, "array", None)
+        if array is not None and array.release:
+            release_array(array.release)(byref(array))
 
 
 class Column:

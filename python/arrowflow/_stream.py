@@ -118,14 +118,11 @@ class Stream:
 
     def __init__(self, handle: Handle) -> None:
         self._handle = handle
-        self._known: Optional[Schema] = None
 
     @property
     def schema(self) -> Schema:
         """The Schema. It is read where it was not yet, and told on when the stream is closed."""
-        if self._known is None:
-            self._known = self._handle.schema()
-        return self._known
+        return self._handle.schema()
 
     def __iter__(self) -> Iterator[Batch]:
         return self

@@ -11,6 +11,7 @@ OF_ALL_TYPES = sorted([TOP / "examples/floats.arrows", *(TOP / "vectors/all").gl
 GROWING = TOP / "examples/growing_dictionary.arrows"
 # Three batches of nine rows, with a column of each type, and one of none.
 EVERY_TYPE = TOP / "vectors/each_type_untold.arrows"
+METADATA = TOP / "examples/metadata.arrows"
 NESTED = TOP / "examples/nested_values.arrows"
 
 

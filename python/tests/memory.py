@@ -6,8 +6,9 @@ import threading
 import arrowflow
 from arrowflow import Kind
 from arrowflow import _capsules, _library
+from arrowflow._batches import Owned
 
-from common import EVERY_TYPE, GROWING, NESTED, cut, elsewhere, raised_by, raises
+from common import EVERY_TYPE, GROWING, METADATA, NESTED, cut, elsewhere, raised_by, raises
 from shown import Buffers
 
 
@@ -72,29 +73,37 @@ def columns():
 
 
 def released_once():
-    """The library's arrays are released once, when nothing refers to them."""
-    from arrowflow._batches import Owned
-    batch = next(arrowflow.open(GROWING))
-    owned, view = batch._owned, batch.column(0).buffers()[1]
-    del batch
-    gc.collect()
-    yield "an array in use", bool(owned.array.release), True
-    count = [0]
-
-    def release(array):
-        count[0] += 1
-        original(array)
-
-    original = _library.RELEASE_ARRAY(owned.array.release)
-    mine = _library.RELEASE_ARRAY(release)
-    owned.array.release = _capsules._address(mine)
-    del owned
-    gc.collect()
-    yield "an array with a view", count[0], 0
-    del view
-    gc.collect()
-    yield "an array of nothing", count[0], 1
+    """The library's arrays are released once, when nothing refers to them: no view, no column, no array in a capsule."""
+    holders = {"a view": lambda batch: batch.column(1).buffers()[1], "a slice of a view": lambda batch: batch.column(1).buffers()[1][:1],
+               "a column": lambda batch: batch.column(1), "a child": lambda batch: batch.column(1).children[0],
+               "a dictionary": lambda batch: batch.column(0).dictionary, "an array in a capsule": lambda batch: batch.__arrow_c_array__(),
+               "a column in a capsule": lambda batch: batch.column(1).__arrow_c_array__(), "a batch": lambda batch: batch}
+    for name, hold in holders.items():
+        batch, count = next(arrowflow.open(METADATA)), []
+        count_releases(batch._owned.array, count)
+        held = hold(batch)
+        del batch
+        gc.collect()
+        yield f"an array with {name}", len(count), 0
+        del held
+        gc.collect()
+        yield f"an array without {name}", len(count), 1
     yield "what is never filled", raised_by(Owned().__del__), None
+
+
+def count_releases(array, count):
+    """Notes each release of an array, which is done too."""
+    original = _library.RELEASE_ARRAY(array.release)
+
+    def release(at):
+        count.append(at.contents.length)
+        original(at)
+    noted.append(_library.RELEASE_ARRAY(release))
+    array.release = _capsules._address(noted[-1])
+
+
+# The functions that C code calls have to stay.
+noted = []
 
 
 def feeding():
@@ -143,7 +152,7 @@ def closing():
     never.close()
     yield "a schema that was not read", raises(ValueError, lambda: never.schema), True
     yield "rows", arrowflow.open(GROWING).to_pylist(), [row for it in arrowflow.open(GROWING).read_all() for row in it.to_pylist()]
-    yield "open files", [it for it in map(file_of, os.listdir("/proc/self/fd")) if it == str(GROWING)], []
+    yield "open files", [it for it in map(file_of, os.listdir("/proc/self/fd")) if it == os.path.realpath(GROWING)], []
 
 
 def file_of(number):

@@ -3,6 +3,8 @@ import bz2
 import io
 import os
 import pathlib
+import random
+import signal
 import socket
 import tempfile
 import threading
@@ -10,6 +12,7 @@ import threading
 import arrowflow
 from arrowflow import Kind
 
+import frames
 from common import GROWING, IntoAlone, ReadAlone, cut, raised_by, raises
 
 
@@ -115,3 +118,34 @@ def on_threads():
         yield "a path that waits", [len(it) for it in stream], [3, 2, 2]
         writer.join()
         stream.close()
+
+
+class Alarm(Exception):
+    """What the handler of a signal raises."""
+
+
+def interrupted():
+    """A signal whose handler raises, as that of Ctrl-C, comes at any moment: no batch comes twice, and what is raised is not lost."""
+    def handle(number, frame):
+        raise Alarm
+    pieces = [frames.schema(frames.field("x", frames.integer(32, True))), *(frames.batch(frames.numbers([it])) for it in range(300))]
+    before, twice, lost, times = signal.signal(signal.SIGALRM, handle), 0, 0, random.Random(5)
+    try:
+        for _ in range(400):
+            stream, found = arrowflow.open(iter(cut(b"".join(pieces), 40))), []
+            signal.setitimer(signal.ITIMER_REAL, times.uniform(0.0001, 0.01))
+            why = [raised_by(add_batches, stream, found)]
+            signal.setitimer(signal.ITIMER_REAL, 0)
+            why.append(raised_by(add_batches, stream, found))
+            twice += len({*found}) < len(found)
+            lost += len(found) < 300 and why == [None, None]
+    finally:
+        signal.setitimer(signal.ITIMER_REAL, 0)
+        signal.signal(signal.SIGALRM, before)
+    yield "streams with a batch that came twice", twice, 0
+    yield "streams that ended early and told nothing", lost, 0
+
+
+def add_batches(stream, found):
+    for batch in stream:
+        found.append(batch.column(0)[0])
