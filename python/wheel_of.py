@@ -2,7 +2,8 @@
 
 The wheel hangs on the files alone: its parts are in order, and each has the time of SOURCE_DATE_EPOCH, or of 1980 where that is not
 set. Its tag says what the library asks of a system, read off the library itself: manylinux_2_N where it links nothing but what the
-manylinux policy allows, and no symbol of glibc later than 2.N; else linux.
+manylinux policy allows, and no symbol of glibc later than 2.N; else linux. That the proved part is compiled for processors of the level
+x86-64-v2 no tag says: the page of the package does.
 """
 import base64
 import glob

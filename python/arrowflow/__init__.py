@@ -43,7 +43,8 @@ reads floating-point columns; or limits of your own, Limits(max_rows=1_000_000, 
 `python -m arrowflow [--types core|all] schema|check|show IN` and `.. sanitize IN OUT` do the same from a shell.
 
 The checks and copies are proved for all bytes, by the library for C of the project Atticoregano, which this package calls by ctypes;
-the arrays of its batches, and this package, are tested and not proved. It runs on Linux, with CPython 3.9 and later.
+the arrays of its batches, and this package, are tested and not proved. It runs on Linux, with CPython 3.9 and later and
+a processor of the level x86-64-v2, as those since about 2010 are.
 """
 from ._batches import Batch, Column
 from ._copier import Copier, sanitize_pieces

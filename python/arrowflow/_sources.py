@@ -116,6 +116,7 @@ class OfPieces(Source):
         """Puts bytes into a room of this size: how many, 0 at the end, or the negative of a number of errno.h."""
         try:
             self._filled += 1
+            self.mind()
             if self.raised is not None:
                 return -errno.EIO
             piece = self._left or memoryview(self._next_piece())
@@ -148,7 +149,7 @@ class OfPieces(Source):
                 self._asked += 1
 
     def mind(self) -> None:
-        """Notes that a call of `fill` was lost, in the moment between."""
+        """Ends the stream where a call of `fill` was lost, by a signal in the moment before it."""
         if self.raised is None and self._asked != self._filled:
             self.raised = KeyboardInterrupt("a signal came while a stream asked for bytes")
 

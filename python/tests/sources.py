@@ -6,6 +6,7 @@ import pathlib
 import random
 import signal
 import socket
+import sys
 import tempfile
 import threading
 
@@ -129,7 +130,10 @@ def interrupted():
     def handle(number, frame):
         raise Alarm
     pieces = [frames.schema(frames.field("x", frames.integer(32, True))), *(frames.batch(frames.numbers([it])) for it in range(300))]
-    before, twice, lost, times = signal.signal(signal.SIGALRM, handle), 0, 0, random.Random(5)
+    before, hook, twice, lost, times = signal.signal(signal.SIGALRM, handle), sys.unraisablehook, 0, 0, random.Random(5)
+    odd = []
+    # Python passes over what is raised in a finalizer
+    sys.unraisablehook = lambda it: None
     try:
         for _ in range(400):
             stream, found = arrowflow.open(iter(cut(b"".join(pieces), 40))), []
@@ -139,11 +143,14 @@ def interrupted():
             why.append(raised_by(add_batches, stream, found))
             twice += len({*found}) < len(found)
             lost += len(found) < 300 and why == [None, None]
+            odd += [it for it in map(type, why) if it not in (type(None), Alarm, KeyboardInterrupt)]
     finally:
         signal.setitimer(signal.ITIMER_REAL, 0)
         signal.signal(signal.SIGALRM, before)
+        sys.unraisablehook = hook
     yield "streams with a batch that came twice", twice, 0
     yield "streams that ended early and told nothing", lost, 0
+    yield "streams that told something else", odd, []
 
 
 def add_batches(stream, found):
