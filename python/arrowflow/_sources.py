@@ -48,6 +48,7 @@ class Source:
 
     raised: Optional[BaseException] = None
     is_waiting = False  # the last read found no data yet
+    is_read = False  # a read goes on
 
     def start(self, limits: CLimits, stream: ArrowArrayStream) -> int:
         """Makes a stream of the library that reads from here, and answers a kind."""
@@ -113,27 +114,32 @@ class OfPieces(Source):
             yield piece
 
     def fill(self, state: Optional[int], room: int, size: Any) -> int:
-        """Puts bytes into a room of this size: how many, 0 at the end, or the negative of a number of errno.h."""
+        """Puts bytes into a room of this size: how many, 0 at the end, or the negative of a number of errno.h. Nothing is raised."""
         try:
-            self._filled += 1
-            self.mind()
-            if self.raised is not None:
-                return -errno.EIO
-            piece = self._left or memoryview(self._next_piece())
-            part, self._left = bytes(piece[:size.value]), piece[size.value:]
-            ctypes.memmove(room, part, len(part))
-            return len(part)
-        except NoDataYet:
-            self.is_waiting = True
-            return -errno.ENOMEM
-        except StopIteration as why:
-            # which would end the loop of the caller as though the stream had ended
-            self.raised = RuntimeError("what the stream is read from raised StopIteration")
-            self.raised.__cause__ = why
-            return -errno.EIO
+            self._compare(self._asked - 1)
+            if self.raised is None:
+                return self._put(room, size.value)
         except BaseException as why:
             self.raised = why
-            return -errno.EIO
+        return -errno.EIO
+
+    def _put(self, room: int, size: int) -> int:
+        """The same, which raises what the source does."""
+        self.is_read = True
+        try:
+            piece = self._left or memoryview(self._next_piece())
+        except NoDataYet:
+            self.is_waiting = True
+        except StopIteration as why:
+            # which would end the loop of the caller as though the stream had ended
+            raise RuntimeError("what the stream is read from raised StopIteration") from why
+        finally:
+            self.is_read = False
+        if not self.is_waiting:
+            part, self._left = bytes(piece[:size]), piece[size:]
+            ctypes.memmove(room, part, len(part))
+        self._filled += 1
+        return -errno.ENOMEM if self.is_waiting else len(part)
 
     def _minding(self) -> Iterator[None]:
         """Is resumed before each call of `fill`, and keeps what a handler of signals raises then, as for Ctrl-C."""
@@ -149,8 +155,11 @@ class OfPieces(Source):
                 self._asked += 1
 
     def mind(self) -> None:
-        """Ends the stream where a call of `fill` was lost, by a signal in the moment before it."""
-        if self.raised is None and self._asked != self._filled:
+        self._compare(self._asked)
+
+    def _compare(self, asked: int) -> None:
+        """Ends the stream where one of so many calls of `fill` was lost, by a signal in the moment before it."""
+        if self.raised is None and asked != self._filled:
             self.raised = KeyboardInterrupt("a signal came while a stream asked for bytes")
 
     def close(self) -> None:

@@ -1,7 +1,6 @@
 """A stream that is read batch by batch, and handed on to other Arrow libraries."""
 from __future__ import annotations
 
-import contextlib
 import ctypes
 import threading
 from typing import Any, Dict, Iterator, List, Optional
@@ -21,7 +20,7 @@ class Handle:
     def __init__(self, source: Source, limits: Limits) -> None:
         self._source, self._stream = source, ArrowArrayStream()
         self._schema: Optional[Schema] = None
-        self._lock, self._is_busy = threading.RLock(), False
+        self._lock = threading.RLock()
         kind = source.start(limits_in_c(limits), self._stream)
         if kind:
             source.close()
@@ -41,23 +40,18 @@ class Handle:
         return not self._stream.release
 
     def close(self) -> None:
-        with self._turn():
+        with self._lock:
+            self._ask()
             self._release()
 
-    @contextlib.contextmanager
-    def _turn(self) -> Iterator[None]:
-        """Has the stream for one call. RuntimeError where it is asked from inside of such a call, by the source."""
-        with self._lock:
-            if self._is_busy:
-                raise RuntimeError("a stream is asked by what it is read from")
-            self._is_busy = True
-            try:
-                yield
-            finally:
-                self._is_busy = False
+    def _ask(self) -> None:
+        """Is called with the lock. RuntimeError inside of another call, where the source asks the stream that reads it."""
+        if self._source.is_read and self._source.raised is None:
+            raise RuntimeError("a stream is asked by what it is read from")
 
     def _call(self, prototype: Any, call: str, out: Any) -> None:
         """Has a call of the stream fill a struct, and raises why it does not."""
+        self._ask()
         if self.is_closed:
             raise ValueError("the stream is closed, or was handed on")
         stream, self._source.is_waiting = self._stream, False
@@ -74,7 +68,7 @@ class Handle:
 
     def schema(self) -> Schema:
         """The schema, which is read where it was not yet."""
-        with self._turn():
+        with self._lock:
             return self._told_schema()
 
     def _told_schema(self) -> Schema:
@@ -90,7 +84,7 @@ class Handle:
     def next_batch(self) -> Optional[Batch]:
         """The next batch, or None at the end of the stream."""
         owned = Owned()
-        with self._turn():
+        with self._lock:
             schema = self._told_schema()
             self._call(GET_NEXT, "get_next", owned.array)
         return Batch(owned, schema) if owned.array.release else None
@@ -98,7 +92,8 @@ class Handle:
     def moved_into_capsule(self) -> object:
         """A capsule that has the stream from now on; this is closed then."""
         from ._capsules import stream_capsule
-        with self._turn():
+        with self._lock:
+            self._ask()
             if self.is_closed:
                 raise ValueError("the stream is closed, or was handed on: that is done once")
             return stream_capsule(self._stream, self._source)

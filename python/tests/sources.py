@@ -1,5 +1,6 @@
 """What streams are read from, and what they do where it fails."""
 import bz2
+import collections
 import io
 import os
 import pathlib
@@ -131,26 +132,37 @@ def interrupted():
         raise Alarm
     pieces = [frames.schema(frames.field("x", frames.integer(32, True))), *(frames.batch(frames.numbers([it])) for it in range(300))]
     before, hook, twice, lost, times = signal.signal(signal.SIGALRM, handle), sys.unraisablehook, 0, 0, random.Random(5)
-    odd = []
+    odd, seen = [], collections.Counter()
     # Python passes over what is raised in a finalizer
     sys.unraisablehook = lambda it: None
     try:
         for _ in range(400):
             stream, found = arrowflow.open(iter(cut(b"".join(pieces), 40))), []
             signal.setitimer(signal.ITIMER_REAL, times.uniform(0.0001, 0.01))
-            why = [raised_by(add_batches, stream, found)]
-            signal.setitimer(signal.ITIMER_REAL, 0)
+            why = [raised_by(alarmed, add_batches, stream, found)]
             why.append(raised_by(add_batches, stream, found))
             twice += len({*found}) < len(found)
             lost += len(found) < 300 and why == [None, None]
-            odd += [it for it in map(type, why) if it not in (type(None), Alarm, KeyboardInterrupt)]
+            odd += [repr(it) for it in why if type(it) not in (type(None), Alarm, KeyboardInterrupt)]
+            seen[type(why[0])] += 1
     finally:
+        signal.signal(signal.SIGALRM, signal.SIG_IGN)
         signal.setitimer(signal.ITIMER_REAL, 0)
         signal.signal(signal.SIGALRM, before)
         sys.unraisablehook = hook
     yield "streams with a batch that came twice", twice, 0
     yield "streams that ended early and told nothing", lost, 0
     yield "streams that told something else", odd, []
+    # which another one is raised for where a signal comes in the moment between two calls of Python
+    yield "what was told", (seen[Alarm] > 100, seen[KeyboardInterrupt] < seen[Alarm] // 4), (True, True)
+
+
+def alarmed(call, *given):
+    """Makes a call, after which no alarm comes."""
+    try:
+        call(*given)
+    finally:
+        signal.setitimer(signal.ITIMER_REAL, 0)
 
 
 def add_batches(stream, found):
