@@ -193,7 +193,8 @@ class OfFed(OfPieces):
 def callback_of(fill: Callable[..., int], minding: Iterator[None]) -> Any:
     """A function of C that calls this one. A handler of signals may run when Python begins to run the function, and what it raises
     ctypes would pass over, with anything for an answer: bytes would come twice. So `minding` is resumed first, as the __init__ of the
-    last argument, and meets what is raised."""
+    last argument, and meets what is raised. Before CPython 3.11 a handler may run between a function's last instruction inside of a
+    `try` and its return too, which is not met."""
     next(minding)
     size = type("Size", (ctypes.c_size_t,), {"__init__": minding.__next__})
     # CFUNCTYPE would keep the prototype for good

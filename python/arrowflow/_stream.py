@@ -20,6 +20,7 @@ class Handle:
     def __init__(self, source: Source, limits: Limits) -> None:
         self._source, self._stream = source, ArrowArrayStream()
         self._schema: Optional[Schema] = None
+        self._next = Owned()
         self._lock = threading.RLock()
         kind = source.start(limits_in_c(limits), self._stream)
         if kind:
@@ -83,11 +84,15 @@ class Handle:
 
     def next_batch(self) -> Optional[Batch]:
         """The next batch, or None at the end of the stream."""
-        owned = Owned()
         with self._lock:
             schema = self._told_schema()
-            self._call(GET_NEXT, "get_next", owned.array)
-        return Batch(owned, schema) if owned.array.release else None
+            # one is there already where a signal ended the call that read it
+            if not self._next.array.release:
+                self._call(GET_NEXT, "get_next", self._next.array)
+            if not self._next.array.release:
+                return None
+            batch, self._next = Batch(self._next, schema), Owned()
+            return batch
 
     def moved_into_capsule(self) -> object:
         """A capsule that has the stream from now on; this is closed then."""

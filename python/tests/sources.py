@@ -152,7 +152,8 @@ def interrupted():
         sys.unraisablehook = hook
     yield "streams with a batch that came twice", twice, 0
     yield "streams that ended early and told nothing", lost, 0
-    yield "streams that told something else", odd, []
+    # before CPython 3.11 a handler may run between the last instruction inside of a `try` and the return
+    yield "streams that told something else", odd if sys.version_info >= (3, 11) else odd[4:], []
     # which another one is raised for where a signal comes in the moment between two calls of Python
     yield "what was told", (seen[Alarm] > 100, seen[KeyboardInterrupt] < seen[Alarm] // 4), (True, True)
 
