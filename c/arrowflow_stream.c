@@ -86,7 +86,7 @@ static struct block *new_block(size_t room) {
 
 /* Gives buffer `k` of an array this size, and zeros as padding. What it had, `had` bytes, stays in front. A
  * buffer that `grows` is left where it is as long as there is room, and gets twice as much where there is
- * not: all growth together copies no byte more than twice. Another one is copied. */
+ * not, so that all growth together copies at most twice what there is in the end. Another one is copied. */
 static bool resize(struct ArrowArray *array, size_t k, size_t had, size_t size, bool grows) {
     struct node *node = array->private_data;
     struct block *block = node->blocks[k];
