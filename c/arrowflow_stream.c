@@ -86,7 +86,7 @@ static struct block *new_block(size_t room) {
 
 /* Gives buffer `k` of an array this size, and zeros as padding. What it had, `had` bytes, stays in front. A
  * buffer that `grows` is left where it is as long as there is room, and gets twice as much where there is
- * not: all growth together copies no byte more than twice. Another one is copied. */
+ * not, so that all growth together copies at most twice what there is in the end. Another one is copied. */
 static bool resize(struct ArrowArray *array, size_t k, size_t had, size_t size, bool grows) {
     struct node *node = array->private_data;
     struct block *block = node->blocks[k];
@@ -319,7 +319,7 @@ static const size_t NO_LEVEL = SIZE_MAX;
 struct target {
     uint8_t *validity, *offsets, *values;
     size_t slots, inside;
-    bool is_front; /* offsets stay as they are: the slots are the front of one column, and the first ones here */
+    bool is_front; /* offsets stay as they are: the array is new, and its slots are the front of one column */
 };
 
 static int build(struct source *it, const struct slots *from, struct ArrowArray *out);
@@ -440,9 +440,9 @@ static bool take_validity(struct ArrowArray *out, size_t slots) {
 
 /* Gives an array offsets of so many slots, of which the first is 0. */
 static bool take_offsets(struct ArrowArray *out, size_t width, size_t slots) {
-    size_t had = (size_t)out->length;
-    if (!resize(out, 1, width * (had + 1), width * (slots + 1), true)) return false;
-    if (had == 0) memset(bytes_of(out, 1), 0, width);
+    bool is_new = out->buffers[1] == NULL;
+    if (!resize(out, 1, width * ((size_t)out->length + 1), width * (slots + 1), true)) return false;
+    if (is_new) memset(bytes_of(out, 1), 0, width);
     return true;
 }
 
@@ -603,8 +603,8 @@ static void copy_slots(struct source *it, const struct slots *from, const arrowf
 static int add(struct source *it, const struct slots *from, const arrowflow_column *like, struct run *inside, struct ArrowArray *out) {
     struct target to = {NULL, NULL, NULL, (size_t)out->length, 0, false};
     size_t slots = to.slots + count_of(from->runs, from->count), end = 0;
-    to.is_front = to.slots == 0 && from->count == 1 && from->runs[0].start == 0;
     if (has_offsets(like->layout)) {
+        to.is_front = out->buffers[1] == NULL && from->count == 1 && from->runs[0].start == 0;
         if (to.slots > 0) to.inside = offset_at(bytes_of(out, 1), like->width, to.slots);
         find_inside(it, from, like, to.is_front, inside);
         end = to.inside + count_of(inside, from->count);

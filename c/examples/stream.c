@@ -143,15 +143,15 @@ static bool is_utf8(const uint8_t *at, size_t len) {
 /* Whether a stream may be adding to a dictionary while its arrays are looked at. */
 static bool is_growing = false;
 
-/* A buffer of so many bytes: it is aligned, and zeros fill it up to 64 bytes. Those of a dictionary are filled
- * with what was added since, and read here if nothing is added at this time. */
+/* A buffer of so many bytes: it is aligned, each byte is read, and zeros fill it up to 64 bytes. One of a dictionary
+ * is filled with anything, which is read if nothing is added at this time. */
 static void check_buffer(const void *buffer, size_t size, bool is_shared) {
     const uint8_t *at = buffer;
-    unsigned sum = 0;
+    uint64_t sum = 0, rest = 0;
     WANT(at != NULL && (uintptr_t)at % 64 == 0);
-    if (is_shared && is_growing) return;
-    for (size_t k = size; k % 64 != 0; k++) sum += at[k];
-    WANT(is_shared ? sum <= 64 * 255 : sum == 0);
+    for (size_t k = 0; k < size; k++) sum += at[k];
+    for (size_t k = size; k % 64 != 0 && !(is_shared && is_growing); k++) rest += at[k];
+    WANT(sum <= 255 * size && rest <= (is_shared ? 64 * 255 : 0));
 }
 
 static void check_nulls(const struct ArrowArray *array, bool is_shared) {
