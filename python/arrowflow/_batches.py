@@ -184,7 +184,8 @@ class Batch:
 
     def to_pylist(self) -> List[Dict[str, Any]]:
         """The rows, each a dict of the columns' names and values, which are those of Column.to_pylist. ValueError where two columns
-        have one name: ask each one for its values then."""
+        have one name: ask each one for its values then. A batch without columns has as many empty dicts as rows: `max_rows` bounds
+        these."""
         return values_in(self._whole(), 0, self.num_rows)
 
     def __len__(self) -> int:

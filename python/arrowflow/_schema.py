@@ -75,16 +75,13 @@ class Schema:
     through all of them.
 
     fields           the Field of each column
+    names            the names of the columns
     metadata_pairs   the custom metadata of the schema, as those of a Field
     """
 
     def __init__(self, root: Field) -> None:
         self._root, self.fields, self.metadata_pairs = root, root.children, root.metadata_pairs
-
-    @property
-    def names(self) -> Tuple[str, ...]:
-        """The names of the columns."""
-        return tuple(it.name for it in self.fields)
+        self.names: Tuple[str, ...] = tuple(it.name for it in self.fields)
 
     @property
     def metadata(self) -> Dict[bytes, bytes]:

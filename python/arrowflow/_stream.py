@@ -42,8 +42,9 @@ class Handle:
 
     def close(self) -> None:
         with self._lock:
-            self._ask()
-            self._release()
+            if not self.is_closed:
+                self._ask()
+                self._release()
 
     def _ask(self) -> None:
         """Is called with the lock. RuntimeError inside of another call, where the source asks the stream that reads it."""
@@ -52,9 +53,9 @@ class Handle:
 
     def _call(self, prototype: Any, call: str, out: Any) -> None:
         """Has a call of the stream fill a struct, and raises why it does not."""
-        self._ask()
         if self.is_closed:
             raise ValueError("the stream is closed, or was handed on")
+        self._ask()
         stream, self._source.is_waiting = self._stream, False
         status = prototype(getattr(stream, call))(ctypes.byref(stream), ctypes.byref(out))
         self._source.mind()
@@ -98,9 +99,9 @@ class Handle:
         """A capsule that has the stream from now on; this is closed then."""
         from ._capsules import stream_capsule
         with self._lock:
-            self._ask()
             if self.is_closed:
                 raise ValueError("the stream is closed, or was handed on: that is done once")
+            self._ask()
             return stream_capsule(self._stream, self._source)
 
 

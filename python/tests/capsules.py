@@ -121,6 +121,19 @@ def batch_of(array, schema):
     return arrowflow.Column(owned, owned.array, field)
 
 
+def asked_meanwhile():
+    """A stream that was handed on is closed, and not one that its source asks, while a consumer reads it."""
+    found, data = [], GROWING.read_bytes()
+
+    def pieces():
+        yield data[:975]
+        found.extend([raised_by(stream.close), type(raised_by(next, stream)), type(raised_by(stream.__arrow_c_stream__)), stream.closed])
+        yield data[975:]
+    stream = arrowflow.open(pieces())
+    _, batches, status, _ = consumed(stream.__arrow_c_stream__())
+    yield "a stream that was handed on", (found, len(batches), status), ([None, ValueError, ValueError, True], 3, 0)
+
+
 def shares():
     """An array in a capsule has the memory of its batch, and is lent as often as it is wanted."""
     batch = next(arrowflow.open(EVERY_TYPE))
