@@ -138,8 +138,7 @@ def interrupted():
     try:
         for _ in range(400):
             stream, found = arrowflow.open(iter(cut(b"".join(pieces), 40))), []
-            signal.setitimer(signal.ITIMER_REAL, times.uniform(0.0001, 0.01))
-            why = [raised_by(alarmed, add_batches, stream, found)]
+            why = [raised_by(alarmed, times.uniform(0.0001, 0.01), add_batches, stream, found)]
             why.append(raised_by(add_batches, stream, found))
             twice += len({*found}) < len(found)
             lost += len(found) < 300 and why == [None, None]
@@ -154,13 +153,14 @@ def interrupted():
     yield "streams that ended early and told nothing", lost, 0
     # before CPython 3.11 a handler may run between the last instruction inside of a `try` and the return
     yield "streams that told something else", odd if sys.version_info >= (3, 11) else odd[4:], []
-    # which another one is raised for where a signal comes in the moment between two calls of Python
-    yield "what was told", (seen[Alarm] > 100, seen[KeyboardInterrupt] < seen[Alarm] // 4), (True, True)
+    # where a signal comes in the moment between two calls of Python, KeyboardInterrupt is raised
+    yield "what was told", (seen[Alarm] > 20, seen[KeyboardInterrupt] < seen[Alarm] // 2), (True, True)
 
 
-def alarmed(call, *given):
-    """Makes a call, after which no alarm comes."""
+def alarmed(seconds, call, *given):
+    """Makes a call, with an alarm after so many seconds; none comes once it is done."""
     try:
+        signal.setitimer(signal.ITIMER_REAL, seconds)
         call(*given)
     finally:
         signal.setitimer(signal.ITIMER_REAL, 0)
