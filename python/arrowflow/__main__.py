@@ -11,7 +11,8 @@ from typing import List
 from . import ALL_TYPES, STANDARD, ArrowflowError, Limits, messages, sanitize_pieces, schema_text, show
 
 _CALLS = {"schema": schema_text, "check": messages, "show": show}
-_USAGE = "usage: python -m arrowflow [--types core|all] schema|check|show IN\n       python -m arrowflow [--types core|all] sanitize IN OUT"
+_USAGE = """usage: python -m arrowflow [--types core|all] schema|check|show IN
+       python -m arrowflow [--types core|all] sanitize IN OUT"""
 
 
 def print_text(command: str, name: str, limits: Limits) -> None:

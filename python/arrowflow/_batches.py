@@ -123,6 +123,7 @@ class Column:
         return sizes if format == "+s" else [*sizes, width_of(format) * slots]
 
     def _view(self, number: int, size: int) -> Optional[memoryview]:
+        """So many bytes of a buffer, which keep its owner alive; None of a validity bitmap that there is not."""
         at = self._array.buffers[number]
         if not at or not size:
             return None if number == 0 and not at else memoryview(b"")

@@ -87,6 +87,7 @@ def schema_capsule(field: Field) -> object:
 
 
 def _schema(field: Field) -> ArrowSchema:
+    """A struct that tells a field, with those below it."""
     made, children = ArrowSchema(), [_schema(it) for it in field.children]
     dictionary = _schema(field.dictionary) if field.dictionary else None
     texts = [ctypes.create_string_buffer(it.encode()) for it in (field.format, field.name)]
@@ -107,6 +108,7 @@ def array_capsules(owner: object, array: ArrowArray, field: Field) -> Tuple[obje
 
 
 def _shared(owner: object, array: ArrowArray) -> ArrowArray:
+    """A struct with the buffers of another one, with those below it, each of which keeps their owner."""
     made = ArrowArray(array.length, array.null_count, array.offset, array.n_buffers, array.n_children)
     children = [_shared(owner, array.children[k].contents) for k in range(array.n_children)]
     dictionary = _shared(owner, array.dictionary.contents) if array.dictionary else None
@@ -145,6 +147,7 @@ def stream_capsule(stream: ArrowArrayStream, source: Source) -> object:
 @RELEASE_STREAM
 @called_by_c
 def _release_stream(at: Any) -> None:
+    """The `release` of a stream that was handed on, which lets go of its source too."""
     moved = _moved.pop(at.contents.private_data)
     moved.release(at)
     moved.source.close()

@@ -41,6 +41,7 @@ class Handle:
         return not self._stream.release
 
     def close(self) -> None:
+        """Releases the stream and its source, where it was not closed or handed on."""
         with self._lock:
             if not self.is_closed:
                 self._ask()

@@ -127,7 +127,8 @@ def asked_meanwhile():
 
     def pieces():
         yield data[:975]
-        found.extend([raised_by(stream.close), type(raised_by(next, stream)), type(raised_by(stream.__arrow_c_stream__)), stream.closed])
+        found.extend([raised_by(stream.close), type(raised_by(next, stream)), type(raised_by(stream.__arrow_c_stream__)),
+            stream.closed])
         yield data[975:]
     stream = arrowflow.open(pieces())
     _, batches, status, _ = consumed(stream.__arrow_c_stream__())
@@ -151,7 +152,8 @@ def errors():
         yield data[:975]
         raise KeyError("the source is gone")
     _, batches, status, text = consumed(arrowflow.open(failing()).__arrow_c_stream__())
-    yield "a source that raises", ([len(it) for it in batches], status, text), ([3], errno.EIO, "read failed: KeyError: 'the source is gone'")
+    yield "a source that raises", ([len(it) for it in batches], status, text), ([3], errno.EIO,
+        "read failed: KeyError: 'the source is gone'")
     for source in (data[:-20], cut(data[:-20], 100)):
         why = raised_by(list, arrowflow.open(source))
         _, batches, status, text = consumed(arrowflow.open(source).__arrow_c_stream__())

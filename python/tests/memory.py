@@ -74,9 +74,11 @@ def columns():
 
 def released_once():
     """The library's arrays are released once, when nothing refers to them: no view, no column, no array in a capsule."""
-    holders = {"a view": lambda batch: batch.column(1).buffers()[1], "a slice of a view": lambda batch: batch.column(1).buffers()[1][:1],
+    holders = {"a view": lambda batch: batch.column(1).buffers()[1],
+        "a slice of a view": lambda batch: batch.column(1).buffers()[1][:1],
                "a column": lambda batch: batch.column(1), "a child": lambda batch: batch.column(1).children[0],
-               "a dictionary": lambda batch: batch.column(0).dictionary, "an array in a capsule": lambda batch: batch.__arrow_c_array__(),
+               "a dictionary": lambda batch: batch.column(0).dictionary,
+                   "an array in a capsule": lambda batch: batch.__arrow_c_array__(),
                "a column in a capsule": lambda batch: batch.column(1).__arrow_c_array__(), "a batch": lambda batch: batch}
     for name, hold in holders.items():
         batch, count = next(arrowflow.open(METADATA)), []
@@ -123,7 +125,8 @@ def feeding():
     reader.close()
     reader.close()
     reader = arrowflow.Reader()
-    yield "junk", (raised_by(reader.feed, bytes(8)).kind, raised_by(reader.feed, b"more").kind, raised_by(reader.end).kind), (Kind.CONTINUATION,) * 3
+    yield "junk", (raised_by(reader.feed, bytes(8)).kind, raised_by(reader.feed, b"more").kind,
+        raised_by(reader.end).kind), (Kind.CONTINUATION,) * 3
     reader = arrowflow.Reader()
     junk = data[:-8] + bytes(8)
     yield "batches before junk", [len(it) for it in reader.feed(junk)], [3, 2, 2]
@@ -146,7 +149,8 @@ def closing():
     schema = stream.schema
     stream.close()
     stream.close()
-    yield "a closed stream", [raises(ValueError, it) for it in (lambda: next(stream), stream.read_all, stream.__arrow_c_stream__)], [True] * 3
+    yield "a closed stream", [raises(ValueError, it) for it in (lambda: next(stream), stream.read_all,
+        stream.__arrow_c_stream__)], [True] * 3
     yield "its schema", (stream.closed, stream.schema == schema, arrowflow.open(GROWING).schema == schema), (True, True, True)
     never = arrowflow.open(GROWING)
     never.close()
@@ -197,7 +201,8 @@ def collected():
     closed, close = [], _library.calls["copier_close"]
     _library.calls["copier_close"] = lambda handle: (closed.append(threading.get_ident()), close(handle))
     try:
-        for name, make in (("a copier", arrowflow.Copier), ("pieces", lambda: begun(arrowflow.sanitize_pieces(cut(GROWING.read_bytes(), 50))))):
+        for name, make in (("a copier", arrowflow.Copier), ("pieces",
+                lambda: begun(arrowflow.sanitize_pieces(cut(GROWING.read_bytes(), 50))))):
             given = [make()]
             elsewhere(given.clear)
             gc.collect()

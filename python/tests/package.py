@@ -55,7 +55,8 @@ def annotations():
 
 def page():
     """What `help(arrowflow)` shows has each name, and the lines for other libraries."""
-    for it in ("pyarrow.table(", "polars.DataFrame(", "duckdb.sql(", "ArrowflowError", "Limits", "ALL_TYPES", "python -m arrowflow"):
+    for it in ("pyarrow.table(", "polars.DataFrame(", "duckdb.sql(", "ArrowflowError", "Limits", "ALL_TYPES",
+            "python -m arrowflow"):
         yield f"help has {it}", it in arrowflow.__doc__, True
     text, _, status = python("-c", "import arrowflow; help(arrowflow)", env={**os.environ, "PYTHONPATH": str(TOP / "python")})
     for it in (b"class Stream", b"class Reader", b"class Column", b"class Kind", b"    open(", b"sanitize_pieces"):
@@ -77,7 +78,8 @@ def library():
     """Which library is loaded, and what is said where it is another one or none."""
     def loads(**names):
         env = {it: value for it, value in os.environ.items() if it != "ARROWFLOW_LIBRARY"}
-        return python("-c", "from arrowflow import _library; print(_library.PLACE)", env={**env, "PYTHONPATH": str(TOP / "python"), **names})
+        return python("-c", "from arrowflow import _library; print(_library.PLACE)", env={**env,
+            "PYTHONPATH": str(TOP / "python"), **names})
     built = f"{TOP}/c/out/lib/{_library.NAME}"
     yield "the library of a checkout", loads()[0].decode().strip(), built
     yield "a library that is named", loads(ARROWFLOW_LIBRARY=f"{TOP}/c/out/lib/libarrowflow.so")[0].decode().strip(), f"{TOP}/c/out/lib/libarrowflow.so"
@@ -123,8 +125,10 @@ def wheel(room):
     yield "the program there", shown, run(TOP / "arrowflow", "show", GROWING)
     yield "pip check", run(place / "bin/pip", "check", "--disable-pip-version-check", env=env)[2], 0
     text = run(place / "bin/pip", "show", "--disable-pip-version-check", "arrowflow", env=env)[0].decode()
-    yield "what pip shows", re.findall(r"^(?:Name|Version|License): (.*)$", text, re.M), ["arrowflow", arrowflow.__version__, "Apache-2.0"]
-    yield "uninstalled", (run(place / "bin/pip", "uninstall", "-y", "arrowflow", env=env)[2], [*place.glob("lib/*/site-packages/arrowflow")]), (0, [])
+    yield "what pip shows", re.findall(r"^(?:Name|Version|License): (.*)$", text, re.M), ["arrowflow", arrowflow.__version__,
+        "Apache-2.0"]
+    yield "uninstalled", (run(place / "bin/pip", "uninstall", "-y", "arrowflow", env=env)[2],
+        [*place.glob("lib/*/site-packages/arrowflow")]), (0, [])
 
 
 def settings():

@@ -31,7 +31,8 @@ def each_source():
             for it in sources:
                 yield f"batches of {type(it).__name__}", [len(batch) for batch in arrowflow.open(it)], [3, 2, 2]
             yield "files that stay open", (file.closed, raw.closed, unpacked.closed), (False, False, False)
-    yield "copies", [b"".join(arrowflow.sanitize_pieces(it)) for it in (GROWING, data, io.BytesIO(data), cut(data, 9))], [arrowflow.sanitize(data)] * 4
+    yield "copies", [b"".join(arrowflow.sanitize_pieces(it)) for it in (GROWING, data, io.BytesIO(data), cut(data,
+        9))], [arrowflow.sanitize(data)] * 4
     big = [b"", data, b"x" * (1 << 22)]
     yield "long pieces", [len(batch) for batch in arrowflow.open([b"".join(big)])], [3, 2, 2]
 
@@ -130,7 +131,8 @@ def interrupted():
     """A signal whose handler raises, as that of Ctrl-C, comes at any moment: no batch comes twice, and what is raised is not lost."""
     def handle(number, frame):
         raise Alarm
-    pieces = [frames.schema(frames.field("x", frames.integer(32, True))), *(frames.batch(frames.numbers([it])) for it in range(300))]
+    pieces = [frames.schema(frames.field("x", frames.integer(32, True))),
+        *(frames.batch(frames.numbers([it])) for it in range(300))]
     before, hook, twice, lost, times = signal.signal(signal.SIGALRM, handle), sys.unraisablehook, 0, 0, random.Random(5)
     odd, seen = [], collections.Counter()
     # Python passes over what is raised in a finalizer

@@ -171,7 +171,7 @@ def compare_values(stream, limits, shown):
                 unlike.append(f"{column.name}: {column.null_count} nulls in {len(column)} slots")
         unlike += compare_rows(batch)
     yield "values, buffers and null counts", unlike, []
-    # the schema stands in `show` where a stream has one
+    # `show` begins with the names where a stream has a schema
     if shown[0]:
         names = arrowflow.open(stream, limits).schema.names
         batches = [([Buffers(column) for column in it.columns], len(it)) for it in seen.batches]
@@ -213,7 +213,7 @@ def compare_schemas(stream, limits, wanted):
         return
     schema = arrowflow.open(stream, limits).schema
     found = "".join(f"{line}\n" for it in schema for line in lines_of(it))
-    # the numbers of dictionaries, a zone that is empty and what stands behind a zero byte do not go through the interface
+    # the numbers of dictionaries, a zone that is empty and what comes after a zero byte do not go through the interface
     lines = re.sub(r"(dictionary<.*>) id -?\d+", r"\1", wanted[0].decode()).replace(", ]", "]")
     if r"\x00" not in lines:
         yield "fields", re.sub(r"\\x..", "?", found), re.sub(r"\\x..", "?", lines)
@@ -241,7 +241,8 @@ def compare_stream(room, stream, types):
     wanted = {command: run(TOP / "arrowflow", command, stream, *asked) for command in COMMANDS}
     wanted["copy"] = copied(room, [TOP / "arrowflow", "copy", *asked], stream)
     report = arrowflow.check(stream.read_bytes(), limits)
-    parts = (compare_texts(room, stream, limits, types, wanted), compare_report(report, wanted), compare_ways(stream, limits, report),
+    parts = (compare_texts(room, stream, limits, types, wanted), compare_report(report, wanted), compare_ways(stream, limits,
+        report),
              compare_values(stream, limits, wanted["show"]), compare_schemas(stream, limits, wanted["schema"]),
              compare_arrays(stream, limits))
     return [(f"{what}: {stream.relative_to(TOP)} with {types}", found, right) for it in parts for what, found, right in it]

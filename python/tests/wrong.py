@@ -87,9 +87,11 @@ def arguments():
     column = batch.column(0)
     yield "slots", [raises(kind, lambda it=it: column[it]) for kind, it in (
         (IndexError, len(column)), (IndexError, -len(column) - 1), (TypeError, "0"), (TypeError, None))], [True] * 4
-    same = frames.schema(frames.field("x", frames.BOOL), frames.field("x", frames.BOOL)) + frames.batch(frames.bools([True]), frames.bools([None]))
+    same = frames.schema(frames.field("x", frames.BOOL), frames.field("x", frames.BOOL)) + frames.batch(frames.bools([True]),
+        frames.bools([None]))
     batch = next(arrowflow.open(same))
-    yield "two columns of one name", [raises(KeyError, batch.column, "x"), raises(ValueError, batch.to_pylist), batch.column(1).to_pylist()], [
+    yield "two columns of one name", [raises(KeyError, batch.column, "x"), raises(ValueError, batch.to_pylist),
+        batch.column(1).to_pylist()], [
         True, True, [None]]
 
 
@@ -108,16 +110,19 @@ def what_has_bytes():
 def faults():
     """What each call says of streams of nothing and of junk."""
     calls = [arrowflow.sanitize, arrowflow.show, arrowflow.messages, arrowflow.schema_text]
-    calls += [lambda data: [*arrowflow.open(data)], lambda data: [*arrowflow.sanitize_pieces(data)], lambda data: arrowflow.open(data).schema]
+    calls += [lambda data: [*arrowflow.open(data)], lambda data: [*arrowflow.sanitize_pieces(data)],
+        lambda data: arrowflow.open(data).schema]
     for k, call in enumerate(calls):
         for data, kind in ((b"", Kind.NO_SCHEMA), (bytes(8), Kind.CONTINUATION)):
             why = raised_by(call, data)
-            yield f"call {k} of {data!r}", (type(why), why.kind, why.offset, why.batch, why.field), (ArrowflowError, kind, 0, None, None)
+            yield f"call {k} of {data!r}", (type(why), why.kind, why.offset, why.batch, why.field), (ArrowflowError, kind, 0,
+                None, None)
     yield "check of junk", arrowflow.check(bytes(8)), arrowflow.Report(Kind.CONTINUATION, False, 0, 0, 0)
     yield "an error is a ValueError", issubclass(ArrowflowError, ValueError), True
     cut = GROWING.read_bytes()[:-20]
     why = raised_by(arrowflow.show, cut)
-    yield "what came before a fault", why.partial, subprocess.run([TOP / "arrowflow", "show", "-"], input=cut, capture_output=True).stdout
+    yield "what came before a fault", why.partial, subprocess.run([TOP / "arrowflow", "show", "-"], input=cut,
+        capture_output=True).stdout
 
 
 def refused(room):
@@ -147,7 +152,8 @@ def too_long():
 def structs(room, compiler):
     """The sizes and the places of the structs, as a C compiler has them."""
     pairs = [(name, getattr(_library, mine)) for mine, name in (
-        ("CLimits", "arrowflow_limits"), ("COptions", "arrowflow_options"), ("CReport", "arrowflow_report"), ("CText", "arrowflow_text"),
+        ("CLimits", "arrowflow_limits"), ("COptions", "arrowflow_options"), ("CReport", "arrowflow_report"), ("CText",
+            "arrowflow_text"),
         ("CCopied", "arrowflow_copied"), ("ArrowSchema", "struct ArrowSchema"), ("ArrowArray", "struct ArrowArray"),
         ("ArrowArrayStream", "struct ArrowArrayStream"))]
     lines = [line for name, of in pairs for line in (
