@@ -476,7 +476,8 @@ static bool take_offsets(struct source *it, struct ArrowArray *out, size_t width
 }
 
 /* Makes room in an array like this column for so many slots in all, and for what lies inside them. */
-static bool take_room(struct source *it, struct ArrowArray *out, const arrowflow_column *like, size_t slots, struct change inside) {
+static bool take_room(struct source *it, struct ArrowArray *out, const arrowflow_column *like, size_t slots,
+                      struct change inside) {
     size_t width = like->width, had = (size_t)out->length;
     switch (like->layout) {
     case ARROWFLOW_LAYOUT_NULLS:
@@ -629,7 +630,8 @@ static void copy_slots(struct source *it, const struct slots *from, const arrowf
 }
 
 /* Adds slots to the buffers of an array. `inside` gets what lies inside each run of them. */
-static int add(struct source *it, const struct slots *from, const arrowflow_column *like, struct run *inside, struct ArrowArray *out) {
+static int add(struct source *it, const struct slots *from, const arrowflow_column *like, struct run *inside,
+               struct ArrowArray *out) {
     struct target to = {NULL, NULL, NULL, (size_t)out->length, 0, false};
     size_t slots = to.slots + count_of(from->runs, from->count), end = 0;
     if (has_offsets(like->layout)) {
