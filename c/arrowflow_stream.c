@@ -15,7 +15,7 @@ _Static_assert(sizeof(size_t) >= 8, "counts of 64 bits are sizes here");
 #error "buffers are little-endian, and the interface asks for those of the machine"
 #endif
 
-enum { PIECE = 65536, ALIGNMENT = 64, ERROR_ROOM = 256, NAME_ROOM = 64, MOST_BUFFERS = 3 };
+enum { PIECE = 65536, ALIGNMENT = 64, ERROR_ROOM = 256, NAME_ROOM = 64, MOST_BUFFERS = 3, SPARES = 8, LARGE = 65536 };
 
 /* ---- what the arrays and the schemas own ---- */
 
@@ -84,30 +84,6 @@ static struct block *new_block(size_t room) {
     return block;
 }
 
-/* Gives buffer `k` of an array this size, and zeros as padding. What it had, `had` bytes, stays in front. A
- * buffer that `grows` is left where it is as long as there is room, and gets twice as much where there is
- * not, so that all growth together copies at most twice what there is in the end. Another one is copied. */
-static bool resize(struct ArrowArray *array, size_t k, size_t had, size_t size, bool grows) {
-    struct node *node = array->private_data;
-    struct block *block = node->blocks[k];
-    if (block == NULL || !grows || block->room < size) {
-        struct block *more = new_block(padded(block != NULL && grows ? 2 * size : size));
-        if (more == NULL) return false;
-        if (block != NULL) memcpy(more->at, block->at, had);
-        let_go(block);
-        node->blocks[k] = more;
-    }
-    node->buffers[k] = node->blocks[k]->at;
-    memset(node->blocks[k]->at + size, 0, padded(size) - size);
-    return true;
-}
-
-/* The bytes of a buffer, or NULL where there is none. */
-static uint8_t *bytes_of(const struct ArrowArray *array, size_t k) {
-    const struct node *node = array->private_data;
-    return node->blocks[k] == NULL ? NULL : node->blocks[k]->at;
-}
-
 /* Makes another owner of an array's buffers, with children of its own. It has no dictionary. Where it fails to
  * allocate, what there is of it is still to be released. */
 static bool share(const struct ArrowArray *from, struct ArrowArray *out) {
@@ -163,6 +139,8 @@ struct source {
     size_t kept_count, kept_room;
     size_t *path;
     size_t path_room;
+    struct block *spares[SPARES]; /* the last large ones that were made, or NULL */
+    size_t next_spare;
     uint8_t room[];
 };
 
@@ -294,6 +272,57 @@ static int tell_field(struct source *it, size_t depth, struct ArrowSchema *out) 
     if (field.is_encoded) status = set_path(it, depth, 0) ? tell_field(it, depth + 1, out->dictionary) : ENOMEM;
     if (status != 0) out->release(out);
     return status;
+}
+
+/* ---- the buffers of an array ---- */
+
+/* A block with so much room. Of large ones it is one that the stream made before and that arrays have released, if
+ * that is not much larger: malloc returns the memory of large ones to the system, which takes as long as a copy. */
+static struct block *take_block(struct source *it, size_t room) {
+    for (size_t k = 0; k < SPARES && room >= LARGE; k++) {
+        struct block *spare = it->spares[k];
+        if (spare == NULL || spare->room < room || spare->room / 2 > room) continue;
+        if (atomic_load_explicit(&spare->owners, memory_order_acquire) > 1) continue;
+        atomic_fetch_add_explicit(&spare->owners, 1, memory_order_relaxed);
+        return spare;
+    }
+    struct block *block = new_block(room);
+    if (block == NULL || room < LARGE) return block;
+    struct block **oldest = it->spares + it->next_spare++ % SPARES;
+    let_go(*oldest);
+    *oldest = block;
+    atomic_fetch_add_explicit(&block->owners, 1, memory_order_relaxed);
+    return block;
+}
+
+/* How a buffer's size changes, in bytes. One that `grows` in place has its arrays see the front of it. */
+struct change {
+    size_t had, size;
+    bool grows;
+};
+
+/* Gives buffer `k` of an array its new size, and zeros as padding. What it had stays in front. A buffer that grows
+ * is left where it is as long as there is room, and gets twice as much where there is not, so that all growth
+ * together copies at most twice what there is in the end. Another one is copied. */
+static bool resize(struct source *it, struct ArrowArray *array, size_t k, struct change to) {
+    struct node *node = array->private_data;
+    struct block *block = node->blocks[k];
+    if (block == NULL || !to.grows || block->room < to.size) {
+        struct block *more = take_block(it, padded(block != NULL && to.grows ? 2 * to.size : to.size));
+        if (more == NULL) return false;
+        if (block != NULL) memcpy(more->at, block->at, to.had);
+        let_go(block);
+        node->blocks[k] = more;
+    }
+    node->buffers[k] = node->blocks[k]->at;
+    memset(node->blocks[k]->at + to.size, 0, padded(to.size) - to.size);
+    return true;
+}
+
+/* The bytes of a buffer, or NULL where there is none. */
+static uint8_t *bytes_of(const struct ArrowArray *array, size_t k) {
+    const struct node *node = array->private_data;
+    return node->blocks[k] == NULL ? NULL : node->blocks[k]->at;
 }
 
 /* ---- arrays ---- */
@@ -430,33 +459,34 @@ static int64_t buffers_of(uint32_t layout) {
 
 /* Gives an array a validity bitmap for so many slots; those that were there have values if it had none. A last
  * byte would be read in other threads while bits are added to it, so that bitmaps do not grow in place. */
-static bool take_validity(struct ArrowArray *out, size_t slots) {
+static bool take_validity(struct source *it, struct ArrowArray *out, size_t slots) {
     bool is_new = out->buffers[0] == NULL;
     struct run before = {0, 0, (size_t)out->length};
-    if (!resize(out, 0, (before.end + 7) / 8, (slots + 7) / 8, false)) return false;
+    if (!resize(it, out, 0, (struct change){(before.end + 7) / 8, (slots + 7) / 8, false})) return false;
     if (is_new) copy_bits(bytes_of(out, 0), 0, NULL, 0, &before);
     return true;
 }
 
 /* Gives an array offsets of so many slots, of which the first is 0. */
-static bool take_offsets(struct ArrowArray *out, size_t width, size_t slots) {
+static bool take_offsets(struct source *it, struct ArrowArray *out, size_t width, size_t slots) {
     bool is_new = out->buffers[1] == NULL;
-    if (!resize(out, 1, width * ((size_t)out->length + 1), width * (slots + 1), true)) return false;
+    if (!resize(it, out, 1, (struct change){width * ((size_t)out->length + 1), width * (slots + 1), true})) return false;
     if (is_new) memset(bytes_of(out, 1), 0, width);
     return true;
 }
 
-/* Makes room in an array like this column for so many slots in all, in which `end` bytes lie, `inside` so far. */
-static bool take_room(struct ArrowArray *out, const arrowflow_column *like, size_t slots, size_t inside, size_t end) {
+/* Makes room in an array like this column for so many slots in all, and for what lies inside them. */
+static bool take_room(struct source *it, struct ArrowArray *out, const arrowflow_column *like, size_t slots,
+                      struct change inside) {
     size_t width = like->width, had = (size_t)out->length;
     switch (like->layout) {
     case ARROWFLOW_LAYOUT_NULLS:
     case ARROWFLOW_LAYOUT_STRUCTS: return true;
-    case ARROWFLOW_LAYOUT_BITS: return resize(out, 1, (had + 7) / 8, (slots + 7) / 8, false);
-    case ARROWFLOW_LAYOUT_LISTS: return take_offsets(out, width, slots);
+    case ARROWFLOW_LAYOUT_BITS: return resize(it, out, 1, (struct change){(had + 7) / 8, (slots + 7) / 8, false});
+    case ARROWFLOW_LAYOUT_LISTS: return take_offsets(it, out, width, slots);
     case ARROWFLOW_LAYOUT_BINARIES:
-    case ARROWFLOW_LAYOUT_TEXTS: return take_offsets(out, width, slots) && resize(out, 2, inside, end, true);
-    default: return resize(out, 1, width * had, width * slots, true);
+    case ARROWFLOW_LAYOUT_TEXTS: return take_offsets(it, out, width, slots) && resize(it, out, 2, inside);
+    default: return resize(it, out, 1, (struct change){width * had, width * slots, true});
     }
 }
 
@@ -472,14 +502,14 @@ static int build_children(struct source *it, const struct slots *from, struct Ar
 }
 
 /* An array of no slots, of a schema's type. */
-static int build_empty(const struct ArrowSchema *schema, struct ArrowArray *out) {
+static int build_empty(struct source *it, const struct ArrowSchema *schema, struct ArrowArray *out) {
     const char *format = schema->format;
     if (!new_array(out, (size_t)schema->n_children, false)) return ENOMEM;
     out->n_buffers = *format == 'n' ? 0 : strcmp(format, "+s") == 0 ? 1 : strchr("zZuU", *format) != NULL ? 3 : 2;
     for (int64_t k = 1; k < out->n_buffers; k++)
-        if (!resize(out, (size_t)k, 0, 0, false)) return ENOMEM;
+        if (!resize(it, out, (size_t)k, (struct change){0, 0, false})) return ENOMEM;
     for (int64_t k = 0; k < schema->n_children; k++)
-        if (build_empty(schema->children[k], out->children[k]) != 0) return ENOMEM;
+        if (build_empty(it, schema->children[k], out->children[k]) != 0) return ENOMEM;
     return 0;
 }
 
@@ -488,7 +518,7 @@ static int build_no_values(struct source *it, size_t depth, struct ArrowArray *o
     struct ArrowSchema values;
     int status = set_path(it, depth, 0) ? tell_field(it, depth + 1, &values) : ENOMEM;
     if (status != 0) return status;
-    status = build_empty(&values, out);
+    status = build_empty(it, &values, out);
     values.release(&values);
     return status;
 }
@@ -600,7 +630,8 @@ static void copy_slots(struct source *it, const struct slots *from, const arrowf
 }
 
 /* Adds slots to the buffers of an array. `inside` gets what lies inside each run of them. */
-static int add(struct source *it, const struct slots *from, const arrowflow_column *like, struct run *inside, struct ArrowArray *out) {
+static int add(struct source *it, const struct slots *from, const arrowflow_column *like, struct run *inside,
+               struct ArrowArray *out) {
     struct target to = {NULL, NULL, NULL, (size_t)out->length, 0, false};
     size_t slots = to.slots + count_of(from->runs, from->count), end = 0;
     if (has_offsets(like->layout)) {
@@ -611,7 +642,8 @@ static int add(struct source *it, const struct slots *from, const arrowflow_colu
         if (like->width == sizeof(int32_t) && end > INT32_MAX) return EOVERFLOW;
     }
     bool has_validity = out->n_buffers > 0 && (out->buffers[0] != NULL || has_nulls(it, from, like));
-    if ((has_validity && !take_validity(out, slots)) || !take_room(out, like, slots, to.inside, end)) return ENOMEM;
+    if (has_validity && !take_validity(it, out, slots)) return ENOMEM;
+    if (!take_room(it, out, like, slots, (struct change){to.inside, end, true})) return ENOMEM;
     to.validity = bytes_of(out, 0);
     to.offsets = has_offsets(like->layout) ? bytes_of(out, 1) : NULL;
     to.values = bytes_of(out, to.offsets == NULL ? 1 : 2);
@@ -693,6 +725,7 @@ static void release_stream(struct ArrowArrayStream *stream) {
     struct source *it = stream->private_data;
     arrowflow_reader_close(it->reader);
     for (size_t k = 0; k < it->kept_count; k++) drop(&it->kept[k].values);
+    for (size_t k = 0; k < SPARES; k++) let_go(it->spares[k]);
     free(it->kept);
     free(it->path);
     free(it);

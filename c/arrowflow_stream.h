@@ -28,7 +28,9 @@
  * Memory      malloc, calloc, realloc and free are called. Buffers of a stranger's stream may overlap in a
  *             body, so that the arrays of a batch may take the body's bytes once for each buffer: what
  *             bounds them together is max_body, the number of fields and malloc. The stream keeps the values
- *             of each dictionary that a batch has had, and up to as much spare room for those that grew.
+ *             of each dictionary that a batch has had, and up to as much spare room for those that grew. It
+ *             also keeps the last eight buffers of 64 KiB and more that it made: when they are released, they
+ *             are used again for the next arrays. All of it is freed with the stream and its arrays.
  * Dictionary  The values of a dictionary are one array, joined where the stream sent them in parts. Batches
  *             share it as long as no message of the dictionary comes. Values that are added by a delta are
  *             added to it, where the arrays before do not look: of all that was there only bitmaps (of

@@ -1,5 +1,5 @@
 /* usage: stream [--types core|all] show bytes|fd|SIZE FILE, stream [--types core|all] threads FILE,
- *        stream ends FILE, stream grows FILE, stream --bad FILE
+ *        stream each FILE, stream ends FILE, stream grows FILE, stream --bad FILE
  *
  * Prints what `arrowflow show` prints of a stream, out of arrays of the Arrow C data interface, and ends as
  * it does; of floating-point numbers it has the digits of `show`, and lays them out in another way. Each
@@ -7,7 +7,7 @@
  * reader are gone. The stream comes from bytes, from a file descriptor or from a callback in pieces of this
  * size. Then one thread and another release the arrays, with children that were moved out. With `threads`
  * each array is asked for on a thread of its own, and goes to another one while the stream is read on. With
- * `ends` it is told how many arrays a stream gives, and what it says then; with `grows`, how often the
+ * `each` an array is printed and released before the next one is asked for. With `ends` it is told how many arrays a stream gives, and what it says then; with `grows`, how often the
  * dictionary of its first column was copied. With --bad sources fail.
  */
 #define _POSIX_C_SOURCE 200809L
@@ -667,6 +667,28 @@ static int show(const char *how, const char *name) {
     return status;
 }
 
+/* Prints the rows of each array, and releases it before the next one is asked for. */
+static int show_each(const char *name) {
+    struct ArrowArrayStream stream;
+    struct ArrowSchema schema;
+    struct ArrowArray array;
+    size_t len;
+    uint8_t *bytes = read_file(name, &len);
+    WANT(arrowflow_stream_of_bytes(bytes, len, limits, &stream) == ARROWFLOW_KIND_FINE);
+    WANT(stream.get_schema(&stream, &schema) == 0);
+    print_names(&schema);
+    for (size_t k = 0; stream.get_next(&stream, &array) == 0 && array.release != NULL; k++) {
+        check_array(&schema, &array);
+        print_rows(k, &schema, &array);
+        release(&array);
+    }
+    WANT(stream.get_last_error(&stream) == NULL);
+    stream.release(&stream);
+    schema.release(&schema);
+    free(bytes);
+    return 0;
+}
+
 /* Tells how many arrays come, none of which is looked at, and the text at the end. */
 static int tell_ends(const char *name) {
     struct seen seen;
@@ -954,10 +976,11 @@ int main(int argc, char **argv) {
     }
     if (argc == 3 && strcmp(argv[1], "--bad") == 0) return bad(argv[2]);
     if (argc == 3 && strcmp(argv[1], "threads") == 0) return in_threads(argv[2]);
+    if (argc == 3 && strcmp(argv[1], "each") == 0) return show_each(argv[2]);
     if (argc == 3 && strcmp(argv[1], "ends") == 0) return tell_ends(argv[2]);
     if (argc == 3 && strcmp(argv[1], "grows") == 0) return tell_growth(argv[2]);
     if (argc == 4 && strcmp(argv[1], "show") == 0) return show(argv[2], argv[3]);
     fprintf(stderr, "usage: stream [--types core|all] show bytes|fd|SIZE FILE, stream [--types core|all] threads FILE, "
-                    "stream ends FILE, stream grows FILE, stream --bad FILE\n");
+                    "stream each FILE, stream ends FILE, stream grows FILE, stream --bad FILE\n");
     return 2;
 }
