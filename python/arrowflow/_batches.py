@@ -66,7 +66,7 @@ class Column:
         """How many slots are without a value. They are counted when it is asked for."""
         if self.format == "n":
             return len(self)
-        return 0 if (valid := self.valid(0, len(self))) is None else valid.count(False)
+        return 0 if (valid := self._valid(0, len(self))) is None else valid.count(False)
 
     def buffers(self) -> List[Optional[memoryview]]:
         """The buffers, as the Arrow columnar format lays them out, as memoryviews of bytes that can only be read: of a Null column
@@ -117,7 +117,7 @@ class Column:
         sizes = [(slots + 7) // 8]
         if offset_code_of(format):
             sizes.append(offset_width_of(format) * (slots + 1))
-            return sizes if format.startswith("+") else [*sizes, self.offsets(slots, slots)[0]]
+            return sizes if format.startswith("+") else [*sizes, self._offsets(slots, slots)[0]]
         if format == "b":
             return sizes * 2
         return sizes if format == "+s" else [*sizes, width_of(format) * slots]
@@ -131,29 +131,29 @@ class Column:
         block.owned = self._owned  # type: ignore[attr-defined]
         return memoryview(block).cast("B").toreadonly()
 
-    def raw(self, number: int, start: int, stop: int) -> bytes:
+    def _raw(self, number: int, start: int, stop: int) -> bytes:
         """The bytes of a buffer from one place up to another, copied."""
         return ctypes.string_at(self._array.buffers[number] + start, stop - start) if start < stop else b""
 
-    def bits(self, number: int, start: int, stop: int) -> List[bool]:
+    def _bits(self, number: int, start: int, stop: int) -> List[bool]:
         """The bits of a buffer from one place up to another."""
         first = start // 8
-        flat = [byte >> k & 1 == 1 for byte in self.raw(number, first, (stop + 7) // 8) for k in range(8)]
+        flat = [byte >> k & 1 == 1 for byte in self._raw(number, first, (stop + 7) // 8) for k in range(8)]
         return flat[start - first * 8:stop - first * 8]
 
-    def valid(self, start: int, stop: int) -> Optional[List[bool]]:
+    def _valid(self, start: int, stop: int) -> Optional[List[bool]]:
         """Which slots from one up to another have a value; None where the column has no validity bitmap."""
-        return self.bits(0, start, stop) if self._array.n_buffers and self._array.buffers[0] else None
+        return self._bits(0, start, stop) if self._array.n_buffers and self._array.buffers[0] else None
 
-    def numbers(self, start: int, stop: int) -> Tuple[Any, ...]:
+    def _numbers(self, start: int, stop: int) -> Tuple[Any, ...]:
         """The numbers in the slots from one up to another."""
         width = width_of(self.format)
-        return struct.unpack(f"<{stop - start}{code_of(self.format)}", self.raw(1, width * start, width * stop))
+        return struct.unpack(f"<{stop - start}{code_of(self.format)}", self._raw(1, width * start, width * stop))
 
-    def offsets(self, start: int, stop: int) -> Tuple[int, ...]:
+    def _offsets(self, start: int, stop: int) -> Tuple[int, ...]:
         """The offsets from one up to another, and that one too."""
         width, count = offset_width_of(self.format), stop + 1 - start
-        return struct.unpack(f"<{count}{offset_code_of(self.format)}", self.raw(1, width * start, width * (stop + 1)))
+        return struct.unpack(f"<{count}{offset_code_of(self.format)}", self._raw(1, width * start, width * (stop + 1)))
 
 
 class Batch:

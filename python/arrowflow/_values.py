@@ -20,7 +20,7 @@ _MICROSECONDS = {"s": 1_000_000, "m": 1_000, "u": 1}
 
 def values_in(of: "Column", start: int, stop: int) -> List[Any]:
     """The values in the slots from one up to another."""
-    valid = of.valid(start, stop)
+    valid = of._valid(start, stop)
     if of.field.dictionary:
         return _looked_up(of, start, stop, valid)
     if of.format == "n":
@@ -34,14 +34,14 @@ def values_in(of: "Column", start: int, stop: int) -> List[Any]:
 def _fixed(of: "Column", start: int, stop: int) -> List[Any]:
     """The values in slots that all take as much; in a slot without a value it is any value."""
     if of.format == "b":
-        return [*of.bits(1, start, stop)]
+        return [*of._bits(1, start, stop)]
     if of.format == "+s":
         return _structs(of, start, stop)
     if of.format.startswith("w:"):
         width = width_of(of.format)
-        found = of.raw(1, width * start, width * stop)
+        found = of._raw(1, width * start, width * stop)
         return [found[width * k:width * (k + 1)] for k in range(stop - start)]
-    numbers = [*of.numbers(start, stop)]
+    numbers = [*of._numbers(start, stop)]
     return [*map(_converter(of.format), numbers)] if of.format.startswith("t") else numbers
 
 
@@ -55,9 +55,9 @@ def _structs(of: "Column", start: int, stop: int) -> List[Dict[str, Any]]:
 
 def _cut(of: "Column", start: int, stop: int, valid: Optional[List[bool]]) -> List[Any]:
     """Texts, byte strings or lists: what lies between one offset and the next. Nothing is made of a slot without a value."""
-    ends = of.offsets(start, stop)
+    ends = of._offsets(start, stop)
     first, last = ends[0], ends[-1]
-    inside: Any = of.raw(2, first, last) if of.format in "uUzZ" else values_in(of.children[0], first, last)
+    inside: Any = of._raw(2, first, last) if of.format in "uUzZ" else values_in(of.children[0], first, last)
     parts: List[Any] = [inside[ends[k] - first:ends[k + 1] - first] for k in range(stop - start)]
     if valid is not None:
         parts = [part if has else None for part, has in zip(parts, valid)]
@@ -66,7 +66,7 @@ def _cut(of: "Column", start: int, stop: int, valid: Optional[List[bool]]) -> Li
 
 def _looked_up(of: "Column", start: int, stop: int, valid: Optional[List[bool]]) -> List[Any]:
     """The values that indices refer to. Of a dictionary that is far longer than what is used of it no more than that is made."""
-    indices = of.numbers(start, stop)
+    indices = of._numbers(start, stop)
     dictionary, used = of.dictionary, {it for k, it in enumerate(indices) if valid is None or valid[k]}
     assert dictionary is not None
     values: Any = values_in(dictionary, 0, len(dictionary)) if len(used) * 8 >= len(dictionary) else {

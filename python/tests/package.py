@@ -137,3 +137,10 @@ def settings():
     yield "Python", re.search(r'^requires-python = "(.*)"$', text, re.M)[1], ">= 3.9"
     yield "the version", ('version = { attr = "arrowflow._version.VERSION" }' in text, sys.version_info >= (3, 9)), (True, True)
     yield "nothing is asked for", re.search(r"^dependencies = (.*)$", text, re.M)[1], "[]"
+
+
+def reading_inside():
+    """No public call of a column takes places in memory, which nothing would check."""
+    names = [it for it in vars(arrowflow.Column) if not it.startswith("_")]
+    yield "the public names of a column", sorted(names), ["buffers", "children", "dictionary", "format", "name", "null_count",
+        "to_pylist", "type"]
