@@ -341,7 +341,8 @@ typedef struct {
  * each number after it leads a level down: below LISTS it is 0, below STRUCTS that of a field, and below
  * INDICES that of a value of the dictionary, which leads to the array that this value stands in, at `slot`.
  * The array's other slots are the dictionary's values around it, one after another, so that value
- * n - slot + slots is the first of the next array. Depth 0 leads nowhere.
+ * n - slot + slots is the first of the next array. Each message of the dictionary brought one such array, of no
+ * values too; one that replaces a dictionary takes away those before it. Depth 0 leads nowhere.
  * All of it was tested when the batch was read: offsets never fall and end inside the child or the
  * values, and in a slot that has a value an index is below `entries` and a text is UTF-8. What stands
  * in a slot without a value says nothing. */

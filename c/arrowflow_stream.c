@@ -15,19 +15,22 @@ _Static_assert(sizeof(size_t) >= 8, "counts of 64 bits are sizes here");
 #error "buffers are little-endian, and the interface asks for those of the machine"
 #endif
 
-enum { PIECE = 65536, ALIGNMENT = 64, ERROR_ROOM = 192, MOST_BUFFERS = 3 };
+enum { PIECE = 65536, ALIGNMENT = 64, ERROR_ROOM = 256, NAME_ROOM = 64, MOST_BUFFERS = 3, SPARES = 8, LARGE = 65536 };
 
 /* ---- what the arrays and the schemas own ---- */
 
-/* Buffers, which lie after it. Arrays of one dictionary own them together. */
+/* The bytes of a buffer. Arrays of one dictionary own it together: each has a front of them, and the stream
+ * alone appends after the longest. */
 struct block {
     atomic_size_t owners;
+    size_t room; /* a multiple of ALIGNMENT */
+    uint8_t *at;
 };
 
 /* What an array owns besides: its children lie in it, and its dictionary after them, and then the table
  * of the children. */
 struct node {
-    struct block *block; /* or NULL */
+    struct block *blocks[MOST_BUFFERS]; /* of each buffer, or NULL */
     const void *buffers[MOST_BUFFERS];
     struct ArrowArray below[];
 };
@@ -45,12 +48,12 @@ static void release_array(struct ArrowArray *array) {
     struct node *node = array->private_data;
     for (int64_t k = 0; k < array->n_children; k++) drop(array->children[k]);
     if (array->dictionary != NULL) drop(array->dictionary);
-    let_go(node->block);
+    for (size_t k = 0; k < MOST_BUFFERS; k++) let_go(node->blocks[k]);
     free(node);
     array->release = NULL;
 }
 
-/* Makes an array of no buffers, whose children and dictionary are released ones. */
+/* Makes an array of no slots and no buffers, whose children and dictionary are released ones. */
 static bool new_array(struct ArrowArray *out, size_t children, bool has_dictionary) {
     size_t below = children + has_dictionary;
     struct node *node = calloc(1, sizeof *node + below * sizeof *out + children * sizeof(struct ArrowArray *));
@@ -71,26 +74,18 @@ static size_t padded(size_t size) {
     return size == 0 ? ALIGNMENT : (size + ALIGNMENT - 1) / ALIGNMENT * ALIGNMENT;
 }
 
-/* Takes room for the buffers of an array; the first one is the validity bitmap, which not each has. */
-static bool take_buffers(struct ArrowArray *array, const size_t *sizes, bool has_validity) {
-    struct node *node = array->private_data;
-    size_t all = 0, first = has_validity ? 0 : 1, count = (size_t)array->n_buffers;
-    for (size_t k = first; k < count; k++) all += padded(sizes[k]);
-    if (all == 0) return true;
-    node->block = malloc(sizeof *node->block + ALIGNMENT + all);
-    if (node->block == NULL) return false;
-    atomic_init(&node->block->owners, 1);
-    uint8_t *at = (uint8_t *)(node->block + 1);
-    at += (ALIGNMENT - (uintptr_t)at % ALIGNMENT) % ALIGNMENT;
-    for (size_t k = first; k < count; at += padded(sizes[k]), k++) {
-        node->buffers[k] = at;
-        memset(at + sizes[k], 0, padded(sizes[k]) - sizes[k]);
-    }
-    return true;
+static struct block *new_block(size_t room) {
+    struct block *block = malloc(sizeof *block + ALIGNMENT + room);
+    if (block == NULL) return NULL;
+    uint8_t *at = (uint8_t *)(block + 1);
+    atomic_init(&block->owners, 1);
+    block->room = room;
+    block->at = at + (ALIGNMENT - (uintptr_t)at % ALIGNMENT) % ALIGNMENT;
+    return block;
 }
 
-/* Makes another owner of an array's buffers, with children of its own. It has no dictionary. Where memory is
- * wanting, what there is of it is still to be released. */
+/* Makes another owner of an array's buffers, with children of its own. It has no dictionary. Where it fails to
+ * allocate, what there is of it is still to be released. */
 static bool share(const struct ArrowArray *from, struct ArrowArray *out) {
     const struct node *of = from->private_data;
     if (!new_array(out, (size_t)from->n_children, false)) return false;
@@ -99,8 +94,9 @@ static bool share(const struct ArrowArray *from, struct ArrowArray *out) {
     out->null_count = from->null_count;
     out->n_buffers = from->n_buffers;
     memcpy(node->buffers, of->buffers, sizeof node->buffers);
-    node->block = of->block;
-    if (node->block != NULL) atomic_fetch_add_explicit(&node->block->owners, 1, memory_order_relaxed);
+    memcpy(node->blocks, of->blocks, sizeof node->blocks);
+    for (size_t k = 0; k < MOST_BUFFERS; k++)
+        if (node->blocks[k] != NULL) atomic_fetch_add_explicit(&node->blocks[k]->owners, 1, memory_order_relaxed);
     for (int64_t k = 0; k < from->n_children; k++)
         if (!share(from->children[k], out->children[k])) return false;
     return true;
@@ -118,16 +114,17 @@ static void release_schema(struct ArrowSchema *schema) {
 
 /* ---- the stream ---- */
 
-/* The values of a dictionary, by its id. They are released where no batch asked for them since a message
- * of the dictionary came. */
+/* The values of a dictionary, by its id, as they were at the last batch, and how many messages of the
+ * dictionary came since. */
 struct kept {
     int64_t id;
-    struct ArrowArray values;
+    size_t messages;
+    struct ArrowArray values; /* released where there are none yet */
 };
 
 /* What a stream owns. */
 struct source {
-    arrowflow_reader reader;
+    arrowflow_reader *reader;
     arrowflow_source read; /* NULL over bytes */
     void *state;
     int fd;
@@ -142,6 +139,8 @@ struct source {
     size_t kept_count, kept_room;
     size_t *path;
     size_t path_room;
+    struct block *spares[SPARES]; /* the last large ones that were made, or NULL */
+    size_t next_spare;
     uint8_t room[];
 };
 
@@ -157,12 +156,12 @@ static bool set_path(struct source *it, size_t level, size_t number) {
     return true;
 }
 
-/* The stream is at an end: it answers this to each further call. */
+/* The stream failed: it answers this to each further call. */
 static int fail(struct source *it, int status) { return it->status = status; }
 
 static int fault(struct source *it, uint32_t kind, uint64_t place) {
-    if (kind == ARROWFLOW_MEMORY) return ENOMEM;
-    snprintf(it->error, sizeof it->error, "kind %s at byte %llu", arrowflow_kind_name(kind), (unsigned long long)place);
+    if (kind == ARROWFLOW_KIND_MEMORY) return ENOMEM;
+    arrowflow_error_text(kind, place, it->error, sizeof it->error);
     return fail(it, EINVAL);
 }
 
@@ -186,8 +185,8 @@ static int refill(struct source *it) {
 }
 
 static int finish(struct source *it) {
-    arrowflow_fault end = arrowflow_reader_end(&it->reader);
-    if (end.kind != ARROWFLOW_FINE) return fault(it, end.kind, end.place);
+    arrowflow_fault end = arrowflow_reader_end(it->reader);
+    if (end.kind != ARROWFLOW_KIND_FINE) return fault(it, end.kind, end.place);
     it->has_ended = true;
     return 0;
 }
@@ -203,10 +202,10 @@ static size_t place_of(const struct source *it, int64_t id) {
     return low;
 }
 
-/* A message of this dictionary came: what is kept of it is no longer the stream's. */
-static void forget(struct source *it, int64_t id) {
+/* A message of this dictionary came: what is kept of it is no longer all of it. */
+static void note_message(struct source *it, int64_t id) {
     size_t k = place_of(it, id);
-    if (k < it->kept_count && it->kept[k].id == id) drop(&it->kept[k].values);
+    if (k < it->kept_count && it->kept[k].id == id) it->kept[k].messages++;
 }
 
 /* Gives the reader what is there, up to the end of a message. */
@@ -216,17 +215,17 @@ static int advance(struct source *it) {
         if (status != 0) return status;
     }
     if (it->at == it->len) return finish(it);
-    arrowflow_step step = arrowflow_reader_read(&it->reader, it->piece + it->at, it->len - it->at);
-    if (step.kind != ARROWFLOW_FINE) return fault(it, step.kind, step.place);
+    arrowflow_step step = arrowflow_reader_read(it->reader, it->piece + it->at, it->len - it->at);
+    if (step.kind != ARROWFLOW_KIND_FINE) return fault(it, step.kind, step.place);
     it->at += step.taken;
-    if (step.what == ARROWFLOW_SCHEMA_READ) it->has_schema = true;
-    if (step.what == ARROWFLOW_DICTIONARY_READ) forget(it, step.id);
-    if (step.what == ARROWFLOW_BATCH_READ) {
+    if (step.message == ARROWFLOW_MESSAGE_SCHEMA) it->has_schema = true;
+    if (step.message == ARROWFLOW_MESSAGE_DICTIONARY) note_message(it, step.id);
+    if (step.message == ARROWFLOW_MESSAGE_BATCH) {
         it->has_batch = true;
         it->columns = step.columns;
         it->rows = step.rows;
     }
-    return step.what == ARROWFLOW_END_READ ? finish(it) : 0;
+    return step.message == ARROWFLOW_MESSAGE_END ? finish(it) : 0;
 }
 
 /* ---- schemas ---- */
@@ -261,11 +260,11 @@ static void set_texts(const arrowflow_field *field, char *texts, struct ArrowSch
 
 /* The schema of the field that the path leads to, or of all. */
 static int tell_field(struct source *it, size_t depth, struct ArrowSchema *out) {
-    arrowflow_field field = arrowflow_reader_field(&it->reader, it->path, depth, NULL, 0);
+    arrowflow_field field = arrowflow_reader_field(it->reader, it->path, depth, NULL, 0);
     char *texts = new_schema(&field, out);
     if (texts == NULL) return ENOMEM;
     size_t room = field.name_len + field.format_len + field.metadata_len;
-    arrowflow_reader_field(&it->reader, it->path, depth, (uint8_t *)texts, room);
+    arrowflow_reader_field(it->reader, it->path, depth, (uint8_t *)texts, room);
     set_texts(&field, texts, out);
     int status = 0;
     for (size_t k = 0; k < field.children && status == 0; k++)
@@ -273,6 +272,57 @@ static int tell_field(struct source *it, size_t depth, struct ArrowSchema *out) 
     if (field.is_encoded) status = set_path(it, depth, 0) ? tell_field(it, depth + 1, out->dictionary) : ENOMEM;
     if (status != 0) out->release(out);
     return status;
+}
+
+/* ---- the buffers of an array ---- */
+
+/* A block with so much room. Of large ones it is one that the stream made before and that arrays have released, if
+ * that is not much larger: malloc returns the memory of large ones to the system, which takes as long as a copy. */
+static struct block *take_block(struct source *it, size_t room) {
+    for (size_t k = 0; k < SPARES && room >= LARGE; k++) {
+        struct block *spare = it->spares[k];
+        if (spare == NULL || spare->room < room || spare->room / 2 > room) continue;
+        if (atomic_load_explicit(&spare->owners, memory_order_acquire) > 1) continue;
+        atomic_fetch_add_explicit(&spare->owners, 1, memory_order_relaxed);
+        return spare;
+    }
+    struct block *block = new_block(room);
+    if (block == NULL || room < LARGE) return block;
+    struct block **oldest = it->spares + it->next_spare++ % SPARES;
+    let_go(*oldest);
+    *oldest = block;
+    atomic_fetch_add_explicit(&block->owners, 1, memory_order_relaxed);
+    return block;
+}
+
+/* How a buffer's size changes, in bytes. One that `grows` in place has its arrays see the front of it. */
+struct change {
+    size_t had, size;
+    bool grows;
+};
+
+/* Gives buffer `k` of an array its new size, and zeros as padding. What it had stays in front. A buffer that grows
+ * is left where it is as long as there is room, and gets twice as much where there is not, so that all growth
+ * together copies at most twice what there is in the end. Another one is copied. */
+static bool resize(struct source *it, struct ArrowArray *array, size_t k, struct change to) {
+    struct node *node = array->private_data;
+    struct block *block = node->blocks[k];
+    if (block == NULL || !to.grows || block->room < to.size) {
+        struct block *more = take_block(it, padded(block != NULL && to.grows ? 2 * to.size : to.size));
+        if (more == NULL) return false;
+        if (block != NULL) memcpy(more->at, block->at, to.had);
+        let_go(block);
+        node->blocks[k] = more;
+    }
+    node->buffers[k] = node->blocks[k]->at;
+    memset(node->blocks[k]->at + to.size, 0, padded(to.size) - to.size);
+    return true;
+}
+
+/* The bytes of a buffer, or NULL where there is none. */
+static uint8_t *bytes_of(const struct ArrowArray *array, size_t k) {
+    const struct node *node = array->private_data;
+    return node->blocks[k] == NULL ? NULL : node->blocks[k]->at;
 }
 
 /* ---- arrays ---- */
@@ -298,13 +348,14 @@ static const size_t NO_LEVEL = SIZE_MAX;
 struct target {
     uint8_t *validity, *offsets, *values;
     size_t slots, inside;
+    bool is_front; /* offsets stay as they are: the array is new, and its slots are the front of one column */
 };
 
 static int build(struct source *it, const struct slots *from, struct ArrowArray *out);
 
 static arrowflow_column column_of(struct source *it, const struct slots *from, size_t k) {
     if (from->level != NO_LEVEL) it->path[from->level] = from->runs[k].entry;
-    return arrowflow_column_at(&it->reader, it->path, from->depth);
+    return arrowflow_reader_column(it->reader, it->path, from->depth);
 }
 
 static size_t count_of(const struct run *runs, size_t count) {
@@ -314,33 +365,31 @@ static size_t count_of(const struct run *runs, size_t count) {
 }
 
 static bool has_offsets(uint32_t layout) {
-    return layout == ARROWFLOW_BINARIES || layout == ARROWFLOW_TEXTS || layout == ARROWFLOW_LISTS;
+    return layout == ARROWFLOW_LAYOUT_BINARIES || layout == ARROWFLOW_LAYOUT_TEXTS || layout == ARROWFLOW_LAYOUT_LISTS;
 }
 
-/* Whether offsets stay as they are: the slots are the front of one column. */
-static bool is_front(const struct slots *from) { return from->count == 1 && from->runs[0].start == 0; }
-
-static size_t offset_at(const arrowflow_column *of, size_t i) {
+static size_t offset_at(const uint8_t *offsets, size_t width, size_t i) {
     uint32_t narrow;
     uint64_t wide;
-    if (of->width == sizeof wide) {
-        memcpy(&wide, of->offsets + sizeof wide * i, sizeof wide);
+    if (width == sizeof wide) {
+        memcpy(&wide, offsets + sizeof wide * i, sizeof wide);
         return wide;
     }
-    memcpy(&narrow, of->offsets + sizeof narrow * i, sizeof narrow);
+    memcpy(&narrow, offsets + sizeof narrow * i, sizeof narrow);
     return narrow;
 }
 
-/* What lies inside slots with offsets: bytes, or slots of the child. */
-static void find_inside(struct source *it, const struct slots *from, struct run *inside) {
+/* What lies inside slots with offsets: bytes, or slots of the child. `like` is the first of the columns. */
+static void find_inside(struct source *it, const struct slots *from, const arrowflow_column *like, bool is_front,
+                        struct run *inside) {
     for (size_t k = 0; k < from->count; k++) {
         const struct run *run = from->runs + k;
         inside[k].entry = run->entry;
         inside[k].start = inside[k].end = 0;
         if (run->start == run->end) continue;
-        arrowflow_column of = column_of(it, from, k);
-        if (!is_front(from)) inside[k].start = offset_at(&of, run->start);
-        inside[k].end = offset_at(&of, run->end);
+        arrowflow_column of = k == 0 ? *like : column_of(it, from, k);
+        if (!is_front) inside[k].start = offset_at(of.offsets, of.width, run->start);
+        inside[k].end = offset_at(of.offsets, of.width, run->end);
     }
 }
 
@@ -361,28 +410,26 @@ static void copy_bits(uint8_t *to, size_t at, const uint8_t *bits, size_t bits_l
 }
 
 /* Copies offsets, counted from where the run's own begin. */
-static void copy_offsets(struct target *to, const arrowflow_column *of, const struct slots *from, const struct run *run,
-                         size_t start) {
-    if (is_front(from)) {
+static void copy_offsets(struct target *to, const arrowflow_column *of, const struct run *run, size_t start) {
+    if (to->is_front) {
         memcpy(to->offsets, of->offsets, of->width * (run->end + 1));
         return;
     }
     for (size_t k = 1; k <= run->end - run->start; k++) {
-        uint64_t offset = to->inside + offset_at(of, run->start + k) - start;
+        uint64_t offset = to->inside + offset_at(of->offsets, of->width, run->start + k) - start;
         memcpy(to->offsets + of->width * (to->slots + k), &offset, of->width);
     }
 }
 
 /* Copies what slots of one column have in its buffers. */
-static void copy_run(struct target *to, const arrowflow_column *of, const struct slots *from, const struct run *run,
-                     const struct run *inside) {
+static void copy_run(struct target *to, const arrowflow_column *of, const struct run *run, const struct run *inside) {
     size_t slots = run->end - run->start;
     if (slots == 0) return;
     if (to->validity != NULL) copy_bits(to->validity, to->slots, of->validity, of->validity_len, run);
-    if (of->layout == ARROWFLOW_BITS) copy_bits(to->values, to->slots, of->values, of->values_len, run);
+    if (of->layout == ARROWFLOW_LAYOUT_BITS) copy_bits(to->values, to->slots, of->values, of->values_len, run);
     else if (has_offsets(of->layout)) {
-        copy_offsets(to, of, from, run, inside->start);
-        if (of->layout != ARROWFLOW_LISTS)
+        copy_offsets(to, of, run, inside->start);
+        if (of->layout != ARROWFLOW_LAYOUT_LISTS)
             memcpy(to->values + to->inside, of->values + inside->start, inside->end - inside->start);
         to->inside += inside->end - inside->start;
     } else if (to->values != NULL)
@@ -391,40 +438,56 @@ static void copy_run(struct target *to, const arrowflow_column *of, const struct
 }
 
 /* Whether a slot may be without a value. */
-static bool has_nulls(struct source *it, const struct slots *from) {
-    for (size_t k = 0; k < from->count; k++)
-        if (from->runs[k].start < from->runs[k].end && column_of(it, from, k).validity_len > 0) return true;
+static bool has_nulls(struct source *it, const struct slots *from, const arrowflow_column *like) {
+    for (size_t k = 0; k < from->count; k++) {
+        arrowflow_column of = k == 0 ? *like : column_of(it, from, k);
+        if (from->runs[k].start < from->runs[k].end && of.validity_len > 0) return true;
+    }
     return false;
 }
 
-/* Takes room for the buffers of an array of this layout, and tells their sizes. */
-static bool take_room(struct ArrowArray *out, const arrowflow_column *like, size_t inside, bool has_validity) {
-    size_t slots = (size_t)out->length, bits = (slots + 7) / 8, sizes[MOST_BUFFERS] = {bits, 0, inside};
-    out->n_buffers = 2;
-    sizes[1] = has_offsets(like->layout) ? like->width * (slots + 1) : like->width * slots;
-    switch (like->layout) {
-    case ARROWFLOW_NULLS: out->n_buffers = 0; break;
-    case ARROWFLOW_STRUCTS: out->n_buffers = 1; break;
-    case ARROWFLOW_BITS: sizes[1] = bits; break;
-    case ARROWFLOW_BINARIES:
-    case ARROWFLOW_TEXTS: out->n_buffers = 3; break;
-    default: break;
+/* How many buffers an array of this layout has. */
+static int64_t buffers_of(uint32_t layout) {
+    switch (layout) {
+    case ARROWFLOW_LAYOUT_NULLS: return 0;
+    case ARROWFLOW_LAYOUT_STRUCTS: return 1;
+    case ARROWFLOW_LAYOUT_BINARIES:
+    case ARROWFLOW_LAYOUT_TEXTS: return 3;
+    default: return 2;
     }
-    out->null_count = like->layout == ARROWFLOW_NULLS ? out->length : has_validity ? -1 : 0;
-    return take_buffers(out, sizes, has_validity && out->n_buffers > 0);
 }
 
-/* The buffers of an array that has its room. A first offset is 0. */
-static struct target target_of(const struct ArrowArray *out, uint32_t layout, size_t width) {
-    void *at[MOST_BUFFERS];
-    memcpy(at, out->buffers, sizeof at);
-    struct target to = {at[0], NULL, at[1], 0, 0};
-    if (has_offsets(layout)) {
-        to.offsets = at[1];
-        to.values = at[2];
-        memset(to.offsets, 0, width);
+/* Gives an array a validity bitmap for so many slots; those that were there have values if it had none. A last
+ * byte would be read in other threads while bits are added to it, so that bitmaps do not grow in place. */
+static bool take_validity(struct source *it, struct ArrowArray *out, size_t slots) {
+    bool is_new = out->buffers[0] == NULL;
+    struct run before = {0, 0, (size_t)out->length};
+    if (!resize(it, out, 0, (struct change){(before.end + 7) / 8, (slots + 7) / 8, false})) return false;
+    if (is_new) copy_bits(bytes_of(out, 0), 0, NULL, 0, &before);
+    return true;
+}
+
+/* Gives an array offsets of so many slots, of which the first is 0. */
+static bool take_offsets(struct source *it, struct ArrowArray *out, size_t width, size_t slots) {
+    bool is_new = out->buffers[1] == NULL;
+    if (!resize(it, out, 1, (struct change){width * ((size_t)out->length + 1), width * (slots + 1), true})) return false;
+    if (is_new) memset(bytes_of(out, 1), 0, width);
+    return true;
+}
+
+/* Makes room in an array like this column for so many slots in all, and for what lies inside them. */
+static bool take_room(struct source *it, struct ArrowArray *out, const arrowflow_column *like, size_t slots,
+                      struct change inside) {
+    size_t width = like->width, had = (size_t)out->length;
+    switch (like->layout) {
+    case ARROWFLOW_LAYOUT_NULLS:
+    case ARROWFLOW_LAYOUT_STRUCTS: return true;
+    case ARROWFLOW_LAYOUT_BITS: return resize(it, out, 1, (struct change){(had + 7) / 8, (slots + 7) / 8, false});
+    case ARROWFLOW_LAYOUT_LISTS: return take_offsets(it, out, width, slots);
+    case ARROWFLOW_LAYOUT_BINARIES:
+    case ARROWFLOW_LAYOUT_TEXTS: return take_offsets(it, out, width, slots) && resize(it, out, 2, inside);
+    default: return resize(it, out, 1, (struct change){width * had, width * slots, true});
     }
-    return to;
 }
 
 /* Builds each child, of the same slots as the array. */
@@ -439,14 +502,14 @@ static int build_children(struct source *it, const struct slots *from, struct Ar
 }
 
 /* An array of no slots, of a schema's type. */
-static int build_empty(const struct ArrowSchema *schema, struct ArrowArray *out) {
-    static const size_t sizes[MOST_BUFFERS] = {0, 0, 0};
+static int build_empty(struct source *it, const struct ArrowSchema *schema, struct ArrowArray *out) {
     const char *format = schema->format;
     if (!new_array(out, (size_t)schema->n_children, false)) return ENOMEM;
     out->n_buffers = *format == 'n' ? 0 : strcmp(format, "+s") == 0 ? 1 : strchr("zZuU", *format) != NULL ? 3 : 2;
-    if (!take_buffers(out, sizes, false)) return ENOMEM;
+    for (int64_t k = 1; k < out->n_buffers; k++)
+        if (!resize(it, out, (size_t)k, (struct change){0, 0, false})) return ENOMEM;
     for (int64_t k = 0; k < schema->n_children; k++)
-        if (build_empty(schema->children[k], out->children[k]) != 0) return ENOMEM;
+        if (build_empty(it, schema->children[k], out->children[k]) != 0) return ENOMEM;
     return 0;
 }
 
@@ -455,38 +518,64 @@ static int build_no_values(struct source *it, size_t depth, struct ArrowArray *o
     struct ArrowSchema values;
     int status = set_path(it, depth, 0) ? tell_field(it, depth + 1, &values) : ENOMEM;
     if (status != 0) return status;
-    status = build_empty(&values, out);
+    status = build_empty(it, &values, out);
     values.release(&values);
     return status;
 }
 
-/* How many arrays the values of a dictionary stand in, or where each of them begins. */
-static size_t find_runs(struct source *it, size_t depth, size_t entries, struct run *runs) {
+/* How many arrays the values of a dictionary from this one on stand in, or where each of them begins. */
+static size_t find_runs(struct source *it, size_t depth, size_t entry, size_t entries, struct run *runs) {
     size_t count = 0;
-    for (size_t entry = 0; entry < entries; count++) {
+    for (; entry < entries; count++) {
         it->path[depth] = entry;
-        size_t slots = arrowflow_column_at(&it->reader, it->path, depth + 1).slots;
+        size_t slots = arrowflow_reader_column(it->reader, it->path, depth + 1).slots;
         if (runs != NULL) runs[count] = (struct run){entry, 0, slots};
         entry += slots;
     }
     return count;
 }
 
-/* The values of a dictionary, joined. The path leads to a column of its indices. */
-static int build_values(struct source *it, size_t depth, size_t entries, struct ArrowArray *out) {
-    if (entries == 0) return build_no_values(it, depth, out);
-    if (!set_path(it, depth, 0)) return ENOMEM;
-    size_t count = find_runs(it, depth, entries, NULL);
+/* Adds the values of a dictionary from this one on, which begins an array of the reader's. The path leads to a
+ * column of its indices. */
+static int add_values(struct source *it, size_t depth, size_t entry, size_t entries, struct ArrowArray *out) {
+    size_t count = find_runs(it, depth, entry, entries, NULL);
+    if (count == 0) return 0;
     struct run *runs = malloc(count * sizeof *runs);
     if (runs == NULL) return ENOMEM;
-    find_runs(it, depth, entries, runs);
+    find_runs(it, depth, entry, entries, runs);
     struct slots from = {depth + 1, depth, runs, count};
     int status = build(it, &from, out);
     free(runs);
     return status;
 }
 
-/* What is kept of this dictionary: nothing, where it is new. NULL for want of memory. */
+/* Whether a dictionary has at its front the values that it had before so many messages of it. A message brings
+ * one array, which is put after those that are there or takes the place of all of them; so where there are more
+ * arrays than messages one is from before, and none was replaced. Arrays of no values are not seen: it may
+ * answer no where a dictionary only grew. */
+static bool has_grown(struct source *it, size_t depth, size_t entries, size_t messages) {
+    size_t count = 0;
+    for (size_t entry = 0; entry < entries && count <= messages; count++) {
+        it->path[depth] = entry;
+        entry += arrowflow_reader_column(it->reader, it->path, depth + 1).slots;
+    }
+    return count > messages;
+}
+
+/* Makes what is kept of a dictionary all of it. The path leads to a column of its indices. */
+static int update(struct source *it, size_t depth, size_t entries, struct kept *kept) {
+    if (!set_path(it, depth, 0)) return ENOMEM;
+    if (kept->messages > 0 && !has_grown(it, depth, entries, kept->messages)) drop(&kept->values);
+    bool is_new = kept->values.release == NULL;
+    size_t entry = is_new ? 0 : (size_t)kept->values.length;
+    int status = is_new && entries == 0 ? build_no_values(it, depth, &kept->values)
+                                        : add_values(it, depth, entry, entries, &kept->values);
+    if (status == 0) kept->messages = 0;
+    else drop(&kept->values);
+    return status;
+}
+
+/* What is kept of this dictionary: nothing, where it is new. NULL where it fails to allocate. */
 static struct kept *keep(struct source *it, int64_t id) {
     size_t k = place_of(it, id);
     if (k < it->kept_count && it->kept[k].id == id) return it->kept + k;
@@ -504,57 +593,88 @@ static struct kept *keep(struct source *it, int64_t id) {
     return it->kept + k;
 }
 
+/* Says that the values of a dictionary are too long, with the name of the field that the path leads to: its
+ * front, without a part of a character, where it is long, and with other signs for control characters. */
+static void tell_overflow(struct source *it, size_t depth, int64_t id) {
+    char name[NAME_ROOM];
+    size_t len = arrowflow_reader_field(it->reader, it->path, depth, (uint8_t *)name, sizeof name).name_len;
+    if (len > sizeof name) {
+        len = sizeof name;
+        while (len > 0 && ((unsigned char)name[len - 1] & 0xc0) == 0x80) len--;
+        if (len > 0 && (unsigned char)name[len - 1] >= 0xc0) len--;
+    }
+    for (size_t k = 0; k < len; k++)
+        if ((unsigned char)name[k] < ' ' || name[k] == 127) name[k] = '?';
+    snprintf(it->error, sizeof it->error, "field \"%.*s\": the values of dictionary %lld are too long for offsets of 32 bits",
+             (int)len, name, (long long)id);
+}
+
 /* The dictionary of the column that the path leads to. */
 static int build_dictionary(struct source *it, size_t depth, size_t entries, struct ArrowArray *out) {
-    int64_t id = arrowflow_reader_field(&it->reader, it->path, depth, NULL, 0).id;
+    int64_t id = arrowflow_reader_field(it->reader, it->path, depth, NULL, 0).id;
     struct kept *kept = keep(it, id);
     if (kept == NULL) return ENOMEM;
-    if (kept->values.release == NULL) {
-        int status = build_values(it, depth, entries, &kept->values);
-        if (status == EOVERFLOW)
-            snprintf(it->error, sizeof it->error, "the values of dictionary %lld are too long for offsets of 32 bits",
-                     (long long)id);
-        if (status != 0) {
-            drop(&kept->values);
-            return status;
-        }
-    }
+    int status = kept->messages > 0 || kept->values.release == NULL ? update(it, depth, entries, kept) : 0;
+    if (status == EOVERFLOW) tell_overflow(it, depth, id);
+    if (status != 0) return status;
     return share(&kept->values, out) ? 0 : ENOMEM;
 }
 
-/* Fills an array, and builds what is below it. `inside` has room for a run for each one of the slots. */
-static int fill(struct source *it, const struct slots *from, struct run *inside, struct ArrowArray *out) {
-    arrowflow_column like = column_of(it, from, 0);
-    struct slots within = {from->depth + 1, from->level, inside, from->count};
-    size_t length = 0;
-    if (has_offsets(like.layout)) {
-        find_inside(it, from, inside);
-        length = count_of(inside, from->count);
-        if (like.width == sizeof(int32_t) && length > INT32_MAX) return EOVERFLOW;
-    }
-    if (!take_room(out, &like, length, has_nulls(it, from))) return ENOMEM;
-    struct target to = target_of(out, like.layout, like.width);
+/* Copies what the slots have in their buffers. */
+static void copy_slots(struct source *it, const struct slots *from, const arrowflow_column *like, const struct run *inside,
+                       struct target *to) {
     for (size_t k = 0; k < from->count; k++) {
-        arrowflow_column of = column_of(it, from, k);
-        copy_run(&to, &of, from, from->runs + k, inside + k);
+        arrowflow_column of = k == 0 ? *like : column_of(it, from, k);
+        copy_run(to, &of, from->runs + k, inside + k);
     }
-    switch (like.layout) {
-    case ARROWFLOW_STRUCTS: return build_children(it, from, out);
-    case ARROWFLOW_LISTS: return set_path(it, from->depth, 0) ? build(it, &within, out->children[0]) : ENOMEM;
-    case ARROWFLOW_INDICES: return build_dictionary(it, from->depth, like.entries, out->dictionary);
+}
+
+/* Adds slots to the buffers of an array. `inside` gets what lies inside each run of them. */
+static int add(struct source *it, const struct slots *from, const arrowflow_column *like, struct run *inside,
+               struct ArrowArray *out) {
+    struct target to = {NULL, NULL, NULL, (size_t)out->length, 0, false};
+    size_t slots = to.slots + count_of(from->runs, from->count), end = 0;
+    if (has_offsets(like->layout)) {
+        to.is_front = out->buffers[1] == NULL && from->count == 1 && from->runs[0].start == 0;
+        if (to.slots > 0) to.inside = offset_at(bytes_of(out, 1), like->width, to.slots);
+        find_inside(it, from, like, to.is_front, inside);
+        end = to.inside + count_of(inside, from->count);
+        if (like->width == sizeof(int32_t) && end > INT32_MAX) return EOVERFLOW;
+    }
+    bool has_validity = out->n_buffers > 0 && (out->buffers[0] != NULL || has_nulls(it, from, like));
+    if (has_validity && !take_validity(it, out, slots)) return ENOMEM;
+    if (!take_room(it, out, like, slots, (struct change){to.inside, end, true})) return ENOMEM;
+    to.validity = bytes_of(out, 0);
+    to.offsets = has_offsets(like->layout) ? bytes_of(out, 1) : NULL;
+    to.values = bytes_of(out, to.offsets == NULL ? 1 : 2);
+    copy_slots(it, from, like, inside, &to);
+    out->length = (int64_t)slots;
+    out->null_count = like->layout == ARROWFLOW_LAYOUT_NULLS ? out->length : has_validity ? -1 : 0;
+    return 0;
+}
+
+/* Builds what is below an array of these slots, in which there lies `inside`. */
+static int build_below(struct source *it, const struct slots *from, const arrowflow_column *like, const struct run *inside,
+                       struct ArrowArray *out) {
+    struct slots within = {from->depth + 1, from->level, inside, from->count};
+    switch (like->layout) {
+    case ARROWFLOW_LAYOUT_STRUCTS: return build_children(it, from, out);
+    case ARROWFLOW_LAYOUT_LISTS: return set_path(it, from->depth, 0) ? build(it, &within, out->children[0]) : ENOMEM;
+    case ARROWFLOW_LAYOUT_INDICES: return build_dictionary(it, from->depth, like->entries, out->dictionary);
     default: return 0;
     }
 }
 
-/* An array of these slots. Where it answers no 0, what there is of the array is still to be released. */
+/* Makes an array of these slots, or adds them to one that there is. Where it answers no 0, what there is of the
+ * array is still to be released. */
 static int build(struct source *it, const struct slots *from, struct ArrowArray *out) {
     arrowflow_column like = column_of(it, from, 0);
+    if (out->release == NULL && !new_array(out, like.children, like.layout == ARROWFLOW_LAYOUT_INDICES)) return ENOMEM;
     struct run one, *inside = from->count == 1 ? &one : malloc(from->count * sizeof *inside);
-    int status = ENOMEM;
-    if (inside != NULL && new_array(out, like.children, like.layout == ARROWFLOW_INDICES)) {
-        out->length = (int64_t)count_of(from->runs, from->count);
-        status = fill(it, from, inside, out);
-    }
+    if (inside == NULL) return ENOMEM;
+    out->n_buffers = buffers_of(like.layout);
+    int status = add(it, from, &like, inside, out);
+    if (status == 0) status = build_below(it, from, &like, inside, out);
     if (inside != &one) free(inside);
     return status;
 }
@@ -576,7 +696,7 @@ static int build_batch(struct source *it, struct ArrowArray *out) {
 
 /* What a call answers, with its text. */
 static int answer(struct source *it, int status) {
-    it->told = status == 0 ? NULL : status == ENOMEM ? "kind Memory: the call may be made again" : it->error;
+    it->told = status == 0 ? NULL : status == ENOMEM ? "Memory: out of memory, the call may be made again" : it->error;
     return status;
 }
 
@@ -603,8 +723,9 @@ static const char *get_last_error(struct ArrowArrayStream *stream) {
 
 static void release_stream(struct ArrowArrayStream *stream) {
     struct source *it = stream->private_data;
-    arrowflow_reader_close(&it->reader);
+    arrowflow_reader_close(it->reader);
     for (size_t k = 0; k < it->kept_count; k++) drop(&it->kept[k].values);
+    for (size_t k = 0; k < SPARES; k++) let_go(it->spares[k]);
     free(it->kept);
     free(it->path);
     free(it);
@@ -615,29 +736,28 @@ static void release_stream(struct ArrowArrayStream *stream) {
 static uint32_t open_stream(arrowflow_limits limits, size_t room, struct ArrowArrayStream *out) {
     struct source *it = calloc(1, sizeof *it + room);
     memset(out, 0, sizeof *out);
-    if (it == NULL) return ARROWFLOW_MEMORY;
+    if (it == NULL) return ARROWFLOW_KIND_MEMORY;
     uint32_t kind = arrowflow_reader_open(limits, &it->reader);
-    if (kind != ARROWFLOW_FINE) {
-        arrowflow_reader_close(&it->reader);
+    if (kind != ARROWFLOW_KIND_FINE) {
         free(it);
         return kind;
     }
     *out = (struct ArrowArrayStream){get_schema, get_next, get_last_error, release_stream, it};
-    return ARROWFLOW_FINE;
+    return ARROWFLOW_KIND_FINE;
 }
 
 uint32_t arrowflow_stream_of_bytes(const uint8_t *bytes, size_t len, arrowflow_limits limits, struct ArrowArrayStream *out) {
     uint32_t kind = open_stream(limits, 0, out);
-    if (kind != ARROWFLOW_FINE) return kind;
+    if (kind != ARROWFLOW_KIND_FINE) return kind;
     struct source *it = out->private_data;
-    it->piece = arrowflow_some(bytes);
+    it->piece = len == 0 ? it->room : bytes;
     it->len = len;
     return kind;
 }
 
 uint32_t arrowflow_stream_of(arrowflow_source read, void *state, arrowflow_limits limits, struct ArrowArrayStream *out) {
     uint32_t kind = open_stream(limits, PIECE, out);
-    if (kind != ARROWFLOW_FINE) return kind;
+    if (kind != ARROWFLOW_KIND_FINE) return kind;
     struct source *it = out->private_data;
     it->read = read;
     it->state = state;
@@ -655,7 +775,7 @@ static ptrdiff_t read_fd(void *state, uint8_t *room, size_t len) {
 
 uint32_t arrowflow_stream_of_fd(int fd, arrowflow_limits limits, struct ArrowArrayStream *out) {
     uint32_t kind = arrowflow_stream_of(read_fd, NULL, limits, out);
-    if (kind != ARROWFLOW_FINE) return kind;
+    if (kind != ARROWFLOW_KIND_FINE) return kind;
     struct source *it = out->private_data;
     it->fd = fd;
     it->state = &it->fd;

@@ -11,23 +11,33 @@
  *             is tried, while arrowflow.h promises a reader to one thread alone. Schemas and arrays go to
  *             any thread and are released there, at once with other calls too: arrays that share a
  *             dictionary count their owners atomically.
- * Errors      get_schema and get_next answer 0 or a number of errno.h, and get_last_error the text, until
- *             the next call, or NULL after success: EINVAL for a fault of the stream (`kind Truncated at
- *             byte 976`), the number that a read gave (`read failed: ..`), EOVERFLOW for a dictionary
- *             whose joined texts or lists are too long for its offsets of 32 bits, and ENOMEM. Where a call
- *             failed, *out is released: its `release` is NULL. A stream that failed answers the same to
- *             each further call, but a schema that came is told on. ENOMEM changes nothing: the call may be
- *             made again, and no row is lost.
- * Arrays      Buffers are aligned and padded to 64 bytes and their padding is 0. Each one is copied once
- *             out of the reader, by one memcpy but for dictionaries that are joined. A column without a validity bitmap has none and a
- *             null_count of 0; else null_count is -1, not counted, but of the Null type. `offset` is 0. What
- *             is under a null, and what no offset reaches, is what the stream had there.
+ * Errors      get_schema and get_next answer 0 or a number of errno.h, and get_last_error a sentence, until
+ *             the next call, or NULL after success. A fault of the stream is EINVAL, with the sentence of
+ *             arrowflow_error_text: its kind, the byte where its message begins and what it means. A read
+ *             that failed is the number that it gave ("read failed: .."). A dictionary whose joined texts or
+ *             lists are too long for its offsets of 32 bits is EOVERFLOW, with its id and the name of the
+ *             column or field. Where a call failed, *out is released: its `release` is NULL. A stream that
+ *             failed answers the same to each further call, but a schema that came is given on. Only ENOMEM
+ *             changes nothing: the call may be made again, and no row is lost.
+ * Arrays      Buffers are aligned to 64 bytes, and may be read up to a multiple of 64 bytes. This padding is
+ *             0, but for that of a dictionary's buffers: it may be anything, and changes when values are
+ *             added. Each buffer is copied once out of the reader, by one memcpy but for dictionaries that
+ *             are joined. A column without a validity bitmap has none and a null_count of 0; else null_count
+ *             is -1, not counted, but of the Null type. `offset` is 0. What is under a null, and what no
+ *             offset reaches, is what the stream had there.
  * Memory      malloc, calloc, realloc and free are called. Buffers of a stranger's stream may overlap in a
  *             body, so that the arrays of a batch may take the body's bytes once for each buffer: what
- *             bounds them together is max_body, the number of fields and malloc.
+ *             bounds them together is max_body, the number of fields and malloc. The stream keeps the values
+ *             of each dictionary that a batch has had, and up to as much spare room for those that grew. It
+ *             also keeps the last eight buffers of 64 KiB and more that it made: when they are released, they
+ *             are used again for the next arrays. All of it is freed with the stream and its arrays.
  * Dictionary  The values of a dictionary are one array, joined where the stream sent them in parts. Batches
- *             share it as long as no message of the dictionary comes, and then all of it is copied anew:
- *             a stream that adds a little before each batch makes copies as long as the dictionary.
+ *             share it as long as no message of the dictionary comes. Values that are added by a delta are
+ *             added to it, where the arrays before do not look: of all that was there only bitmaps (of
+ *             validity and of Bool values) are copied again, and the rest when there is no room left, which
+ *             doubles it. So n values that come in deltas take time that is linear in n, but for a bit each.
+ *             All values are copied anew where the dictionary was replaced, and where it has at most as many
+ *             parts with values in them as messages of it came since the last batch.
  * Names       The interface ends a name at its first zero byte; what a name has after that is lost.
  *
  * What is proved ends where arrowflow_reader_column and arrowflow_reader_field have answered. This part is
@@ -99,7 +109,7 @@ struct ArrowArrayStream {
  * consumer asks again; any other failure is the stream's for good. */
 typedef ptrdiff_t (*arrowflow_source)(void *state, uint8_t *room, size_t len);
 
-/* Each makes a stream and answers ARROWFLOW_FINE; or ARROWFLOW_MEMORY or ARROWFLOW_BAD_LIMITS, and then
+/* Each makes a stream and answers ARROWFLOW_KIND_FINE; or ARROWFLOW_KIND_MEMORY or ARROWFLOW_KIND_BAD_LIMITS, and then
  * there is none and out->release is NULL. Nothing is read before the first call of get_schema, which reads
  * up to the schema's message, or of get_next, which reads up to the next batch and gives an array that is
  * released, `release` being NULL, at the end. What comes after the end marker is not looked at, though

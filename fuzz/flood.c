@@ -7,7 +7,7 @@
  * with a signal where the calls on one stream take more than 20 seconds of a processor. Prints how
  * many streams there were of each kind, also where it is interrupted.
  */
-#include "../c/arrowflow.h"
+#include "arrowflow.h"
 
 #include <signal.h>
 #include <stdio.h>
@@ -125,11 +125,11 @@ static bool is_read(const uint8_t *bytes, size_t size) {
 static void look_into(arrowflow_reader *reader, size_t column, uint64_t rows) {
     size_t path[40] = {column};
     for (size_t depth = 1; depth < 40; depth++) {
-        arrowflow_column of = arrowflow_column_at(reader, path, depth);
-        bool has_offsets = of.layout == ARROWFLOW_BINARIES || of.layout == ARROWFLOW_TEXTS || of.layout == ARROWFLOW_LISTS;
-        uint64_t bits = of.layout == ARROWFLOW_BITS ? of.slots : has_offsets ? 0 : of.slots * of.width * 8;
+        arrowflow_column of = arrowflow_reader_column(reader, path, depth);
+        bool has_offsets = of.layout == ARROWFLOW_LAYOUT_BINARIES || of.layout == ARROWFLOW_LAYOUT_TEXTS || of.layout == ARROWFLOW_LAYOUT_LISTS;
+        uint64_t bits = of.layout == ARROWFLOW_LAYOUT_BITS ? of.slots : has_offsets ? 0 : of.slots * of.width * 8;
         uint64_t below_it = of.children > 0 ? of.children : of.entries;
-        WANT(of.layout != ARROWFLOW_NO_COLUMN && (depth > 1 ? of.slot < of.slots || of.slot == 0 : of.slots == rows));
+        WANT(of.layout != ARROWFLOW_LAYOUT_NONE && (depth > 1 ? of.slot < of.slots || of.slot == 0 : of.slots == rows));
         WANT(of.validity_len == 0 || of.slots <= 8 * of.validity_len);
         WANT(bits <= 8 * of.values_len);
         WANT(!has_offsets || of.slots + of.offsets_len == 0 || of.width * (of.slots + 1) <= of.offsets_len);
@@ -141,35 +141,35 @@ static void look_into(arrowflow_reader *reader, size_t column, uint64_t rows) {
 
 /* What a reader finds in pieces of random lengths, and whether cells and columns can be asked for. */
 static arrowflow_report in_pieces(void) {
-    arrowflow_reader reader = ARROWFLOW_CLOSED;
+    arrowflow_reader *reader = NULL;
     arrowflow_report found = {0, false, 0, 0, 0};
     arrowflow_step step = {0, 0, 0, 0, 0, 0, 0};
     uint64_t most = (uint64_t)1 << below(12);
-    WANT(arrowflow_reader_open(arrowflow_standard_limits(), &reader) == ARROWFLOW_FINE);
+    WANT(arrowflow_reader_open(arrowflow_standard_limits(), &reader) == ARROWFLOW_KIND_FINE);
     size_t at = 0;
-    while (at < len && step.kind == ARROWFLOW_FINE && !found.ended) {
+    while (at < len && step.kind == ARROWFLOW_KIND_FINE && !found.ended) {
         size_t given = 1 + below(most);
-        step = arrowflow_reader_read(&reader, changed + at, len - at < given ? len - at : given);
+        step = arrowflow_reader_read(reader, changed + at, len - at < given ? len - at : given);
         WANT(step.taken <= given);
         at += step.taken;
-        found.ended = step.what == ARROWFLOW_END_READ;
-        if (step.what == ARROWFLOW_BATCH_READ) {
+        found.ended = step.message == ARROWFLOW_MESSAGE_END;
+        if (step.message == ARROWFLOW_MESSAGE_BATCH) {
             uint8_t text[4];
             found.batches++;
             found.rows += step.rows;
             bool has = step.columns > 0 && step.rows > 0;
             size_t column = has ? below(step.columns) : 0, row = has ? below(step.rows) : 0;
-            arrowflow_cell cell = arrowflow_reader_cell(&reader, column, row, text, sizeof text);
-            WANT((cell.what == ARROWFLOW_NO_CELL) == !has);
-            WANT(arrowflow_reader_cell(&reader, column, step.rows, text, 0).what == ARROWFLOW_NO_CELL);
-            if (step.columns > 0) look_into(&reader, column, step.rows);
+            arrowflow_cell cell = arrowflow_reader_cell(reader, column, row, text, sizeof text);
+            WANT((cell.type == ARROWFLOW_CELL_NONE) == !has);
+            WANT(arrowflow_reader_cell(reader, column, step.rows, text, 0).type == ARROWFLOW_CELL_NONE);
+            if (step.columns > 0) look_into(reader, column, step.rows);
         }
     }
-    arrowflow_fault end = arrowflow_reader_end(&reader);
-    WANT(step.kind == ARROWFLOW_FINE || (step.kind == end.kind && step.place == end.place));
-    arrowflow_reader_close(&reader);
+    arrowflow_fault end = arrowflow_reader_end(reader);
+    WANT(step.kind == ARROWFLOW_KIND_FINE || (step.kind == end.kind && step.place == end.place));
+    arrowflow_reader_close(reader);
     found.kind = end.kind;
-    found.place = end.kind == ARROWFLOW_FINE ? at : end.place;
+    found.place = end.kind == ARROWFLOW_KIND_FINE ? at : end.place;
     return found;
 }
 
@@ -182,9 +182,9 @@ static void compare_copy(arrowflow_report report) {
     arrowflow_limits limits = arrowflow_standard_limits();
     arrowflow_options options = {below(2), below(2)};
     arrowflow_text told = arrowflow_copy(changed, len, limits, options, copies[0], ROOM);
-    if (told.kind >= ARROWFLOW_NO_READER) return;
+    if (told.kind >= ARROWFLOW_KIND_NO_HANDLE) return;
     WANT(told.kind == report.kind);
-    WANT(told.kind == ARROWFLOW_FINE || told.place == report.place);
+    WANT(told.kind == ARROWFLOW_KIND_FINE || told.place == report.place);
     WANT(told.size <= ROOM);
     size_t small = below(told.size + 1);
     copies[1][small] = 77;
@@ -192,12 +192,12 @@ static void compare_copy(arrowflow_report report) {
     WANT(again.kind == told.kind && again.place == told.place && again.size == told.size);
     WANT(memcmp(copies[0], copies[1], small) == 0 && copies[1][small] == 77);
     arrowflow_report read = arrowflow_check(copies[0], told.size, limits);
-    WANT(read.kind == (told.size > 0 ? ARROWFLOW_FINE : ARROWFLOW_NO_SCHEMA));
+    WANT(read.kind == (told.size > 0 ? ARROWFLOW_KIND_FINE : ARROWFLOW_KIND_NO_SCHEMA));
     WANT(read.batches == report.batches && read.rows == report.rows && read.place == told.size);
-    WANT(read.ended == (told.kind == ARROWFLOW_FINE));
-    if (told.kind == ARROWFLOW_FINE) {
+    WANT(read.ended == (told.kind == ARROWFLOW_KIND_FINE));
+    if (told.kind == ARROWFLOW_KIND_FINE) {
         again = arrowflow_copy(copies[0], told.size, limits, options, copies[1], ROOM);
-        WANT(again.kind == ARROWFLOW_FINE && again.size == told.size);
+        WANT(again.kind == ARROWFLOW_KIND_FINE && again.size == told.size);
         WANT(memcmp(copies[0], copies[1], told.size) == 0);
     }
 }
@@ -206,10 +206,10 @@ static void compare_copy(arrowflow_report report) {
 static void compare_texts(arrowflow_report report) {
     arrowflow_limits limits = arrowflow_standard_limits();
     arrowflow_text told = arrowflow_messages(changed, len, limits, copies[0], ROOM);
-    WANT(told.kind == report.kind && (told.kind == ARROWFLOW_FINE || told.place == report.place));
+    WANT(told.kind == report.kind && (told.kind == ARROWFLOW_KIND_FINE || told.place == report.place));
     arrowflow_text schema = arrowflow_schema(changed, len, limits, copies[1], ROOM);
-    WANT((schema.kind == ARROWFLOW_FINE) == (told.size > 0));
-    WANT(schema.kind == ARROWFLOW_FINE || (schema.kind == report.kind && schema.place == report.place));
+    WANT((schema.kind == ARROWFLOW_KIND_FINE) == (told.size > 0));
+    WANT(schema.kind == ARROWFLOW_KIND_FINE || (schema.kind == report.kind && schema.place == report.place));
     /* a batch without columns, or of nulls, has many rows in few bytes */
     if (report.rows > 100000) return;
     arrowflow_text rows = arrowflow_show(changed, len, limits, copies[1], ROOM);
@@ -223,7 +223,7 @@ static void compare(void) {
     setitimer(ITIMER_PROF, &patience, NULL);
     arrowflow_report report = arrowflow_check(changed, len, arrowflow_standard_limits());
     WANT(is_same(report, in_pieces()));
-    WANT(report.kind != ARROWFLOW_MEMORY && report.kind < KINDS);
+    WANT(report.kind != ARROWFLOW_KIND_MEMORY && report.kind < KINDS);
     compare_copy(report);
     if (below(4) == 0) compare_texts(report);
     kinds[report.kind]++;

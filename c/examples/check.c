@@ -13,7 +13,7 @@
 #include <string.h>
 
 /* The types that are read: enum arrowflow_types. */
-static uint32_t types = ARROWFLOW_CORE_TYPES;
+static uint32_t types = ARROWFLOW_TYPES_CORE;
 
 static arrowflow_limits wanted_limits(void) {
     arrowflow_limits limits = arrowflow_standard_limits();
@@ -69,7 +69,7 @@ static bool has_float(const arrowflow_column *of, size_t i, arrowflow_cell cell)
     memcpy(&single, &single_bits, sizeof single);
     memcpy(&real, &bits, sizeof real);
     if (of->width < 8) real = of->width == 4 ? (double)single : half_at(bits);
-    if (cell.what != ARROWFLOW_FLOAT || isnan(real)) return cell.what == ARROWFLOW_FLOAT && isnan(cell.real);
+    if (cell.type != ARROWFLOW_CELL_FLOAT || isnan(real)) return cell.type == ARROWFLOW_CELL_FLOAT && isnan(cell.real);
     return memcmp(&real, &cell.real, sizeof real) == 0;
 }
 
@@ -77,39 +77,39 @@ static bool bit_at(const uint8_t *bits, size_t i) { return bits[i / 8] >> i % 8 
 
 /* Whether a cell has just these bytes, which the call put into the room. */
 static bool has_bytes(arrowflow_cell cell, uint32_t what, const uint8_t *room, const uint8_t *from, size_t len) {
-    return cell.what == what && cell.size == len && memcmp(room, from, len < 64 ? len : 64) == 0;
+    return cell.type == what && cell.size == len && memcmp(room, from, len < 64 ? len : 64) == 0;
 }
 
 /* Whether the value of a cell is what stands in slot i of the column that the path leads to. */
 static bool is_in_column(arrowflow_reader *reader, size_t *path, size_t depth, size_t i, arrowflow_cell cell,
                          const uint8_t *room) {
-    arrowflow_column of = arrowflow_column_at(reader, path, depth), below;
+    arrowflow_column of = arrowflow_reader_column(reader, path, depth), below;
     uint64_t start = 0, end = 0;
-    if (of.layout == ARROWFLOW_NO_COLUMN || i >= of.slots) return false;
-    if (of.layout == ARROWFLOW_NULLS || (of.validity_len > 0 && !bit_at(of.validity, i)))
-        return cell.what == ARROWFLOW_NULL;
-    if (of.layout == ARROWFLOW_BINARIES || of.layout == ARROWFLOW_TEXTS || of.layout == ARROWFLOW_LISTS) {
+    if (of.layout == ARROWFLOW_LAYOUT_NONE || i >= of.slots) return false;
+    if (of.layout == ARROWFLOW_LAYOUT_NULLS || (of.validity_len > 0 && !bit_at(of.validity, i)))
+        return cell.type == ARROWFLOW_CELL_NULL;
+    if (of.layout == ARROWFLOW_LAYOUT_BINARIES || of.layout == ARROWFLOW_LAYOUT_TEXTS || of.layout == ARROWFLOW_LAYOUT_LISTS) {
         start = number_at(of.offsets + of.width * i, of.width);
         end = number_at(of.offsets + of.width * (i + 1), of.width);
     }
     switch (of.layout) {
-    case ARROWFLOW_BITS: return cell.what == ARROWFLOW_BOOL && cell.truth == bit_at(of.values, i);
-    case ARROWFLOW_NUMBERS:
-        return cell.what == ARROWFLOW_NUMBER ? (uint64_t)cell.number == number_of(&of, i)
-                                             : cell.what == ARROWFLOW_LARGE && cell.large == number_of(&of, i);
-    case ARROWFLOW_FLOATS: return has_float(&of, i, cell);
-    case ARROWFLOW_BINARIES: return has_bytes(cell, ARROWFLOW_BYTES, room, of.values + start, end - start);
-    case ARROWFLOW_TEXTS: return has_bytes(cell, ARROWFLOW_UTF8, room, of.values + start, end - start);
-    case ARROWFLOW_FIXED_BYTES: return has_bytes(cell, ARROWFLOW_BYTES, room, of.values + of.width * i, of.width);
-    case ARROWFLOW_INDICES:
+    case ARROWFLOW_LAYOUT_BITS: return cell.type == ARROWFLOW_CELL_BOOL && cell.truth == bit_at(of.values, i);
+    case ARROWFLOW_LAYOUT_NUMBERS:
+        return cell.type == ARROWFLOW_CELL_NUMBER ? (uint64_t)cell.number == number_of(&of, i)
+                                             : cell.type == ARROWFLOW_CELL_LARGE && cell.large == number_of(&of, i);
+    case ARROWFLOW_LAYOUT_FLOATS: return has_float(&of, i, cell);
+    case ARROWFLOW_LAYOUT_BINARIES: return has_bytes(cell, ARROWFLOW_CELL_BYTES, room, of.values + start, end - start);
+    case ARROWFLOW_LAYOUT_TEXTS: return has_bytes(cell, ARROWFLOW_CELL_TEXT, room, of.values + start, end - start);
+    case ARROWFLOW_LAYOUT_FIXED_BYTES: return has_bytes(cell, ARROWFLOW_CELL_BYTES, room, of.values + of.width * i, of.width);
+    case ARROWFLOW_LAYOUT_INDICES:
         path[depth] = number_of(&of, i);
-        below = arrowflow_column_at(reader, path, depth + 1);
+        below = arrowflow_reader_column(reader, path, depth + 1);
         return path[depth] < of.entries && is_in_column(reader, path, depth + 1, below.slot, cell, room);
     default:
         path[depth] = 0;
-        below = arrowflow_column_at(reader, path, depth + 1);
-        if (of.layout == ARROWFLOW_LISTS) return cell.what == ARROWFLOW_LIST && start <= end && end <= below.slots;
-        return cell.what == ARROWFLOW_STRUCT && (of.children == 0 || i < below.slots);
+        below = arrowflow_reader_column(reader, path, depth + 1);
+        if (of.layout == ARROWFLOW_LAYOUT_LISTS) return cell.type == ARROWFLOW_CELL_LIST && start <= end && end <= below.slots;
+        return cell.type == ARROWFLOW_CELL_STRUCT && (of.children == 0 || i < below.slots);
     }
 }
 
@@ -127,25 +127,25 @@ static bool are_in_columns(arrowflow_reader *reader, arrowflow_step step) {
 
 /* What a reader finds that is given the stream in pieces of this length. */
 static arrowflow_report in_pieces(const uint8_t *bytes, size_t len, size_t piece) {
-    arrowflow_reader reader = ARROWFLOW_CLOSED;
+    arrowflow_reader *reader = NULL;
     arrowflow_report found = {0, false, 0, 0, 0};
     arrowflow_step step = {0, 0, 0, 0, 0, 0, 0};
     found.kind = arrowflow_reader_open(wanted_limits(), &reader);
-    for (size_t at = 0; at < len && found.kind == ARROWFLOW_FINE && !found.ended; at += step.taken) {
+    for (size_t at = 0; at < len && found.kind == ARROWFLOW_KIND_FINE && !found.ended; at += step.taken) {
         size_t given = len - at < piece ? len - at : piece;
-        step = arrowflow_reader_read(&reader, bytes + at, given);
+        step = arrowflow_reader_read(reader, bytes + at, given);
         found.kind = step.kind;
-        found.ended = step.what == ARROWFLOW_END_READ;
-        if (step.what == ARROWFLOW_BATCH_READ && are_in_columns(&reader, step)) {
+        found.ended = step.message == ARROWFLOW_MESSAGE_END;
+        if (step.message == ARROWFLOW_MESSAGE_BATCH && are_in_columns(reader, step)) {
             found.batches++;
             found.rows += step.rows;
         }
         found.place += step.taken;
     }
-    arrowflow_fault end = arrowflow_reader_end(&reader);
-    arrowflow_reader_close(&reader);
+    arrowflow_fault end = arrowflow_reader_end(reader);
+    arrowflow_reader_close(reader);
     found.kind = end.kind;
-    if (end.kind != ARROWFLOW_FINE) found.place = end.place;
+    if (end.kind != ARROWFLOW_KIND_FINE) found.place = end.place;
     return found;
 }
 
@@ -242,10 +242,10 @@ static void add_field(text *to, arrowflow_reader *reader, size_t *path, size_t d
         add_type(to, value_texts + values.name_len, values.format_len);
         snprintf(id, sizeof id, "> id %lld", (long long)of.id);
         add_word(to, id);
-        if (of.flags & ARROWFLOW_ORDERED) add_word(to, " ordered");
+        if (of.flags & ARROWFLOW_FLAG_ORDERED) add_word(to, " ordered");
         free(value_texts);
     }
-    add_word(to, of.flags & ARROWFLOW_NULLABLE ? "\n" : " not null\n");
+    add_word(to, of.flags & ARROWFLOW_FLAG_NULLABLE ? "\n" : " not null\n");
     for (path[depth] = 0; path[depth] < values.children; path[depth]++) {
         size_t child = path[depth];
         add_field(to, reader, path, depth + 1, level + 1);
@@ -270,18 +270,18 @@ static bool is_same_text(const char *a, size_t a_len, const char *b, size_t b_le
 
 /* Whether the fields that are told of the stream's schema make its text. */
 static bool has_fields(const uint8_t *bytes, size_t len, const char *wanted, size_t size) {
-    arrowflow_reader reader = ARROWFLOW_CLOSED;
+    arrowflow_reader *reader = NULL;
     text told = {NULL, 0, 0};
     size_t path[72] = {0};
-    bool same = arrowflow_reader_open(wanted_limits(), &reader) == ARROWFLOW_FINE
-        && arrowflow_reader_read(&reader, bytes, len).what == ARROWFLOW_SCHEMA_READ;
-    arrowflow_field schema = arrowflow_reader_field(&reader, NULL, 0, NULL, 0);
+    bool same = arrowflow_reader_open(wanted_limits(), &reader) == ARROWFLOW_KIND_FINE
+        && arrowflow_reader_read(reader, bytes, len).message == ARROWFLOW_MESSAGE_SCHEMA;
+    arrowflow_field schema = arrowflow_reader_field(reader, NULL, 0, NULL, 0);
     for (size_t k = 0; k < schema.children; k++) {
         path[0] = k;
-        add_field(&told, &reader, path, 1, 0);
+        add_field(&told, reader, path, 1, 0);
     }
     same = same && is_same_text(told.at == NULL ? "" : told.at, told.len, wanted, size);
-    arrowflow_reader_close(&reader);
+    arrowflow_reader_close(reader);
     free(told.at);
     return same;
 }
@@ -307,8 +307,8 @@ static arrowflow_text print(call give, const uint8_t *bytes, size_t len, bool *s
     uint8_t *out = malloc(told.size + 1);
     if (out != NULL) told = give(bytes, len, limits, out, told.size);
     if (out == NULL || fwrite(out, 1, told.size, stdout) != told.size || fflush(stdout) != 0)
-        told.kind = ARROWFLOW_MEMORY;
-    if (give == arrowflow_schema && told.kind == ARROWFLOW_FINE && !has_fields(bytes, len, (char *)out, told.size))
+        told.kind = ARROWFLOW_KIND_MEMORY;
+    if (give == arrowflow_schema && told.kind == ARROWFLOW_KIND_FINE && !has_fields(bytes, len, (char *)out, told.size))
         *same = false;
     free(out);
     return told;
@@ -332,7 +332,7 @@ static int tell(const char *command, const char *name) {
         fprintf(stderr, "two calls disagree\n");
         return 3;
     }
-    if (told.kind == ARROWFLOW_FINE) return 0;
+    if (told.kind == ARROWFLOW_KIND_FINE) return 0;
     fprintf(stderr, "fault at byte %llu: %s\n", (unsigned long long)told.place, arrowflow_kind_name(told.kind));
     return 1;
 }
@@ -357,21 +357,21 @@ static void bad_streams(void) {
     arrowflow_limits other = fine;
     other.types = 2;
     uint8_t room[4] = {9, 9, 9, 9};
-    WANT(arrowflow_check(NULL, 0, fine).kind == ARROWFLOW_NO_SCHEMA);
-    WANT(arrowflow_check(junk, 0, fine).kind == ARROWFLOW_NO_SCHEMA);
-    WANT(arrowflow_check(junk, 8, fine).kind == ARROWFLOW_CONTINUATION);
-    WANT(arrowflow_check(junk, 8, high).kind == ARROWFLOW_BAD_LIMITS);
-    WANT(arrowflow_check(junk, 8, other).kind == ARROWFLOW_BAD_LIMITS);
-    WANT(arrowflow_copy(NULL, 0, fine, options, NULL, 0).kind == ARROWFLOW_NO_SCHEMA);
-    WANT(arrowflow_copy(junk, 8, fine, options, room, 4).kind == ARROWFLOW_CONTINUATION);
-    WANT(arrowflow_copy(junk, 8, high, options, room, 4).kind == ARROWFLOW_BAD_LIMITS);
-    WANT(arrowflow_schema(NULL, 0, fine, NULL, 0).kind == ARROWFLOW_NO_SCHEMA);
-    WANT(arrowflow_messages(NULL, 0, fine, NULL, 0).kind == ARROWFLOW_NO_SCHEMA);
-    WANT(arrowflow_show(NULL, 0, fine, NULL, 0).kind == ARROWFLOW_NO_SCHEMA);
+    WANT(arrowflow_check(NULL, 0, fine).kind == ARROWFLOW_KIND_NO_SCHEMA);
+    WANT(arrowflow_check(junk, 0, fine).kind == ARROWFLOW_KIND_NO_SCHEMA);
+    WANT(arrowflow_check(junk, 8, fine).kind == ARROWFLOW_KIND_CONTINUATION);
+    WANT(arrowflow_check(junk, 8, high).kind == ARROWFLOW_KIND_BAD_LIMITS);
+    WANT(arrowflow_check(junk, 8, other).kind == ARROWFLOW_KIND_BAD_LIMITS);
+    WANT(arrowflow_copy(NULL, 0, fine, options, NULL, 0).kind == ARROWFLOW_KIND_NO_SCHEMA);
+    WANT(arrowflow_copy(junk, 8, fine, options, room, 4).kind == ARROWFLOW_KIND_CONTINUATION);
+    WANT(arrowflow_copy(junk, 8, high, options, room, 4).kind == ARROWFLOW_KIND_BAD_LIMITS);
+    WANT(arrowflow_schema(NULL, 0, fine, NULL, 0).kind == ARROWFLOW_KIND_NO_SCHEMA);
+    WANT(arrowflow_messages(NULL, 0, fine, NULL, 0).kind == ARROWFLOW_KIND_NO_SCHEMA);
+    WANT(arrowflow_show(NULL, 0, fine, NULL, 0).kind == ARROWFLOW_KIND_NO_SCHEMA);
     for (size_t i = 0; i < sizeof calls / sizeof *calls; i++) {
-        WANT(calls[i](junk, 8, fine, room, 4).kind == ARROWFLOW_CONTINUATION);
-        WANT(calls[i](junk, 8, high, room, 4).kind == ARROWFLOW_BAD_LIMITS);
-        WANT(calls[i](junk, 8, other, room, 4).kind == ARROWFLOW_BAD_LIMITS);
+        WANT(calls[i](junk, 8, fine, room, 4).kind == ARROWFLOW_KIND_CONTINUATION);
+        WANT(calls[i](junk, 8, high, room, 4).kind == ARROWFLOW_KIND_BAD_LIMITS);
+        WANT(calls[i](junk, 8, other, room, 4).kind == ARROWFLOW_KIND_BAD_LIMITS);
         WANT(calls[i](junk, 8, fine, room, 4).size == 0);
     }
     WANT(room[0] == 9 && room[3] == 9);
@@ -379,61 +379,56 @@ static void bad_streams(void) {
 
 /* Whether a path leads to no column, of which nothing is told. */
 static bool is_no_column(arrowflow_reader *reader, const size_t *path, size_t depth) {
-    arrowflow_column none = arrowflow_column_at(reader, path, depth);
-    return none.layout == ARROWFLOW_NO_COLUMN && none.slots == 0 && none.children == 0 && none.entries == 0
+    arrowflow_column none = arrowflow_reader_column(reader, path, depth);
+    return none.layout == ARROWFLOW_LAYOUT_NONE && none.slots == 0 && none.children == 0 && none.entries == 0
         && none.validity_len == 0 && none.offsets_len == 0 && none.values_len == 0;
 }
 
-/* The calls of a reader: on no reader, with nothing, behind a fault, with bad limits, closed twice. */
+/* The calls of a reader: on none, with nothing, after a fault, with bad limits. */
 static void bad_readers(void) {
     const uint8_t junk[8] = {0};
     const size_t path[2] = {0, SIZE_MAX};
     arrowflow_limits fine = arrowflow_standard_limits(), high = fine;
     high.max_rows++;
-    arrowflow_reader reader = ARROWFLOW_CLOSED;
-    WANT(arrowflow_reader_read(&reader, junk, 8).kind == ARROWFLOW_NO_READER);
-    WANT(arrowflow_reader_end(&reader).kind == ARROWFLOW_NO_READER);
-    WANT(arrowflow_reader_cell(&reader, 0, 0, NULL, 0).what == ARROWFLOW_NO_CELL);
-    WANT(is_no_column(&reader, NULL, 0) && is_no_column(&reader, path, 1) && is_no_column(&reader, path, 2));
-    WANT(arrowflow_reader_open(high, &reader) == ARROWFLOW_BAD_LIMITS);
-    arrowflow_reader_close(&reader);
-    WANT(arrowflow_reader_open(fine, &reader) == ARROWFLOW_FINE);
-    WANT(arrowflow_reader_read(&reader, NULL, 0).what == ARROWFLOW_NOTHING);
-    WANT(arrowflow_reader_end(&reader).kind == ARROWFLOW_NO_SCHEMA);
-    WANT(is_no_column(&reader, NULL, 0) && is_no_column(&reader, path, 1));
-    WANT(arrowflow_reader_read(&reader, junk, 8).kind == ARROWFLOW_CONTINUATION);
-    WANT(arrowflow_reader_read(&reader, junk, 8).kind == ARROWFLOW_CONTINUATION);
-    WANT(is_no_column(&reader, path, 1));
-    WANT(arrowflow_reader_read(&reader, junk, 8).taken == 0);
-    WANT(arrowflow_reader_end(&reader).kind == ARROWFLOW_CONTINUATION);
-    WANT(arrowflow_reader_cell(&reader, SIZE_MAX, SIZE_MAX, NULL, 0).what == ARROWFLOW_NO_CELL);
-    WANT(arrowflow_reader_open(fine, &reader) == ARROWFLOW_FINE);
-    WANT(arrowflow_reader_end(&reader).kind == ARROWFLOW_NO_SCHEMA);
-    arrowflow_reader_close(&reader);
-    arrowflow_reader_close(&reader);
-    WANT(!reader.live);
+    arrowflow_reader *reader = NULL;
+    WANT(arrowflow_reader_read(reader, junk, 8).kind == ARROWFLOW_KIND_NO_HANDLE);
+    WANT(arrowflow_reader_end(reader).kind == ARROWFLOW_KIND_NO_HANDLE);
+    WANT(arrowflow_reader_cell(reader, 0, 0, NULL, 0).type == ARROWFLOW_CELL_NONE);
+    WANT(is_no_column(reader, NULL, 0) && is_no_column(reader, path, 1) && is_no_column(reader, path, 2));
+    arrowflow_reader_close(reader);
+    WANT(arrowflow_reader_open(high, &reader) == ARROWFLOW_KIND_BAD_LIMITS && reader == NULL);
+    WANT(arrowflow_reader_open(fine, &reader) == ARROWFLOW_KIND_FINE && reader != NULL);
+    WANT(arrowflow_reader_read(reader, NULL, 0).message == ARROWFLOW_MESSAGE_NONE);
+    WANT(arrowflow_reader_end(reader).kind == ARROWFLOW_KIND_NO_SCHEMA);
+    WANT(is_no_column(reader, NULL, 0) && is_no_column(reader, path, 1));
+    WANT(arrowflow_reader_read(reader, junk, 8).kind == ARROWFLOW_KIND_CONTINUATION);
+    WANT(arrowflow_reader_read(reader, junk, 8).kind == ARROWFLOW_KIND_CONTINUATION);
+    WANT(is_no_column(reader, path, 1));
+    WANT(arrowflow_reader_read(reader, junk, 8).taken == 0);
+    WANT(arrowflow_reader_end(reader).kind == ARROWFLOW_KIND_CONTINUATION);
+    WANT(arrowflow_reader_cell(reader, SIZE_MAX, SIZE_MAX, NULL, 0).type == ARROWFLOW_CELL_NONE);
+    arrowflow_reader_close(reader);
 }
 
 /* Paths that lead nowhere, out of the columns of each batch of a stream. The reader stays where it was. */
 static void bad_paths(const uint8_t *bytes, size_t len) {
-    arrowflow_reader reader = ARROWFLOW_CLOSED;
+    arrowflow_reader *reader = NULL;
     arrowflow_step step = {0, 0, 0, 0, 0, 0, 0};
-    WANT(arrowflow_reader_open(arrowflow_standard_limits(), &reader) == ARROWFLOW_FINE);
-    for (size_t at = 0; at < len && step.kind == ARROWFLOW_FINE && step.what != ARROWFLOW_END_READ; at += step.taken) {
-        step = arrowflow_reader_read(&reader, bytes + at, len - at);
-        arrowflow_fault end = arrowflow_reader_end(&reader);
+    WANT(arrowflow_reader_open(arrowflow_standard_limits(), &reader) == ARROWFLOW_KIND_FINE);
+    for (size_t at = 0; at < len && step.kind == ARROWFLOW_KIND_FINE && step.message != ARROWFLOW_MESSAGE_END; at += step.taken) {
+        step = arrowflow_reader_read(reader, bytes + at, len - at);
+        arrowflow_fault end = arrowflow_reader_end(reader);
         for (size_t k = 0; k < step.columns; k++) {
             size_t path[2] = {k, 0}, none[2] = {k, SIZE_MAX}, past[1] = {step.columns};
-            arrowflow_column of = arrowflow_column_at(&reader, path, 1);
+            arrowflow_column of = arrowflow_reader_column(reader, path, 1);
             WANT(of.slots == step.rows && of.slot == 0);
-            WANT(is_no_column(&reader, path, 2) == (of.children == 0 && of.entries == 0));
-            WANT(is_no_column(&reader, none, 2) && is_no_column(&reader, past, 1) && is_no_column(&reader, path, 0));
-            WANT(arrowflow_reader_end(&reader).kind == end.kind && arrowflow_reader_end(&reader).place == end.place);
+            WANT(is_no_column(reader, path, 2) == (of.children == 0 && of.entries == 0));
+            WANT(is_no_column(reader, none, 2) && is_no_column(reader, past, 1) && is_no_column(reader, path, 0));
+            WANT(arrowflow_reader_end(reader).kind == end.kind && arrowflow_reader_end(reader).place == end.place);
         }
-        if (step.what == ARROWFLOW_NOTHING) break;
+        if (step.message == ARROWFLOW_MESSAGE_NONE) break;
     }
-    arrowflow_reader_close(&reader);
-    WANT(is_no_column(&reader, NULL, 0));
+    arrowflow_reader_close(reader);
 }
 
 /* A field of an example: its path, and its texts. */
@@ -498,7 +493,7 @@ static bool is_told(arrowflow_reader *reader, const wanted_field *want) {
         size_t put = size < all ? size : all;
         memset(room, 170, sizeof room);
         arrowflow_field of = arrowflow_reader_field(reader, want->path, want->depth, room, size);
-        if (of.found != (want->depth == 0 ? ARROWFLOW_THE_SCHEMA : ARROWFLOW_A_FIELD)) return false;
+        if (of.found != (want->depth == 0 ? ARROWFLOW_FOUND_SCHEMA : ARROWFLOW_FOUND_FIELD)) return false;
         if (of.flags != want->flags || of.is_encoded != want->is_encoded || of.id != want->id) return false;
         if (of.children != want->children || of.name_len != name || of.format_len != format) return false;
         if (of.metadata_len != want->metadata_len || memcmp(room, texts, put) != 0 || room[put] != 170) return false;
@@ -510,7 +505,7 @@ static bool is_told(arrowflow_reader *reader, const wanted_field *want) {
 static bool is_no_field(arrowflow_reader *reader, const size_t *path, size_t depth) {
     uint8_t room[2] = {9, 9};
     arrowflow_field of = arrowflow_reader_field(reader, path, depth, room, sizeof room);
-    return of.found == ARROWFLOW_NO_FIELD && of.flags == 0 && !of.is_encoded && of.id == 0 && of.children == 0
+    return of.found == ARROWFLOW_FOUND_NONE && of.flags == 0 && !of.is_encoded && of.id == 0 && of.children == 0
         && of.name_len == 0 && of.format_len == 0 && of.metadata_len == 0 && room[0] == 9 && room[1] == 9;
 }
 
@@ -518,7 +513,7 @@ static bool is_no_field(arrowflow_reader *reader, const size_t *path, size_t dep
 static void fields_below(arrowflow_reader *reader, size_t *path, size_t depth) {
     arrowflow_field of = arrowflow_reader_field(reader, path, depth, NULL, 0);
     uint64_t below = of.is_encoded ? 1 : of.children;
-    WANT(of.found == (depth == 0 ? ARROWFLOW_THE_SCHEMA : ARROWFLOW_A_FIELD) && (!of.is_encoded || of.children == 0));
+    WANT(of.found == (depth == 0 ? ARROWFLOW_FOUND_SCHEMA : ARROWFLOW_FOUND_FIELD) && (!of.is_encoded || of.children == 0));
     path[depth] = below;
     WANT(is_no_field(reader, path, depth + 1));
     path[depth] = SIZE_MAX;
@@ -531,26 +526,25 @@ static void fields_below(arrowflow_reader *reader, size_t *path, size_t depth) {
 
 /* The fields of a stream: each one's path, and what is wanted of those of two examples. */
 static void fields_of(const char *name, const uint8_t *bytes, size_t len) {
-    arrowflow_reader reader = ARROWFLOW_CLOSED;
+    arrowflow_reader *reader = NULL;
     size_t path[72] = {0};
     const char *file = strrchr(name, '/') == NULL ? name : strrchr(name, '/') + 1;
-    WANT(is_no_field(&reader, NULL, 0));
-    WANT(arrowflow_reader_open(wanted_limits(), &reader) == ARROWFLOW_FINE);
-    WANT(is_no_field(&reader, NULL, 0) && is_no_field(&reader, path, 1));
-    arrowflow_step step = arrowflow_reader_read(&reader, bytes, len);
-    if (step.what != ARROWFLOW_SCHEMA_READ) {
-        WANT(is_no_field(&reader, NULL, 0) && is_no_field(&reader, path, 1));
+    WANT(is_no_field(reader, NULL, 0));
+    WANT(arrowflow_reader_open(wanted_limits(), &reader) == ARROWFLOW_KIND_FINE);
+    WANT(is_no_field(reader, NULL, 0) && is_no_field(reader, path, 1));
+    arrowflow_step step = arrowflow_reader_read(reader, bytes, len);
+    if (step.message != ARROWFLOW_MESSAGE_SCHEMA) {
+        WANT(is_no_field(reader, NULL, 0) && is_no_field(reader, path, 1));
     } else {
-        fields_below(&reader, path, 0);
-        WANT(arrowflow_reader_read(&reader, bytes + step.taken, len - step.taken).what != ARROWFLOW_SCHEMA_READ);
-        fields_below(&reader, path, 0);
+        fields_below(reader, path, 0);
+        WANT(arrowflow_reader_read(reader, bytes + step.taken, len - step.taken).message != ARROWFLOW_MESSAGE_SCHEMA);
+        fields_below(reader, path, 0);
     }
     for (size_t k = 0; strcmp(file, "every_type.arrows") == 0 && k < sizeof of_every_type / sizeof *of_every_type; k++)
-        WANT(is_told(&reader, &of_every_type[k]));
+        WANT(is_told(reader, &of_every_type[k]));
     for (size_t k = 0; strcmp(file, "metadata.arrows") == 0 && k < sizeof of_metadata / sizeof *of_metadata; k++)
-        WANT(is_told(&reader, &of_metadata[k]));
-    arrowflow_reader_close(&reader);
-    WANT(is_no_field(&reader, NULL, 0));
+        WANT(is_told(reader, &of_metadata[k]));
+    arrowflow_reader_close(reader);
 }
 
 int main(int argc, char **argv) {
@@ -568,7 +562,7 @@ int main(int argc, char **argv) {
         return failed;
     }
     if (argc == 5 && strcmp(argv[1], "--types") == 0) {
-        types = strcmp(argv[2], "all") == 0 ? ARROWFLOW_ALL_TYPES : ARROWFLOW_CORE_TYPES;
+        types = strcmp(argv[2], "all") == 0 ? ARROWFLOW_TYPES_ALL : ARROWFLOW_TYPES_CORE;
         argv += 2;
         argc -= 2;
     }

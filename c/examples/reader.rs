@@ -21,16 +21,15 @@ mod c {
     }
 
     #[repr(C)]
-    pub struct Handle {
-        pub at: *mut u8,
-        pub live: bool,
+    pub struct Reader {
+        _private: [u8; 0],
     }
 
     #[repr(C)]
     #[derive(Clone, Copy, Debug, PartialEq, Eq)]
     pub struct Step {
         pub kind: u32,
-        pub what: u32,
+        pub message: u32,
         pub taken: u64,
         pub place: u64,
         pub id: i64,
@@ -48,7 +47,7 @@ mod c {
     #[repr(C)]
     #[derive(Clone, Copy)]
     pub struct Cell {
-        pub what: u32,
+        pub r#type: u32,
         pub truth: bool,
         pub number: i64,
         pub large: u64,
@@ -74,12 +73,12 @@ mod c {
     }
 
     unsafe extern "C" {
-        pub fn arrowflow_reader_open(limits: Limits, reader: &mut Handle) -> u32;
-        pub fn arrowflow_reader_read(reader: &mut Handle, piece: *const u8, len: usize) -> Step;
-        pub fn arrowflow_reader_end(reader: &mut Handle) -> Fault;
-        pub fn arrowflow_reader_cell(reader: &mut Handle, column: usize, row: usize, out: *mut u8, room: usize) -> Cell;
-        pub fn arrowflow_reader_column(reader: &mut Handle, path: *const usize, depth: usize, column: &mut Column);
-        pub fn arrowflow_reader_close(reader: &mut Handle);
+        pub fn arrowflow_reader_open(limits: Limits, reader: *mut *mut Reader) -> u32;
+        pub fn arrowflow_reader_read(reader: *mut Reader, piece: *const u8, len: usize) -> Step;
+        pub fn arrowflow_reader_end(reader: *const Reader) -> Fault;
+        pub fn arrowflow_reader_cell(reader: *const Reader, column: usize, row: usize, out: *mut u8, room: usize) -> Cell;
+        pub fn arrowflow_reader_column(reader: *const Reader, path: *const usize, depth: usize) -> Column;
+        pub fn arrowflow_reader_close(reader: *mut Reader);
     }
 }
 
@@ -114,54 +113,38 @@ impl<'a> Column<'a> {
     }
 }
 
-/// A reader of a stream that comes in pieces. It is neither `Send` nor `Sync`, since its handle holds a pointer.
-struct Reader(c::Handle);
+/// A reader of a stream that comes in pieces. It is neither `Send` nor `Sync`, since it holds a pointer.
+struct Reader(*mut c::Reader);
 
 impl Reader {
     /// A reader of a new stream, or the kind that says why there is none.
     fn new(limits: c::Limits) -> Result<Reader, u32> {
-        let mut reader = Reader(c::Handle { at: ptr::null_mut(), live: false });
-        // SAFETY: the handle is of no reader, as a caller makes one.
-        match unsafe { c::arrowflow_reader_open(limits, &mut reader.0) } {
-            0 => Ok(reader),
+        let mut reader = ptr::null_mut();
+        // SAFETY: the pointer is one to write to.
+        match unsafe { c::arrowflow_reader_open(limits, &mut reader) } {
+            0 => Ok(Reader(reader)),
             kind => Err(kind),
         }
     }
 
     /// Reads on in a piece, up to the end of one message.
     fn read(&mut self, piece: &[u8]) -> c::Step {
-        // SAFETY: this is the only copy of the handle, and nobody writes to the piece.
-        unsafe { c::arrowflow_reader_read(&mut self.0, piece.as_ptr(), piece.len()) }
+        // SAFETY: the reader was opened, and is closed when it is dropped; nobody writes to the piece.
+        unsafe { c::arrowflow_reader_read(self.0, piece.as_ptr(), piece.len()) }
     }
 
     /// What a stream answers that ends here.
-    fn end(&mut self) -> c::Fault {
+    fn end(&self) -> c::Fault {
         // SAFETY: as in `read`.
-        unsafe { c::arrowflow_reader_end(&mut self.0) }
+        unsafe { c::arrowflow_reader_end(self.0) }
     }
 
-    /// A column of the batch that came last, or what stands below one. Its buffers are the reader's, which the borrow keeps
+    /// A column of the batch that came last, or what is below one. Its buffers are the reader's, which the borrow keeps
     /// as it is.
-    fn column<'a>(&'a mut self, path: &[usize]) -> Column<'a> {
-        let none: *const u8 = ptr::NonNull::dangling().as_ptr();
-        let mut it = c::Column {
-            layout: 0,
-            has_sign: false,
-            width: 0,
-            slots: 0,
-            children: 0,
-            entries: 0,
-            slot: 0,
-            validity: none,
-            validity_len: 0,
-            offsets: none,
-            offsets_len: 0,
-            values: none,
-            values_len: 0,
-        };
-        // SAFETY: as in `read`; no pointer is NULL, and those that come out are read until the reader is used again.
+    fn column<'a>(&'a self, path: &[usize]) -> Column<'a> {
+        // SAFETY: as in `read`; no pointer is NULL, and those that come out are read until the reader reads on.
         unsafe {
-            c::arrowflow_reader_column(&mut self.0, path.as_ptr(), path.len(), &mut it);
+            let it = c::arrowflow_reader_column(self.0, path.as_ptr(), path.len());
             Column {
                 layout: it.layout,
                 slots: it.slots as usize,
@@ -174,7 +157,7 @@ impl Reader {
     }
 
     /// A value of the batch that came last, as `show` prints it.
-    fn shown(&mut self, column: usize, row: usize) -> String {
+    fn shown(&self, column: usize, row: usize) -> String {
         match self.column(&[column]).text(row) {
             Some(text) => quoted(text),
             None => self.cell(column, row),
@@ -182,11 +165,11 @@ impl Reader {
     }
 
     /// The same, of a cell.
-    fn cell(&mut self, column: usize, row: usize) -> String {
+    fn cell(&self, column: usize, row: usize) -> String {
         let mut room = vec![0; 64];
         loop {
             // SAFETY: as in `read`; the room is a vector's own.
-            let cell = unsafe { c::arrowflow_reader_cell(&mut self.0, column, row, room.as_mut_ptr(), room.len()) };
+            let cell = unsafe { c::arrowflow_reader_cell(self.0, column, row, room.as_mut_ptr(), room.len()) };
             let is_small = room.len() < cell.size as usize;
             room.resize(cell.size as usize, 0);
             if !is_small {
@@ -198,13 +181,13 @@ impl Reader {
 
 impl Drop for Reader {
     fn drop(&mut self) {
-        // SAFETY: as in `read`, and nothing uses the handle afterwards.
-        unsafe { c::arrowflow_reader_close(&mut self.0) }
+        // SAFETY: as in `read`, and nothing uses the reader afterwards.
+        unsafe { c::arrowflow_reader_close(self.0) }
     }
 }
 
 fn shown(cell: c::Cell, bytes: &[u8]) -> String {
-    match cell.what {
+    match cell.r#type {
         0 => String::new(),
         1 => cell.truth.to_string(),
         2 => cell.number.to_string(),
@@ -233,7 +216,7 @@ fn print(stream: &[u8], size: usize, types: u32, out: &mut impl Write) -> io::Re
         loop {
             let step = reader.read(piece);
             piece = &piece[step.taken as usize..];
-            if step.what == 3 {
+            if step.message == 3 {
                 let mut columns = 0..step.columns as usize;
                 assert!(columns.all(|k| reader.column(&[k]).slots == step.rows as usize), "a slot for each row");
                 for row in 0..step.rows as usize {
@@ -245,7 +228,7 @@ fn print(stream: &[u8], size: usize, types: u32, out: &mut impl Write) -> io::Re
                 }
                 number += 1;
             }
-            if step.what == 0 || step.what == 4 || step.kind != 0 {
+            if step.message == 0 || step.message == 4 || step.kind != 0 {
                 break;
             }
         }
@@ -263,7 +246,7 @@ fn bad() -> bool {
     let end = reader.end();
     Reader::new(high).is_err_and(|kind| kind == 20)
         && Reader::new(c::Limits { types: 2, ..STANDARD }).is_err_and(|kind| kind == 20)
-        && (nothing.kind, nothing.what, nothing.taken) == (0, 0, 0)
+        && (nothing.kind, nothing.message, nothing.taken) == (0, 0, 0)
         && (fault.kind, fault.place, fault.taken) == (1, 0, 0)
         && again == fault
         && end == c::Fault { kind: 1, place: 0 }

@@ -22,7 +22,7 @@ struct Clean {
 
 /// Writes a stream again. The copy of a stream is mostly about as long: one call is enough where it
 /// fits into what was guessed, and else a second one gets the room that the first one told.
-Clean sanitize(const Bytes &stream, std::uint32_t types = ARROWFLOW_CORE_TYPES) {
+Clean sanitize(const Bytes &stream, std::uint32_t types = ARROWFLOW_TYPES_CORE) {
     const arrowflow_options options = {false, false};
     arrowflow_limits limits = arrowflow_standard_limits();
     limits.types = types;
@@ -45,9 +45,9 @@ bool read_file(const char *name, Bytes &bytes) {
 /* What the program says of a fault: where the stream has it, or what of it is refused, written again. */
 std::string line_of(arrowflow_text told) {
     switch (told.kind) {
-    case ARROWFLOW_SCHEMA_TOO_LARGE: return "refused schema: TooLarge";
-    case ARROWFLOW_BATCH_TOO_LARGE: return "refused batch " + std::to_string(told.place) + ": TooLarge";
-    case ARROWFLOW_END_TOO_LARGE: return "refused end: TooLarge";
+    case ARROWFLOW_KIND_SCHEMA_TOO_LARGE: return "refused schema: TooLarge";
+    case ARROWFLOW_KIND_BATCH_TOO_LARGE: return "refused batch " + std::to_string(told.place) + ": TooLarge";
+    case ARROWFLOW_KIND_END_TOO_LARGE: return "refused end: TooLarge";
     default: return "fault at byte " + std::to_string(told.place) + ": " + arrowflow_kind_name(told.kind);
     }
 }
@@ -61,7 +61,7 @@ int copy(const Bytes &stream, const char *out, std::uint32_t types) {
         std::cerr << "cannot write " << out << "\n";
         return 2;
     }
-    if (clean.told.kind == ARROWFLOW_FINE) return 0;
+    if (clean.told.kind == ARROWFLOW_KIND_FINE) return 0;
     std::cerr << line_of(clean.told) << "\n";
     return 1;
 }
@@ -79,35 +79,35 @@ void bad(const Bytes &stream) {
     const arrowflow_options plain = {false, false}, narrow = {false, true};
     arrowflow_limits limits = arrowflow_standard_limits(), high = limits;
     high.max_body = UINT64_MAX;
-    want(sanitize(Bytes()).told.kind == ARROWFLOW_NO_SCHEMA, "an empty vector is no stream");
-    want(sanitize(Bytes(stream.begin(), stream.end() - 1)).told.kind == ARROWFLOW_NO_SCHEMA, "a front is none");
+    want(sanitize(Bytes()).told.kind == ARROWFLOW_KIND_NO_SCHEMA, "an empty vector is no stream");
+    want(sanitize(Bytes(stream.begin(), stream.end() - 1)).told.kind == ARROWFLOW_KIND_NO_SCHEMA, "a front is none");
     Clean clean = sanitize(stream);
-    want(clean.told.kind == ARROWFLOW_FINE && clean.bytes != stream, "it is written with an end marker");
+    want(clean.told.kind == ARROWFLOW_KIND_FINE && clean.bytes != stream, "it is written with an end marker");
     want(sanitize(clean.bytes).bytes == clean.bytes, "a clean stream stays as it is");
     Bytes small(5, 7);
     arrowflow_text told = arrowflow_copy(stream.data(), stream.size(), limits, narrow, small.data(), 4);
-    want(told.kind == ARROWFLOW_FINE && told.size == 160, "a small room tells how much there is");
+    want(told.kind == ARROWFLOW_KIND_FINE && told.size == 160, "a small room tells how much there is");
     want(small == Bytes({0xff, 0xff, 0xff, 0xff, 7}), "and holds its front alone");
     told = arrowflow_copy(stream.data(), stream.size(), high, plain, small.data(), 4);
-    want(told.kind == ARROWFLOW_BAD_LIMITS, "limits have ceilings");
-    want(sanitize(stream, 2).told.kind == ARROWFLOW_BAD_LIMITS, "there are two sets of types");
-    arrowflow_reader reader = ARROWFLOW_CLOSED;
+    want(told.kind == ARROWFLOW_KIND_BAD_LIMITS, "limits have ceilings");
+    want(sanitize(stream, 2).told.kind == ARROWFLOW_KIND_BAD_LIMITS, "there are two sets of types");
+    arrowflow_reader *reader = NULL;
     const std::size_t path = 0;
-    want(arrowflow_reader_open(limits, &reader) == ARROWFLOW_FINE, "a reader is opened");
-    want(arrowflow_reader_read(&reader, stream.data(), stream.size()).what == ARROWFLOW_SCHEMA_READ, "it reads a schema");
-    want(arrowflow_column_at(&reader, &path, 1).layout == ARROWFLOW_NO_COLUMN, "a schema is no batch");
-    arrowflow_reader_close(&reader);
+    want(arrowflow_reader_open(limits, &reader) == ARROWFLOW_KIND_FINE, "a reader is opened");
+    want(arrowflow_reader_read(reader, stream.data(), stream.size()).message == ARROWFLOW_MESSAGE_SCHEMA, "it reads a schema");
+    want(arrowflow_reader_column(reader, &path, 1).layout == ARROWFLOW_LAYOUT_NONE, "a schema is no batch");
+    arrowflow_reader_close(reader);
     limits.max_metadata = 144;
     told = arrowflow_copy(stream.data(), stream.size(), limits, plain, small.data(), 4);
-    want(told.kind == ARROWFLOW_SCHEMA_TOO_LARGE, "a copy that is past a limit is refused");
+    want(told.kind == ARROWFLOW_KIND_SCHEMA_TOO_LARGE, "a copy that is past a limit is refused");
 }
 
 } // namespace
 
 int main(int argc, char **argv) {
-    std::uint32_t types = ARROWFLOW_CORE_TYPES;
+    std::uint32_t types = ARROWFLOW_TYPES_CORE;
     if (argc == 5 && std::strcmp(argv[1], "--types") == 0) {
-        types = std::strcmp(argv[2], "all") == 0 ? ARROWFLOW_ALL_TYPES : ARROWFLOW_CORE_TYPES;
+        types = std::strcmp(argv[2], "all") == 0 ? ARROWFLOW_TYPES_ALL : ARROWFLOW_TYPES_CORE;
         argv += 2;
         argc -= 2;
     }

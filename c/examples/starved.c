@@ -1,10 +1,11 @@
 /* usage: starved FILE
  *
- * Makes each call on a stream again and again, and refuses one growth of memory in each, the first one,
- * the second one, and so on: the call answers ARROWFLOW_MEMORY, or what it answers with all of its
+ * Makes each call on a stream again and again, and refuses one allocation in each, the first one,
+ * the second one, and so on: the call answers ARROWFLOW_KIND_MEMORY, or what it answers with all of its
  * memory. A reader goes on where the same call is made again, and has its batch until then. So does an
- * ArrowArrayStream, whose schemas and arrays are those of all memory in the end. Of what a call took nothing
- * is left, and nothing of a reader that was closed or replaced, nor of a stream and its arrays. It is linked
+ * ArrowArrayStream, whose schemas and arrays are those of all memory in the end. A copier is over, and what
+ * may still be taken is the front of the copy. Of what a call took nothing is left, and nothing of a reader
+ * or a copier that was closed wherever it was, nor of a stream and its arrays. It is linked
  * with -Wl,--wrap=malloc,--wrap=calloc,--wrap=realloc,--wrap=free.
  */
 #include "arrowflow_stream.h"
@@ -23,10 +24,10 @@ void *__wrap_calloc(size_t count, size_t size);
 void *__wrap_realloc(void *at, size_t size);
 void __wrap_free(void *at);
 
-/* How many growths come before the one that is refused; below 0 none is. */
+/* How many allocations come before the one that is refused; below 0 none is. */
 static long before = -1;
 static long refused = 0;
-/* How many readers kept a batch where a growth was refused. */
+/* How many readers kept a batch where an allocation was refused. */
 static long kept = 0;
 
 static bool is_refused(void) {
@@ -68,7 +69,7 @@ static size_t len;
 
 static void want(bool fact, const char *what) {
     if (fact) return;
-    fprintf(stderr, "not so: %s, with growth %ld refused\n", what, refused);
+    fprintf(stderr, "not so: %s, with allocation %ld refused\n", what, refused);
     exit(1);
 }
 
@@ -82,7 +83,7 @@ static void starve_check(arrowflow_report whole) {
         arrowflow_report report = arrowflow_check(bytes, len, arrowflow_standard_limits());
         want(blocks == 0, "nothing left of a check");
         if (before >= 0) return;
-        want(report.kind == ARROWFLOW_MEMORY ? report.place == 0 && report.batches == 0 : is_same_report(report, whole), "check");
+        want(report.kind == ARROWFLOW_KIND_MEMORY ? report.place == 0 && report.batches == 0 : is_same_report(report, whole), "check");
     }
 }
 
@@ -106,7 +107,7 @@ static void starve_text(int call) {
         arrowflow_text told = give(call, found);
         want(blocks == 0, "nothing left of a text");
         if (before >= 0) return;
-        want(told.kind == ARROWFLOW_MEMORY ? told.size <= whole.size : told.kind == whole.kind && told.size == whole.size, "the text's length");
+        want(told.kind == ARROWFLOW_KIND_MEMORY ? told.size <= whole.size : told.kind == whole.kind && told.size == whole.size, "the text's length");
         want(told.size <= MOST && memcmp(found, wanted, told.size) == 0, "the text, or its beginning");
     }
 }
@@ -114,7 +115,7 @@ static void starve_text(int call) {
 /* The first column of the reader's batch, if it has one. */
 static arrowflow_column first_column(arrowflow_reader *reader) {
     const size_t path[1] = {0};
-    return arrowflow_column_at(reader, path, 1);
+    return arrowflow_reader_column(reader, path, 1);
 }
 
 /* Whether the batch of which this is the first column is still the reader's, where it was. */
@@ -125,35 +126,35 @@ static bool is_kept(arrowflow_reader *reader, arrowflow_column of) {
         && (now.values_len == 0 || now.values == of.values);
 }
 
-/* Reads the stream in pieces of this length with one growth refused; what was refused is asked for once
+/* Reads the stream in pieces of this length with one allocation refused; what was refused is asked for once
  * more. */
 static arrowflow_report read_starved(long number, size_t most) {
-    arrowflow_reader reader = ARROWFLOW_CLOSED;
+    arrowflow_reader *reader = NULL;
     arrowflow_report report = {0, false, 0, 0, 0};
     before = number;
-    if (arrowflow_reader_open(arrowflow_standard_limits(), &reader) == ARROWFLOW_MEMORY)
-        want(arrowflow_reader_open(arrowflow_standard_limits(), &reader) == ARROWFLOW_FINE, "opened again");
-    for (size_t at = 0; at < len && report.kind == ARROWFLOW_FINE && !report.ended;) {
+    if (arrowflow_reader_open(arrowflow_standard_limits(), &reader) == ARROWFLOW_KIND_MEMORY)
+        want(arrowflow_reader_open(arrowflow_standard_limits(), &reader) == ARROWFLOW_KIND_FINE, "opened again");
+    for (size_t at = 0; at < len && report.kind == ARROWFLOW_KIND_FINE && !report.ended;) {
         size_t piece = len - at < most ? len - at : most;
-        arrowflow_column last = first_column(&reader);
-        arrowflow_step step = arrowflow_reader_read(&reader, bytes + at, piece);
-        if (step.kind == ARROWFLOW_MEMORY) {
+        arrowflow_column last = first_column(reader);
+        arrowflow_step step = arrowflow_reader_read(reader, bytes + at, piece);
+        if (step.kind == ARROWFLOW_KIND_MEMORY) {
             want(step.taken == 0, "nothing taken");
-            want(is_kept(&reader, last), "the last batch still there");
-            kept += last.layout != ARROWFLOW_NO_COLUMN;
-        } else if (step.what != ARROWFLOW_BATCH_READ)
-            want(first_column(&reader).layout == ARROWFLOW_NO_COLUMN, "no batch where none came");
+            want(is_kept(reader, last), "the last batch still there");
+            kept += last.layout != ARROWFLOW_LAYOUT_NONE;
+        } else if (step.message != ARROWFLOW_MESSAGE_BATCH)
+            want(first_column(reader).layout == ARROWFLOW_LAYOUT_NONE, "no batch where none came");
         at += step.taken;
-        report.kind = step.kind == ARROWFLOW_MEMORY ? (uint32_t)ARROWFLOW_FINE : step.kind;
-        report.ended = step.what == ARROWFLOW_END_READ;
-        report.batches += step.what == ARROWFLOW_BATCH_READ;
+        report.kind = step.kind == ARROWFLOW_KIND_MEMORY ? (uint32_t)ARROWFLOW_KIND_FINE : step.kind;
+        report.ended = step.message == ARROWFLOW_MESSAGE_END;
+        report.batches += step.message == ARROWFLOW_MESSAGE_BATCH;
         report.rows += step.rows;
         report.place = at;
     }
-    arrowflow_fault end = arrowflow_reader_end(&reader);
-    arrowflow_reader_close(&reader);
+    arrowflow_fault end = arrowflow_reader_end(reader);
+    arrowflow_reader_close(reader);
     want(blocks == 0, "nothing left of a reader");
-    if (end.kind != ARROWFLOW_FINE) report.place = end.place;
+    if (end.kind != ARROWFLOW_KIND_FINE) report.place = end.place;
     report.kind = end.kind;
     return report;
 }
@@ -167,40 +168,106 @@ static void starve_reader(arrowflow_report whole, size_t most) {
 }
 
 /* Opens a reader, and makes so many calls on it. Whether the stream goes on. */
-static bool feed(arrowflow_reader *reader, long calls) {
+static bool feed(arrowflow_reader **reader, long calls) {
     size_t at = 0;
     arrowflow_step step = {0, 0, 0, 0, 0, 0, 0};
-    want(arrowflow_reader_open(arrowflow_standard_limits(), reader) == ARROWFLOW_FINE, "opened");
-    for (; calls > 0 && at < len && step.kind == ARROWFLOW_FINE && step.what != ARROWFLOW_END_READ; calls--) {
+    want(arrowflow_reader_open(arrowflow_standard_limits(), reader) == ARROWFLOW_KIND_FINE, "opened");
+    for (; calls > 0 && at < len && step.kind == ARROWFLOW_KIND_FINE && step.message != ARROWFLOW_MESSAGE_END; calls--) {
         size_t left = len - at, piece = len / 16 + 1;
-        step = arrowflow_reader_read(reader, bytes + at, left < piece ? left : piece);
+        step = arrowflow_reader_read(*reader, bytes + at, left < piece ? left : piece);
         at += step.taken;
     }
     return calls == 0;
 }
 
-/* Lets a reader go in each way, wherever it stands: closed, twice, and replaced by one, or by none. */
-static void let_go(void) {
-    arrowflow_limits fine = arrowflow_standard_limits(), high = fine;
-    arrowflow_reader reader = ARROWFLOW_CLOSED;
-    high.max_rows++;
+/* Closes a reader after each of its calls. */
+static void close_readers(void) {
+    arrowflow_reader *reader;
     before = -1;
-    want(arrowflow_reader_open(fine, &reader) == ARROWFLOW_FINE, "opened");
-    long fresh = blocks;
-    for (long calls = 0; feed(&reader, calls); calls++) {
-        want(arrowflow_reader_open(fine, &reader) == ARROWFLOW_FINE && blocks == fresh, "one reader for another");
-        feed(&reader, calls);
-        want(arrowflow_reader_open(high, &reader) == ARROWFLOW_BAD_LIMITS && blocks == 0, "no reader with bad limits");
-        feed(&reader, calls);
-        before = 0;
-        want(arrowflow_reader_open(fine, &reader) == ARROWFLOW_MEMORY && blocks == 0, "no reader without memory");
-        feed(&reader, calls);
-        arrowflow_reader_close(&reader);
-        arrowflow_reader_close(&reader);
+    for (long calls = 0, goes_on = 1; goes_on; calls++) {
+        goes_on = feed(&reader, calls);
+        arrowflow_reader_close(reader);
         want(blocks == 0, "nothing left of a closed reader");
     }
-    arrowflow_reader_close(&reader);
-    want(blocks == 0, "nothing left of the last reader");
+}
+
+/* Readers and copiers that are not opened, with bad limits or without memory: there is nothing to close. */
+static void open_none(void) {
+    const arrowflow_options options = {false, false};
+    arrowflow_limits fine = arrowflow_standard_limits(), high = fine;
+    arrowflow_reader *reader;
+    arrowflow_copier *copier;
+    high.max_rows++;
+    before = -1;
+    want(arrowflow_reader_open(high, &reader) == ARROWFLOW_KIND_BAD_LIMITS && reader == NULL, "no reader with bad limits");
+    want(arrowflow_copier_open(high, options, &copier) == ARROWFLOW_KIND_BAD_LIMITS && copier == NULL, "no copier with bad limits");
+    before = 0;
+    want(arrowflow_reader_open(fine, &reader) == ARROWFLOW_KIND_MEMORY && reader == NULL, "no reader without memory");
+    before = 0;
+    want(arrowflow_copier_open(fine, options, &copier) == ARROWFLOW_KIND_MEMORY && copier == NULL, "no copier without memory");
+    want(blocks == 0, "nothing left of what was not opened");
+}
+
+/* ---- copiers ---- */
+
+/* Takes what waits, in rooms of 13 bytes. */
+static size_t take(arrowflow_copier *copier, size_t size) {
+    for (size_t got; (got = arrowflow_copier_take(copier, found + size, MOST - size < 13 ? MOST - size : 13)) > 0;) size += got;
+    return size;
+}
+
+/* Copies the stream in pieces of this length, and takes the copy, with one allocation refused. How long it is. */
+static size_t copy_starved(long number, size_t most, arrowflow_copied *copied) {
+    const arrowflow_options options = {false, true};
+    arrowflow_copier *copier;
+    size_t size = 0;
+    before = number;
+    if (arrowflow_copier_open(arrowflow_standard_limits(), options, &copier) == ARROWFLOW_KIND_MEMORY)
+        want(arrowflow_copier_open(arrowflow_standard_limits(), options, &copier) == ARROWFLOW_KIND_FINE, "opened again");
+    for (size_t at = 0; at < len; at += most) {
+        *copied = arrowflow_copier_put(copier, bytes + at, len - at < most ? len - at : most);
+        if (at / most % 2 == 0) size = take(copier, size);
+        if (copied->is_over) break;
+    }
+    *copied = arrowflow_copier_end(copier);
+    arrowflow_copied again = arrowflow_copier_put(copier, bytes, len);
+    want(copied->is_over && again.is_over && again.kind == copied->kind && again.place == copied->place, "it stays over");
+    want(again.waiting == copied->waiting, "nothing more is written");
+    size_t whole = take(copier, size);
+    want(whole - size == copied->waiting && arrowflow_copier_end(copier).waiting == 0, "what waits is what can be taken");
+    arrowflow_copier_close(copier);
+    want(blocks == 0, "nothing left of a copier");
+    return whole;
+}
+
+static void starve_copier(size_t most) {
+    const arrowflow_options options = {false, true};
+    before = -1;
+    arrowflow_text whole = arrowflow_copy(bytes, len, arrowflow_standard_limits(), options, wanted, MOST);
+    for (long number = 0;; number++) {
+        arrowflow_copied copied;
+        size_t size = copy_starved(number, most, &copied);
+        want(size <= whole.size && memcmp(found, wanted, size) == 0, "the copy, or its front");
+        if (copied.kind == ARROWFLOW_KIND_MEMORY) want(before < 0 && size < MOST, "memory that was refused");
+        else want(copied.kind == whole.kind && copied.place == whole.place && size == whole.size, "the copy");
+        if (before >= 0) return;
+    }
+}
+
+/* Closes a copier after so many bytes, before anything was taken, after a part was, and after its end. */
+static void close_copiers(void) {
+    const arrowflow_options options = {true, false};
+    before = -1;
+    for (size_t most = 0; most <= len; most += len / 16 + 1)
+        for (int how = 0; how < 3; how++) {
+            arrowflow_copier *copier;
+            want(arrowflow_copier_open(arrowflow_standard_limits(), options, &copier) == ARROWFLOW_KIND_FINE, "opened");
+            arrowflow_copier_put(copier, bytes, most);
+            if (how > 0) arrowflow_copier_take(copier, found, 5);
+            if (how > 1) arrowflow_copier_end(copier);
+            arrowflow_copier_close(copier);
+            want(blocks == 0, "nothing left of a closed copier");
+        }
 }
 
 /* ---- streams of arrays ---- */
@@ -280,7 +347,7 @@ static bool is_starved(struct ArrowArrayStream *stream, int status, bool is_rele
     return true;
 }
 
-/* Reads the stream as arrays with one growth refused, and sums up all that they have when it is gone. */
+/* Reads the stream as arrays with one allocation refused, and sums up all that they have when it is gone. */
 static uint64_t sum_starved(long number, bool in_pieces) {
     static struct ArrowArray arrays[MOST_ARRAYS];
     struct ArrowArrayStream stream;
@@ -289,8 +356,8 @@ static uint64_t sum_starved(long number, bool in_pieces) {
     int status;
     before = number;
     sum = UINT64_C(14695981039346656037);
-    if (open_arrays(in_pieces, &at, &stream) == ARROWFLOW_MEMORY)
-        want(stream.release == NULL && open_arrays(in_pieces, &at, &stream) == ARROWFLOW_FINE, "a stream opened again");
+    if (open_arrays(in_pieces, &at, &stream) == ARROWFLOW_KIND_MEMORY)
+        want(stream.release == NULL && open_arrays(in_pieces, &at, &stream) == ARROWFLOW_KIND_FINE, "a stream opened again");
     while (is_starved(&stream, status = stream.get_schema(&stream, &schema), schema.release == NULL)) {}
     while (status == 0 && count < MOST_ARRAYS) {
         while (is_starved(&stream, status = stream.get_next(&stream, arrays + count), arrays[count].release == NULL)) {}
@@ -333,10 +400,14 @@ int main(int argc, char **argv) {
     for (int call = 0; call < 4; call++) starve_text(call);
     starve_reader(whole, 100);
     starve_reader(whole, len);
-    let_go();
+    close_readers();
+    open_none();
+    starve_copier(100);
+    starve_copier(len);
+    close_copiers();
     starve_arrays(false);
     starve_arrays(true);
-    want(refused > 0, "a growth was refused");
-    want(kept > 0 || whole.batches < 2, "a growth was refused after a batch");
+    want(refused > 0, "an allocation was refused");
+    want(kept > 0 || whole.batches < 2, "an allocation was refused after a batch");
     return 0;
 }

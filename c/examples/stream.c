@@ -1,5 +1,5 @@
 /* usage: stream [--types core|all] show bytes|fd|SIZE FILE, stream [--types core|all] threads FILE,
- *        stream ends FILE, stream --bad FILE
+ *        stream each FILE, stream ends FILE, stream grows FILE, stream --bad FILE
  *
  * Prints what `arrowflow show` prints of a stream, out of arrays of the Arrow C data interface, and ends as
  * it does; of floating-point numbers it has the digits of `show`, and lays them out in another way. Each
@@ -7,7 +7,8 @@
  * reader are gone. The stream comes from bytes, from a file descriptor or from a callback in pieces of this
  * size. Then one thread and another release the arrays, with children that were moved out. With `threads`
  * each array is asked for on a thread of its own, and goes to another one while the stream is read on. With
- * `ends` it is told how many arrays a stream gives, and what it says then. With --bad sources fail.
+ * `each` an array is printed and released before the next one is asked for. With `ends` it is told how many arrays a stream gives, and what it says then; with `grows`, how often the
+ * dictionary of its first column was copied. With --bad sources fail.
  */
 #define _POSIX_C_SOURCE 200809L
 #include "arrowflow_stream.h"
@@ -139,34 +140,41 @@ static bool is_utf8(const uint8_t *at, size_t len) {
     return true;
 }
 
-/* A buffer of so many bytes: it is aligned, and zeros fill it up to 64 bytes. */
-static void check_buffer(const void *buffer, size_t size) {
+/* Whether a stream may be adding to a dictionary while its arrays are looked at. */
+static bool is_growing = false;
+
+/* A buffer of so many bytes: it is aligned, each byte is read, and zeros fill it up to 64 bytes. One of a dictionary
+ * is filled with anything, which is read if nothing is added at this time. */
+static void check_buffer(const void *buffer, size_t size, bool is_shared) {
     const uint8_t *at = buffer;
+    uint64_t sum = 0, rest = 0;
     WANT(at != NULL && (uintptr_t)at % 64 == 0);
-    for (size_t k = size; k % 64 != 0; k++) WANT(at[k] == 0);
+    for (size_t k = 0; k < size; k++) sum += at[k];
+    for (size_t k = size; k % 64 != 0 && !(is_shared && is_growing); k++) rest += at[k];
+    WANT(sum <= 255 * size && rest <= (is_shared ? 64 * 255 : 0));
 }
 
-static void check_nulls(const struct ArrowArray *array) {
+static void check_nulls(const struct ArrowArray *array, bool is_shared) {
     size_t length = (size_t)array->length;
     int64_t nulls = 0;
     for (size_t i = 0; i < length; i++) nulls += !has_value(array, i);
     WANT(array->null_count == -1 || array->null_count == nulls);
     if (array->n_buffers == 0) return;
     if (array->buffers[0] == NULL) WANT(array->null_count == 0);
-    else check_buffer(array->buffers[0], (length + 7) / 8);
+    else check_buffer(array->buffers[0], (length + 7) / 8, is_shared);
 }
 
 /* Offsets that never fall, and texts that are UTF-8. */
-static void check_offsets(const struct ArrowSchema *schema, const struct ArrowArray *array) {
+static void check_offsets(const struct ArrowSchema *schema, const struct ArrowArray *array, bool is_shared) {
     size_t length = (size_t)array->length, end = offset_at(schema, array, length);
-    check_buffer(array->buffers[1], offset_width(schema) * (length + 1));
+    check_buffer(array->buffers[1], offset_width(schema) * (length + 1), is_shared);
     WANT(end <= INT64_MAX && (offset_width(schema) == 8 || end <= INT32_MAX));
     for (size_t i = 0; i < length; i++) WANT(offset_at(schema, array, i) <= offset_at(schema, array, i + 1));
     if (is_list(schema)) {
         WANT(end <= (size_t)array->children[0]->length);
         return;
     }
-    check_buffer(array->buffers[2], end);
+    check_buffer(array->buffers[2], end, is_shared);
     for (size_t i = 0; i < length && is_one_of(schema, "uU"); i++) {
         size_t start = offset_at(schema, array, i), len = offset_at(schema, array, i + 1) - start;
         if (has_value(array, i)) WANT(is_utf8((const uint8_t *)array->buffers[2] + start, len));
@@ -181,23 +189,28 @@ static uint64_t number_of(const struct ArrowSchema *schema, const struct ArrowAr
     return is_negative ? number | UINT64_MAX << 8 * width : number;
 }
 
-static void check_array(const struct ArrowSchema *schema, const struct ArrowArray *array) {
+/* Checks an array; one of a dictionary's values, or below these, `is_shared`. */
+static void check_values(const struct ArrowSchema *schema, const struct ArrowArray *array, bool is_shared) {
     WANT(array->release != NULL && array->length >= 0 && array->offset == 0);
     WANT(array->n_buffers == buffers_of(schema) && array->n_children == schema->n_children);
     WANT((array->dictionary == NULL) == (schema->dictionary == NULL));
     size_t length = (size_t)array->length;
-    check_nulls(array);
+    check_nulls(array, is_shared);
     for (int64_t k = 0; k < array->n_children; k++) {
-        check_array(schema->children[k], array->children[k]);
+        check_values(schema->children[k], array->children[k], is_shared);
         if (is_format(schema, "+s")) WANT(array->children[k]->length == array->length);
     }
-    if (offset_width(schema) > 0) check_offsets(schema, array);
-    else if (is_format(schema, "b")) check_buffer(array->buffers[1], (length + 7) / 8);
-    else if (array->n_buffers == 2) check_buffer(array->buffers[1], value_width(schema) * length);
+    if (offset_width(schema) > 0) check_offsets(schema, array, is_shared);
+    else if (is_format(schema, "b")) check_buffer(array->buffers[1], (length + 7) / 8, is_shared);
+    else if (array->n_buffers == 2) check_buffer(array->buffers[1], value_width(schema) * length, is_shared);
     if (schema->dictionary == NULL) return;
-    check_array(schema->dictionary, array->dictionary);
+    check_values(schema->dictionary, array->dictionary, true);
     for (size_t i = 0; i < length; i++)
         if (has_value(array, i)) WANT(number_of(schema, array, i) < (uint64_t)array->dictionary->length);
+}
+
+static void check_array(const struct ArrowSchema *schema, const struct ArrowArray *array) {
+    check_values(schema, array, false);
 }
 
 /* ---- the text of a value, as `arrowflow show` has it ---- */
@@ -395,7 +408,7 @@ static uint8_t *read_file(const char *name, size_t *len) {
 
 /* ---- a stream, and what it gave ---- */
 
-enum { MOST_THREADS = 64 };
+enum { MOST_THREADS = 128 };
 
 struct seen {
     struct ArrowSchema schema;
@@ -465,7 +478,7 @@ static void read_as(const char *how, const char *name, struct seen *seen) {
     struct given given = {NULL, 0, 0, 0, SIZE_MAX, 0, 0, false};
     uint8_t *bytes = read_file(name, &given.len);
     given.bytes = bytes;
-    WANT(open_as(how, name, &given, &fd, &stream) == ARROWFLOW_FINE);
+    WANT(open_as(how, name, &given, &fd, &stream) == ARROWFLOW_KIND_FINE);
     WANT(stream.get_last_error(&stream) == NULL);
     read_all(&stream, seen);
     WANT((stream.get_schema(&stream, &again) == 0) == (seen->schema.release != NULL));
@@ -516,7 +529,7 @@ static void take_apart(const struct ArrowSchema *schema, struct ArrowArray *arra
     }
     release(&child);
     if (is_nested) {
-        check_array(of_below, &below);
+        check_values(of_below, &below, of->dictionary != NULL);
         release(&below);
     }
 }
@@ -547,12 +560,11 @@ static void let_go(struct seen *seen) {
 
 /* Tells how a stream ended, as the program does. */
 static int tell_end(const struct seen *seen) {
-    char kind[32];
-    unsigned long long place;
+    const char *meaning = strchr(seen->error, ',');
     if (seen->status == 0) return 0;
-    WANT(seen->status == EINVAL && sscanf(seen->error, "kind %31s at byte %llu", kind, &place) == 2);
+    WANT(seen->status == EINVAL && strncmp(seen->error, "fault at byte ", 14) == 0 && meaning != NULL);
     fflush(stdout);
-    fprintf(stderr, "fault at byte %llu: %s\n", place, kind);
+    fprintf(stderr, "%.*s\n", (int)(meaning - seen->error), seen->error);
     return 1;
 }
 
@@ -566,12 +578,12 @@ static bool has_memory(const struct ArrowArray *of) {
     return of->n_buffers > 1 || (of->n_children > 0 && has_memory(of->children[0]));
 }
 
-/* A batch's columns by the dictionary of this id share it with the batch before just where none came between. */
+/* A batch's column by a dictionary shares it with the batch before where no message of it came between. */
 static void check_shared(const struct seen *seen, size_t batch, size_t column, bool is_new) {
     if (batch == 0) return;
     const struct ArrowArray *now = seen->arrays[batch].children[column]->dictionary;
     const struct ArrowArray *last = seen->arrays[batch - 1].children[column]->dictionary;
-    if (has_memory(now)) WANT(is_one_memory(now, last) == !is_new);
+    if (has_memory(now) && !is_new) WANT(is_one_memory(now, last));
 }
 
 /* Whether a text is this one, up to its first zero byte. */
@@ -619,20 +631,20 @@ static void check_beside_reader(const char *name, const struct seen *seen) {
     size_t len, at = 0, batch = 0, ids = 0, path[MOST_LEVELS];
     int64_t came[MOST_IDS];
     uint8_t *bytes = read_file(name, &len);
-    arrowflow_reader reader = ARROWFLOW_CLOSED;
+    arrowflow_reader *reader = NULL;
     arrowflow_step step = {0, 0, 0, 0, 0, 0, 0};
-    WANT(arrowflow_reader_open(limits, &reader) == ARROWFLOW_FINE);
-    while (batch < seen->count || step.what == ARROWFLOW_NOTHING) {
-        step = arrowflow_reader_read(&reader, bytes + at, len - at);
-        WANT(step.kind == ARROWFLOW_FINE && step.what != ARROWFLOW_NOTHING && ids < MOST_IDS);
+    WANT(arrowflow_reader_open(limits, &reader) == ARROWFLOW_KIND_FINE);
+    while (batch < seen->count || step.message == ARROWFLOW_MESSAGE_NONE) {
+        step = arrowflow_reader_read(reader, bytes + at, len - at);
+        WANT(step.kind == ARROWFLOW_KIND_FINE && step.message != ARROWFLOW_MESSAGE_NONE && ids < MOST_IDS);
         at += step.taken;
-        if (step.what == ARROWFLOW_SCHEMA_READ) check_told(&reader, path, 0, &seen->schema);
-        if (step.what == ARROWFLOW_DICTIONARY_READ) came[ids++] = step.id;
-        if (step.what != ARROWFLOW_BATCH_READ) continue;
-        check_columns(&reader, seen, batch++, came, ids);
+        if (step.message == ARROWFLOW_MESSAGE_SCHEMA) check_told(reader, path, 0, &seen->schema);
+        if (step.message == ARROWFLOW_MESSAGE_DICTIONARY) came[ids++] = step.id;
+        if (step.message != ARROWFLOW_MESSAGE_BATCH) continue;
+        check_columns(reader, seen, batch++, came, ids);
         ids = 0;
     }
-    arrowflow_reader_close(&reader);
+    arrowflow_reader_close(reader);
     free(bytes);
 }
 
@@ -655,6 +667,28 @@ static int show(const char *how, const char *name) {
     return status;
 }
 
+/* Prints the rows of each array, and releases it before the next one is asked for. */
+static int show_each(const char *name) {
+    struct ArrowArrayStream stream;
+    struct ArrowSchema schema;
+    struct ArrowArray array;
+    size_t len;
+    uint8_t *bytes = read_file(name, &len);
+    WANT(arrowflow_stream_of_bytes(bytes, len, limits, &stream) == ARROWFLOW_KIND_FINE);
+    WANT(stream.get_schema(&stream, &schema) == 0);
+    print_names(&schema);
+    for (size_t k = 0; stream.get_next(&stream, &array) == 0 && array.release != NULL; k++) {
+        check_array(&schema, &array);
+        print_rows(k, &schema, &array);
+        release(&array);
+    }
+    WANT(stream.get_last_error(&stream) == NULL);
+    stream.release(&stream);
+    schema.release(&schema);
+    free(bytes);
+    return 0;
+}
+
 /* Tells how many arrays come, none of which is looked at, and the text at the end. */
 static int tell_ends(const char *name) {
     struct seen seen;
@@ -663,6 +697,28 @@ static int tell_ends(const char *name) {
     WANT(is_long == (seen.status == EOVERFLOW));
     printf("%zu, %s\n", seen.count, seen.status == 0 ? "the end" : seen.error);
     release_all(&seen);
+    return 0;
+}
+
+/* Tells how often a buffer of the first column's dictionary is at another address than in the array before, which
+ * is there until the next one is: all values were copied then, and else only added to them. */
+static int tell_growth(const char *name) {
+    struct ArrowArrayStream stream;
+    struct ArrowArray last = {0, 0, 0, 0, 0, NULL, NULL, NULL, NULL, NULL}, array;
+    size_t len, count = 0, moves = 0;
+    uint8_t *bytes = read_file(name, &len);
+    WANT(arrowflow_stream_of_bytes(bytes, len, limits, &stream) == ARROWFLOW_KIND_FINE);
+    for (; stream.get_next(&stream, &array) == 0 && array.release != NULL; last = array, count++) {
+        const struct ArrowArray *values = array.children[0]->dictionary;
+        for (int64_t k = 1; k < values->n_buffers && count > 0; k++)
+            moves += values->buffers[k] != last.children[0]->dictionary->buffers[k];
+        if (count > 0) release(&last);
+    }
+    WANT(stream.get_last_error(&stream) == NULL && count > 0);
+    printf("%zu, of %lld values, %zu\n", count, (long long)last.children[0]->dictionary->length, moves);
+    release(&last);
+    stream.release(&stream);
+    free(bytes);
     return 0;
 }
 
@@ -697,7 +753,8 @@ static int in_threads(const char *name) {
     size_t len, count = 0;
     uint8_t *bytes = read_file(name, &len);
     int status = 0;
-    WANT(arrowflow_stream_of_bytes(bytes, len, limits, &stream) == ARROWFLOW_FINE);
+    is_growing = true;
+    WANT(arrowflow_stream_of_bytes(bytes, len, limits, &stream) == ARROWFLOW_KIND_FINE);
     while (status == 0 && count < MOST_THREADS) {
         struct seen *it = seen + count;
         memset(it, 0, sizeof *it);
@@ -732,15 +789,15 @@ static void bad_limits(void) {
     struct given given = {NULL, 0, 0, 1, SIZE_MAX, 0, 0, false};
     arrowflow_limits high = limits;
     high.max_rows = UINT64_MAX;
-    WANT(arrowflow_stream_of_bytes(NULL, 0, high, &stream) == ARROWFLOW_BAD_LIMITS && stream.release == NULL);
-    WANT(arrowflow_stream_of_fd(0, high, &stream) == ARROWFLOW_BAD_LIMITS && stream.release == NULL);
-    WANT(arrowflow_stream_of(give, &given, high, &stream) == ARROWFLOW_BAD_LIMITS && stream.release == NULL);
-    WANT(arrowflow_stream_of(give, &given, limits, &stream) == ARROWFLOW_FINE);
+    WANT(arrowflow_stream_of_bytes(NULL, 0, high, &stream) == ARROWFLOW_KIND_BAD_LIMITS && stream.release == NULL);
+    WANT(arrowflow_stream_of_fd(0, high, &stream) == ARROWFLOW_KIND_BAD_LIMITS && stream.release == NULL);
+    WANT(arrowflow_stream_of(give, &given, high, &stream) == ARROWFLOW_KIND_BAD_LIMITS && stream.release == NULL);
+    WANT(arrowflow_stream_of(give, &given, limits, &stream) == ARROWFLOW_KIND_FINE);
     stream.release(&stream);
-    WANT(arrowflow_stream_of_bytes(NULL, 0, limits, &stream) == ARROWFLOW_FINE);
+    WANT(arrowflow_stream_of_bytes(NULL, 0, limits, &stream) == ARROWFLOW_KIND_FINE);
     struct seen seen;
     read_all(&stream, &seen);
-    WANT(seen.status == EINVAL && strcmp(seen.error, "kind NoSchema at byte 0") == 0);
+    WANT(seen.status == EINVAL && strcmp(seen.error, "fault at byte 0: NoSchema, the stream ended before a schema") == 0);
     stream.release(&stream);
 }
 
@@ -750,18 +807,17 @@ static void bad_ends(const uint8_t *bytes, size_t len, size_t batches) {
     for (size_t cut = 0; cut < len; cut++) {
         struct ArrowArrayStream stream;
         struct seen seen;
-        char wanted[96];
+        char wanted[160];
         uint8_t *front = malloc(cut + 1);
         memcpy(front, bytes, cut);
         arrowflow_report report = arrowflow_check(front, cut, limits);
-        WANT(arrowflow_stream_of_bytes(front, cut, limits, &stream) == ARROWFLOW_FINE);
+        WANT(arrowflow_stream_of_bytes(front, cut, limits, &stream) == ARROWFLOW_KIND_FINE);
         read_all(&stream, &seen);
         stream.release(&stream);
         free(front);
-        const char *kind = arrowflow_kind_name(report.kind);
-        snprintf(wanted, sizeof wanted, "kind %s at byte %llu", kind, (unsigned long long)report.place);
-        WANT(seen.status == (report.kind == ARROWFLOW_FINE ? 0 : EINVAL) && seen.count == report.batches);
-        WANT(report.kind == ARROWFLOW_FINE || strcmp(seen.error, wanted) == 0);
+        WANT(arrowflow_error_text(report.kind, report.place, wanted, sizeof wanted) < sizeof wanted);
+        WANT(seen.status == (report.kind == ARROWFLOW_KIND_FINE ? 0 : EINVAL) && seen.count == report.batches);
+        WANT(report.kind == ARROWFLOW_KIND_FINE || strcmp(seen.error, wanted) == 0);
         arrays += seen.count;
         for (size_t k = 0; k < seen.count; k++) check_array(&seen.schema, seen.arrays + k);
         release_all(&seen);
@@ -773,7 +829,7 @@ static void bad_ends(const uint8_t *bytes, size_t len, size_t batches) {
 static int read_failing(struct given given, struct seen *seen, struct ArrowArrayStream *stream) {
     struct given *kept = malloc(sizeof given);
     *kept = given;
-    WANT(arrowflow_stream_of(give, kept, limits, stream) == ARROWFLOW_FINE);
+    WANT(arrowflow_stream_of(give, kept, limits, stream) == ARROWFLOW_KIND_FINE);
     read_all(stream, seen);
     int left = kept->times;
     stream->release(stream);
@@ -798,12 +854,29 @@ static void bad_reads(const uint8_t *bytes, size_t len, size_t batches) {
         }
 }
 
-/* Want of memory in a callback is no end: the stream goes on where it is asked again. */
+/* Streams that are released after a schema, and after each number of arrays, which live on. */
+static void released_between(const uint8_t *bytes, size_t len, size_t batches) {
+    for (size_t most = 0; most <= batches; most++) {
+        struct ArrowArrayStream stream;
+        struct seen seen;
+        memset(&seen, 0, sizeof seen);
+        seen.arrays = calloc(batches, sizeof *seen.arrays);
+        WANT(arrowflow_stream_of_bytes(bytes, len, limits, &stream) == ARROWFLOW_KIND_FINE);
+        WANT(seen.arrays != NULL && stream.get_schema(&stream, &seen.schema) == 0);
+        for (; seen.count < most; seen.count++) WANT(stream.get_next(&stream, seen.arrays + seen.count) == 0);
+        stream.release(&stream);
+        WANT(stream.release == NULL);
+        for (size_t k = 0; k < seen.count; k++) check_array(&seen.schema, seen.arrays + k);
+        release_all(&seen);
+    }
+}
+
+/* A callback that is out of memory is no end: the stream goes on where it is asked again. */
 static void scarce_reads(const uint8_t *bytes, size_t len, size_t batches) {
     struct ArrowArrayStream stream;
     struct given given = {bytes, len, 0, 13, len / 2, -ENOMEM, 3, false};
     size_t count = 0, refused = 0;
-    WANT(arrowflow_stream_of(give, &given, limits, &stream) == ARROWFLOW_FINE);
+    WANT(arrowflow_stream_of(give, &given, limits, &stream) == ARROWFLOW_KIND_FINE);
     for (;;) {
         struct ArrowArray array;
         int status = stream.get_next(&stream, &array);
@@ -865,7 +938,7 @@ static void interrupted_reads(const uint8_t *bytes, size_t len, size_t batches) 
     WANT(sigaction(SIGALRM, &action, NULL) == 0);
     WANT(pthread_create(&thread, NULL, write_late, &late) == 0);
     WANT(setitimer(ITIMER_REAL, &often, NULL) == 0);
-    WANT(arrowflow_stream_of_fd(ends[0], limits, &stream) == ARROWFLOW_FINE);
+    WANT(arrowflow_stream_of_fd(ends[0], limits, &stream) == ARROWFLOW_KIND_FINE);
     read_all(&stream, &seen);
     WANT(setitimer(ITIMER_REAL, &never, NULL) == 0);
     WANT(seen.status == 0 && seen.count == batches && atomic_load(&alarms) >= 3);
@@ -873,7 +946,7 @@ static void interrupted_reads(const uint8_t *bytes, size_t len, size_t batches) 
     stream.release(&stream);
     release_all(&seen);
     WANT(close(ends[0]) == 0);
-    WANT(arrowflow_stream_of_fd(ends[0], limits, &stream) == ARROWFLOW_FINE);
+    WANT(arrowflow_stream_of_fd(ends[0], limits, &stream) == ARROWFLOW_KIND_FINE);
     read_all(&stream, &seen);
     WANT(seen.status == EBADF && seen.schema.release == NULL);
     stream.release(&stream);
@@ -883,10 +956,11 @@ static int bad(const char *name) {
     size_t len;
     uint8_t *bytes = read_file(name, &len);
     arrowflow_report report = arrowflow_check(bytes, len, limits);
-    WANT(report.kind == ARROWFLOW_FINE && report.batches > 0);
+    WANT(report.kind == ARROWFLOW_KIND_FINE && report.batches > 0);
     bad_limits();
     bad_ends(bytes, len, report.batches);
     bad_reads(bytes, len, report.batches);
+    released_between(bytes, len, report.batches);
     scarce_reads(bytes, len, report.batches);
     interrupted_reads(bytes, len, report.batches);
     free(bytes);
@@ -896,15 +970,17 @@ static int bad(const char *name) {
 int main(int argc, char **argv) {
     limits = arrowflow_standard_limits();
     if (argc > 3 && strcmp(argv[1], "--types") == 0) {
-        limits.types = strcmp(argv[2], "all") == 0 ? ARROWFLOW_ALL_TYPES : ARROWFLOW_CORE_TYPES;
+        limits.types = strcmp(argv[2], "all") == 0 ? ARROWFLOW_TYPES_ALL : ARROWFLOW_TYPES_CORE;
         argv += 2;
         argc -= 2;
     }
     if (argc == 3 && strcmp(argv[1], "--bad") == 0) return bad(argv[2]);
     if (argc == 3 && strcmp(argv[1], "threads") == 0) return in_threads(argv[2]);
+    if (argc == 3 && strcmp(argv[1], "each") == 0) return show_each(argv[2]);
     if (argc == 3 && strcmp(argv[1], "ends") == 0) return tell_ends(argv[2]);
+    if (argc == 3 && strcmp(argv[1], "grows") == 0) return tell_growth(argv[2]);
     if (argc == 4 && strcmp(argv[1], "show") == 0) return show(argv[2], argv[3]);
     fprintf(stderr, "usage: stream [--types core|all] show bytes|fd|SIZE FILE, stream [--types core|all] threads FILE, "
-                    "stream ends FILE, stream --bad FILE\n");
+                    "stream each FILE, stream ends FILE, stream grows FILE, stream --bad FILE\n");
     return 2;
 }

@@ -1,0 +1,128 @@
+/* usage: calls literals, calls kinds MOST, calls version
+ *
+ * Makes each call of arrowflow.h as a caller writes it: limits and options as literals in place, NULL where
+ * there is nothing, and no reader or copier. With `kinds` it prints the name and the text of each number up to
+ * this one, tab-separated, after it was asked for with rooms of each size; with `version`, that of the library.
+ * arrays.cc makes them in C++ 17.
+ */
+#include "arrowflow.h"
+
+#include <stdio.h>
+#include <stdlib.h>
+#include <string.h>
+
+static int failed = 0;
+
+#define WANT(fact)                                                          \
+    do {                                                                    \
+        if (!(fact)) {                                                      \
+            fprintf(stderr, "%s:%d: not so: %s\n", __FILE__, __LINE__, #fact); \
+            failed = 1;                                                     \
+        }                                                                   \
+    } while (0)
+
+/* The calls on streams in memory. A literal of limits has commas, which a macro would take for its own. */
+static void streams_in_memory(void) {
+    const uint8_t junk[8] = {1, 2, 3, 4, 5, 6, 7, 8};
+    uint8_t out[4];
+    WANT(arrowflow_check(NULL, 0, (arrowflow_limits){1, 2, 3, 0}).kind == ARROWFLOW_KIND_NO_SCHEMA);
+    WANT(arrowflow_check(junk, 8, (arrowflow_limits){1, 2, 3, ARROWFLOW_TYPES_ALL}).kind == ARROWFLOW_KIND_CONTINUATION);
+    WANT(arrowflow_check(junk, 8, (arrowflow_limits){1, 2, UINT64_MAX, 0}).kind == ARROWFLOW_KIND_BAD_LIMITS);
+    WANT(arrowflow_copy(NULL, 0, (arrowflow_limits){1, 2, 3, 0}, (arrowflow_options){false, true}, NULL, 0).kind
+         == ARROWFLOW_KIND_NO_SCHEMA);
+    WANT(arrowflow_copy(junk, 8, (arrowflow_limits){1, 2, 3, 0}, (arrowflow_options){true, false}, out, sizeof out).kind
+         == ARROWFLOW_KIND_CONTINUATION);
+    WANT(arrowflow_show(NULL, 0, (arrowflow_limits){1, 2, 3, 0}, NULL, 0).kind == ARROWFLOW_KIND_NO_SCHEMA);
+    WANT(arrowflow_messages(NULL, 0, (arrowflow_limits){1, 2, 3, 0}, NULL, 0).kind == ARROWFLOW_KIND_NO_SCHEMA);
+    WANT(arrowflow_schema(NULL, 0, (arrowflow_limits){1, 2, 3, 0}, NULL, 0).kind == ARROWFLOW_KIND_NO_SCHEMA);
+}
+
+/* What a call answers where there is no copier, and those of a copier that is given nothing. */
+static void copiers(void) {
+    const uint8_t junk[8] = {1, 2, 3, 4, 5, 6, 7, 8};
+    arrowflow_copier *copier = NULL;
+    arrowflow_copied put = arrowflow_copier_put(copier, junk, 8), end = arrowflow_copier_end(copier);
+    WANT(put.kind == ARROWFLOW_KIND_NO_HANDLE && put.is_over && put.waiting == 0);
+    WANT(end.kind == ARROWFLOW_KIND_NO_HANDLE && end.is_over && end.waiting == 0);
+    WANT(arrowflow_copier_take(copier, NULL, 0) == 0);
+    arrowflow_copier_close(copier);
+    WANT(arrowflow_copier_open((arrowflow_limits){1, 2, 3, 2}, (arrowflow_options){false, false}, &copier)
+         == ARROWFLOW_KIND_BAD_LIMITS);
+    WANT(copier == NULL);
+    WANT(arrowflow_copier_open((arrowflow_limits){1, 2, 3, 0}, (arrowflow_options){false, false}, &copier)
+         == ARROWFLOW_KIND_FINE);
+    put = arrowflow_copier_put(copier, NULL, 0);
+    WANT(put.kind == ARROWFLOW_KIND_FINE && !put.is_over && put.waiting == 0);
+    WANT(arrowflow_copier_take(copier, NULL, 0) == 0);
+    end = arrowflow_copier_end(copier);
+    WANT(end.kind == ARROWFLOW_KIND_NO_SCHEMA && end.is_over && end.place == 0);
+    arrowflow_copier_close(copier);
+}
+
+/* The same of a reader. */
+static void readers(void) {
+    const uint8_t junk[8] = {1, 2, 3, 4, 5, 6, 7, 8};
+    arrowflow_reader *reader = NULL;
+    arrowflow_step step = arrowflow_reader_read(reader, junk, 8);
+    arrowflow_fault end = arrowflow_reader_end(reader);
+    WANT(step.kind == ARROWFLOW_KIND_NO_HANDLE && step.message == ARROWFLOW_MESSAGE_NONE && step.taken == 0);
+    WANT(end.kind == ARROWFLOW_KIND_NO_HANDLE && end.place == 0);
+    WANT(arrowflow_reader_cell(reader, 0, 0, NULL, 0).type == ARROWFLOW_CELL_NONE);
+    WANT(arrowflow_reader_column(reader, NULL, 0).layout == ARROWFLOW_LAYOUT_NONE);
+    WANT(arrowflow_reader_field(reader, NULL, 0, NULL, 0).found == ARROWFLOW_FOUND_NONE);
+    arrowflow_reader_close(reader);
+    WANT(arrowflow_reader_open((arrowflow_limits){1, 2, 3, 2}, &reader) == ARROWFLOW_KIND_BAD_LIMITS && reader == NULL);
+    WANT(arrowflow_reader_open((arrowflow_limits){1, 2, 3, 0}, &reader) == ARROWFLOW_KIND_FINE && reader != NULL);
+    WANT(arrowflow_reader_read(reader, NULL, 0).kind == ARROWFLOW_KIND_FINE);
+    WANT(arrowflow_reader_cell(reader, 0, 0, NULL, 0).type == ARROWFLOW_CELL_NONE);
+    WANT(arrowflow_reader_column(reader, NULL, 0).layout == ARROWFLOW_LAYOUT_NONE);
+    WANT(arrowflow_reader_column(reader, (const size_t[]){0}, 1).layout == ARROWFLOW_LAYOUT_NONE);
+    WANT(arrowflow_reader_field(reader, NULL, 0, NULL, 0).found == ARROWFLOW_FOUND_NONE);
+    WANT(arrowflow_reader_end(reader).kind == ARROWFLOW_KIND_NO_SCHEMA);
+    arrowflow_reader_close(reader);
+}
+
+/* A text in rooms of each size: as much as fits before a zero byte, and nothing after the room. */
+static void check_rooms(uint32_t kind, uint64_t place, const char *whole, size_t size) {
+    for (size_t room = 0; room <= size + 2; room++) {
+        char *out = malloc(room + 1);
+        size_t fits = room == 0 ? 0 : room - 1 < size ? room - 1 : size;
+        if (out == NULL) exit(4);
+        memset(out, 7, room + 1);
+        WANT(arrowflow_error_text(kind, place, out, room) == size);
+        WANT(memcmp(out, whole, fits) == 0 && out[room] == 7 && (room == 0 || out[fits] == 0));
+        free(out);
+    }
+    WANT(arrowflow_error_text(kind, place, NULL, 0) == size);
+}
+
+static void print_kinds(uint32_t most) {
+    for (uint32_t kind = 0; kind <= most; kind++) {
+        char whole[256];
+        size_t size = arrowflow_error_text(kind, UINT64_MAX, whole, sizeof whole);
+        WANT(size < sizeof whole && strlen(whole) == size);
+        check_rooms(kind, UINT64_MAX, whole, size);
+        printf("%lu\t%s\t%s\n", (unsigned long)kind, arrowflow_kind_name(kind), whole);
+    }
+    WANT(strcmp(arrowflow_kind_name(UINT32_MAX), "Unknown") == 0);
+}
+
+int main(int argc, char **argv) {
+    if (argc == 2 && strcmp(argv[1], "literals") == 0) {
+        streams_in_memory();
+        copiers();
+        readers();
+        return failed;
+    }
+    if (argc == 3 && strcmp(argv[1], "kinds") == 0) {
+        print_kinds((uint32_t)strtoul(argv[2], NULL, 10));
+        return failed;
+    }
+    if (argc == 2 && strcmp(argv[1], "version") == 0) {
+        WANT(strcmp(arrowflow_version(), ARROWFLOW_VERSION) == 0);
+        printf("%s\n", arrowflow_version());
+        return failed;
+    }
+    fprintf(stderr, "usage: calls literals, calls kinds MOST, calls version\n");
+    return 2;
+}

@@ -1,0 +1,62 @@
+"""The small program: python -m arrowflow [--types core|all] schema|check|show IN, or sanitize IN OUT.
+
+It prints what `arrowflow schema`, `check` and `show` print, or writes the stream again into OUT. It ends with status 0; with status
+1 and a line on standard error where the stream has a fault, once what was whole before it is written; with status 2 where it is
+called wrongly or a file is not read or written.
+"""
+import os
+import sys
+from typing import List
+
+from . import ALL_TYPES, STANDARD, ArrowflowError, Limits, messages, sanitize_pieces, schema_text, show
+
+_CALLS = {"schema": schema_text, "check": messages, "show": show}
+_USAGE = """usage: python -m arrowflow [--types core|all] schema|check|show IN
+       python -m arrowflow [--types core|all] sanitize IN OUT"""
+
+
+def print_text(command: str, name: str, limits: Limits) -> None:
+    """Prints what a call tells of a file, up to the fault where there is one."""
+    with open(name, "rb") as file:
+        data = file.read()
+    with os.fdopen(1, "wb", closefd=False) as output:
+        try:
+            output.write(_CALLS[command](data, limits).encode())
+        except ArrowflowError as why:
+            output.write(why.partial)
+            raise
+
+
+def write_again(source: str, name: str, limits: Limits) -> None:
+    """Writes a file's stream again into another file, up to the fault where there is one."""
+    pieces = sanitize_pieces(source, limits)
+    with open(name, "wb") as output:
+        for piece in pieces:
+            output.write(piece)
+
+
+def main(words: List[str]) -> int:
+    """Does what the words say, and answers the status."""
+    limits = STANDARD
+    if words[:1] == ["--types"] and words[1:2] in (["core"], ["all"]):
+        limits, words = (ALL_TYPES if words[1] == "all" else STANDARD), words[2:]
+    if len(words) != (3 if words[:1] == ["sanitize"] else 2) or words[0] not in [*_CALLS, "sanitize"]:
+        print(_USAGE, file=sys.stderr)
+        return 2
+    try:
+        if words[0] == "sanitize":
+            write_again(words[1], words[2], limits)
+        else:
+            print_text(words[0], words[1], limits)
+    except ArrowflowError as why:
+        # the line of the program, without what the kind means
+        print(str(why).partition(",")[0], file=sys.stderr)
+        return 1
+    except (OSError, MemoryError) as why:
+        print(f"arrowflow: {why}", file=sys.stderr)
+        return 2
+    return 0
+
+
+if __name__ == "__main__":
+    sys.exit(main(sys.argv[1:]))

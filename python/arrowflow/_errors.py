@@ -1,0 +1,117 @@
+"""Why a call failed."""
+from __future__ import annotations
+
+import ctypes
+import enum
+import errno
+import re
+from typing import Any, Optional, Tuple, Union
+
+from ._library import calls
+
+
+class Kind(enum.IntEnum):
+    """How a call ended. FINE is no fault, 1 to 18 are faults of the stream (docs/FORMAT.md of the repository tells them exactly), 32
+    and more are those of a sound stream that cannot be written again. `str(kind)` is the name that the program `arrowflow` prints."""
+    FINE = 0
+    CONTINUATION = 1
+    METADATA_SIZE = 2
+    METADATA = 3
+    VERSION = 4
+    HEADER = 5
+    BODY_LENGTH = 6
+    ORDER = 7
+    UNSUPPORTED = 8
+    SCHEMA = 9
+    COMPRESSED = 10
+    UNKNOWN_ID = 11
+    NO_BASE = 12
+    ROWS = 13
+    LAYOUT = 14
+    TEXT = 15
+    INDEX = 16
+    NO_SCHEMA = 17
+    TRUNCATED = 18
+    MEMORY = 19
+    BAD_LIMITS = 20
+    NO_HANDLE = 21
+    INPUT = 22
+    SCHEMA_TOO_LARGE = 32
+    BATCH_SCHEMA_DIFFERS = 41
+    BATCH_TOO_LARGE = 42
+    BATCH_DICTIONARIES_DIFFER = 43
+    END_TOO_LARGE = 52
+
+    def __str__(self) -> str:
+        return self.name.title().replace("_", "")
+
+
+def error_text(kind: int, place: int) -> str:
+    """A sentence on an error: "fault at byte 976: Truncated, the stream ended inside a message"."""
+    room, size = ctypes.create_string_buffer(256), 0
+    while (size := calls["error_text"](kind, place, room, len(room))) >= len(room):
+        room = ctypes.create_string_buffer(size + 1)
+    return room.value.decode()
+
+
+class ArrowflowError(ValueError):
+    """A stream with a fault, or one that cannot be written again.
+
+    kind      what it is (Kind); None of DictionaryTooLong alone
+    offset    where the message at fault begins, in bytes from the stream's beginning; None where the error is at no byte
+    batch     the number, from 0, of the batch that cannot be written again; else None
+    field     the name of the field that it is about, where one is told, as of DictionaryTooLong; else None
+    partial   of `sanitize`, `show`, `messages` and `schema_text`: what the whole messages before the fault gave, in bytes
+    """
+
+    kind: Optional[Kind]
+    offset: Optional[int] = None
+    batch: Optional[int] = None
+    field: Optional[str] = None
+    partial: bytes = b""
+
+    def __init__(self, kind: int, place: int = 0, partial: bytes = b"") -> None:
+        super().__init__(error_text(kind, place))
+        self.kind, self._place, self.partial = Kind(kind), place, partial
+        if Kind.FINE < kind <= Kind.TRUNCATED:
+            self.offset = place
+        if Kind.BATCH_SCHEMA_DIFFERS <= kind <= Kind.BATCH_DICTIONARIES_DIFFER:
+            self.batch = place
+
+    def __reduce__(self) -> Tuple[Any, ...]:
+        return type(self), (int(self.kind or 0), self._place, self.partial)
+
+
+class DictionaryTooLong(ArrowflowError):
+    """A sound stream with a dictionary whose values, joined, are too long for one array with offsets of 32 bits. `field` is the name
+    of a field that has it, which the library cuts where it is long."""
+
+    def __init__(self, text: str) -> None:
+        ValueError.__init__(self, text)
+        named = re.match(r'field "(.*)": the values of dictionary', text, re.S)
+        self.kind, self.field, self._text = None, named[1] if named else None, text
+
+    def __reduce__(self) -> Tuple[Any, ...]:
+        return type(self), (self._text,)
+
+
+# How arrowflow_error_text begins, of a fault of the stream.
+_FAULT = re.compile(r"fault at byte (\d+): (\w+)")
+_KINDS = {str(it): it for it in Kind}
+
+
+def error_of_stream(status: int, text: str) -> Exception:
+    """What is raised for the number of errno.h that a stream's call answered, with the text of its get_last_error."""
+    if status == errno.ENOMEM:
+        return MemoryError(text)
+    if status == errno.EOVERFLOW:
+        return DictionaryTooLong(text)
+    fault = _FAULT.match(text)
+    if fault and fault[2] in _KINDS:
+        return ArrowflowError(_KINDS[fault[2]], int(fault[1]))
+    return OSError(status, text)
+
+
+def error_of(kind: int, place: int, partial: bytes = b"") -> Union[ArrowflowError, MemoryError]:
+    """What is raised for a kind that is not FINE."""
+    return MemoryError(error_text(kind, place)) if kind == Kind.MEMORY else ArrowflowError(kind, place, partial)

@@ -1,0 +1,55 @@
+"""What the format strings of the Arrow C data interface say, of the types that are read."""
+from __future__ import annotations
+
+from typing import Optional
+
+_UNITS = {"s": "s", "m": "ms", "u": "us", "n": "ns"}
+_WORDS = {
+    "n": "null", "b": "bool", "c": "int8", "C": "uint8", "s": "int16", "S": "uint16", "i": "int32", "I": "uint32", "l": "int64",
+    "L": "uint64", "e": "halffloat", "f": "float", "g": "double", "z": "binary", "Z": "large_binary", "u": "utf8", "U": "large_utf8",
+    "+l": "list", "+L": "large_list", "+s": "struct", "tdD": "date[day]", "tdm": "date[ms]"}
+# How the module `struct` unpacks numbers, without the order of bytes.
+_CODES = {"c": "b", "C": "B", "s": "h", "S": "H", "i": "i", "I": "I", "l": "q", "L": "Q", "e": "e", "f": "f", "g": "d",
+          "tdD": "i", "tdm": "q", "tts": "i", "ttm": "i", "ttu": "q", "ttn": "q"}
+_WIDTHS = {"b": 1, "B": 1, "h": 2, "H": 2, "i": 4, "I": 4, "q": 8, "Q": 8, "e": 2, "f": 4, "d": 8}
+_OFFSETS = {"z": "i", "u": "i", "+l": "i", "Z": "q", "U": "q", "+L": "q"}
+
+
+def words_of(format: str) -> str:
+    """A type as `arrowflow schema` prints it: int32, timestamp[us, Europe/Berlin], fixed_size_binary[7]."""
+    if format in _WORDS:
+        return _WORDS[format]
+    if format.startswith("w:"):
+        return f"fixed_size_binary[{format[2:]}]"
+    name = {"tt": "time", "ts": "timestamp", "tD": "duration"}[format[:2]]
+    zone = zone_of(format)
+    return f"{name}[{_UNITS[format[2]]}" + (f", {zone}]" if zone else "]")
+
+
+def zone_of(format: str) -> Optional[str]:
+    """The time zone of a timestamp, or None where it has none."""
+    return format[4:] or None if format.startswith("ts") else None
+
+
+def code_of(format: str) -> Optional[str]:
+    """How the module `struct` unpacks a number of this format, or None where slots have none."""
+    return "q" if format[:2] in ("ts", "tD") else _CODES.get(format)
+
+
+def width_of(format: str) -> int:
+    """The bytes of a slot in the second buffer, where each one has as many; else 0."""
+    if format.startswith("w:"):
+        return int(format[2:])
+    code = code_of(format)
+    return _WIDTHS[code] if code else 0
+
+
+def offset_code_of(format: str) -> Optional[str]:
+    """How the module `struct` unpacks an offset, or None where there are none."""
+    return _OFFSETS.get(format)
+
+
+def offset_width_of(format: str) -> int:
+    """The bytes of an offset, or 0 where there are none."""
+    code = offset_code_of(format)
+    return _WIDTHS[code] if code else 0

@@ -1,0 +1,77 @@
+"""What the tests of the package share. A test is a function that gives (what, found, wanted), one after another."""
+import concurrent.futures
+import pathlib
+import subprocess
+import sys
+
+TOP = pathlib.Path(__file__).resolve().parent.parent.parent
+STREAMS = sorted([*(TOP / "examples").glob("*.arrows"), *(TOP / "vectors").glob("*.arrows")])
+# Streams whose types are not all in the core, which are given with both sets of types.
+OF_ALL_TYPES = sorted([TOP / "examples/floats.arrows", *(TOP / "vectors/all").glob("*.arrows")])
+GROWING = TOP / "examples/growing_dictionary.arrows"
+# Three batches of nine rows, with a column of each type, and one of none.
+EVERY_TYPE = TOP / "vectors/each_type_untold.arrows"
+METADATA = TOP / "examples/metadata.arrows"
+NESTED = TOP / "examples/nested_values.arrows"
+
+
+def run(*words, **how):
+    """What a command writes to each output, and its status."""
+    ran = subprocess.run([*map(str, words)], stdin=subprocess.DEVNULL, capture_output=True, **how)
+    return ran.stdout, ran.stderr, ran.returncode
+
+
+def python(*words, **how):
+    """What this Python writes with these words, and its status."""
+    return run(sys.executable, "-B", *words, **how)
+
+
+def left_out(what):
+    print(f"left out: {what}")
+
+
+def raised_by(call, *given, **how):
+    """What a call raises, or None."""
+    try:
+        call(*given, **how)
+    except BaseException as why:
+        return why
+    return None
+
+
+def raises(kind, call, *given, **how):
+    """Whether a call raises just this."""
+    return type(raised_by(call, *given, **how)) is kind
+
+
+def elsewhere(call, *given):
+    """What a call answers on another thread."""
+    with concurrent.futures.ThreadPoolExecutor(1) as pool:
+        return pool.submit(call, *given).result()
+
+
+def cut(data, size):
+    """The pieces of this size."""
+    return [data[at:at + size] for at in range(0, len(data), size)]
+
+
+class IntoAlone:
+    """A file that has `readinto` alone."""
+
+    def __init__(self, data, size):
+        self._pieces = iter(cut(data, size))
+
+    def readinto(self, room):
+        piece = next(self._pieces, b"")
+        room[:len(piece)] = piece
+        return len(piece)
+
+
+class ReadAlone:
+    """A file that has `read` alone, which gives less than it is asked for."""
+
+    def __init__(self, data, size):
+        self._pieces = iter(cut(data, size))
+
+    def read(self, size):
+        return next(self._pieces, b"")

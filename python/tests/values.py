@@ -1,0 +1,129 @@
+"""Values of dates and times, and lists and dicts that are nobody else's."""
+import datetime
+
+import arrowflow
+
+import frames
+from common import raised_by
+
+MICROSECOND, DAY = datetime.timedelta(microseconds=1), datetime.timedelta(days=1)
+SECOND, MILLI, MICRO, NANO = range(4)
+
+
+def one_column(kind, numbers, form):
+    """The values of a column of these units."""
+    data = frames.schema(frames.field("x", kind)) + frames.batch(frames.numbers(numbers, form)) + frames.END_MARKER
+    return next(arrowflow.open(data)).column("x").to_pylist()
+
+
+def at(*parts):
+    return datetime.datetime(*parts)
+
+
+def dates():
+    last = (datetime.date.max - datetime.date(1970, 1, 1)).days
+    yield "days", one_column(frames.date(0), [0, -1, None, 19000, last, last + 1, 2**31 - 1, -2**31], "i"), [
+        datetime.date(1970, 1, 1), datetime.date(1969, 12, 31), None, datetime.date(2022, 1, 8), datetime.date.max, last + 1,
+            2**31 - 1, -2**31]
+    day = 86_400_000
+    yield "days in milliseconds", one_column(frames.date(1), [0, -day, 19000 * day, 5, day * (last + 1), 2**63 - 1, None], "q"), [
+        datetime.date(1970, 1, 1), datetime.date(1969, 12, 31), datetime.date(2022, 1, 8), 5, day * (last + 1), 2**63 - 1, None]
+
+
+def times():
+    yield "seconds of a day", one_column(frames.time(SECOND), [0, 86_399, 86_400, -1, None], "i"), [
+        datetime.time(0), datetime.time(23, 59, 59), 86_400, -1, None]
+    yield "milliseconds of a day", one_column(frames.time(MILLI), [1, 86_399_999], "i"), [
+        datetime.time(0, 0, 0, 1000), datetime.time(23, 59, 59, 999_000)]
+    yield "microseconds of a day", one_column(frames.time(MICRO), [1, 86_400_000_000], "q"), [datetime.time(0, 0, 0, 1),
+        86_400_000_000]
+    yield "nanoseconds of a day", one_column(frames.time(NANO), [1000, 1001, -1000, 2**63 - 1], "q"), [datetime.time(0, 0, 0, 1),
+        1001, -1000, 2**63 - 1]
+
+
+def timestamps():
+    last = (datetime.datetime.max - at(1970, 1, 1)) // MICROSECOND
+    yield "seconds", one_column(frames.timestamp(SECOND), [0, -1, last // 10**6, last // 10**6 + 1, 2**63 - 1, None], "q"), [
+        at(1970, 1, 1), at(1969, 12, 31, 23, 59, 59), at(9999, 12, 31, 23, 59, 59), last // 10**6 + 1, 2**63 - 1, None]
+    yield "milliseconds", one_column(frames.timestamp(MILLI), [1, -1], "q"), [at(1970, 1, 1, 0, 0, 0, 1000), at(1969, 12, 31, 23,
+        59, 59, 999_000)]
+    yield "microseconds", one_column(frames.timestamp(MICRO), [last, last + 1, -2**63], "q"), [datetime.datetime.max, last + 1,
+        -2**63]
+    yield "nanoseconds", one_column(frames.timestamp(NANO), [1_000, 1_001, -1_000, -999], "q"), [
+        at(1970, 1, 1, 0, 0, 0, 1), 1_001, at(1969, 12, 31, 23, 59, 59, 999_999), -999]
+
+
+def zones():
+    summer, utc = 1_750_000_000, datetime.timezone.utc
+    instant = datetime.datetime.fromtimestamp(summer, utc)
+    for name, offset, wanted in (("UTC", 0, "UTC"), ("+02:30", 9000, "UTC+02:30"), ("-11:00", -39600, "UTC-11:00"),
+            ("Nowhere/None", 0, "UTC"),
+                                 ("../../etc/passwd", 0, "UTC"), ("/etc/localtime", 0, "UTC"), ("+99:99", 0, "UTC"), ("", None,
+                                     None)):
+        found = one_column(frames.timestamp(SECOND, name), [summer], "q")[0]
+        shown = (found.utcoffset() and found.utcoffset().total_seconds() or 0, found.tzname()) if offset is not None else (None,
+            found.tzname())
+        yield f"a zone of {name!r}", shown, (offset, wanted)
+        yield f"the instant in {name!r}", found if found.tzinfo else found.replace(tzinfo=utc), instant
+    berlin = one_column(frames.timestamp(NANO, "Europe/Berlin"), [summer * 10**9, summer * 10**9 + 1, 2**63 - 1, None], "q")
+    try:
+        import zoneinfo
+        zone = zoneinfo.ZoneInfo("Europe/Berlin")
+        yield "a zone that is known", (berlin[0].tzinfo is zone, str(berlin[0])), (True, "2025-06-15 17:06:40+02:00")
+    except KeyError:
+        yield "a zone of no list", berlin[0].tzinfo, utc
+    yield "instants that are none", berlin[1:], [summer * 10**9 + 1, 2**63 - 1, None]
+    last = (datetime.datetime.max - at(1970, 1, 1)) // MICROSECOND
+    yield "the last instant in a zone", one_column(frames.timestamp(MICRO, "+02:00"), [last], "q"), [last]
+
+
+def durations():
+    longest = datetime.timedelta.max // MICROSECOND
+    yield "durations in seconds", one_column(frames.duration(SECOND), [1, -1, 2**63 - 1, None], "q"), [
+        datetime.timedelta(seconds=1), datetime.timedelta(seconds=-1), 2**63 - 1, None]
+    yield "durations in microseconds", one_column(frames.duration(MICRO), [1, 2**63 - 1], "q"), [MICROSECOND,
+        (2**63 - 1) * MICROSECOND]
+    yield "the longest duration", one_column(frames.duration(MILLI), [longest // 1000, longest // 1000 + 1], "q"), [
+        datetime.timedelta(microseconds=longest // 1000 * 1000), longest // 1000 + 1]
+    yield "durations in nanoseconds", one_column(frames.duration(NANO), [1000, 999], "q"), [MICROSECOND, 999]
+
+
+def nobody_else():
+    """Rows with one value of a dictionary have lists and dicts of their own."""
+    item = frames.field("item", frames.integer(64, True))
+    values = frames.lists([[1, 2], None], lambda them: frames.numbers(them, "q"))
+    data = b"".join([frames.schema(frames.field("x", frames.LIST, [item], encoding=frames.dictionary(1))),
+                     frames.dictionary_batch(1, values), frames.batch(frames.numbers([0, 0, 1, None])), frames.END_MARKER])
+    column = next(arrowflow.open(data)).column(0)
+    first, second, *rest = column.to_pylist()
+    first.append(3)
+    yield "a list of a row's own", (second, rest, column[0]), ([1, 2], [None, None], [1, 2])
+    yield "a dictionary", (column.dictionary.to_pylist(), column.null_count), ([[1, 2], None], 1)
+
+
+def of_long_dictionaries():
+    """Of a dictionary that is far longer than what is used of it, the same values are told."""
+    words = [f"word {it}" for it in range(1000)]
+    data = b"".join([frames.schema(frames.field("x", frames.UTF8, encoding=frames.dictionary(1))), frames.dictionary_batch(1,
+        frames.strings(words)),
+                     frames.batch(frames.numbers([999, None, 0, 7])), frames.batch(frames.numbers([*range(1000)])),
+                         frames.END_MARKER])
+    first, second = arrowflow.open(data)
+    yield "a few words", first.column("x").to_pylist(), ["word 999", None, "word 0", "word 7"]
+    yield "all words", (second.column(0).to_pylist(), second.column(0)[5]), (words, "word 5")
+
+
+def counts():
+    """Nulls are counted in each byte of a bitmap, whatever lies past the last slot."""
+    for size in (1, 7, 8, 9, 64, 1000):
+        values = [it % 3 or None for it in range(size)]
+        data = frames.schema(frames.field("x", frames.integer(16, True))) + frames.batch(frames.numbers(values,
+            "h")) + frames.END_MARKER
+        column = next(arrowflow.open(data)).column(0)
+        yield f"{size} slots", (column.null_count, [*column], column[-1]), (values.count(None), values, values[-1])
+        validity, numbers = column.buffers()
+        yield f"buffers of {size}", (len(validity), numbers.cast("h").tolist()), ((size + 7) // 8, [it or 0 for it in values])
+    none = frames.schema(frames.field("x", frames.integer(16, True))) + frames.batch(frames.numbers([1, 2],
+        "h")) + frames.END_MARKER
+    yield "no bitmap", next(arrowflow.open(none)).column(0).buffers()[0], None
+    yield "a value past all", raised_by(lambda: next(arrowflow.open(none)).column(0)[2]).args, ("no slot 2 of 2",)
