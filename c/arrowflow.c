@@ -131,18 +131,21 @@ static int name_of(const uint8_t *bytes, size_t len, arrowflow_limits limits, si
     return (int)size;
 }
 
+size_t arrowflow_column_text(const uint8_t *bytes, size_t len, arrowflow_limits limits, char *out, size_t room) {
+    arrowflow_culprit culprit = arrowflow_fault_column(bytes, len, limits);
+    char name[NAME_ROOM], none;
+    if (!culprit.found) return 0;
+    int shown = name_of(bytes, len, limits, culprit.column, name);
+    int size = snprintf(room > 0 ? out : &none, room, ", in column %llu, \"%.*s\"", (unsigned long long)culprit.column, shown, name);
+    return size < 0 ? 0 : (size_t)size;
+}
+
 size_t arrowflow_fault_text(const uint8_t *bytes, size_t len, arrowflow_limits limits, char *out, size_t room) {
     arrowflow_report report = arrowflow_check(bytes, len, limits);
-    char name[NAME_ROOM], none;
     if (room > 0) *out = 0;
     if (report.kind == ARROWFLOW_KIND_FINE) return 0;
-    size_t size = arrowflow_error_text(report.kind, report.place, out, room);
-    arrowflow_culprit culprit = arrowflow_fault_column(bytes, len, limits);
-    if (!culprit.found) return size;
-    int shown = name_of(bytes, len, limits, culprit.column, name);
-    size_t left = size < room ? room - size : 0;
-    int more = snprintf(left > 0 ? out + size : &none, left, ", in column %llu, \"%.*s\"", (unsigned long long)culprit.column, shown, name);
-    return more < 0 ? size : size + (size_t)more;
+    size_t size = arrowflow_error_text(report.kind, report.place, out, room), left = size < room ? room - size : 0;
+    return size + arrowflow_column_text(bytes, len, limits, left > 0 ? out + size : NULL, left);
 }
 
 arrowflow_text arrowflow_copy(const uint8_t *bytes, size_t len, arrowflow_limits limits, arrowflow_options options,

@@ -1,6 +1,7 @@
 /* The Arrow C stream interface over a reader: arrowflow_stream.h says what it promises. */
 #define _POSIX_C_SOURCE 200809L
 #include "arrowflow_stream.h"
+#include "proved.h"
 
 #include <errno.h>
 #include <limits.h>
@@ -128,8 +129,9 @@ struct source {
     arrowflow_source read; /* NULL over bytes */
     void *state;
     int fd;
-    const uint8_t *piece; /* of which `at` bytes were taken */
+    const uint8_t *piece; /* of which `at` bytes were taken; all of them over bytes */
     size_t len, at;
+    arrowflow_limits limits;
     bool has_schema, has_batch, has_ended;
     size_t columns, rows; /* of the batch */
     int status;           /* of a stream that failed, or 0 */
@@ -161,7 +163,9 @@ static int fail(struct source *it, int status) { return it->status = status; }
 
 static int fault(struct source *it, uint32_t kind, uint64_t place) {
     if (kind == ARROWFLOW_KIND_MEMORY) return ENOMEM;
-    arrowflow_error_text(kind, place, it->error, sizeof it->error);
+    size_t size = arrowflow_error_text(kind, place, it->error, sizeof it->error);
+    if (it->read == NULL && size < sizeof it->error)
+        arrowflow_column_text(it->piece, it->len, it->limits, it->error + size, sizeof it->error - size);
     return fail(it, EINVAL);
 }
 
@@ -742,6 +746,7 @@ static uint32_t open_stream(arrowflow_limits limits, size_t room, struct ArrowAr
         free(it);
         return kind;
     }
+    it->limits = limits;
     *out = (struct ArrowArrayStream){get_schema, get_next, get_last_error, release_stream, it};
     return ARROWFLOW_KIND_FINE;
 }

@@ -13,10 +13,11 @@
  *             dictionary count their owners atomically.
  * Errors      get_schema and get_next answer 0 or a number of errno.h, and get_last_error a sentence, until
  *             the next call, or NULL after success. A fault of the stream is EINVAL, with the sentence of
- *             arrowflow_error_text: its kind, the byte where its message begins and what it means. A read
- *             that failed is the number that it gave ("read failed: .."). A dictionary whose joined texts or
- *             lists are too long for its offsets of 32 bits is EOVERFLOW, with its id and the name of the
- *             column or field. Where a call failed, *out is released: its `release` is NULL. A stream that
+ *             arrowflow_error_text: its kind, the byte where its message begins and what it means; over bytes
+ *             that of arrowflow_fault_text, with the column at fault where there is one. A read that failed
+ *             is the number that it gave ("read failed: .."). A dictionary whose joined texts or lists are
+ *             too long for its offsets of 32 bits is EOVERFLOW, with its id and the name of the column or
+ *             field. Where a call failed, *out is released: its `release` is NULL. A stream that
  *             failed answers the same to each further call, but a schema that came is given on. Only ENOMEM
  *             changes nothing: the call may be made again, and no row is lost.
  * Arrays      Buffers are aligned to 64 bytes, and may be read up to a multiple of 64 bytes. This padding is

@@ -1,5 +1,5 @@
-/* proved.h: the calls of the crate arrowflow_c, as c/build names them. arrowflow.c passes the calls of
- * arrowflow.h on to them; nobody else calls them.
+/* proved.h: what the library's own C files call. The calls of the crate arrowflow_c stand here as c/build names
+ * them: arrowflow.c passes the calls of arrowflow.h on to them.
  *
  * No pointer that a call takes is NULL. Each call is proved for what its contract in crates/arrowflow_c/src
  * says, where it has the name of the call of arrowflow.h.
@@ -46,5 +46,9 @@ void arrowflow_proved_reader_column(arrowflow_handle *reader, const size_t *path
 arrowflow_field arrowflow_proved_reader_field(arrowflow_handle *reader, const size_t *path, size_t depth,
                                               uint8_t *out, size_t room);
 void arrowflow_proved_reader_close(arrowflow_handle *reader);
+
+/* The end of arrowflow_fault_text's sentence, ", in column 1, \"city\"", or nothing where no column is at fault.
+ * In arrowflow.c, and not proved. */
+size_t arrowflow_column_text(const uint8_t *bytes, size_t len, arrowflow_limits limits, char *out, size_t room);
 
 #endif

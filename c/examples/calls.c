@@ -1,8 +1,9 @@
-/* usage: calls literals, calls kinds MOST, calls version
+/* usage: calls literals, calls kinds MOST, calls fault FILE, calls version
  *
  * Makes each call of arrowflow.h as a caller writes it: limits and options as literals in place, NULL where
  * there is nothing, and no reader or copier. With `kinds` it prints the name and the text of each number up to
- * this one, tab-separated, after it was asked for with rooms of each size; with `version`, that of the library.
+ * this one, tab-separated, after it was asked for with rooms of each size; with `fault` the text of a stream's first
+ * fault, in the same way, and the number of the column at fault; with `version`, that of the library.
  * arrays.cc makes them in C++ 17.
  */
 #include "arrowflow.h"
@@ -35,6 +36,9 @@ static void streams_in_memory(void) {
     WANT(arrowflow_show(NULL, 0, (arrowflow_limits){1, 2, 3, 0}, NULL, 0).kind == ARROWFLOW_KIND_NO_SCHEMA);
     WANT(arrowflow_messages(NULL, 0, (arrowflow_limits){1, 2, 3, 0}, NULL, 0).kind == ARROWFLOW_KIND_NO_SCHEMA);
     WANT(arrowflow_schema(NULL, 0, (arrowflow_limits){1, 2, 3, 0}, NULL, 0).kind == ARROWFLOW_KIND_NO_SCHEMA);
+    WANT(arrowflow_fault_column(NULL, 0, (arrowflow_limits){1, 2, 3, 0}).kind == ARROWFLOW_KIND_FINE);
+    WANT(arrowflow_fault_column(junk, 8, (arrowflow_limits){1, 2, UINT64_MAX, 0}).kind == ARROWFLOW_KIND_BAD_LIMITS);
+    WANT(arrowflow_fault_text(NULL, 0, (arrowflow_limits){1, 2, 3, 0}, NULL, 0) > 0);
 }
 
 /* What a call answers where there is no copier, and those of a copier that is given nothing. */
@@ -82,29 +86,66 @@ static void readers(void) {
     arrowflow_reader_close(reader);
 }
 
-/* A text in rooms of each size: as much as fits before a zero byte, and nothing after the room. */
-static void check_rooms(uint32_t kind, uint64_t place, const char *whole, size_t size) {
+/* A sentence on an error of a stream, or where that is NULL of a kind. */
+struct asked {
+    const uint8_t *bytes;
+    size_t len;
+    uint32_t kind;
+};
+
+static arrowflow_limits all_types(void) {
+    arrowflow_limits limits = arrowflow_standard_limits();
+    limits.types = ARROWFLOW_TYPES_ALL;
+    return limits;
+}
+
+static size_t sentence(struct asked of, char *out, size_t room) {
+    return of.bytes == NULL ? arrowflow_error_text(of.kind, UINT64_MAX, out, room) : arrowflow_fault_text(of.bytes, of.len, all_types(), out, room);
+}
+
+/* A sentence in rooms of each size: as much as fits before a zero byte, and nothing after the room. */
+static void check_rooms(struct asked of, const char *whole, size_t size) {
     for (size_t room = 0; room <= size + 2; room++) {
         char *out = malloc(room + 1);
         size_t fits = room == 0 ? 0 : room - 1 < size ? room - 1 : size;
         if (out == NULL) exit(4);
         memset(out, 7, room + 1);
-        WANT(arrowflow_error_text(kind, place, out, room) == size);
+        WANT(sentence(of, out, room) == size);
         WANT(memcmp(out, whole, fits) == 0 && out[room] == 7 && (room == 0 || out[fits] == 0));
         free(out);
     }
-    WANT(arrowflow_error_text(kind, place, NULL, 0) == size);
+    WANT(sentence(of, NULL, 0) == size);
+}
+
+/* The sentence, which is at most 255 bytes long. */
+static void print_sentence(struct asked of) {
+    char whole[256];
+    size_t size = sentence(of, whole, sizeof whole);
+    WANT(size < sizeof whole && strlen(whole) == size);
+    check_rooms(of, whole, size);
+    printf("%s\n", whole);
 }
 
 static void print_kinds(uint32_t most) {
     for (uint32_t kind = 0; kind <= most; kind++) {
-        char whole[256];
-        size_t size = arrowflow_error_text(kind, UINT64_MAX, whole, sizeof whole);
-        WANT(size < sizeof whole && strlen(whole) == size);
-        check_rooms(kind, UINT64_MAX, whole, size);
-        printf("%lu\t%s\t%s\n", (unsigned long)kind, arrowflow_kind_name(kind), whole);
+        printf("%lu\t%s\t", (unsigned long)kind, arrowflow_kind_name(kind));
+        print_sentence((struct asked){NULL, 0, kind});
     }
     WANT(strcmp(arrowflow_kind_name(UINT32_MAX), "Unknown") == 0);
+}
+
+static void print_fault(const char *name) {
+    FILE *file = fopen(name, "rb");
+    const size_t room = 1 << 16;
+    uint8_t *bytes = malloc(room);
+    if (file == NULL || bytes == NULL) exit(4);
+    size_t len = fread(bytes, 1, room, file);
+    fclose(file);
+    arrowflow_culprit culprit = arrowflow_fault_column(bytes, len, all_types());
+    WANT(culprit.kind == ARROWFLOW_KIND_FINE && (culprit.found || culprit.column == 0));
+    printf("%d %llu\n", culprit.found, (unsigned long long)culprit.column);
+    print_sentence((struct asked){bytes, len, ARROWFLOW_KIND_FINE});
+    free(bytes);
 }
 
 int main(int argc, char **argv) {
@@ -118,11 +159,15 @@ int main(int argc, char **argv) {
         print_kinds((uint32_t)strtoul(argv[2], NULL, 10));
         return failed;
     }
+    if (argc == 3 && strcmp(argv[1], "fault") == 0) {
+        print_fault(argv[2]);
+        return failed;
+    }
     if (argc == 2 && strcmp(argv[1], "version") == 0) {
         WANT(strcmp(arrowflow_version(), ARROWFLOW_VERSION) == 0);
         printf("%s\n", arrowflow_version());
         return failed;
     }
-    fprintf(stderr, "usage: calls literals, calls kinds MOST, calls version\n");
+    fprintf(stderr, "usage: calls literals, calls kinds MOST, calls fault FILE, calls version\n");
     return 2;
 }

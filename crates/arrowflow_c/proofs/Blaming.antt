@@ -1,7 +1,7 @@
 -- Which column is at fault: a body is refused by one kind, and what is told of a stream's last message.
-use Rattle.std.proofs.Common.{◌≡◌, ◌≤◌, ◌<◌, ℕ, ℤ, zero, suc, ◌+◌, ◌-◌, List, [], ◌∷◌, take, drop, map, Option, None, Some, Result, Ok, Err, refl, sym, ap, ◌∙◌, subst, arith, inl, inr}
-use Rattle.std.specs.Prelude.{◌↔◌, IsTrue, Bool, true, false, not, length}
-use Rattle.arrow_types.specs.Field.{Fields, none, more, fields_of}
+use Rattle.std.proofs.Common.{◌≡◌, ◌≤◌, ℕ, ℤ, zero, suc, List, [], ◌∷◌, take, drop, None, Some, Ok, Err, refl, sym, ap, ◌∙◌, subst, arith}
+use Rattle.std.specs.Prelude.{◌↔◌, IsTrue, Bool, true, false, length}
+use Rattle.arrow_types.specs.Field.{Fields, none, more}
 use Rattle.arrow_types.specs.View.{field_view, fields_view}
 use Rattle.arrow_types.specs.declared.field.Field.{Field}
 use Rattle.arrow_body_reader.specs.declared.body.BodyFault.{BodyFault}

@@ -15,7 +15,7 @@ use denote.Struct.Struct.{within}
 use denote.Struct.Owning.{shape}
 use Rattle.std_alloc.specs.Box.Ownership.{box_owns}
 use Rattle.std.specs.declared.option.Option.{Option}
-use Rattle.std.specs.declared.option.Option.TheVariants.{None, Some}
+use Rattle.std.specs.declared.option.Option.TheVariants.{Some}
 use Rattle.std.specs.contracts.impls.GlobalAllocator.TheImpl.{ghosts}
 use Rattle.arrowflow_c.specs.Owned.{heap as the_heap}
 use Rattle.arrowflow_c.specs.OwnedCopier.{owned_copier}

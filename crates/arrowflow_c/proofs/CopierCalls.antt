@@ -1,6 +1,5 @@
 -- What the calls of a copier tell, by what was made of the copier behind the handle.
-use Rattle.std.proofs.Common.{◌≡◌, ℕ, List, Option, None, Some, refl, sym, subst, inl}
-use Rattle.arrow_types.specs.Limits.{LimitNumbers}
+use Rattle.std.proofs.Common.{◌≡◌, ℕ, List, Option, Some, refl, sym, subst, inl}
 use Rattle.arrowflow_copy.specs.CopierShown.{copier_view}
 use Rattle.arrowflow_copy.specs.Pieces.{PutsEnd, PutsPiece, TakesWritten}
 use Rattle.arrowflow_c.specs.Copied.{EndsCopy, IsFresh, OpensCopier, PutsIf, TakesIf, copied_told}

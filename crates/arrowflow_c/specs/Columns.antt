@@ -1,5 +1,5 @@
 -- What is told of a column of a batch: its buffers, and where it stands (Columnar Format, "Physical Memory Layout").
-use Rattle.std.specs.Prelude.{◌≡◌, ◌⊎◌, ◌<◌, ◌≤◌, ℕ, Bool, true, false, if◌then◌else◌, List, [], ◌∷◌, length, Option, Some, None, MatchOption, slice_get}
+use Rattle.std.specs.Prelude.{◌≡◌, ◌⊎◌, ◌≤◌, ℕ, Bool, true, false, if◌then◌else◌, List, [], ◌∷◌, length, Option, Some, None, MatchOption, slice_get}
 use Rattle.arrow_data.specs.Batch.{Table}
 use Rattle.arrow_data.specs.Column.{Column, HasChild, HasDictionary, HasField, HasValue, IsList, ValueList, struct_fields, type_of_field}
 use Rattle.arrow_data.specs.Form.{offset_bytes}

@@ -1,5 +1,5 @@
 -- What is told of a stream that is written again as its pieces come.
-use Rattle.std.specs.Prelude.{◌≡◌, ◌⊎◌, ℕ, List, [], length, Option, None, Some, is_some, true, Result, Ok, Err}
+use Rattle.std.specs.Prelude.{◌≡◌, ◌⊎◌, ℕ, List, [], length, Option, None, Some, is_some, true, Ok, Err}
 use Rattle.arrow_types.specs.Limits.{LimitNumbers}
 use Rattle.arrow_stream_laws.specs.Sizes.{Options}
 use Rattle.arrowflow_copy.specs.Pieces.{Answer, CopierView, GoesOnAt, PutsEnd, PutsPiece, TakesWritten}

@@ -1,7 +1,7 @@
-use Rattle.std.proofs.Common.{◌≡◌, ◌∙◌, drop, sym, ap, subst, inl, inr, ◌⊎◌}
+use Rattle.std.proofs.Common.{◌∙◌, drop, sym, ap, subst, inl, inr}
 use Rattle.std.specs.Prelude.{is_some}
-use Rattle.arrowflow_c.specs.Blame.{TellsSo, ending_fault, refusal_by}
-use Rattle.arrowflow_c.specs.Culprit.{TellsMessage, TellsVerdict, no_culprit}
+use Rattle.arrowflow_c.specs.Blame.{ending_fault, refusal_by}
+use Rattle.arrowflow_c.specs.Culprit.{TellsMessage}
 use Rattle.arrowflow_c.proofs.Blaming.{ends_bad, told_bad}
 use Rattle.arrowflow_c.proofs.culprit.culprit_at.Goals as goal
 

@@ -1,6 +1,5 @@
-use Rattle.std.proofs.Common.{◌≡◌, ◌∙◌, take, drop, sym, inl}
+use Rattle.std.proofs.Common.{◌∙◌, take, drop, inl}
 use Rattle.arrow_meta_reader.specs.Means.{message_view}
-use Rattle.arrow_stream_reader.specs.Frame.{number_at}
 use Rattle.arrowflow_c.specs.Blame.{refusal_by}
 use Rattle.arrowflow_c.proofs.Blaming.{no_message, one_message}
 use Rattle.arrowflow_c.proofs.culprit.culprit_of.Goals as goal

@@ -1,4 +1,4 @@
-use Rattle.std.proofs.Common.{◌≡◌, ℕ, ◌-◌, List, length, take, drop, sym, subst, ◌⊎◌}
+use Rattle.std.proofs.Common.{ℕ, List, sym, subst, ◌⊎◌}
 use Rattle.std.proofs.lemmas.List.{take_rest}
 use Rattle.arrow_stream_reader.specs.Front.{Entry}
 use Rattle.arrow_stream_reader.specs.Stream.{ReaderStands, GivesNext, TakesOn, RefusesMessage, WantsMemory}

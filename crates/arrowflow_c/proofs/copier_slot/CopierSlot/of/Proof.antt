@@ -1,13 +1,11 @@
 -- `of` takes the address and the allocator as they are.
-use Rattle.std.proofs.Common.{◌≡◌, List, [], ◌∷◌, ◌++◌, refl, sym, ap, ◌∙◌, subst}
-use lib.Dec.{lit<}
-use mir.Syntax.{w64}
-use mir.Val.{Val, vint, vptr}
+use Rattle.std.proofs.Common.{◌≡◌, List, [], ◌∷◌, ◌++◌, refl, sym, subst}
+use mir.Val.{Val, vptr}
 use base.Logic.{SProp, ent, emp, id⊢}
 use base.Fml.{ftrue}
 use prog.Wp.{WpFn}
-use types.Kit.{‵, raw, ◌⊛◌, ◌$◌, ◌∵◌, !, qed, by, move, keep, drop, split, fsplit, fjoin, suffices, use0}
-use types.Run.{stop, fld, lit, of_opd, no_more, and_then, returns, enter}
+use types.Kit.{‵, raw, ◌⊛◌, ◌$◌, ◌∵◌, !, qed, by, move, keep, split, fsplit, fjoin, suffices, use0}
+use types.Run.{stop, fld, of_opd, no_more, and_then, returns, enter}
 use types.ByLocal.{alloc_all, pass_all, free_all, look_at, get, get_in, sets}
 use types.Part.{agg, sub, whole}
 use contract.Monad.{fact, fact_i}
@@ -15,18 +13,16 @@ use contract.Running.{tables}
 use denote.Exit.{yes}
 use denote.RattleType.{RattleType, owns}
 use denote.Signature.{types_at, plain}
-use denote.RawPtr.{block_ptr, null_ptr}
-use denote.Steps.{nothing, heard}
+use denote.RawPtr.{block_ptr}
+use denote.Steps.{nothing}
 use denote.Triple.Walked.{Stays, stay_dropped, walk_of, Goes-dropped}
-use Rattle.std.proofs.alloc.Calls.{handle_tells}
 use Rattle.std.proofs.raw_atomic.Walks.{proved_at, leaves}
 use Rattle.std.specs.contracts.impls.GlobalAllocator.TheImpl.{ghosts}
-use Rattle.std.specs.declared.option.Option.TheVariants.{None, Some}
+use Rattle.std.specs.declared.option.Option.TheVariants.{Some}
 use Rattle.std.proofs.alloc.Global.TheLaws as heap_laws
-use Rattle.arrowflow_c.proofs.Addresses.{Loose, Z, both, heap_al, loose_good, loose_in, loose_out, one_val}
-use Rattle.arrowflow_c.proofs.CopierAddresses.{slot_in, slot_out}
+use Rattle.arrowflow_c.proofs.Addresses.{Loose, Z, both, loose_good, loose_out, one_val}
+use Rattle.arrowflow_c.proofs.CopierAddresses.{slot_in}
 use Rattle.arrowflow_c.specs.contracts.pieces.Copying as held
-use Rattle.arrowflow_c.specs.contracts.copier_slot.CopierSlot as slot
 use Rattle.arrowflow_c.specs.contracts.copier_slot.CopierSlot.of.{ended, clauses}
 use Rattle.arrowflow_c.specs.contracts.copier_slot.CopierSlot.of.Key.{name as #self}
 use Rattle.arrowflow_c.proofs.copier_slot.CopierSlot.of.Statement.{statement}

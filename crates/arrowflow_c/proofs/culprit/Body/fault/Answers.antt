@@ -1,4 +1,4 @@
-use Rattle.std.proofs.Common.{◌≡◌, refl, sym, ◌∙◌}
+use Rattle.std.proofs.Common.{refl}
 use Rattle.arrow_types.specs.View.{fields_view}
 use Rattle.arrow_meta_reader.specs.Means.{batch_view}
 use Rattle.arrow_body_reader.specs.Sound.{columns_of}

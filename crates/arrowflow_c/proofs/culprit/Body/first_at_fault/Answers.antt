@@ -1,4 +1,4 @@
-use Rattle.std.proofs.Common.{◌≡◌, ◌+◌, suc, take, Err, arith, sym, subst}
+use Rattle.std.proofs.Common.{◌≡◌, suc, take, Err, arith, sym, subst}
 use Rattle.arrow_types.specs.Field.{Fields}
 use Rattle.arrow_types.specs.View.{fields_view}
 use Rattle.arrow_meta_reader.specs.Means.{batch_view}

@@ -1,4 +1,4 @@
-use Rattle.std.proofs.Common.{◌≡◌, ◌<◌, ◌≤◌, ◌-◌, Err, take, length}
+use Rattle.std.proofs.Common.{◌<◌, ◌≤◌, ◌-◌, Err, take, length}
 use Rattle.arrow_meta_reader.specs.Means.{batch_view}
 use Rattle.arrow_stream_reader.specs.Batch.{Loads}
 use Rattle.arrow_types.specs.View.{fields_view}

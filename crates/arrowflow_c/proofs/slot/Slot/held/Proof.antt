@@ -6,7 +6,7 @@ use seplogic.Ra.Ura.{Ura}
 use base.Fraction.{full_share}
 use mir.Syntax.{named}
 use mir.Val.{Val, vptr}
-use base.Logic.{SProp, ent, sep, emp, via, fst∗, snd∗}
+use base.Logic.{SProp, ent, sep, via, fst∗, snd∗}
 use base.Fml.{Lft, GName, Share, Fml, ftrue, flft, fsep}
 use prog.Memory.{Memory}
 use prog.Routine.{Routine}
