@@ -79,7 +79,7 @@ static arrowflow_copied copy(arrowflow_options options, size_t piece, size_t roo
     }
     bool was_over = copied.is_over;
     arrowflow_copied end = arrowflow_copier_end(copier);
-    WANT(!was_over || is_same(end, copied) || end.waiting > 0);
+    WANT(!was_over || (end.kind == copied.kind && end.place == copied.place));
     ask_again(copier, end);
     take(copier, end, room);
     end.waiting = 0;
