@@ -1,12 +1,12 @@
 //! The library for C and for what calls C: streams in memory checked, written again and shown, and
-//! a reader of streams that come in pieces.
+//! readers and copiers of streams that come in pieces.
 //!
 //! An export takes bytes by a pointer and a length, and numbers and plain structs by value. It
 //! answers a plain struct, and puts texts into the caller's room: nothing that it gives has to be
-//! freed. A reader alone is kept between calls, behind a handle; where the buffers of its batch lie
-//! is told by address. Each export makes one call of the crates below, and its contract says that
+//! freed. Readers and copiers alone are kept between calls, behind handles; where the buffers of a
+//! reader's batch lie is told by address. Each export makes one call of the crates below, and its contract says that
 //! call's promise again, of the bytes that it was given. What a caller owes stands in the header
-//! `c/arrowflow.h`.
+//! `c/proved.h`.
 //!
 //! | Notion | Definition |
 //! |---|---|

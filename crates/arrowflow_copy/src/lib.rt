@@ -6,12 +6,16 @@
 //! A copy is a consumer of that crate's `drive`: where it stands between two messages, and what it
 //! makes of the next one, is said by `specs/Copying.antt`.
 //!
+//! [`StreamCopier`] does the same for who has the bytes himself: it is given the stream piece by
+//! piece, and what is written waits until it is taken.
+//!
 //! | Notion | Definition |
 //! |---|---|
 //! | what is written, and how that ends | `specs/Copy.antt`: `CopiesInput` |
 //! | the same by the front of all bytes read | `specs/OfFront.antt`: `RefusesSchemaOf`, `RefusesBatchOf` |
 //! | what is written, as a function of what was read | `specs/Equal.antt`: `CopyIsSent`, `CopiesAreEqual` |
 //! | where a copy stands | `specs/Copying.antt`: `At`; `specs/Target.antt`: `at_of` |
+//! | a copy that is given pieces | `specs/Pieces.antt`: `PutsPiece`, `PutsEnd`, `TakesWritten` |
 #![tactic(auto)]
 
 mod copier;
