@@ -11,5 +11,6 @@ mod fault_lines;
 mod first_rows;
 mod help_pages;
 mod limits;
+mod pieces;
 mod session;
 mod told;
