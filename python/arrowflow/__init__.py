@@ -36,7 +36,7 @@ Streams that come in pieces:
         reader.end()
     for piece in arrowflow.sanitize_pieces("rows.arrows"): out.write(piece)         # Copier is its other end, which is fed
 
-A fault raises ArrowflowError, which is a ValueError, with `kind`, `offset` and a sentence. A wrong argument is a TypeError, a limit
+A fault raises ArrowflowError, which is a ValueError, with `kind`, `offset`, `column`, `field` and a sentence. A wrong argument is a TypeError, a limit
 that is too high a ValueError. What a stream may ask for is bounded by Limits: STANDARD, where nothing is said; ALL_TYPES, which also
 reads floating-point columns; or limits of your own, Limits(max_rows=1_000_000, types=Types.ALL).
 

@@ -7,7 +7,7 @@ import errno
 import re
 from typing import Any, Optional, Tuple, Union
 
-from ._library import calls
+from ._library import CLimits, calls
 
 
 class Kind(enum.IntEnum):
@@ -46,12 +46,22 @@ class Kind(enum.IntEnum):
         return self.name.title().replace("_", "")
 
 
+def _sentence(call: str, *about: Any) -> str:
+    """What a call puts into a room, which is made larger where that is needed."""
+    room, size = ctypes.create_string_buffer(256), 0
+    while (size := calls[call](*about, room, len(room))) >= len(room):
+        room = ctypes.create_string_buffer(size + 1)
+    return room.value.decode(errors="replace")
+
+
 def error_text(kind: int, place: int) -> str:
     """A sentence on an error: "fault at byte 976: Truncated, the stream ended inside a message"."""
-    room, size = ctypes.create_string_buffer(256), 0
-    while (size := calls["error_text"](kind, place, room, len(room))) >= len(room):
-        room = ctypes.create_string_buffer(size + 1)
-    return room.value.decode()
+    return _sentence("error_text", kind, place)
+
+
+def fault_text(stream: bytes, limits: CLimits) -> str:
+    """A sentence on the first fault of a stream, with the column at fault where there is one."""
+    return _sentence("fault_text", stream, len(stream), limits)
 
 
 class ArrowflowError(ValueError):
@@ -60,26 +70,32 @@ class ArrowflowError(ValueError):
     kind      what it is (Kind); None of DictionaryTooLong alone
     offset    where the message at fault begins, in bytes from the stream's beginning; None where the error is at no byte
     batch     the number, from 0, of the batch that cannot be written again; else None
-    field     the name of the field that it is about, where one is told, as of DictionaryTooLong; else None
+    column    the number, from 0, of the column at fault, where the body of a record batch is (Kind.LAYOUT, TEXT or INDEX) and the
+              stream was given as bytes; else None
+    field     the name of this column, or of the field that DictionaryTooLong is about, which the library cuts where it is long;
+              else None
     partial   of `sanitize`, `show`, `messages` and `schema_text`: what the whole messages before the fault gave, in bytes
     """
 
     kind: Optional[Kind]
     offset: Optional[int] = None
     batch: Optional[int] = None
+    column: Optional[int] = None
     field: Optional[str] = None
     partial: bytes = b""
 
-    def __init__(self, kind: int, place: int = 0, partial: bytes = b"") -> None:
-        super().__init__(error_text(kind, place))
+    def __init__(self, kind: int, place: int = 0, partial: bytes = b"", text: str = "") -> None:
+        super().__init__(text or error_text(kind, place))
         self.kind, self._place, self.partial = Kind(kind), place, partial
+        if named := _COLUMN.search(text):
+            self.column, self.field = int(named[1]), named[2]
         if Kind.FINE < kind <= Kind.TRUNCATED:
             self.offset = place
         if Kind.BATCH_SCHEMA_DIFFERS <= kind <= Kind.BATCH_DICTIONARIES_DIFFER:
             self.batch = place
 
     def __reduce__(self) -> Tuple[Any, ...]:
-        return type(self), (int(self.kind or 0), self._place, self.partial)
+        return type(self), (int(self.kind or 0), self._place, self.partial, str(self))
 
 
 class DictionaryTooLong(ArrowflowError):
@@ -95,8 +111,9 @@ class DictionaryTooLong(ArrowflowError):
         return type(self), (self._text,)
 
 
-# How arrowflow_error_text begins, of a fault of the stream.
+# How arrowflow_error_text begins, of a fault of the stream, and how arrowflow_fault_text ends, of a column at fault.
 _FAULT = re.compile(r"fault at byte (\d+): (\w+)")
+_COLUMN = re.compile(r', in column (\d+), "(.*)"$')
 _KINDS = {str(it): it for it in Kind}
 
 
@@ -108,10 +125,10 @@ def error_of_stream(status: int, text: str) -> Exception:
         return DictionaryTooLong(text)
     fault = _FAULT.match(text)
     if fault and fault[2] in _KINDS:
-        return ArrowflowError(_KINDS[fault[2]], int(fault[1]))
+        return ArrowflowError(_KINDS[fault[2]], int(fault[1]), text=text)
     return OSError(status, text)
 
 
-def error_of(kind: int, place: int, partial: bytes = b"") -> Union[ArrowflowError, MemoryError]:
+def error_of(kind: int, place: int, partial: bytes = b"", text: str = "") -> Union[ArrowflowError, MemoryError]:
     """What is raised for a kind that is not FINE."""
-    return MemoryError(error_text(kind, place)) if kind == Kind.MEMORY else ArrowflowError(kind, place, partial)
+    return MemoryError(error_text(kind, place)) if kind == Kind.MEMORY else ArrowflowError(kind, place, partial, text)

@@ -91,6 +91,7 @@ _CALLS: Dict[str, Any] = {
     "error_text": (ctypes.c_size_t, [ctypes.c_uint32, ctypes.c_uint64, *_ROOM]),
     "standard_limits": (CLimits, []),
     "check": (CReport, [*_BYTES, CLimits]),
+    "fault_text": (ctypes.c_size_t, [*_BYTES, CLimits, *_ROOM]),
     "copy": (CText, [*_BYTES, CLimits, COptions, *_ROOM]),
     "show": (CText, [*_BYTES, CLimits, *_ROOM]),
     "messages": (CText, [*_BYTES, CLimits, *_ROOM]),

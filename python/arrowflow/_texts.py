@@ -5,7 +5,7 @@ import ctypes
 import dataclasses
 from typing import Any
 
-from ._errors import Kind, error_of
+from ._errors import Kind, error_of, fault_text
 from ._library import COptions, calls
 from ._limits import STANDARD, Limits, limits_in_c
 from ._sources import Data, bytes_of
@@ -81,5 +81,6 @@ def _text(call: str, data: Data, limits: Limits, *more: Any, size: Any = lambda 
         told = calls[call](stream, len(stream), chosen, *more, room, len(room))
     text = ctypes.string_at(room, told.size)
     if told.kind:
-        raise error_of(told.kind, told.place, text)
+        is_of_body = Kind.LAYOUT <= told.kind <= Kind.INDEX
+        raise error_of(told.kind, told.place, text, fault_text(stream, chosen) if is_of_body else "")
     return text

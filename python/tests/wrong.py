@@ -11,6 +11,7 @@ import arrowflow
 from arrowflow import ArrowflowError, Kind, Limits, Types
 from arrowflow import _errors, _library
 
+import at_fault
 import frames
 from common import GROWING, TOP, raised_by, raises, run
 
@@ -123,6 +124,19 @@ def faults():
     why = raised_by(arrowflow.show, cut)
     yield "what came before a fault", why.partial, subprocess.run([TOP / "arrowflow", "show", "-"], input=cut,
         capture_output=True).stdout
+
+
+def columns_at_fault():
+    """The column at fault, of bytes; of pieces there is none."""
+    calls = [arrowflow.sanitize, arrowflow.show, lambda data: [*arrowflow.open(data)]]
+    for number, (data, kind, column, name) in enumerate(at_fault.streams()):
+        for call in calls if number % 7 == 0 or number > 175 else calls[number % 3:][:1]:
+            why = raised_by(call, data)
+            again = pickle.loads(pickle.dumps(why))
+            yield f"column {number} at fault", (str(why.kind), why.column, why.field), (kind, column, name)
+            yield f"the same {number} again", (str(again), again.kind, again.column, again.field), (str(why), why.kind, column, name)
+        why = raised_by(lambda: [*arrowflow.open([data])])
+        yield f"no column {number} of pieces", (str(why.kind), why.column, why.field), (kind, None, None)
 
 
 def refused(room):
