@@ -13,7 +13,7 @@ KINDS = {
 # Where in its column it stands.
 PLACES = ("alone", "in a list", "in a struct")
 # Names of columns, and what is told of them: at most 64 bytes, and a sign for each control character.
-NAMES = {"": "", "city": "city", "a\nb\x7f\"": "a?b?\"", "e" * 64: "e" * 64, "e" * 65: "e" * 63, "\u00e9" * 40: "\u00e9" * 31}
+NAMES = {"": "", "city": "city", "a\nb\x7f\"": "a?b?\"", "e" * 64: "e" * 64, "e" * 65: "e" * 64, "\u00e9" * 40: "\u00e9" * 31}
 
 
 def field_of(name, kind, place):
