@@ -136,7 +136,7 @@ static void print_kinds(uint32_t most) {
 
 static void print_fault(const char *name) {
     FILE *file = fopen(name, "rb");
-    const size_t room = 1 << 16;
+    const size_t room = 1 << 24;
     uint8_t *bytes = malloc(room);
     if (file == NULL || bytes == NULL) exit(4);
     size_t len = fread(bytes, 1, room, file);
