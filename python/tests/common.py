@@ -5,6 +5,8 @@ import subprocess
 import sys
 
 TOP = pathlib.Path(__file__).resolve().parent.parent.parent
+# What the script `arrowflow` runs once it is built.
+PROGRAM = TOP / "crates/arrowflow_program/out/arrowflow_program"
 STREAMS = sorted([*(TOP / "examples").glob("*.arrows"), *(TOP / "vectors").glob("*.arrows")])
 # Streams whose types are not all in the core, which are given with both sets of types.
 OF_ALL_TYPES = sorted([TOP / "examples/floats.arrows", *(TOP / "vectors/all").glob("*.arrows")])

@@ -10,7 +10,7 @@ import zipfile
 import arrowflow
 from arrowflow import _library
 
-from common import GROWING, TOP, python, run
+from common import GROWING, PROGRAM, TOP, python, run
 
 FOLDER = os.path.dirname(arrowflow.__file__)
 
@@ -122,7 +122,7 @@ def wheel(room):
     yield "a stream there", (f"{found[0]}]", why, status), ("[3, 2, 2]", b"", 0)
     yield "its library", f"{place}/lib/" in found[1] and found[1].split()[0].endswith(f"/arrowflow/{_library.NAME}"), True
     shown = run(place / "bin/python", "-m", "arrowflow", "show", GROWING, env=env, cwd=room)
-    yield "the program there", shown, run(TOP / "arrowflow", "show", GROWING)
+    yield "the program there", shown, run(PROGRAM, "show", GROWING)
     yield "pip check", run(place / "bin/pip", "check", "--disable-pip-version-check", env=env)[2], 0
     text = run(place / "bin/pip", "show", "--disable-pip-version-check", "arrowflow", env=env)[0].decode()
     yield "what pip shows", re.findall(r"^(?:Name|Version|License): (.*)$", text, re.M), ["arrowflow", arrowflow.__version__,

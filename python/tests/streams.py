@@ -8,7 +8,7 @@ import re
 import arrowflow
 from arrowflow import Kind
 
-from common import TOP, IntoAlone, ReadAlone, cut, elsewhere, python, raised_by, run
+from common import PROGRAM, TOP, IntoAlone, ReadAlone, cut, elsewhere, python, raised_by, run
 from consumer import batch_in, consumed, schema_in
 from shown import Buffers, has_one_name_twice, numbers_alike, plain, records
 
@@ -238,8 +238,8 @@ def compare_arrays(stream, limits):
 def compare_stream(room, stream, types):
     """What the package gives of a stream beside what the program gives with this set of types, as (what, found, wanted)."""
     limits, asked = arrowflow.ALL_TYPES if types == "all" else arrowflow.STANDARD, ["--types", types]
-    wanted = {command: run(TOP / "arrowflow", command, stream, *asked) for command in COMMANDS}
-    wanted["copy"] = copied(room, [TOP / "arrowflow", "copy", *asked], stream)
+    wanted = {command: run(PROGRAM, command, stream, *asked) for command in COMMANDS}
+    wanted["copy"] = copied(room, [PROGRAM, "copy", *asked], stream)
     report = arrowflow.check(stream.read_bytes(), limits)
     parts = (compare_texts(room, stream, limits, types, wanted), compare_report(report, wanted), compare_ways(stream, limits,
         report),

@@ -13,7 +13,7 @@ from arrowflow import _errors, _library
 
 import at_fault
 import frames
-from common import GROWING, TOP, raised_by, raises, run
+from common import GROWING, PROGRAM, TOP, raised_by, raises, run
 
 HEADER = (TOP / "c/arrowflow.h").read_text(encoding="utf-8")
 
@@ -122,7 +122,7 @@ def faults():
     yield "an error is a ValueError", issubclass(ArrowflowError, ValueError), True
     cut = GROWING.read_bytes()[:-20]
     why = raised_by(arrowflow.show, cut)
-    yield "what came before a fault", why.partial, subprocess.run([TOP / "arrowflow", "show", "-"], input=cut,
+    yield "what came before a fault", why.partial, subprocess.run([PROGRAM, "show", "-"], input=cut,
         capture_output=True).stdout
 
 
@@ -141,7 +141,7 @@ def columns_at_fault():
 
 def refused(room):
     """The error of a batch that is read, and that is past a limit when it is written again: the batch, and no byte."""
-    limits, line = Limits(max_body=40), run(TOP / "arrowflow", "copy", "--limit-body", "40", GROWING, room / "refused")[1]
+    limits, line = Limits(max_body=40), run(PROGRAM, "copy", "--limit-body", "40", GROWING, room / "refused")[1]
     for name, call in (("sanitize", lambda: arrowflow.sanitize(GROWING.read_bytes(), limits)),
                        ("sanitize_pieces", lambda: [*arrowflow.sanitize_pieces(GROWING, limits)])):
         why = raised_by(call)
