@@ -11,8 +11,8 @@
  *             has returned. The pointers that arrowflow_reader_column gives are the reader's: they are
  *             only read, and only until the next call of arrowflow_reader_read or _close.
  * Errors      A call answers a kind (enum arrowflow_kind), or a struct with one: ARROWFLOW_KIND_FINE, or why
- *             not. arrowflow_kind_name has its name, arrowflow_error_text a sentence. No call aborts,
- *             prints or sets errno.
+ *             not. arrowflow_kind_name has its name, arrowflow_error_text a sentence. No call aborts or
+ *             prints, and none sets errno but malloc, where it gives NULL.
  * Memory      malloc, realloc and free are called. Where malloc gives NULL the call ends with
  *             ARROWFLOW_KIND_MEMORY. arrowflow_show takes as much as its text has, which may be far more
  *             than the stream: a batch without columns has many rows in few bytes. `max_rows` bounds
@@ -80,7 +80,7 @@ enum arrowflow_kind {
     ARROWFLOW_KIND_INPUT = 22,        /* an input could not be read: of bytes in memory it does not come */
     /* A copy alone: the stream is sound, and cannot be written again. The place is that of no byte, but of a
      * batch its number, from 0. A stream that was read has one schema and one dictionary for each id, so that
-     * 41 and 43 do not come either. */
+     * 41 and 43 do not come. */
     ARROWFLOW_KIND_SCHEMA_TOO_LARGE = 32, /* its frame would be past a limit */
     ARROWFLOW_KIND_BATCH_SCHEMA_DIFFERS = 41,
     ARROWFLOW_KIND_BATCH_TOO_LARGE = 42, /* its frames would be past a limit, or end past place 2^62 */
@@ -145,24 +145,26 @@ arrowflow_culprit arrowflow_fault_column(const uint8_t *bytes, size_t len, arrow
 
 /* Puts a sentence on the first fault of a stream into the room, as arrowflow_error_text does, with the number and
  * the name of the column at fault where there is one: "fault at byte 592: Text, a text is not UTF-8, in column 1,
- * \"city\"". Of a stream without fault the sentence is empty. */
+ * \"city\"". Of a stream without fault the sentence is empty; ARROWFLOW_KIND_MEMORY and _BAD_LIMITS have their
+ * own. */
 size_t arrowflow_fault_text(const uint8_t *bytes, size_t len, arrowflow_limits limits, char *out, size_t room);
 
 /* What is told of a text, or of a stream that was written again. As much of its front as fits stands in the
  * room, and what the room held after it is as it was. Where `size` is at most `room` it is all there; so a
- * call with a room of 0 bytes measures. With a fault the text is what the whole messages before the fault
- * gave (with ARROWFLOW_KIND_MEMORY a beginning of that; of arrowflow_schema none). */
+ * call with a room of 0 bytes measures. With a fault the text is of what came whole before it: a line for each
+ * message, the rows of each batch, or as a copy the schema and the batches, with the dictionaries that these
+ * refer to (with ARROWFLOW_KIND_MEMORY a beginning of that; of arrowflow_schema none). */
 typedef struct {
     uint32_t kind;
     uint64_t place; /* of the message at fault, in bytes; or the number of the batch refused */
     uint64_t size;  /* bytes of the text, whether they fit or not */
 } arrowflow_text;
 
-/* How a stream is written again. All false: dictionaries that grew are sent as deltas, and buffers
- * are padded to 64 bytes. */
+/* How a stream is written again. All false: dictionaries that grew are sent as deltas, and metadata and
+ * buffers are padded to 64 bytes. */
 typedef struct {
     bool resend;   /* a dictionary that grew is sent whole */
-    bool pad_to_8; /* buffers are padded to 8 bytes */
+    bool pad_to_8; /* metadata and buffers are padded to 8 bytes */
 } arrowflow_options;
 
 /* Writes a stream again: with ARROWFLOW_KIND_FINE the bytes are a valid stream with this one's schema and
@@ -234,7 +236,7 @@ enum arrowflow_message {
     ARROWFLOW_MESSAGE_END = 4
 };
 
-/* What a reader told of a piece. */
+/* What a reader told of a piece. What does not belong to the message, or to a fault, is 0. */
 typedef struct {
     uint32_t kind;    /* FINE, a fault of the stream, MEMORY or NO_HANDLE */
     uint32_t message; /* what was whole: enum arrowflow_message */
@@ -259,7 +261,13 @@ uint32_t arrowflow_reader_open(arrowflow_limits limits, arrowflow_reader **reade
  * none is whole. Where a stream was cut changes no answer. After a fault of the stream it takes
  * nothing and answers the same again; after the end marker it takes nothing. The batch that a call
  * gives is the reader's until the next call. After ARROWFLOW_KIND_MEMORY nothing has changed, as though the
- * call had not been made: it may be made again. */
+ * call had not been made: it may be made again.
+ *
+ *     do {
+ *         step = arrowflow_reader_read(reader, piece, len);
+ *         piece += step.taken, len -= step.taken;
+ *         if (step.message == ARROWFLOW_MESSAGE_BATCH) ..;
+ *     } while (step.kind == ARROWFLOW_KIND_FINE && step.message != ARROWFLOW_MESSAGE_END && len > 0); */
 arrowflow_step arrowflow_reader_read(arrowflow_reader *reader, const uint8_t *piece, size_t len);
 
 /* What a stream answers that ends here: ARROWFLOW_KIND_NO_SCHEMA, ARROWFLOW_KIND_TRUNCATED, the fault that
@@ -278,8 +286,8 @@ enum arrowflow_cell_type {
     ARROWFLOW_CELL_NUMBER = 2, /* `number`; of a date, a time, a timestamp or a duration its units */
     ARROWFLOW_CELL_BYTES = 3,  /* `size` bytes in the room */
     ARROWFLOW_CELL_TEXT = 4,   /* the same, and UTF-8 */
-    ARROWFLOW_CELL_LIST = 5,   /* not told here */
-    ARROWFLOW_CELL_STRUCT = 6, /* not told here */
+    ARROWFLOW_CELL_LIST = 5,   /* not told here, but by arrowflow_reader_column */
+    ARROWFLOW_CELL_STRUCT = 6, /* the same */
     ARROWFLOW_CELL_LARGE = 7,  /* `large`, a number above INT64_MAX */
     ARROWFLOW_CELL_NONE = 8,   /* no batch, or no such column or row */
     ARROWFLOW_CELL_HUGE = 9,   /* a number that takes more than 64 bits: no type has one yet */

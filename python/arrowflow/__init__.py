@@ -25,7 +25,7 @@ have `__arrow_c_array__`, and all of these and a schema have `__arrow_c_schema__
 Whole streams in memory:
 
     report = arrowflow.check(data)             # report.kind is Kind.FINE, or the first fault, with its offset
-    clean = arrowflow.sanitize(data)           # a valid stream of the same rows, with nothing hidden in it, as bytes
+    clean = arrowflow.sanitize(data)           # a valid stream of the same schema and rows, as bytes
     print(arrowflow.show(data), arrowflow.messages(data), arrowflow.schema_text(data))     # what the program `arrowflow` prints
 
 Streams that come in pieces:
@@ -40,7 +40,8 @@ A fault raises ArrowflowError, which is a ValueError, with `kind`, `offset`, `co
 that is too high a ValueError. What a stream may ask for is bounded by Limits: STANDARD, where nothing is said; ALL_TYPES, which also
 reads floating-point columns; or limits of your own, Limits(max_rows=1_000_000, types=Types.ALL).
 
-`python -m arrowflow [--types core|all] schema|check|show IN` and `.. sanitize IN OUT` do the same from a shell.
+`python -m arrowflow [--types core|all] schema|check|show IN` and `.. sanitize IN OUT` do the same from a shell; `-` is standard input
+or output.
 
 The checks and copies are proved for all bytes, by the library for C of the project Atticoregano, which this package calls by ctypes;
 the arrays of its batches, and this package, are tested and not proved. It runs on Linux, with CPython 3.9 and later and

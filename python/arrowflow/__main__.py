@@ -2,11 +2,12 @@
 
 It prints what `arrowflow schema`, `check` and `show` print, or writes the stream again into OUT. It ends with status 0; with status
 1 and a line on standard error where the stream has a fault, once what was whole before it is written; with status 2 where it is
-called wrongly or a file is not read or written.
+called wrongly, a file is not read or written, or OUT is IN. `-` is standard input or output.
 """
+import errno
 import os
 import sys
-from typing import List
+from typing import BinaryIO, List
 
 from . import ALL_TYPES, STANDARD, ArrowflowError, Limits, messages, sanitize_pieces, schema_text, show
 
@@ -15,9 +16,14 @@ _USAGE = """usage: python -m arrowflow [--types core|all] schema|check|show IN
        python -m arrowflow [--types core|all] sanitize IN OUT"""
 
 
+def opened(name: str, mode: str) -> BinaryIO:
+    """A file, or standard input or output, which are not closed."""
+    return open(name, mode) if name != "-" else os.fdopen(0 if mode == "rb" else 1, mode, closefd=False)
+
+
 def print_text(command: str, name: str, limits: Limits) -> None:
     """Prints what a call tells of a file, up to the fault where there is one."""
-    with open(name, "rb") as file:
+    with opened(name, "rb") as file:
         data = file.read()
     with os.fdopen(1, "wb", closefd=False) as output:
         try:
@@ -29,10 +35,12 @@ def print_text(command: str, name: str, limits: Limits) -> None:
 
 def write_again(source: str, name: str, limits: Limits) -> None:
     """Writes a file's stream again into another file, up to the fault where there is one."""
-    pieces = sanitize_pieces(source, limits)
-    with open(name, "wb") as output:
-        for piece in pieces:
-            output.write(piece)
+    with opened(source, "rb") as file:
+        if os.path.isfile(name) and os.path.samestat(os.fstat(file.fileno()), os.stat(name)):
+            raise OSError(errno.EINVAL, "the output is the input", name)
+        with opened(name, "wb") as output:
+            for piece in sanitize_pieces(file, limits):
+                output.write(piece)
 
 
 def main(words: List[str]) -> int:

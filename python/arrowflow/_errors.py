@@ -71,7 +71,7 @@ class ArrowflowError(ValueError):
     offset    where the message at fault begins, in bytes from the stream's beginning; None where the error is at no byte
     batch     the number, from 0, of the batch that cannot be written again; else None
     column    the number, from 0, of the column at fault, where the body of a record batch is (Kind.LAYOUT, TEXT or INDEX) and the
-              stream was given as bytes; else None
+              stream was given as bytes to `open`, `sanitize`, `show`, `messages` or `schema_text`; else None
     field     the name of this column, or of the field that DictionaryTooLong is about, which the library cuts where it is long;
               else None
     partial   of `sanitize`, `show`, `messages` and `schema_text`: what the whole messages before the fault gave, in bytes

@@ -114,6 +114,8 @@ class Schema:
 def found(things: Sequence[_It], names: Sequence[str], which: Union[int, str]) -> _It:
     """The thing of this number or of this name. IndexError of no number, KeyError of a name that none or several have."""
     if isinstance(which, int) and not isinstance(which, bool):
+        if not -len(things) <= which < len(things):
+            raise IndexError(f"there is no column {which} of {len(things)}")
         return things[which]
     if not isinstance(which, str):
         raise TypeError(f"a column is asked for by its number or its name, not {type(which).__name__}")

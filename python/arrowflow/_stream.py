@@ -115,7 +115,8 @@ class Stream:
 
     It is handed on as a whole to a library that takes an object with `__arrow_c_stream__`, and is closed then. Any thread may use it:
     calls wait for one another. A fault raises ArrowflowError, from the call that met it and from each one after it; what came before
-    it was handed out. What the source raises is raised to the caller as it is, and ends the stream.
+    it was handed out. What the source raises is raised to the caller as it is, and ends the stream; a library that the stream was
+    handed to is told in words.
     """
 
     def __init__(self, handle: Handle) -> None:
@@ -177,7 +178,8 @@ def open(source: Input, limits: Limits = STANDARD) -> Stream:
     """Opens an Arrow IPC stream. Nothing is read yet, but a file is opened.
 
     source   the path of a file, as str or os.PathLike; bytes, or anything else with a buffer, which is copied; a binary file, that
-             is anything with read1(n), read(n) or readinto(buffer), which blocks and is not closed; or an iterable of bytes
+             is anything with read1(n), read(n) or readinto(buffer), which blocks and is not closed; or an iterable of bytes. What
+             comes after the end marker is passed over; of a file some of it may have been read
     limits   how much the stream may ask for, and which types it may have: STANDARD, ALL_TYPES, or Limits(..)
 
     TypeError of another source, OSError of a file that cannot be opened.

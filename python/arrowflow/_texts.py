@@ -44,7 +44,8 @@ def check(data: Data, limits: Limits = STANDARD) -> Report:
 
 def sanitize(data: Data, limits: Limits = STANDARD, *, resend: bool = False, pad_to_8: bool = False) -> bytes:
     """Writes a stream again: a valid stream of just the schema, the rows and the dictionaries that were read, with nothing in padding,
-    under nulls or past offsets, as bytes. ArrowflowError at a fault; its `partial` has the batches before it, without an end marker.
+    under nulls or past offsets, as bytes. Names, custom metadata of the schema and its fields, and values of a dictionary that no index
+    refers to are passed on. ArrowflowError at a fault; its `partial` has the batches before it, without an end marker.
 
     data       the stream, as bytes or anything else with a buffer, which is copied; `sanitize_pieces` takes files and pieces
     limits     how much it may ask for, and which types it may have

@@ -2,6 +2,7 @@
 import inspect
 import os
 import re
+import subprocess
 import sys
 import typing
 import venv
@@ -63,8 +64,8 @@ def page():
         yield f"help shows {it.decode()}", (it in text, status), (True, 0)
 
 
-def program():
-    """How the small program is called wrongly."""
+def program(room):
+    """How the small program is called wrongly, and as a part of a pipe."""
     env = {**os.environ, "PYTHONPATH": str(TOP / "python")}
     for words in ([], ["show"], ["show", "a", "b"], ["sanitize", "a"], ["read", "a"], ["--types", "none", "show", GROWING]):
         text, said, status = python("-m", "arrowflow", *words, env=env)
@@ -72,6 +73,15 @@ def program():
     for words in (["show", "no such file"], ["sanitize", "no such file", "none"], ["sanitize", GROWING, TOP]):
         text, said, status = python("-m", "arrowflow", *words, env=env)
         yield f"python -m arrowflow {words}", (text, said.startswith(b"arrowflow: [Errno"), status), (b"", True, 2)
+    same = room / "same.arrows"
+    same.write_bytes(GROWING.read_bytes())
+    text, said, status = python("-m", "arrowflow", "sanitize", same, same, env=env)
+    yield "the output is the input", (text, b"the output is the input" in said, status), (b"", True, 2)
+    yield "which stays", same.read_bytes(), GROWING.read_bytes()
+    piped = subprocess.run([sys.executable, "-B", "-m", "arrowflow", "sanitize", "-", "-"], input=GROWING.read_bytes(), env=env, capture_output=True)
+    yield "a pipe", (piped.stdout, piped.stderr, piped.returncode), (arrowflow.sanitize(GROWING.read_bytes()), b"", 0)
+    piped = subprocess.run([sys.executable, "-B", "-m", "arrowflow", "show", "-"], input=GROWING.read_bytes(), env=env, capture_output=True)
+    yield "shown of a pipe", piped.stdout.decode(), arrowflow.show(GROWING.read_bytes())
 
 
 def library():
