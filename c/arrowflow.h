@@ -42,7 +42,8 @@
 extern "C" {
 #endif
 
-/* The version of this header. Until 1.0 another minor version may change calls, structs and numbers. */
+/* The version of this header. Versions with one first number, which the library's soname has too, keep calls,
+ * structs and numbers as they are, and may add some. */
 #define ARROWFLOW_VERSION_MAJOR 0
 #define ARROWFLOW_VERSION_MINOR 1
 #define ARROWFLOW_VERSION_PATCH 0
