@@ -113,14 +113,14 @@ arrowflow_culprit arrowflow_fault_column(const uint8_t *bytes, size_t len, arrow
 }
 
 /* What of a column's name is told, with other signs for control characters: its front, without a part of a
- * character, where it is long. Answers its length. */
+ * character, where it is long. Answers its length, or -1 where memory was wanting: the schema is a sound one. */
 static int name_of(const uint8_t *bytes, size_t len, arrowflow_limits limits, size_t column, char name[NAME_ROOM]) {
     arrowflow_reader *reader;
-    size_t size = 0;
-    if (arrowflow_reader_open(limits, &reader) == ARROWFLOW_KIND_FINE
-        && arrowflow_reader_read(reader, bytes, len).message == ARROWFLOW_MESSAGE_SCHEMA)
-        size = arrowflow_reader_field(reader, &column, 1, (uint8_t *)name, NAME_ROOM).name_len;
+    arrowflow_reader_open(limits, &reader);
+    bool is_read = arrowflow_reader_read(reader, bytes, len).message == ARROWFLOW_MESSAGE_SCHEMA;
+    size_t size = arrowflow_reader_field(reader, &column, 1, (uint8_t *)name, NAME_ROOM).name_len;
     arrowflow_reader_close(reader);
+    if (!is_read) return -1;
     if (size > NAME_ROOM) {
         size = NAME_ROOM;
         while (size > 0 && ((unsigned char)name[size - 1] & 0xc0) == 0x80) size--;
@@ -131,13 +131,13 @@ static int name_of(const uint8_t *bytes, size_t len, arrowflow_limits limits, si
     return (int)size;
 }
 
-size_t arrowflow_column_text(const uint8_t *bytes, size_t len, arrowflow_limits limits, char *out, size_t room) {
+int arrowflow_column_text(const uint8_t *bytes, size_t len, arrowflow_limits limits, char *out, size_t room) {
     arrowflow_culprit culprit = arrowflow_fault_column(bytes, len, limits);
     char name[NAME_ROOM], none;
-    if (!culprit.found) return 0;
+    if (!culprit.found) return culprit.kind == ARROWFLOW_KIND_MEMORY ? -1 : 0;
     int shown = name_of(bytes, len, limits, culprit.column, name);
-    int size = snprintf(room > 0 ? out : &none, room, ", in column %llu, \"%.*s\"", (unsigned long long)culprit.column, shown, name);
-    return size < 0 ? 0 : (size_t)size;
+    if (shown < 0) return -1;
+    return snprintf(room > 0 ? out : &none, room, ", in column %llu, \"%.*s\"", (unsigned long long)culprit.column, shown, name);
 }
 
 size_t arrowflow_fault_text(const uint8_t *bytes, size_t len, arrowflow_limits limits, char *out, size_t room) {
@@ -145,7 +145,8 @@ size_t arrowflow_fault_text(const uint8_t *bytes, size_t len, arrowflow_limits l
     if (room > 0) *out = 0;
     if (report.kind == ARROWFLOW_KIND_FINE) return 0;
     size_t size = arrowflow_error_text(report.kind, report.place, out, room), left = size < room ? room - size : 0;
-    return size + arrowflow_column_text(bytes, len, limits, left > 0 ? out + size : NULL, left);
+    int more = arrowflow_column_text(bytes, len, limits, left > 0 ? out + size : NULL, left);
+    return more < 0 ? size : size + (size_t)more;
 }
 
 arrowflow_text arrowflow_copy(const uint8_t *bytes, size_t len, arrowflow_limits limits, arrowflow_options options,

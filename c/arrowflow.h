@@ -147,7 +147,7 @@ arrowflow_culprit arrowflow_fault_column(const uint8_t *bytes, size_t len, arrow
 /* Puts a sentence on the first fault of a stream into the room, as arrowflow_error_text does, with the number and
  * the name of the column at fault where there is one: "fault at byte 592: Text, a text is not UTF-8, in column 1,
  * \"city\"". Of a stream without fault the sentence is empty; ARROWFLOW_KIND_MEMORY and _BAD_LIMITS have their
- * own. */
+ * own. Where there is no memory to look for the column, it is left out. */
 size_t arrowflow_fault_text(const uint8_t *bytes, size_t len, arrowflow_limits limits, char *out, size_t room);
 
 /* What is told of a text, or of a stream that was written again. As much of its front as fits stands in the

@@ -164,8 +164,9 @@ static int fail(struct source *it, int status) { return it->status = status; }
 static int fault(struct source *it, uint32_t kind, uint64_t place) {
     if (kind == ARROWFLOW_KIND_MEMORY) return ENOMEM;
     size_t size = arrowflow_error_text(kind, place, it->error, sizeof it->error);
-    if (it->read == NULL && size < sizeof it->error)
-        arrowflow_column_text(it->piece, it->len, it->limits, it->error + size, sizeof it->error - size);
+    if (it->read == NULL && size < sizeof it->error
+        && arrowflow_column_text(it->piece, it->len, it->limits, it->error + size, sizeof it->error - size) < 0)
+        return ENOMEM;
     return fail(it, EINVAL);
 }
 

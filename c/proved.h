@@ -47,8 +47,8 @@ arrowflow_field arrowflow_proved_reader_field(arrowflow_handle *reader, const si
                                               uint8_t *out, size_t room);
 void arrowflow_proved_reader_close(arrowflow_handle *reader);
 
-/* The end of arrowflow_fault_text's sentence, ", in column 1, \"city\"", or nothing where no column is at fault.
- * In arrowflow.c, and not proved. */
-size_t arrowflow_column_text(const uint8_t *bytes, size_t len, arrowflow_limits limits, char *out, size_t room);
+/* The end of arrowflow_fault_text's sentence, ", in column 1, \"city\"", or nothing where no column is at fault;
+ * -1 where memory is wanting to tell it. In arrowflow.c, and not proved. */
+int arrowflow_column_text(const uint8_t *bytes, size_t len, arrowflow_limits limits, char *out, size_t room);
 
 #endif

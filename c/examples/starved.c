@@ -87,6 +87,24 @@ static void starve_check(arrowflow_report whole) {
     }
 }
 
+static void starve_fault(void) {
+    const arrowflow_limits limits = arrowflow_standard_limits();
+    char text[256];
+    before = -1;
+    arrowflow_culprit whole = arrowflow_fault_column(bytes, len, limits);
+    for (long number = 0, was_refused = 1; was_refused; number++) {
+        before = number;
+        arrowflow_culprit culprit = arrowflow_fault_column(bytes, len, limits);
+        was_refused = before < 0;
+        want(blocks == 0, "nothing left of a column at fault");
+        want(culprit.kind == ARROWFLOW_KIND_MEMORY ? !culprit.found && culprit.column == 0
+             : culprit.found == whole.found && culprit.column == whole.column, "the column at fault");
+        before = number;
+        want(arrowflow_fault_text(bytes, len, limits, text, sizeof text) < sizeof text && blocks == 0, "nothing left of a fault's text");
+        was_refused |= before < 0;
+    }
+}
+
 /* One of the calls that give a text, by its number. */
 static arrowflow_text give(int call, uint8_t *out) {
     const arrowflow_options options = {false, true};
@@ -397,6 +415,7 @@ int main(int argc, char **argv) {
     fclose(file);
     arrowflow_report whole = arrowflow_check(bytes, len, arrowflow_standard_limits());
     starve_check(whole);
+    starve_fault();
     for (int call = 0; call < 4; call++) starve_text(call);
     starve_reader(whole, 100);
     starve_reader(whole, len);
