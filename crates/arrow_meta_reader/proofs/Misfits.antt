@@ -9,7 +9,7 @@ use Rattle.arrow_meta_reader.specs.declared.fields.FieldFault.{FieldFault}
 use Rattle.arrow_meta_reader.specs.declared.fields.FieldFault.TheVariants.{Misfit, Memory}
 use Rattle.arrow_meta_reader.specs.Builds.{Refuses, size, size_all}
 use Rattle.std.proofs.lemmas.Bool.{or_left, or_right}
-use Rattle.arrow_meta_reader.specs.Codes.{type_code}
+use Rattle.arrow_meta_reader.specs.Types.{type_code}
 use Rattle.arrow_meta_reader.specs.Conditions.{any, any_in, is_misfit, children_fit}
 use Rattle.arrow_meta_reader.specs.Parts.{nth, number_at}
 use Rattle.arrow_meta_reader.specs.SchemaMeaning.{fields_in}

@@ -7,7 +7,7 @@ use Rattle.arrow_types.specs.Schema.{is_wide, is_too_wide}
 use Rattle.arrow_meta_reader.specs.declared.codes.TypeCode.{TypeCode}
 use Rattle.arrow_meta_reader.specs.declared.codes.TypeCode.TheVariants as codes
 use Rattle.arrow_meta_reader.specs.declared.kinds.TableKind.TheVariants as kinds
-use Rattle.arrow_meta_reader.specs.Codes.{type_code}
+use Rattle.arrow_meta_reader.specs.Types.{type_code}
 use Rattle.arrow_meta_reader.specs.Parts.{nth, parts, number_at}
 use Rattle.arrow_meta_reader.specs.SchemaMeaning.{tag_by, fields_in, fields_from, with_field, fields_at}
 use Rattle.arrow_meta_reader.specs.Trees.{Tree, leaf, table, tables, Trees, none, more}
@@ -19,22 +19,8 @@ kept n false h = h
 
 narrow_tag : (code : Option TypeCode) (xs : Trees) → is_wide (tag_by code xs) ≡ false
 narrow_tag None xs = refl
-narrow_tag (Some codes.Null) xs = refl
-narrow_tag (Some codes.Int) xs = refl
-narrow_tag (Some codes.FloatingPoint) xs = refl
-narrow_tag (Some codes.Binary) xs = refl
-narrow_tag (Some codes.Utf8) xs = refl
-narrow_tag (Some codes.Bool) xs = refl
-narrow_tag (Some codes.Date) xs = refl
-narrow_tag (Some codes.Time) xs = refl
-narrow_tag (Some codes.Timestamp) xs = refl
-narrow_tag (Some codes.List) xs = refl
-narrow_tag (Some codes.Struct) xs = refl
 narrow_tag (Some codes.FixedSizeBinary) xs = kept (number_at 0 0 xs) (nat_lt 2147483647 (number_at 0 0 xs)) refl
-narrow_tag (Some codes.Duration) xs = refl
-narrow_tag (Some codes.LargeBinary) xs = refl
-narrow_tag (Some codes.LargeUtf8) xs = refl
-narrow_tag (Some codes.LargeList) xs = refl
+narrow_tag (Some code) xs = refl
 
 mutual
   -- no field of a vector of Field tables is too wide

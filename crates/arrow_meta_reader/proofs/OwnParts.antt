@@ -1,54 +1,20 @@
 -- When the own parts of two types are equal.
 use Rattle.std.proofs.Common.{◌≡◌, Bool, ◌↔◌, IsTrue, Option, Some, None, refl, sym, ap, ◌∙◌}
 use Rattle.std.specs.Option.{unwrap_or}
-use Rattle.arrow_types.specs.DataType as tags
 use Rattle.arrow_types.specs.DataType.{Tag}
 use Rattle.arrow_types.specs.Field.{Head, TypeShape}
 use Rattle.arrow_meta_reader.specs.declared.codes.TypeCode.{TypeCode}
 use Rattle.arrow_meta_reader.specs.declared.codes.TypeCode.TheVariants as codes
-use Rattle.arrow_meta_reader.specs.Codes.{type_code}
+use Rattle.arrow_meta_reader.specs.Types.{code_of, type_code}
 use Rattle.arrow_meta_reader.specs.Parts.{nth, parts, number_at}
 use Rattle.arrow_meta_reader.specs.SchemaMeaning.{fields_at, fields_from, head_of, tag_by}
 use Rattle.arrow_meta_reader.specs.Sharing.{AreLabelledAlike, code_in, tag_of, type_of}
 use Rattle.arrow_meta_reader.specs.Trees.{Trees}
 
--- the code of a type, by its own part
-abbrev code_of : Tag → TypeCode
-code_of tags.null = codes.Null
-code_of tags.boolean = codes.Bool
-code_of (tags.int bits signed) = codes.Int
-code_of (tags.floating_point precision) = codes.FloatingPoint
-code_of tags.binary = codes.Binary
-code_of tags.large_binary = codes.LargeBinary
-code_of (tags.fixed_size_binary width) = codes.FixedSizeBinary
-code_of tags.utf8 = codes.Utf8
-code_of tags.large_utf8 = codes.LargeUtf8
-code_of (tags.date unit) = codes.Date
-code_of (tags.time unit) = codes.Time
-code_of (tags.timestamp unit _) = codes.Timestamp
-code_of (tags.duration unit) = codes.Duration
-code_of tags.list = codes.List
-code_of tags.large_list = codes.LargeList
-code_of tags.struct = codes.Struct
-
 -- a type's own part keeps its code
 kept : (code : TypeCode) (xs : Trees) → code_of (tag_by (Some code) xs) ≡ code
 kept codes.Null xs = refl
-kept codes.Int xs = refl
-kept codes.FloatingPoint xs = refl
-kept codes.Binary xs = refl
-kept codes.Utf8 xs = refl
-kept codes.Bool xs = refl
-kept codes.Date xs = refl
-kept codes.Time xs = refl
-kept codes.Timestamp xs = refl
-kept codes.List xs = refl
-kept codes.Struct xs = refl
-kept codes.FixedSizeBinary xs = refl
-kept codes.Duration xs = refl
-kept codes.LargeBinary xs = refl
-kept codes.LargeUtf8 xs = refl
-kept codes.LargeList xs = refl
+kept code xs = refl
 
 -- a code outside the profile is read as Null
 read_as : (code : Option TypeCode) (xs : Trees) → tag_by code xs ≡ tag_by (Some (unwrap_or code codes.Null)) xs

@@ -28,6 +28,14 @@ field_get kind t ss i d e h =
     let at : 0 + i ≡ i = omega arith in
     spots_get (forms_of kind) t 0 i (get_or ss i d) got ∙ ap (λ (n : ℕ). Some (spot (get_or ss i d) t n)) at
 
+length-spots_from : (ss : List FieldForm) (t : TableAt) (i : ℕ) → length (spots_from ss t i) ≡ length ss
+length-spots_from [] t i = refl
+length-spots_from (s ∷ ss) t i = ap suc (length-spots_from ss t (i + 1))
+
+-- A table has as many spots as fields that are looked at.
+pub length-spots : (kind : TableKind) (t : TableAt) → length (spots_of kind t) ≡ length (forms_of kind)
+length-spots kind t = length-spots_from (forms_of kind) t 0
+
 -- element j of a vector
 pub element_get : (kind : TableKind) (p n j : ℕ) → j < n → slice_get (elements kind p n) j ≡ Some (record { form = forms.Table kind; place = Some (p + j * 4) })
 element_get kind p zero j h = absurd (omega arith)

@@ -1,4 +1,4 @@
--- The numbers that stand for versions, headers, types, widths and units (Message.fbs, Schema.fbs).
+-- The numbers of versions, headers, widths and units (Message.fbs, Schema.fbs).
 use Rattle.std.specs.Prelude.{ℕ, Option, Some, None, ◌==◌, nat_lt, if◌then◌else◌}
 use Rattle.arrow_types.specs.declared.data_type.BitWidth.{BitWidth}
 use Rattle.arrow_types.specs.declared.data_type.BitWidth.TheVariants as widths
@@ -6,16 +6,12 @@ use Rattle.arrow_types.specs.declared.data_type.DateUnit.{DateUnit}
 use Rattle.arrow_types.specs.declared.data_type.DateUnit.TheVariants as dates
 use Rattle.arrow_types.specs.declared.data_type.Precision.{Precision}
 use Rattle.arrow_types.specs.declared.data_type.Precision.TheVariants as precisions
-use Rattle.arrow_types.specs.declared.type_set.TypeSet.{TypeSet}
-use Rattle.arrow_types.specs.declared.type_set.TypeSet.TheVariants.{Core, All}
 use Rattle.arrow_types.specs.declared.data_type.TimeUnit.{TimeUnit}
 use Rattle.arrow_types.specs.declared.data_type.TimeUnit.TheVariants as times
 use Rattle.arrow_meta_reader.specs.declared.codes.HeaderKind.{HeaderKind}
 use Rattle.arrow_meta_reader.specs.declared.codes.HeaderKind.TheVariants as headers
 use Rattle.arrow_meta_reader.specs.declared.message.MetadataVersion.{MetadataVersion}
 use Rattle.arrow_meta_reader.specs.declared.message.MetadataVersion.TheVariants as versions
-use Rattle.arrow_meta_reader.specs.declared.codes.TypeCode.{TypeCode}
-use Rattle.arrow_meta_reader.specs.declared.codes.TypeCode.TheVariants as codes
 
 -- the number of a version (Schema.fbs, enum "MetadataVersion")
 abbrev pub number_of_version : MetadataVersion → ℕ
@@ -48,48 +44,6 @@ header_kind n =
     if n == schema_code then Some headers.Schema else
     (if n == dictionary_code then Some headers.DictionaryBatch else
     (if n == batch_code then Some headers.RecordBatch else None))
-
--- The type that a code names (Schema.fbs, union "Type"). There is none for the types that this project leaves out,
--- whatever the set.
-abbrev pub type_code : ℕ → Option TypeCode
-type_code n =
-    if n == 1 then Some codes.Null else
-    (if n == 2 then Some codes.Int else
-    (if n == 3 then Some codes.FloatingPoint else
-    (if n == 4 then Some codes.Binary else
-    (if n == 5 then Some codes.Utf8 else
-    (if n == 6 then Some codes.Bool else
-    (if n == 8 then Some codes.Date else
-    (if n == 9 then Some codes.Time else
-    (if n == 10 then Some codes.Timestamp else
-    (if n == 12 then Some codes.List else
-    (if n == 13 then Some codes.Struct else
-    (if n == 15 then Some codes.FixedSizeBinary else
-    (if n == 18 then Some codes.Duration else
-    (if n == 19 then Some codes.LargeBinary else
-    (if n == 20 then Some codes.LargeUtf8 else
-    (if n == 21 then Some codes.LargeList else None)))))))))))))))
-
--- The type, where a set has it: the core has no FloatingPoint.
-abbrev pub taken : TypeSet → Option TypeCode → Option TypeCode
-taken types None = None
-taken types (Some codes.Null) = Some codes.Null
-taken types (Some codes.Int) = Some codes.Int
-taken Core (Some codes.FloatingPoint) = None
-taken All (Some codes.FloatingPoint) = Some codes.FloatingPoint
-taken types (Some codes.Binary) = Some codes.Binary
-taken types (Some codes.Utf8) = Some codes.Utf8
-taken types (Some codes.Bool) = Some codes.Bool
-taken types (Some codes.Date) = Some codes.Date
-taken types (Some codes.Time) = Some codes.Time
-taken types (Some codes.Timestamp) = Some codes.Timestamp
-taken types (Some codes.List) = Some codes.List
-taken types (Some codes.Struct) = Some codes.Struct
-taken types (Some codes.FixedSizeBinary) = Some codes.FixedSizeBinary
-taken types (Some codes.Duration) = Some codes.Duration
-taken types (Some codes.LargeBinary) = Some codes.LargeBinary
-taken types (Some codes.LargeUtf8) = Some codes.LargeUtf8
-taken types (Some codes.LargeList) = Some codes.LargeList
 
 -- the precision of a floating-point number (Schema.fbs, enum "Precision")
 abbrev pub precision : ℕ → Option Precision

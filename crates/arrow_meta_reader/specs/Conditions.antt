@@ -1,16 +1,13 @@
 -- What makes a single table one that no message has, and whether a tree holds such a table.
 use Rattle.std.specs.Prelude.{ℕ, Bool, true, false, ◌||◌, ◌&&◌, not, Option, Some, None, is_some, ◌==◌}
 use Rattle.std.specs.Option.{is_none}
-use Rattle.arrow_types.specs.DataType.{bits_of, time_width_of}
 use Rattle.arrow_types.specs.Field.{width}
-use Rattle.arrow_types.specs.declared.data_type.TimeUnit.{TimeUnit}
 use Rattle.arrow_meta_reader.specs.declared.kinds.TableKind.{TableKind}
 use Rattle.arrow_meta_reader.specs.declared.kinds.TableKind.TheVariants as kinds
 use Rattle.arrow_meta_reader.specs.declared.codes.TypeCode.{TypeCode}
-use Rattle.arrow_meta_reader.specs.declared.codes.TypeCode.TheVariants as codes
 use Rattle.arrow_meta_reader.specs.declared.conditions.Test.{Test}
 use Rattle.arrow_meta_reader.specs.declared.conditions.Test.TheVariants as tests
-use Rattle.arrow_meta_reader.specs.Codes.{type_code, taken, bit_width, byte_width, precision, date_unit, time_unit}
+use Rattle.arrow_meta_reader.specs.Types.{type_row, type_code, taken, has_children}
 use Rattle.arrow_meta_reader.specs.Kinds.{type_table}
 use Rattle.arrow_meta_reader.specs.Parts.{nth, number_at, is_table}
 use Rattle.arrow_meta_reader.specs.SchemaMeaning.{fields_in}
@@ -29,8 +26,7 @@ abbrev mutual
   any_in test none = false
   any_in test (more x xs) = any test x || any_in test xs
 
--- Metadata: the table of an Int, a FloatingPoint, a Date, a Time, a Timestamp, a FixedSizeBinary or a Duration, where the
--- type is one of the set, or the data of a dictionary batch, is absent.
+-- Metadata: the table that a type of the set has, or the data of a dictionary batch, is absent.
 abbrev pub lacks_table : TableKind → Trees → Bool
 lacks_table (kinds.Message types) xs = false
 lacks_table (kinds.Schema types) xs = false
@@ -38,13 +34,7 @@ lacks_table (kinds.Field types) xs = is_some (type_table types (number_at slots.
 lacks_table kinds.DictionaryEncoding xs = false
 lacks_table kinds.RecordBatch xs = false
 lacks_table kinds.DictionaryBatch xs = not (is_table (nth slots.dictionary_batch_data xs))
-lacks_table kinds.Int xs = false
-lacks_table kinds.FloatingPoint xs = false
-lacks_table kinds.Date xs = false
-lacks_table kinds.Time xs = false
-lacks_table kinds.Timestamp xs = false
-lacks_table kinds.FixedSizeBinary xs = false
-lacks_table kinds.Duration xs = false
+lacks_table (kinds.Type code) xs = false
 lacks_table kinds.KeyValue xs = false
 
 -- Unsupported: an endianness other than Little, a type outside of the set, a dictionary kind other than DenseArray.
@@ -55,40 +45,14 @@ is_unsupported (kinds.Field types) xs = is_none (taken types (type_code (number_
 is_unsupported kinds.DictionaryEncoding xs = not (number_at slots.dictionary_encoding_dictionary_kind 0 xs == 0)
 is_unsupported kinds.RecordBatch xs = false
 is_unsupported kinds.DictionaryBatch xs = false
-is_unsupported kinds.Int xs = false
-is_unsupported kinds.FloatingPoint xs = false
-is_unsupported kinds.Date xs = false
-is_unsupported kinds.Time xs = false
-is_unsupported kinds.Timestamp xs = false
-is_unsupported kinds.FixedSizeBinary xs = false
-is_unsupported kinds.Duration xs = false
+is_unsupported (kinds.Type code) xs = false
 is_unsupported kinds.KeyValue xs = false
-
--- a time's unit, and the width in bits that goes with it (Schema.fbs, table "Time")
-abbrev pub is_time : Option TimeUnit → ℕ → Bool
-is_time None bits = false
-is_time (Some unit) bits = bits == bits_of (time_width_of unit)
 
 -- A list has one child, a struct any number, each other type none (Columnar Format, "Physical memory layout"), and a
 -- type outside the profile none that is looked at.
 abbrev pub children_fit : Option TypeCode → ℕ → Bool
 children_fit None n = n == 0
-children_fit (Some codes.Null) n = n == 0
-children_fit (Some codes.Int) n = n == 0
-children_fit (Some codes.FloatingPoint) n = n == 0
-children_fit (Some codes.Binary) n = n == 0
-children_fit (Some codes.Utf8) n = n == 0
-children_fit (Some codes.Bool) n = n == 0
-children_fit (Some codes.Date) n = n == 0
-children_fit (Some codes.Time) n = n == 0
-children_fit (Some codes.Timestamp) n = n == 0
-children_fit (Some codes.List) n = n == 1
-children_fit (Some codes.Struct) n = true
-children_fit (Some codes.FixedSizeBinary) n = n == 0
-children_fit (Some codes.Duration) n = n == 0
-children_fit (Some codes.LargeBinary) n = n == 0
-children_fit (Some codes.LargeUtf8) n = n == 0
-children_fit (Some codes.LargeList) n = n == 1
+children_fit (Some code) n = has_children (type_row code).children n
 
 -- Schema: a width or a unit outside its list, a time's width that is not its unit's, a number of children that the
 -- type does not have.
@@ -99,13 +63,7 @@ is_misfit (kinds.Field types) xs = not (children_fit (type_code (number_at slots
 is_misfit kinds.DictionaryEncoding xs = false
 is_misfit kinds.RecordBatch xs = false
 is_misfit kinds.DictionaryBatch xs = false
-is_misfit kinds.Int xs = is_none (bit_width (number_at slots.int_bit_width 0 xs))
-is_misfit kinds.FloatingPoint xs = is_none (precision (number_at slots.floating_point_precision 0 xs))
-is_misfit kinds.Date xs = is_none (date_unit (number_at slots.date_unit 1 xs))
-is_misfit kinds.Time xs = not (is_time (time_unit (number_at slots.time_unit 1 xs)) (number_at slots.time_bit_width 32 xs))
-is_misfit kinds.Timestamp xs = is_none (time_unit (number_at slots.timestamp_unit 0 xs))
-is_misfit kinds.FixedSizeBinary xs = is_none (byte_width (number_at slots.fixed_size_binary_byte_width 0 xs))
-is_misfit kinds.Duration xs = is_none (time_unit (number_at slots.duration_unit 1 xs))
+is_misfit (kinds.Type code) xs = (type_row code).is_misfit xs
 is_misfit kinds.KeyValue xs = false
 
 -- what a test of the program looks for

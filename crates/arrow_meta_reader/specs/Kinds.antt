@@ -4,7 +4,8 @@ use Rattle.std.specs.Option.{option_and_then, unwrap_or}
 use Rattle.arrow_flatbuf.specs.Place.{number_at}
 use Rattle.arrow_flatbuf.specs.Table.{TableAt, field_place}
 use Rattle.arrow_types.specs.declared.type_set.TypeSet.{TypeSet}
-use Rattle.arrow_meta_reader.specs.Codes.{header_kind, taken, type_code}
+use Rattle.arrow_meta_reader.specs.Codes.{header_kind}
+use Rattle.arrow_meta_reader.specs.Types.{type_row, type_code, taken}
 use Rattle.arrow_meta_reader.specs.declared.codes.HeaderKind.{HeaderKind}
 use Rattle.arrow_meta_reader.specs.declared.codes.HeaderKind.TheVariants as headers
 use Rattle.arrow_meta_reader.specs.declared.codes.TypeCode.{TypeCode}
@@ -25,25 +26,13 @@ forms_of (kinds.Schema types) = forms.Short ∷ forms.Tables (kinds.Field types)
 forms_of (kinds.Field types) =
     forms.Text ∷ forms.Byte ∷ forms.Byte ∷ forms.Type types ∷ forms.Table kinds.DictionaryEncoding ∷ forms.Tables (kinds.Field types) ∷ forms.Tables kinds.KeyValue ∷ []
 -- id, indexType, isOrdered, dictionaryKind
-forms_of kinds.DictionaryEncoding = forms.Long ∷ forms.Table kinds.Int ∷ forms.Byte ∷ forms.Short ∷ []
+forms_of kinds.DictionaryEncoding = forms.Long ∷ forms.Table (kinds.Type codes.Int) ∷ forms.Byte ∷ forms.Short ∷ []
 -- length, nodes, buffers, compression
 forms_of kinds.RecordBatch = forms.Long ∷ forms.Pairs ∷ forms.Pairs ∷ forms.Presence ∷ []
 -- id, data, isDelta
 forms_of kinds.DictionaryBatch = forms.Long ∷ forms.Table kinds.RecordBatch ∷ forms.Byte ∷ []
--- bitWidth, is_signed
-forms_of kinds.Int = forms.Int ∷ forms.Byte ∷ []
--- precision
-forms_of kinds.FloatingPoint = forms.Short ∷ []
--- unit
-forms_of kinds.Date = forms.Short ∷ []
--- unit, bitWidth
-forms_of kinds.Time = forms.Short ∷ forms.Int ∷ []
--- unit, timezone
-forms_of kinds.Timestamp = forms.Short ∷ forms.Text ∷ []
--- byteWidth
-forms_of kinds.FixedSizeBinary = forms.Int ∷ []
--- unit
-forms_of kinds.Duration = forms.Short ∷ []
+-- those of the type's row
+forms_of (kinds.Type code) = (type_row code).fields
 -- key, value
 forms_of kinds.KeyValue = forms.Bytes ∷ forms.Bytes ∷ []
 
@@ -58,25 +47,15 @@ table_of_header types (Some headers.RecordBatch) = Some kinds.RecordBatch
 abbrev pub header_table : TypeSet → ℕ → Option TableKind
 header_table types code = table_of_header types (header_kind code)
 
--- The table of a type (Schema.fbs, union "Type"), none where nothing in it is looked at.
+-- a table of these fields; where none is looked at there is none
+abbrev pub opened_of : TypeCode → List FieldForm → Option TableKind
+opened_of code [] = None
+opened_of code (form ∷ rest) = Some (kinds.Type code)
+
+-- the table of a type, none where nothing in it is looked at
 abbrev pub table_of : Option TypeCode → Option TableKind
 table_of None = None
-table_of (Some codes.Null) = None
-table_of (Some codes.Int) = Some kinds.Int
-table_of (Some codes.FloatingPoint) = Some kinds.FloatingPoint
-table_of (Some codes.Binary) = None
-table_of (Some codes.Utf8) = None
-table_of (Some codes.Bool) = None
-table_of (Some codes.Date) = Some kinds.Date
-table_of (Some codes.Time) = Some kinds.Time
-table_of (Some codes.Timestamp) = Some kinds.Timestamp
-table_of (Some codes.List) = None
-table_of (Some codes.Struct) = None
-table_of (Some codes.FixedSizeBinary) = Some kinds.FixedSizeBinary
-table_of (Some codes.Duration) = Some kinds.Duration
-table_of (Some codes.LargeBinary) = None
-table_of (Some codes.LargeUtf8) = None
-table_of (Some codes.LargeList) = None
+table_of (Some code) = opened_of code (type_row code).fields
 
 -- the table that a type's code opens, where a set has the type
 abbrev pub type_table : TypeSet → ℕ → Option TableKind

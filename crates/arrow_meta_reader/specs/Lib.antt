@@ -10,6 +10,7 @@ pub mod Stored
 pub mod Codes
 pub mod Parts
 pub mod Slots
+pub mod Types
 pub mod SchemaMeaning
 pub mod Conditions
 pub mod Faults

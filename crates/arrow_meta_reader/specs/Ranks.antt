@@ -13,13 +13,7 @@ rank (kinds.Field types) = 3
 rank kinds.DictionaryEncoding = 2
 rank kinds.RecordBatch = 1
 rank kinds.DictionaryBatch = 2
-rank kinds.Int = 1
-rank kinds.FloatingPoint = 1
-rank kinds.Date = 1
-rank kinds.Time = 1
-rank kinds.Timestamp = 1
-rank kinds.FixedSizeBinary = 1
-rank kinds.Duration = 1
+rank (kinds.Type code) = 1
 rank kinds.KeyValue = 1
 
 -- the rank of the tables in a field of this form, 0 where it holds none
@@ -45,13 +39,7 @@ inner (kinds.Field types) = 7
 inner kinds.DictionaryEncoding = rank kinds.DictionaryEncoding
 inner kinds.RecordBatch = rank kinds.RecordBatch
 inner kinds.DictionaryBatch = rank kinds.DictionaryBatch
-inner kinds.Int = rank kinds.Int
-inner kinds.FloatingPoint = rank kinds.FloatingPoint
-inner kinds.Date = rank kinds.Date
-inner kinds.Time = rank kinds.Time
-inner kinds.Timestamp = rank kinds.Timestamp
-inner kinds.FixedSizeBinary = rank kinds.FixedSizeBinary
-inner kinds.Duration = rank kinds.Duration
+inner (kinds.Type code) = rank (kinds.Type code)
 inner kinds.KeyValue = rank kinds.KeyValue
 
 -- what is left to do

@@ -1,55 +1,26 @@
 -- Which fields a Schema table says, with the defaults filled in (Schema.fbs). Where a condition of a fault holds the
 -- reading goes on with some value or other, and means nothing.
 use Rattle.std.specs.Prelude.{ℕ, zero, suc, List, [], ◌∷◌, ◌++◌, Bool, true, false, Option, Some, None}
-use Rattle.std.specs.Option.{unwrap_or}
 use Rattle.std.specs.Int.{cast_signed, w64}
 use Rattle.arrow_types.specs.DataType as tags
 use Rattle.arrow_types.specs.DataType.{Tag}
 use Rattle.arrow_types.specs.Field as columns
 use Rattle.arrow_types.specs.Field.{Head, Fields, FieldShape}
 use Rattle.arrow_types.specs.Notes.{KeyValue, Notes, unnoted, noted, FieldNotes, SchemaShape}
-use Rattle.arrow_types.specs.declared.data_type.BitWidth.{BitWidth}
 use Rattle.arrow_types.specs.declared.data_type.BitWidth.TheVariants as widths
-use Rattle.arrow_types.specs.declared.data_type.DateUnit.{DateUnit}
-use Rattle.arrow_types.specs.declared.data_type.DateUnit.TheVariants as dates
-use Rattle.arrow_types.specs.declared.data_type.Precision.{Precision}
-use Rattle.arrow_types.specs.declared.data_type.Precision.TheVariants as precisions
-use Rattle.arrow_types.specs.declared.data_type.TimeUnit.{TimeUnit}
-use Rattle.arrow_types.specs.declared.data_type.TimeUnit.TheVariants as times
 use Rattle.arrow_types.specs.declared.field.IndexType.{IndexType}
 use Rattle.arrow_types.specs.declared.field.Encoding.{Encoding}
 use Rattle.arrow_meta_reader.specs.declared.kinds.TableKind.TheVariants as kinds
 use Rattle.arrow_meta_reader.specs.declared.codes.TypeCode.{TypeCode}
-use Rattle.arrow_meta_reader.specs.declared.codes.TypeCode.TheVariants as codes
-use Rattle.arrow_meta_reader.specs.Codes.{type_code, bit_width, byte_width, precision, date_unit, time_unit}
+use Rattle.arrow_meta_reader.specs.Types.{type_row, type_code, width_in, sign_in}
 use Rattle.arrow_meta_reader.specs.Trees.{Tree, leaf, table, tables, Trees, none, more}
-use Rattle.arrow_meta_reader.specs.Parts.{nth, parts, number_at, flag_at, text_in, some_text_in, bytes_in}
+use Rattle.arrow_meta_reader.specs.Parts.{nth, parts, number_at, flag_at, text_in, bytes_in}
 use Rattle.arrow_meta_reader.specs.Slots as slots
-
--- the width of an Int table, whose default 0 is no width
-abbrev pub width_in : Trees → BitWidth
-width_in xs = unwrap_or (bit_width (number_at slots.int_bit_width 0 xs)) widths.Eight
-
--- the precision of a FloatingPoint table, whose default is HALF
-abbrev pub precision_in : Trees → Precision
-precision_in xs = unwrap_or (precision (number_at slots.floating_point_precision 0 xs)) precisions.Half
-
--- the unit of a Date table, whose default is MILLISECOND
-abbrev pub date_in : Trees → DateUnit
-date_in xs = unwrap_or (date_unit (number_at slots.date_unit 1 xs)) dates.Day
-
--- the unit of the table of a Time, a Timestamp or a Duration, by the number of the default
-abbrev pub time_in : ℕ → Trees → TimeUnit
-time_in default xs = unwrap_or (time_unit (number_at slots.time_unit default xs)) times.Second
-
--- the number of bytes of a FixedSizeBinary table, whose default is 0
-abbrev pub fixed_size_in : Trees → ℕ
-fixed_size_in xs = unwrap_or (byte_width (number_at slots.fixed_size_binary_byte_width 0 xs)) 0
 
 -- An absent index type is a signed number of 32 bits (Schema.fbs, table "DictionaryEncoding").
 abbrev pub index_in : Tree → IndexType
 index_in (leaf x) = record { bits = widths.ThirtyTwo; signed = true }
-index_in (table kind xs) = record { bits = width_in xs; signed = flag_at slots.int_is_signed xs }
+index_in (table kind xs) = record { bits = width_in xs; signed = sign_in xs }
 index_in (tables xs) = record { bits = widths.ThirtyTwo; signed = true }
 
 -- the encoding of a field, none where its table is absent
@@ -63,26 +34,10 @@ encoding_in (table kind xs) =
     })
 encoding_in (tables xs) = None
 
--- The type of a code, by its table. The defaults: HALF for a FloatingPoint, MILLISECOND for a Date, a Time and a Duration, SECOND for a Timestamp, 0
--- bytes for a FixedSizeBinary.
+-- the type of a code, by the fields of its table; a code outside the profile is read as Null
 abbrev pub tag_by : Option TypeCode → Trees → Tag
 tag_by None xs = tags.null
-tag_by (Some codes.Null) xs = tags.null
-tag_by (Some codes.Int) xs = tags.int (width_in xs) (flag_at slots.int_is_signed xs)
-tag_by (Some codes.FloatingPoint) xs = tags.floating_point (precision_in xs)
-tag_by (Some codes.Binary) xs = tags.binary
-tag_by (Some codes.Utf8) xs = tags.utf8
-tag_by (Some codes.Bool) xs = tags.boolean
-tag_by (Some codes.Date) xs = tags.date (date_in xs)
-tag_by (Some codes.Time) xs = tags.time (time_in 1 xs)
-tag_by (Some codes.Timestamp) xs = tags.timestamp (time_in 0 xs) (some_text_in (nth slots.timestamp_timezone xs))
-tag_by (Some codes.List) xs = tags.list
-tag_by (Some codes.Struct) xs = tags.struct
-tag_by (Some codes.FixedSizeBinary) xs = tags.fixed_size_binary (fixed_size_in xs)
-tag_by (Some codes.Duration) xs = tags.duration (time_in 1 xs)
-tag_by (Some codes.LargeBinary) xs = tags.large_binary
-tag_by (Some codes.LargeUtf8) xs = tags.large_utf8
-tag_by (Some codes.LargeList) xs = tags.large_list
+tag_by (Some code) xs = (type_row code).tag xs
 
 -- the field of a Field table, without its children
 abbrev pub head_of : Trees → Head

@@ -8,7 +8,7 @@ use Rattle.arrow_types.specs.Schema.{DictionaryField}
 use Rattle.arrow_meta_reader.specs.declared.codes.TypeCode.{TypeCode}
 use Rattle.arrow_meta_reader.specs.declared.codes.TypeCode.TheVariants as codes
 use Rattle.arrow_meta_reader.specs.declared.sharing.Encoded.{Encoded}
-use Rattle.arrow_meta_reader.specs.Codes.{type_code}
+use Rattle.arrow_meta_reader.specs.Types.{type_code}
 use Rattle.arrow_meta_reader.specs.Parts.{nth, parts, number_at, flag_at, text_in}
 use Rattle.arrow_meta_reader.specs.SchemaMeaning.{encoding_in, fields_at, fields_from, head_of, tag_by}
 use Rattle.arrow_meta_reader.specs.Trees.{Trees}

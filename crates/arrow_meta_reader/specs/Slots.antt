@@ -102,46 +102,6 @@ dictionary_batch_data = 1
 abbrev pub dictionary_batch_is_delta : ℕ
 dictionary_batch_is_delta = 2
 
--- bitWidth (Schema.fbs, table "Int")
-abbrev pub int_bit_width : ℕ
-int_bit_width = 0
-
--- is_signed (Schema.fbs, table "Int")
-abbrev pub int_is_signed : ℕ
-int_is_signed = 1
-
--- precision (Schema.fbs, table "FloatingPoint")
-abbrev pub floating_point_precision : ℕ
-floating_point_precision = 0
-
--- unit (Schema.fbs, table "Date")
-abbrev pub date_unit : ℕ
-date_unit = 0
-
--- unit (Schema.fbs, table "Time")
-abbrev pub time_unit : ℕ
-time_unit = 0
-
--- bitWidth (Schema.fbs, table "Time")
-abbrev pub time_bit_width : ℕ
-time_bit_width = 1
-
--- unit (Schema.fbs, table "Timestamp")
-abbrev pub timestamp_unit : ℕ
-timestamp_unit = 0
-
--- timezone (Schema.fbs, table "Timestamp")
-abbrev pub timestamp_timezone : ℕ
-timestamp_timezone = 1
-
--- byteWidth (Schema.fbs, table "FixedSizeBinary")
-abbrev pub fixed_size_binary_byte_width : ℕ
-fixed_size_binary_byte_width = 0
-
--- unit (Schema.fbs, table "Duration")
-abbrev pub duration_unit : ℕ
-duration_unit = 0
-
 -- key (Schema.fbs, table "KeyValue")
 abbrev pub key_value_key : ℕ
 key_value_key = 0

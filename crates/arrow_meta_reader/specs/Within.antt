@@ -12,13 +12,7 @@ visit (kinds.Field types) = 1
 visit kinds.DictionaryEncoding = 0
 visit kinds.RecordBatch = 0
 visit kinds.DictionaryBatch = 0
-visit kinds.Int = 0
-visit kinds.FloatingPoint = 0
-visit kinds.Date = 0
-visit kinds.Time = 0
-visit kinds.Timestamp = 0
-visit kinds.FixedSizeBinary = 0
-visit kinds.Duration = 0
+visit (kinds.Type code) = 0
 visit kinds.KeyValue = 0
 
 -- 1 for a KeyValue table, 0 for every other
@@ -29,13 +23,7 @@ entry (kinds.Field types) = 0
 entry kinds.DictionaryEncoding = 0
 entry kinds.RecordBatch = 0
 entry kinds.DictionaryBatch = 0
-entry kinds.Int = 0
-entry kinds.FloatingPoint = 0
-entry kinds.Date = 0
-entry kinds.Time = 0
-entry kinds.Timestamp = 0
-entry kinds.FixedSizeBinary = 0
-entry kinds.Duration = 0
+entry (kinds.Type code) = 0
 entry kinds.KeyValue = 1
 
 -- how many bytes a text or a string in a field has, 0 for anything else

@@ -1,10 +1,10 @@
 //! The numbers that stand for versions, headers, types, widths and units (`Message.fbs`, `Schema.fbs`).
 ghost use Rattle.std.specs.Prelude.{◌≡◌};
-ghost use Rattle.arrow_meta_reader.specs.Codes.{metadata_version, header_kind, type_code};
-ghost use Rattle.arrow_meta_reader.specs.Codes.{bit_width, byte_width, date_unit, precision, taken, time_unit};
+ghost use Rattle.arrow_meta_reader.specs.Codes.{metadata_version, header_kind};
+ghost use Rattle.arrow_meta_reader.specs.Codes.{bit_width, byte_width, date_unit, precision, time_unit};
 
 use crate::message::MetadataVersion;
-use arrow_types::{BitWidth, DateUnit, Precision, Schema, TimeUnit, TypeSet};
+use arrow_types::{BitWidth, DateUnit, Precision, Schema, TimeUnit};
 
 /// The version of this number, None outside the profile: 0 is V1, 1 is V2 and 2 is V3.
 pub(crate) fn metadata_version(number: u64) -> Option<MetadataVersion>
@@ -19,7 +19,7 @@ pub(crate) fn metadata_version(number: u64) -> Option<MetadataVersion>
 }
 
 /// A header of this project's profile (`Message.fbs`, union `MessageHeader`).
-#[derive(Clone, Copy)]
+#[derive(Clone, Copy, Debug, PartialEq, Eq)]
 pub(crate) enum HeaderKind {
     Schema,
     DictionaryBatch,
@@ -41,7 +41,7 @@ pub(crate) fn header_kind(code: u64) -> Option<HeaderKind>
 }
 
 /// A type of this project's profile (`Schema.fbs`, union `Type`).
-#[derive(Clone, Copy)]
+#[derive(Clone, Copy, Debug, PartialEq, Eq)]
 pub(crate) enum TypeCode {
     Null,
     Int,
@@ -59,42 +59,6 @@ pub(crate) enum TypeCode {
     LargeBinary,
     LargeUtf8,
     LargeList,
-}
-
-/// The type that a code names, None outside the profile.
-pub(crate) fn type_code(code: u64) -> Option<TypeCode>
-    ensures code { result ≡ type_code code }
-{
-    match code {
-        1 => Some(TypeCode::Null),
-        2 => Some(TypeCode::Int),
-        3 => Some(TypeCode::FloatingPoint),
-        4 => Some(TypeCode::Binary),
-        5 => Some(TypeCode::Utf8),
-        6 => Some(TypeCode::Bool),
-        8 => Some(TypeCode::Date),
-        9 => Some(TypeCode::Time),
-        10 => Some(TypeCode::Timestamp),
-        12 => Some(TypeCode::List),
-        13 => Some(TypeCode::Struct),
-        15 => Some(TypeCode::FixedSizeBinary),
-        18 => Some(TypeCode::Duration),
-        19 => Some(TypeCode::LargeBinary),
-        20 => Some(TypeCode::LargeUtf8),
-        21 => Some(TypeCode::LargeList),
-        // a number that is no type's of the profile
-        _ => None,
-    }
-}
-
-/// The type, where a set has it.
-pub(crate) fn taken(types: TypeSet, code: Option<TypeCode>) -> Option<TypeCode>
-    ensures code { result ≡ taken types code }
-{
-    match (code, types) {
-        (Some(TypeCode::FloatingPoint), TypeSet::Core) => None,
-        (code, _) => code,
-    }
 }
 
 /// The precision of a floating-point number.

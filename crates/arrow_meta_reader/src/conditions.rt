@@ -1,20 +1,18 @@
 //! What makes a single table one that no message has, and whether a tree holds such a table.
 ghost use Rattle.std.specs.Prelude.{◌≡◌};
-ghost use Rattle.arrow_meta_reader.specs.Conditions.{any, any_in, finds, is_misfit, is_time, children_fit};
+ghost use Rattle.arrow_meta_reader.specs.Conditions.{any, any_in, finds, is_misfit};
 ghost use Rattle.arrow_meta_reader.specs.Conditions.{is_unsupported, lacks_table};
 ghost use Rattle.arrow_meta_reader.specs.Parts.{nth};
 ghost use Rattle.arrow_meta_reader.specs.SchemaMeaning.{fields_in, fields_from, is_field};
 ghost use Rattle.arrow_meta_reader.specs.Views.{plain, plain_all};
 ghost use Rattle.arrow_types.specs.Field.{width};
 
-use crate::codes::{
-    TypeCode, bit_width, byte_width, date_unit, precision, taken, time_unit, type_code,
-};
-use crate::kinds::{TableKind, type_table};
+use crate::forms::type_table;
+use crate::kinds::TableKind;
 use crate::message_tree::Tree;
 use crate::parts::{has_table, number_at, part};
 use crate::slots;
-use arrow_types::TimeUnit;
+use crate::types::{children_fit, is_type_misfit, taken, type_code};
 
 /// What makes a table one that no message has.
 #[derive(Clone, Copy)]
@@ -108,59 +106,8 @@ fn is_misfit(kind: TableKind, parts: &[Tree]) -> bool
             type_code(number_at(parts, slots::field::TYPE_TYPE, 0)),
             fields_at(parts, slots::field::CHILDREN),
         ),
-        TableKind::Int => bit_width(number_at(parts, slots::int::BIT_WIDTH, 0)).is_none(),
-        TableKind::FloatingPoint => {
-            precision(number_at(parts, slots::floating_point::PRECISION, 0)).is_none()
-        }
-        TableKind::Date => date_unit(number_at(parts, slots::date::UNIT, 1)).is_none(),
-        TableKind::Time => !is_time(
-            time_unit(number_at(parts, slots::time::UNIT, 1)),
-            number_at(parts, slots::time::BIT_WIDTH, 32),
-        ),
-        TableKind::Timestamp => time_unit(number_at(parts, slots::timestamp::UNIT, 0)).is_none(),
-        TableKind::FixedSizeBinary => byte_width(number_at(
-            parts,
-            slots::fixed_size_binary::BYTE_WIDTH,
-            0,
-        )).is_none(),
-        TableKind::Duration => time_unit(number_at(parts, slots::duration::UNIT, 1)).is_none(),
+        TableKind::Type(code) => is_type_misfit(code, parts),
         _ => false,
-    }
-}
-
-/// Whether a time of this unit is so many bits wide.
-fn is_time(unit: Option<TimeUnit>, bits: u64) -> bool
-    ensures time { result ≡ is_time unit bits }
-{
-    match unit {
-        None => false,
-        Some(unit) => bits == u64::from(unit.time_width().bits()),
-    }
-}
-
-/// Whether a type of this code may have so many children.
-fn children_fit(code: Option<TypeCode>, count: usize) -> bool
-    ensures fit { result ≡ children_fit code count }
-{
-    match code {
-        None => count == 0,
-        Some(
-            TypeCode::Null
-            | TypeCode::Int
-            | TypeCode::FloatingPoint
-            | TypeCode::Binary
-            | TypeCode::Utf8
-            | TypeCode::Bool
-            | TypeCode::Date
-            | TypeCode::Time
-            | TypeCode::Timestamp
-            | TypeCode::FixedSizeBinary
-            | TypeCode::Duration
-            | TypeCode::LargeBinary
-            | TypeCode::LargeUtf8,
-        ) => count == 0,
-        Some(TypeCode::List | TypeCode::LargeList) => count == 1,
-        Some(TypeCode::Struct) => true,
     }
 }
 

@@ -47,6 +47,7 @@ mod counter;
 mod fault;
 mod field_tables;
 mod fields;
+mod forms;
 mod judging;
 mod kinds;
 pub mod laws;
@@ -59,6 +60,7 @@ mod parts;
 mod reader;
 mod sharing;
 mod slots;
+mod types;
 mod work;
 
 pub use fault::{BatchKind, MetaFault};

@@ -3,8 +3,9 @@
 //! A slice of trees is the fields of one table, in order of their numbers.
 ghost use Rattle.std.specs.Prelude.{◌≡◌, ◌<◌, ℕ, MatchOption, string_bytes, option_map};
 ghost use Rattle.arrow_meta_reader.specs.Parts.{nth, parts, number_at, number_or, leaf_number_or, flag_at};
+ghost use Rattle.arrow_meta_reader.specs.Sharing.{lent_bytes};
 ghost use Rattle.arrow_meta_reader.specs.Parts.{is_table, is_there, text_in, some_text_in, bytes_in, pairs_in};
-ghost use Rattle.arrow_meta_reader.specs.Trees.{leaf, absent as nothing};
+ghost use Rattle.arrow_meta_reader.specs.Trees.{leaf, leaf as leaf_tree, absent as nothing};
 ghost use Rattle.arrow_meta_reader.specs.Views.{plain, plain_all, plain_leaf};
 
 use crate::message_tree::{Leaf, Tree};
@@ -52,6 +53,39 @@ pub(crate) fn is_there_at(parts: &[Tree], index: u16) -> bool
     match part(parts, index) {
         Some(tree) => tree.is_there(),
         None => false,
+    }
+}
+
+/// The text in field `index`, empty where it is absent.
+pub(crate) fn text_at(parts: &[Tree], index: u16) -> &str
+    ensures text { result.now ≡ text_in (nth index (plain_all parts.now)) }
+{
+    some_text_at(parts, index).unwrap_or("")
+}
+
+/// The text in field `index`, None where it is absent.
+pub(crate) fn some_text_at(parts: &[Tree], index: u16) -> Option<&str>
+    ensures text { option_map lent_bytes result ≡ some_text_in (nth index (plain_all parts.now)) }
+{
+    match part(parts, index) {
+        Some(Tree::Leaf(leaf)) => text_of(leaf),
+        Some(Tree::Table(_, _)) => None,
+        Some(Tree::Tables(_)) => None,
+        None => None,
+    }
+}
+
+/// The text that it is, None where it is none.
+fn text_of(leaf: &Leaf) -> Option<&str>
+    ensures text { option_map lent_bytes result ≡ some_text_in (leaf_tree (plain_leaf leaf.now)) }
+{
+    match leaf {
+        Leaf::Text(text) => Some(text.as_str()),
+        Leaf::Absent => None,
+        Leaf::Number(_) => None,
+        Leaf::Bytes(_) => None,
+        Leaf::Pairs(_) => None,
+        Leaf::Present => None,
     }
 }
 

@@ -17,8 +17,8 @@ ghost use Rattle.arrow_meta_reader.specs.Reads.{ReadsTree, ReadsRow, LacksRoom, 
 
 use crate::counter::Counter;
 use crate::fault::MetaFault;
-use crate::kinds;
-use crate::kinds::{FieldForm, TableKind};
+use crate::forms;
+use crate::kinds::{FieldForm, OFFSET, PAIR, TableKind};
 use crate::message_tree::{Leaf, MessageTree, Tree};
 use crate::work::Work;
 use arrow_flatbuf::{Root, Table, Vector};
@@ -170,7 +170,7 @@ impl Reader {
             (spots_of kind table.now) levels (room self.old) (room self.new)) }
         ensures max { self.new.counter.max_bytes ≡ self.old.counter.max_bytes }
     {
-        let forms = kinds::forms(kind);
+        let forms = forms::forms(kind);
         let mut trees = Vec::new(self.alloc);
         for field in 0..forms.len() as u16 {
             let tree = self.field(table, field, forms[field as usize], levels)?;
@@ -206,11 +206,11 @@ impl Reader {
             FieldForm::Table(kind) => self.child(Some(kind), table, field, levels),
             FieldForm::Tables(kind) => self.children(kind, table, field, levels),
             FieldForm::Header(types) => {
-                let kind = kinds::header_table(types, code_at(table, field.saturating_sub(1)));
+                let kind = forms::header_table(types, code_at(table, field.saturating_sub(1)));
                 self.child(kind, table, field, levels)
             }
             FieldForm::Type(types) => {
-                let kind = kinds::type_table(types, code_at(table, field.saturating_sub(1)));
+                let kind = forms::type_table(types, code_at(table, field.saturating_sub(1)));
                 self.child(kind, table, field, levels)
             }
         }
@@ -259,7 +259,7 @@ impl Reader {
             levels (room self.old) (room self.new)) }
         ensures max { self.new.counter.max_bytes ≡ self.old.counter.max_bytes }
     {
-        match table.vector(field, kinds::OFFSET)? {
+        match table.vector(field, OFFSET)? {
             None => Ok(Tree::Leaf(Leaf::Absent)),
             Some(vector) => Ok(Tree::Tables(self.elements(kind, &vector, levels)?)),
         }
@@ -405,7 +405,7 @@ impl Reader {
             most (room self.old) (room self.new)) }
         ensures max { self.new.counter.max_bytes ≡ self.old.counter.max_bytes }
     {
-        match table.vector(field, kinds::PAIR)? {
+        match table.vector(field, PAIR)? {
             None => Ok(Tree::Leaf(Leaf::Absent)),
             Some(vector) => Ok(Tree::Leaf(Leaf::Pairs(pairs_of(self.alloc, &vector)?))),
         }

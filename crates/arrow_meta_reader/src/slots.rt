@@ -70,47 +70,6 @@ pub(crate) mod dictionary_batch {
     pub(crate) const IS_DELTA: u16 = 2;
 }
 
-/// Table `Int` (`Schema.fbs`).
-pub(crate) mod int {
-    pub(crate) const BIT_WIDTH: u16 = 0;
-
-    pub(crate) const IS_SIGNED: u16 = 1;
-}
-
-/// Table `FloatingPoint` (`Schema.fbs`).
-pub(crate) mod floating_point {
-    pub(crate) const PRECISION: u16 = 0;
-}
-
-/// Table `Date` (`Schema.fbs`).
-pub(crate) mod date {
-    pub(crate) const UNIT: u16 = 0;
-}
-
-/// Table `Time` (`Schema.fbs`).
-pub(crate) mod time {
-    pub(crate) const UNIT: u16 = 0;
-
-    pub(crate) const BIT_WIDTH: u16 = 1;
-}
-
-/// Table `Timestamp` (`Schema.fbs`).
-pub(crate) mod timestamp {
-    pub(crate) const UNIT: u16 = 0;
-
-    pub(crate) const TIMEZONE: u16 = 1;
-}
-
-/// Table `FixedSizeBinary` (`Schema.fbs`).
-pub(crate) mod fixed_size_binary {
-    pub(crate) const BYTE_WIDTH: u16 = 0;
-}
-
-/// Table `Duration` (`Schema.fbs`).
-pub(crate) mod duration {
-    pub(crate) const UNIT: u16 = 0;
-}
-
 /// Table `KeyValue` (`Schema.fbs`).
 pub(crate) mod key_value {
     pub(crate) const KEY: u16 = 0;

@@ -7,7 +7,7 @@ use Rattle.arrow_types.specs.Notes.{notes_of}
 use Rattle.arrow_types.specs.View.{field_notes, field_view, fields_view, type_notes, type_view}
 use Rattle.arrow_types.proofs.Fields.{width-fields_view}
 use Rattle.arrow_meta_reader.specs.Builds.{size, size_all}
-use Rattle.arrow_meta_reader.specs.Codes.{type_code}
+use Rattle.arrow_meta_reader.specs.Types.{type_code}
 use Rattle.arrow_meta_reader.specs.Conditions.{any, is_misfit, children_fit}
 use Rattle.arrow_meta_reader.specs.Parts.{nth, parts, number_at, flag_at, text_in}
 use Rattle.arrow_meta_reader.specs.SchemaMeaning.{fields_in, fields_at, tag_by, encoding_in, metadata_in, notes_at, notes_in}

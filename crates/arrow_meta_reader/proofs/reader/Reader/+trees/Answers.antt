@@ -1,4 +1,4 @@
-use Rattle.std.proofs.Common.{IfErr, Bool, false, true, ◌≡◌, ℕ, ◌+◌, ◌*◌, ◌≤◌, List, Some, ap, sym, subst, ◌∙◌, option_map, arith, add-one, refl}
+use Rattle.std.proofs.Common.{IfErr, Bool, false, true, ◌≡◌, ℕ, ◌+◌, ◌*◌, ◌≤◌, List, length, Some, ap, sym, subst, ◌∙◌, option_map, arith, add-one, refl}
 use Rattle.std.proofs.lemmas.Result.{err_from_is_err_and, IfErr-weaker}
 use Rattle.arrow_flatbuf.specs.Place.{behind}
 use Rattle.arrow_flatbuf.specs.Table.{field_place, table_at}
@@ -15,7 +15,7 @@ use Rattle.arrow_meta_reader.specs.declared.kinds.FieldForm.TheVariants as forms
 use Rattle.arrow_meta_reader.proofs.Layers.{layer_there, unreadable, unreadable_child, vector_layer, element_layer, no_room, no_room_at, no_fields, no_elements}
 use Rattle.arrow_meta_reader.proofs.Rows.{further, stuck, grown, begun, finished, plain_all-push}
 use Rattle.arrow_meta_reader.proofs.Ending.{opened_spot, row_ends, row_unkept, ends_there, ends_child}
-use Rattle.arrow_meta_reader.proofs.Spots.{field_get, element_get, length-elements, faulty_so}
+use Rattle.arrow_meta_reader.proofs.Spots.{field_get, element_get, length-elements, length-spots, faulty_so}
 use Rattle.arrow_meta_reader.proofs.reader.Reader.+trees.Goals as goal
 
 pub fields-returns-in_err-tree-clause-read : goal.fields-returns-in_err-tree-clause-read
@@ -33,6 +33,11 @@ fields-loop-field-preserved t c =
     let at = field_get c.args.kind c.args.table.now c.forms-forms.result.now c.loop-field.field forms.Byte c.forms-forms.ensures.value (omega arith) in
     let next = further c.args.table.now.bytes (spots_of c.args.kind c.args.table.now) c.args.levels (room c.args.self.now) (room c.loop-field.self) (room c.field.new.self) c.loop-field.field _ (plain_all c.loop-field.trees.items) (plain c.in_ok-tree.tree) c.loop-field.invariant.0 at h in
     rw (add-one, c.in_ok-push.ensures.items, plain_all-push c.loop-field.trees.items c.in_ok-tree.tree) (next, c.in_ok-tree.ensures.max ∙ c.loop-field.invariant.1)
+
+pub fields-returns-clause-read : goal.fields-returns-clause-read
+fields-returns-clause-read t c =
+    finished _ _ _ _ _ c.loop-field.field _ c.loop-field.invariant.0
+    (omega (arith, length-spots c.args.kind c.args.table.now, ap length c.forms-forms.ensures.value, c.forms-forms.ensures.few, c.loop-field-test.false))
 
 pub elements-returns-clause-read : goal.elements-returns-clause-read
 elements-returns-clause-read t c =

@@ -1,0 +1,303 @@
+//! The types that are read: of each its number, the fields of its table, its children, and the
+//! values that its table may hold (`Schema.fbs`, union `Type` and the tables of its members).
+//!
+//! A further type is an arm in each of these functions, and a row of `type_row` in
+//! `specs/Types.antt`.
+ghost use Rattle.std.specs.Prelude.{◌≡◌, ◌≤◌, ◌==◌, ◌∷◌, ◌↔◌, IsTrue, MatchResult, Some, [], false, length};
+ghost use Rattle.std.specs.Prelude.{not, option_map};
+ghost use Rattle.std.specs.Option.{unwrap_or};
+ghost use Rattle.arrow_meta_reader.specs.Builds.{BuildsType, Refuses, leaf_type};
+ghost use Rattle.arrow_meta_reader.specs.Codes.{byte_width, date_unit, precision};
+ghost use Rattle.arrow_meta_reader.specs.Conditions.{children_fit};
+ghost use Rattle.arrow_meta_reader.specs.Parts.{number_at};
+ghost use Rattle.arrow_meta_reader.specs.SchemaMeaning.{tag_by};
+ghost use Rattle.arrow_meta_reader.specs.Sharing.{lent_bytes};
+ghost use Rattle.arrow_meta_reader.specs.Trees.{none};
+ghost use Rattle.arrow_meta_reader.specs.Types.{is_time, sign_in, taken, time_in, type_code, type_row, width_in};
+ghost use Rattle.arrow_meta_reader.specs.Views.{plain_all};
+ghost use Rattle.arrow_types.specs.Field.{none as empty};
+ghost use Rattle.arrow_types.specs.Notes.{unnoted};
+ghost use Rattle.arrow_types.specs.View.{fields_view, notes_view, type_notes, type_view};
+
+use crate::codes::{TypeCode, bit_width, byte_width, date_unit, precision, time_unit};
+use crate::fields::FieldFault;
+use crate::kinds::FieldForm;
+use crate::message_tree::Tree;
+use crate::parts::{flag_at, into_some_text, number_at, some_text_at, take};
+use arrow_types::{BitWidth, DataType, DateUnit, Field, Precision, TimeUnit, TypeSet};
+use std::alloc::Global;
+
+/// The first field of a type's table: `bitWidth` of an Int, `precision`, `unit` or `byteWidth`.
+const FIRST: u16 = 0;
+
+/// The second one: `is_signed` of an Int, `bitWidth` of a Time, `timezone`.
+const SECOND: u16 = 1;
+
+/// The type that a number names, None outside the profile.
+pub(crate) fn type_code(number: u64) -> Option<TypeCode>
+    ensures code { result ≡ type_code number }
+{
+    Some(match number {
+        1 => TypeCode::Null,
+        2 => TypeCode::Int,
+        3 => TypeCode::FloatingPoint,
+        4 => TypeCode::Binary,
+        5 => TypeCode::Utf8,
+        6 => TypeCode::Bool,
+        8 => TypeCode::Date,
+        9 => TypeCode::Time,
+        10 => TypeCode::Timestamp,
+        12 => TypeCode::List,
+        13 => TypeCode::Struct,
+        15 => TypeCode::FixedSizeBinary,
+        18 => TypeCode::Duration,
+        19 => TypeCode::LargeBinary,
+        20 => TypeCode::LargeUtf8,
+        21 => TypeCode::LargeList,
+        // a number that is no type's of the profile
+        _ => return None,
+    })
+}
+
+/// The type, where a set has it.
+pub(crate) fn taken(types: TypeSet, code: Option<TypeCode>) -> Option<TypeCode>
+    ensures code { result ≡ taken types code }
+{
+    match (code, types) {
+        (Some(TypeCode::FloatingPoint), TypeSet::Core) => None,
+        (code, _) => code,
+    }
+}
+
+/// The fields of a type's table that are looked at, in order of their numbers from 0. Where there
+/// are none the table is not opened.
+pub(crate) fn type_fields(code: TypeCode) -> &'static [FieldForm]
+    ensures value { result.now ≡ (type_row code).fields }
+    ensures few { length result.now ≤ 2 }
+{
+    use FieldForm::{Byte, Int, Short, Text};
+    match code {
+        TypeCode::Int => &[Int, Byte],
+        TypeCode::FloatingPoint => &[Short],
+        TypeCode::Date => &[Short],
+        TypeCode::Time => &[Short, Int],
+        TypeCode::Timestamp => &[Short, Text],
+        TypeCode::FixedSizeBinary => &[Int],
+        TypeCode::Duration => &[Short],
+        _ => &[],
+    }
+}
+
+/// Whether a type of this code may have so many children.
+pub(crate) fn children_fit(code: Option<TypeCode>, count: usize) -> bool
+    ensures fit { result ≡ children_fit code count }
+{
+    match code {
+        Some(TypeCode::List | TypeCode::LargeList) => count == 1,
+        Some(TypeCode::Struct) => true,
+        _ => count == 0,
+    }
+}
+
+/// Whether a type's table with these fields holds a width or a unit that no type has.
+pub(crate) fn is_type_misfit(code: TypeCode, parts: &[Tree]) -> bool
+    ensures misfit { result ≡ (type_row code).is_misfit (plain_all parts.now) }
+{
+    match code {
+        TypeCode::Int => bit_width(number_at(parts, FIRST, 0)).is_none(),
+        TypeCode::FloatingPoint => precision(number_at(parts, FIRST, 0)).is_none(),
+        TypeCode::Date => date_unit(number_at(parts, FIRST, 1)).is_none(),
+        TypeCode::Time => {
+            let unit = time_unit(number_at(parts, FIRST, 1));
+            !is_time(unit, number_at(parts, SECOND, 32))
+        }
+        TypeCode::Timestamp => time_unit(number_at(parts, FIRST, 0)).is_none(),
+        TypeCode::FixedSizeBinary => byte_width(number_at(parts, FIRST, 0)).is_none(),
+        TypeCode::Duration => time_unit(number_at(parts, FIRST, 1)).is_none(),
+        _ => false,
+    }
+}
+
+/// The type of a code, with the fields of its table and its children.
+pub(crate) fn data_type(
+    alloc: Global,
+    code: Option<TypeCode>,
+    parts: Vec<Tree>,
+    children: Vec<Field>,
+) -> Result<DataType, FieldFault>
+    ensures built { BuildsType result code (plain_all parts.items) children.items }
+{
+    match code {
+        None => childless(DataType::Null, children),
+        Some(TypeCode::Null) => childless(DataType::Null, children),
+        Some(TypeCode::Int) => childless(int_type(&parts), children),
+        Some(TypeCode::FloatingPoint) => {
+            childless(DataType::FloatingPoint(precision_in(&parts)), children)
+        }
+        Some(TypeCode::Binary) => childless(DataType::Binary, children),
+        Some(TypeCode::Utf8) => childless(DataType::Utf8, children),
+        Some(TypeCode::Bool) => childless(DataType::Bool, children),
+        Some(TypeCode::Date) => childless(DataType::Date(date_in(&parts)), children),
+        Some(TypeCode::Time) => childless(DataType::Time(time_in(&parts, 1)), children),
+        Some(TypeCode::Timestamp) => childless(timestamp_type(parts), children),
+        Some(TypeCode::List) => list_type(alloc, children),
+        Some(TypeCode::Struct) => Ok(DataType::Struct(children)),
+        Some(TypeCode::FixedSizeBinary) => {
+            childless(DataType::FixedSizeBinary(fixed_size_in(&parts)), children)
+        }
+        Some(TypeCode::Duration) => childless(DataType::Duration(time_in(&parts, 1)), children),
+        Some(TypeCode::LargeBinary) => childless(DataType::LargeBinary, children),
+        Some(TypeCode::LargeUtf8) => childless(DataType::LargeUtf8, children),
+        Some(TypeCode::LargeList) => large_list_type(alloc, children),
+    }
+}
+
+/// Whether two tables of the type of this code say the same.
+pub(crate) fn same_part(code: TypeCode, one: &[Tree], other: &[Tree]) -> bool
+    ensures same { IsTrue result
+        ↔ (tag_by (Some code) (plain_all one.now) ≡ tag_by (Some code) (plain_all other.now)) }
+{
+    match code {
+        TypeCode::Int => { width_in(one) == width_in(other) && sign_in(one) == sign_in(other) }
+        TypeCode::FloatingPoint => precision_in(one) == precision_in(other),
+        TypeCode::Date => date_in(one) == date_in(other),
+        TypeCode::Time | TypeCode::Duration => time_in(one, 1) == time_in(other, 1),
+        TypeCode::Timestamp => {
+            time_in(one, 0) == time_in(other, 0)
+                && same_zone(some_text_at(one, SECOND), some_text_at(other, SECOND))
+        }
+        TypeCode::FixedSizeBinary => fixed_size_in(one) == fixed_size_in(other),
+        _ => true,
+    }
+}
+
+/// Whether two time zones are the same, or both are absent.
+fn same_zone(one: Option<&str>, other: Option<&str>) -> bool
+    ensures same { IsTrue result
+        ↔ (option_map lent_bytes one.entry ≡ option_map lent_bytes other.entry) }
+{
+    match (one, other) {
+        (None, None) => true,
+        (Some(one), Some(other)) => one == other,
+        (None, Some(_)) | (Some(_), None) => false,
+    }
+}
+
+/// Whether a time of this unit is so many bits wide.
+fn is_time(unit: Option<TimeUnit>, bits: u64) -> bool
+    ensures time { result ≡ is_time unit bits }
+{
+    match unit {
+        None => false,
+        Some(unit) => bits == u64::from(unit.time_width().bits()),
+    }
+}
+
+/// The type, if there are no children.
+#[tactic(auto, using(crate::proofs::TableFields::no_fields, crate::proofs::TableFields::no_notes))]
+fn childless(data_type: DataType, children: Vec<Field>) -> Result<DataType, FieldFault>
+    ensures alone { MatchResult result
+        (λ t. (t ≡ data_type) × (fields_view children.items ≡ empty)
+        × (notes_view children.items ≡ unnoted))
+        (λ e. (e ≡ FieldFault.Misfit) × ((length children.items == 0) ≡ false)) }
+{
+    if children.is_empty() {
+        Ok(data_type)
+    } else {
+        Err(FieldFault::Misfit)
+    }
+}
+
+/// A list of the one child.
+fn list_type(alloc: Global, children: Vec<Field>) -> Result<DataType, FieldFault>
+    ensures built { BuildsType result (Some TypeCode.List) none children.items }
+{
+    Ok(DataType::List(only(alloc, children)?))
+}
+
+/// The same between offsets of 64 bits.
+fn large_list_type(alloc: Global, children: Vec<Field>) -> Result<DataType, FieldFault>
+    ensures built { BuildsType result (Some TypeCode.LargeList) none children.items }
+{
+    Ok(DataType::LargeList(only(alloc, children)?))
+}
+
+/// The one child, if there is just one.
+fn only(alloc: Global, mut children: Vec<Field>) -> Result<Box<Field>, FieldFault>
+    ensures one { MatchResult result (λ item. children.items ≡ item.value ∷ [])
+        (λ e. Refuses e (not (length children.items == 1))) }
+{
+    if children.len() != 1 {
+        return Err(FieldFault::Misfit);
+    }
+    match children.pop() {
+        None => Err(FieldFault::Misfit),
+        Some(item) => Ok(Box::new(alloc, item)?),
+    }
+}
+
+fn int_type(parts: &[Tree]) -> DataType
+    ensures int { type_view result
+        ≡ leaf_type (tag_by (Some TypeCode.Int) (plain_all parts.now)) }
+    ensures notes { type_notes result ≡ unnoted }
+{
+    DataType::Int {
+        bits: width_in(parts),
+        signed: sign_in(parts),
+    }
+}
+
+fn timestamp_type(mut parts: Vec<Tree>) -> DataType
+    ensures timestamp { type_view result
+        ≡ leaf_type (tag_by (Some TypeCode.Timestamp) (plain_all parts.items)) }
+    ensures notes { type_notes result ≡ unnoted }
+{
+    let unit = time_in(&parts, 0);
+    let zone = into_some_text(take(&mut parts, SECOND));
+    DataType::Timestamp(unit, zone)
+}
+
+/// The width that an Int table with these fields says.
+pub(crate) fn width_in(parts: &[Tree]) -> BitWidth
+    ensures width { result ≡ width_in (plain_all parts.now) }
+{
+    bit_width(number_at(parts, FIRST, 0)).unwrap_or(BitWidth::Eight)
+}
+
+/// Whether an Int table with these fields says that its numbers have a sign.
+pub(crate) fn sign_in(parts: &[Tree]) -> bool
+    ensures sign { result ≡ sign_in (plain_all parts.now) }
+{
+    flag_at(parts, SECOND)
+}
+
+/// The precision that a FloatingPoint table with these fields says.
+fn precision_in(parts: &[Tree]) -> Precision
+    ensures precision { result
+        ≡ unwrap_or (precision (number_at 0 0 (plain_all parts.now))) Precision.Half }
+{
+    precision(number_at(parts, FIRST, 0)).unwrap_or(Precision::Half)
+}
+
+/// The unit that a Date table with these fields says.
+fn date_in(parts: &[Tree]) -> DateUnit
+    ensures unit { result
+        ≡ unwrap_or (date_unit (number_at 0 1 (plain_all parts.now))) DateUnit.Day }
+{
+    date_unit(number_at(parts, FIRST, 1)).unwrap_or(DateUnit::Day)
+}
+
+/// The unit that a Time, a Timestamp or a Duration table with these fields says, or the one of
+/// `default` where it says none. It is the same field of all three.
+fn time_in(parts: &[Tree], default: u64) -> TimeUnit
+    ensures unit { result ≡ time_in default (plain_all parts.now) }
+{
+    time_unit(number_at(parts, FIRST, default)).unwrap_or(TimeUnit::Second)
+}
+
+/// The number of bytes that a FixedSizeBinary table with these fields says.
+fn fixed_size_in(parts: &[Tree]) -> u32
+    ensures bytes { result ≡ unwrap_or (byte_width (number_at 0 0 (plain_all parts.now))) 0 }
+{
+    byte_width(number_at(parts, FIRST, 0)).unwrap_or(0)
+}
