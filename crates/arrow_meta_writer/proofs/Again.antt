@@ -1,6 +1,6 @@
 -- What a message is written as means the message again.
 use Rattle.std.proofs.Common.{◌≡◌, ℕ, ℤ, pos, negsuc, Bool, true, false, not, ◌||◌, ◌==◌, if◌then◌else◌, List, [], ◌∷◌}
-use Rattle.std.proofs.Common.{Option, Some, None, map, refl, ap, true≢false}
+use Rattle.std.proofs.Common.{Option, Some, None, map, refl, ap, ◌∙◌}
 use Rattle.std.specs.Int.{cast_signed, cast_unsigned, w64}
 use Rattle.std.specs.Option.{unwrap_or}
 use Rattle.std.proofs.lemmas.Bool.{or_parts}
@@ -18,11 +18,12 @@ use Rattle.arrow_types.specs.declared.data_type.BitWidth.TheVariants as widths
 use Rattle.arrow_types.specs.declared.data_type.DateUnit.TheVariants as dates
 use Rattle.arrow_types.specs.declared.data_type.TimeUnit.TheVariants as times
 use Rattle.arrow_types.specs.declared.type_set.TypeSet.{TypeSet}
-use Rattle.arrow_types.specs.declared.type_set.TypeSet.TheVariants.{Core, All}
+use Rattle.arrow_types.specs.declared.type_set.TypeSet.TheVariants.{All}
 use Rattle.arrow_types.specs.declared.field.Encoding.{Encoding}
 use Rattle.arrow_types.specs.declared.node.FieldNode.{FieldNode}
 use Rattle.arrow_types.specs.declared.node.Buffer.{Buffer}
-use Rattle.arrow_meta_reader.specs.Codes.{number_of_version, metadata_version, type_code, bit_width}
+use Rattle.arrow_meta_reader.specs.Codes.{number_of_version, metadata_version, bit_width}
+use Rattle.arrow_meta_reader.specs.Types.{type_code}
 use Rattle.arrow_meta_reader.specs.declared.message.MetadataVersion.{MetadataVersion}
 use Rattle.arrow_meta_reader.specs.declared.message.MetadataVersion.TheVariants as versions
 use Rattle.arrow_meta_writer.specs.Layouts.{flag, tag_code, node_pair, buffer_pair, first_pairs, first_below, first_rest}
@@ -34,6 +35,7 @@ use Rattle.arrow_meta_reader.specs.SchemaMeaning.{metadata_from, metadata_in, no
 use Rattle.arrow_meta_reader.specs.Trees.{Trees}
 use Rattle.arrow_meta_writer.specs.Writable.{IsLong, HasLongId, AreFields, AreNodes, AreBuffers}
 use Rattle.arrow_meta_writer.specs.Writable.{AreNotesOf, IsBatch, IsHeader, leaves_header_out}
+use Rattle.arrow_meta_writer.proofs.TypeTrees.{opened_in}
 use Rattle.arrow_meta_writer.specs.Written.{type_tree, encoding_tree, field_parts, field_trees}
 use Rattle.arrow_meta_writer.specs.Written.{batch_parts, message_parts, pair_trees, metadata_tree, schema_parts}
 
@@ -55,40 +57,34 @@ width_again widths.ThirtyTwo = refl
 width_again widths.SixtyFour = refl
 
 -- a type
+tag_of_all : (tag : Tag) → is_wide tag ≡ false → tag_by (type_code (tag_code tag)) (parts (type_tree All tag)) ≡ tag
+tag_of_all (tags.int bits signed) narrow = λ i. tags.int (width_again bits i) (flag_again signed i)
+tag_of_all (tags.floating_point precisions.Half) narrow = refl
+tag_of_all (tags.floating_point precisions.Single) narrow = refl
+tag_of_all (tags.floating_point precisions.Double) narrow = refl
+tag_of_all (tags.date dates.Day) narrow = refl
+tag_of_all (tags.date dates.Millisecond) narrow = refl
+tag_of_all (tags.time times.Second) narrow = refl
+tag_of_all (tags.time times.Millisecond) narrow = refl
+tag_of_all (tags.time times.Microsecond) narrow = refl
+tag_of_all (tags.time times.Nanosecond) narrow = refl
+tag_of_all (tags.timestamp times.Second None) narrow = refl
+tag_of_all (tags.timestamp times.Second (Some zone)) narrow = refl
+tag_of_all (tags.timestamp times.Millisecond None) narrow = refl
+tag_of_all (tags.timestamp times.Millisecond (Some zone)) narrow = refl
+tag_of_all (tags.timestamp times.Microsecond None) narrow = refl
+tag_of_all (tags.timestamp times.Microsecond (Some zone)) narrow = refl
+tag_of_all (tags.timestamp times.Nanosecond None) narrow = refl
+tag_of_all (tags.timestamp times.Nanosecond (Some zone)) narrow = refl
+tag_of_all (tags.fixed_size_binary width) narrow = ap (λ b. tags.fixed_size_binary (unwrap_or (if b then None else Some width) 0)) narrow
+tag_of_all (tags.duration times.Second) narrow = refl
+tag_of_all (tags.duration times.Millisecond) narrow = refl
+tag_of_all (tags.duration times.Microsecond) narrow = refl
+tag_of_all (tags.duration times.Nanosecond) narrow = refl
+tag_of_all tag narrow = refl
+
 tag_again : (types : TypeSet) (tag : Tag) → is_wide tag ≡ false → leaves_out types tag ≡ false → tag_by (type_code (tag_code tag)) (parts (type_tree types tag)) ≡ tag
-tag_again types tags.null narrow within = refl
-tag_again types tags.boolean narrow within = refl
-tag_again types tags.binary narrow within = refl
-tag_again types tags.utf8 narrow within = refl
-tag_again types tags.list narrow within = refl
-tag_again types tags.struct narrow within = refl
-tag_again types tags.large_binary narrow within = refl
-tag_again types tags.large_utf8 narrow within = refl
-tag_again types tags.large_list narrow within = refl
-tag_again types (tags.int bits signed) narrow within = λ i. tags.int (width_again bits i) (flag_again signed i)
-tag_again Core (tags.floating_point precision) narrow within = absurd (true≢false within)
-tag_again All (tags.floating_point precisions.Half) narrow within = refl
-tag_again All (tags.floating_point precisions.Single) narrow within = refl
-tag_again All (tags.floating_point precisions.Double) narrow within = refl
-tag_again types (tags.date dates.Day) narrow within = refl
-tag_again types (tags.date dates.Millisecond) narrow within = refl
-tag_again types (tags.time times.Second) narrow within = refl
-tag_again types (tags.time times.Millisecond) narrow within = refl
-tag_again types (tags.time times.Microsecond) narrow within = refl
-tag_again types (tags.time times.Nanosecond) narrow within = refl
-tag_again types (tags.timestamp times.Second None) narrow within = refl
-tag_again types (tags.timestamp times.Second (Some zone)) narrow within = refl
-tag_again types (tags.timestamp times.Millisecond None) narrow within = refl
-tag_again types (tags.timestamp times.Millisecond (Some zone)) narrow within = refl
-tag_again types (tags.timestamp times.Microsecond None) narrow within = refl
-tag_again types (tags.timestamp times.Microsecond (Some zone)) narrow within = refl
-tag_again types (tags.timestamp times.Nanosecond None) narrow within = refl
-tag_again types (tags.timestamp times.Nanosecond (Some zone)) narrow within = refl
-tag_again types (tags.fixed_size_binary width) narrow within = ap (λ b. tags.fixed_size_binary (unwrap_or (if b then None else Some width) 0)) narrow
-tag_again types (tags.duration times.Second) narrow within = refl
-tag_again types (tags.duration times.Millisecond) narrow within = refl
-tag_again types (tags.duration times.Microsecond) narrow within = refl
-tag_again types (tags.duration times.Nanosecond) narrow within = refl
+tag_again types tag narrow within = ap (λ tree. tag_by (type_code (tag_code tag)) (parts tree)) (opened_in types tag within) ∙ tag_of_all tag narrow
 
 -- an encoding
 encoding_again : (e : Option Encoding) → HasLongId e → encoding_in (encoding_tree e) ≡ e

@@ -5,13 +5,10 @@ use Rattle.arrow_flatbuf.specs.Nodes.{after_cells, cells_place}
 use Rattle.arrow_flatbuf.specs.Nodes as laid
 use Rattle.arrow_flatbuf.specs.Layout.{up}
 use Rattle.arrow_flatbuf.proofs.Laid.{reaches}
-use Rattle.arrow_types.specs.DataType as tags
-use Rattle.arrow_types.specs.DataType.{Tag}
 use Rattle.arrow_types.specs.Field as columns
 use Rattle.arrow_types.specs.Field.{Head, Fields}
 use Rattle.arrow_types.specs.Notes.{KeyValue, Notes, unnoted, noted, noted_count}
 use Rattle.arrow_types.specs.declared.type_set.TypeSet.{TypeSet}
-use Rattle.arrow_types.specs.declared.type_set.TypeSet.TheVariants.{Core, All}
 use Rattle.arrow_types.specs.declared.field.Encoding.{Encoding}
 use Rattle.arrow_meta_writer.specs.Layouts.{type_cells, encoding_cells, with_encoding, field_cells}
 use Rattle.arrow_meta_writer.specs.Layouts.{field_nodes, schema_cells, header_cells, message_cells}
@@ -23,54 +20,15 @@ use Rattle.arrow_meta_reader.specs.Within.{levels, levels_all, visits, visits_al
 use Rattle.arrow_meta_reader.specs.Within.{text_bytes}
 use Rattle.arrow_meta_reader.specs.Within.{text_bytes_all, IsShallow}
 use Rattle.arrow_meta_writer.specs.Writable.{IsHeader}
-use Rattle.arrow_meta_writer.specs.Written.{type_tree, encoding_tree, field_trees, header_tree}
+use Rattle.arrow_meta_writer.specs.Written.{encoding_tree, field_trees, header_tree}
 use Rattle.arrow_meta_writer.specs.Written.{message_tree, pair_trees, metadata_tree}
+use Rattle.arrow_meta_writer.proofs.TypeTrees.{type_levels, type_visits, type_entries, type_long}
 
--- A type and an encoding hold no fields.
-
-type_levels : (types : TypeSet) (tag : Tag) → levels (type_tree types tag) ≡ 0
-type_levels types (tags.timestamp unit None) = refl
-type_levels types (tags.timestamp unit (Some zone)) = refl
-type_levels types tags.null = refl
-type_levels types tags.boolean = refl
-type_levels types (tags.int bits signed) = refl
-type_levels types tags.binary = refl
-type_levels types tags.utf8 = refl
-type_levels Core (tags.floating_point precision) = refl
-type_levels All (tags.floating_point precision) = refl
-type_levels types (tags.date unit) = refl
-type_levels types (tags.time unit) = refl
-type_levels types tags.list = refl
-type_levels types tags.struct = refl
-type_levels types tags.large_binary = refl
-type_levels types tags.large_utf8 = refl
-type_levels types tags.large_list = refl
-type_levels types (tags.fixed_size_binary width) = refl
-type_levels types (tags.duration unit) = refl
+-- An encoding holds no fields.
 
 encoding_levels : (e : Option Encoding) → levels (encoding_tree e) ≡ 0
 encoding_levels None = refl
 encoding_levels (Some e) = refl
-
-type_visits : (types : TypeSet) (tag : Tag) → visits (type_tree types tag) ≡ 0
-type_visits types (tags.timestamp unit None) = refl
-type_visits types (tags.timestamp unit (Some zone)) = refl
-type_visits types tags.null = refl
-type_visits types tags.boolean = refl
-type_visits types (tags.int bits signed) = refl
-type_visits types tags.binary = refl
-type_visits types tags.utf8 = refl
-type_visits Core (tags.floating_point precision) = refl
-type_visits All (tags.floating_point precision) = refl
-type_visits types (tags.date unit) = refl
-type_visits types (tags.time unit) = refl
-type_visits types tags.list = refl
-type_visits types tags.struct = refl
-type_visits types tags.large_binary = refl
-type_visits types tags.large_utf8 = refl
-type_visits types tags.large_list = refl
-type_visits types (tags.fixed_size_binary width) = refl
-type_visits types (tags.duration unit) = refl
 
 encoding_visits : (e : Option Encoding) → visits (encoding_tree e) ≡ 0
 encoding_visits None = refl
@@ -79,26 +37,6 @@ encoding_visits (Some e) = refl
 encoding_text : (e : Option Encoding) → text_bytes (encoding_tree e) ≡ 0
 encoding_text None = refl
 encoding_text (Some e) = refl
-
-type_entries : (types : TypeSet) (tag : Tag) → entries (type_tree types tag) ≡ 0
-type_entries types (tags.timestamp unit None) = refl
-type_entries types (tags.timestamp unit (Some zone)) = refl
-type_entries types tags.null = refl
-type_entries types tags.boolean = refl
-type_entries types (tags.int bits signed) = refl
-type_entries types tags.binary = refl
-type_entries types tags.utf8 = refl
-type_entries Core (tags.floating_point precision) = refl
-type_entries All (tags.floating_point precision) = refl
-type_entries types (tags.date unit) = refl
-type_entries types (tags.time unit) = refl
-type_entries types tags.list = refl
-type_entries types tags.struct = refl
-type_entries types tags.large_binary = refl
-type_entries types tags.large_utf8 = refl
-type_entries types tags.large_list = refl
-type_entries types (tags.fixed_size_binary width) = refl
-type_entries types (tags.duration unit) = refl
 
 encoding_entries : (e : Option Encoding) → entries (encoding_tree e) ≡ 0
 encoding_entries None = refl
@@ -153,26 +91,6 @@ field_entries types (columns.more head children rest) n =
     omega (arith, parts_count n, type_entries types head.tag, encoding_entries head.encoding, metadata_entries (first_pairs n), field_entries types children (first_below n), field_entries types rest (first_rest n))
 
 -- Its texts are not longer than the metadata.
-
-type_long : (types : TypeSet) (q : ℕ) (tag : Tag) → q + text_bytes (type_tree types tag) ≤ after q (laid.table (type_cells tag))
-type_long types q (tags.timestamp unit (Some zone)) = omega arith
-type_long types q (tags.timestamp unit None) = omega (arith, reaches q (laid.table (type_cells (tags.timestamp unit None))))
-type_long types q tags.null = omega (arith, reaches q (laid.table last))
-type_long types q tags.boolean = omega (arith, reaches q (laid.table last))
-type_long types q tags.binary = omega (arith, reaches q (laid.table last))
-type_long types q tags.utf8 = omega (arith, reaches q (laid.table last))
-type_long types q tags.list = omega (arith, reaches q (laid.table last))
-type_long types q tags.struct = omega (arith, reaches q (laid.table last))
-type_long types q tags.large_binary = omega (arith, reaches q (laid.table last))
-type_long types q tags.large_utf8 = omega (arith, reaches q (laid.table last))
-type_long types q tags.large_list = omega (arith, reaches q (laid.table last))
-type_long types q (tags.int bits signed) = omega (arith, reaches q (laid.table (type_cells (tags.int bits signed))))
-type_long Core q (tags.floating_point precision) = omega (arith, reaches q (laid.table (type_cells (tags.floating_point precision))))
-type_long All q (tags.floating_point precision) = omega (arith, reaches q (laid.table (type_cells (tags.floating_point precision))))
-type_long types q (tags.date unit) = omega (arith, reaches q (laid.table (type_cells (tags.date unit))))
-type_long types q (tags.time unit) = omega (arith, reaches q (laid.table (type_cells (tags.time unit))))
-type_long types q (tags.fixed_size_binary width) = omega (arith, reaches q (laid.table (type_cells (tags.fixed_size_binary width))))
-type_long types q (tags.duration unit) = omega (arith, reaches q (laid.table (type_cells (tags.duration unit))))
 
 -- the children begin behind the encoding
 encoding_long : (q : ℕ) (e : Option Encoding) (rest : Cells) → (r : ℕ) × (q ≤ r) × (after_cells q (with_encoding e rest) ≡ after_cells r rest)

@@ -1,6 +1,6 @@
 -- No fault holds of the tree that a message is written as.
 use Rattle.std.proofs.Common.{◌≡◌, ℕ, ◌^◌, ◌<◌, ◌≤◌, Bool, true, false, ◌||◌, ◌&&◌, not, nat_lt, if◌then◌else◌}
-use Rattle.std.proofs.Common.{List, [], ◌∷◌, Option, Some, None, is_some, refl, sym, ap, ◌∙◌, arith}
+use Rattle.std.proofs.Common.{List, [], ◌∷◌, Option, Some, None, is_some, refl, sym, ap, ◌∙◌, ◌⊎◌, inl, inr, arith}
 use Rattle.std.specs.Option.{is_none}
 use Rattle.std.proofs.lemmas.Bool.{le-ltb, or_parts}
 use Rattle.arrow_types.specs.DataType as tags
@@ -16,11 +16,11 @@ use Rattle.arrow_types.specs.declared.data_type.BitWidth.TheVariants as widths
 use Rattle.arrow_types.specs.declared.data_type.DateUnit.TheVariants as dates
 use Rattle.arrow_types.specs.declared.data_type.TimeUnit.TheVariants as times
 use Rattle.arrow_types.specs.declared.type_set.TypeSet.{TypeSet}
-use Rattle.arrow_types.specs.declared.type_set.TypeSet.TheVariants.{Core, All}
+use Rattle.arrow_types.specs.declared.type_set.TypeSet.TheVariants.{All}
 use Rattle.arrow_types.specs.declared.field.Encoding.{Encoding}
 use Rattle.arrow_meta_reader.specs.declared.kinds.TableKind.{TableKind}
 use Rattle.arrow_meta_reader.specs.declared.kinds.TableKind.TheVariants as kinds
-use Rattle.arrow_meta_reader.specs.Codes.{number_of_version, metadata_version, taken, type_code, bit_width}
+use Rattle.arrow_meta_reader.specs.Codes.{number_of_version, metadata_version, bit_width}
 use Rattle.arrow_meta_reader.specs.declared.fault.MetaFault.{MetaFault}
 use Rattle.arrow_meta_reader.specs.declared.fault.MetaFault.TheVariants.{Metadata, Version, Header, BodyLength, Unsupported}
 use Rattle.arrow_meta_reader.specs.declared.message.MetadataVersion.{MetadataVersion}
@@ -28,16 +28,17 @@ use Rattle.arrow_meta_reader.specs.declared.message.MetadataVersion.TheVariants 
 use Rattle.arrow_meta_reader.specs.Conditions.{any, any_in, lacks_table, is_unsupported, is_misfit}
 use Rattle.arrow_meta_reader.specs.Conditions.{children_fit}
 use Rattle.arrow_meta_reader.specs.Faults.{body_of, fault_of, header_in, is_bad_length, is_unsupported_schema, version_in}
-use Rattle.arrow_meta_reader.specs.Kinds.{type_table}
+use Rattle.arrow_meta_reader.specs.Types.{type_code}
 use Rattle.arrow_meta_writer.specs.Layouts.{tag_code, first_pairs, first_below, first_rest}
 use Rattle.arrow_meta_reader.specs.Means.{PlainHeader, schema, dictionary, batch, PlainMessage}
-use Rattle.arrow_meta_reader.specs.Parts.{is_table, parts}
+use Rattle.arrow_meta_reader.specs.Parts.{parts}
 use Rattle.arrow_meta_reader.specs.SchemaMeaning.{fields_from}
 use Rattle.arrow_meta_reader.specs.Trees.{table, Trees}
 use Rattle.arrow_meta_writer.specs.Writable.{IsField, AreFields, IsHeader, leaves_header_out}
 use Rattle.arrow_meta_writer.specs.Written.{type_tree, encoding_tree, field_parts, field_trees}
 use Rattle.arrow_meta_writer.specs.Written.{header_tree, message_parts, pair_tree, pair_trees, metadata_tree}
 use Rattle.arrow_meta_writer.proofs.Again.{fields_again}
+use Rattle.arrow_meta_writer.proofs.TypeTrees.{whole_type, has_type, supported_type, known_type, opened_or_none}
 use Rattle.arrow_types.proofs.Clashes.{none_differ}
 
 -- Pairs pass a test that no KeyValue table fails.
@@ -59,49 +60,9 @@ field_passes types test head ps below here type encoding children noted = rw (he
 
 -- No table is lacking.
 
-whole_type : (types : TypeSet) (tag : Tag) → any lacks_table (type_tree types tag) ≡ false
-whole_type types (tags.timestamp unit None) = refl
-whole_type types (tags.timestamp unit (Some zone)) = refl
-whole_type types tags.null = refl
-whole_type types tags.boolean = refl
-whole_type types (tags.int bits signed) = refl
-whole_type types tags.binary = refl
-whole_type types tags.utf8 = refl
-whole_type Core (tags.floating_point precision) = refl
-whole_type All (tags.floating_point precision) = refl
-whole_type types (tags.date unit) = refl
-whole_type types (tags.time unit) = refl
-whole_type types tags.list = refl
-whole_type types tags.struct = refl
-whole_type types tags.large_binary = refl
-whole_type types tags.large_utf8 = refl
-whole_type types tags.large_list = refl
-whole_type types (tags.fixed_size_binary width) = refl
-whole_type types (tags.duration unit) = refl
-
 whole_encoding : (e : Option Encoding) → any lacks_table (encoding_tree e) ≡ false
 whole_encoding None = refl
 whole_encoding (Some e) = refl
-
--- the type's table is there where its code opens one
-has_type : (types : TypeSet) (tag : Tag) → (is_some (type_table types (tag_code tag)) && not (is_table (type_tree types tag))) ≡ false
-has_type types tags.null = refl
-has_type types tags.boolean = refl
-has_type types (tags.int bits signed) = refl
-has_type types tags.binary = refl
-has_type types tags.utf8 = refl
-has_type Core (tags.floating_point precision) = refl
-has_type All (tags.floating_point precision) = refl
-has_type types (tags.date unit) = refl
-has_type types (tags.time unit) = refl
-has_type types (tags.timestamp unit place) = refl
-has_type types tags.list = refl
-has_type types tags.struct = refl
-has_type types tags.large_binary = refl
-has_type types tags.large_utf8 = refl
-has_type types tags.large_list = refl
-has_type types (tags.fixed_size_binary width) = refl
-has_type types (tags.duration unit) = refl
 
 lacks_none : (types : TypeSet) (fields : Fields) (n : Notes) → any_in lacks_table (field_trees types fields n) ≡ false
 lacks_none types columns.none n = refl
@@ -113,48 +74,9 @@ lacks_none types (columns.more head children rest) n =
 
 -- Nothing is unsupported but what the set leaves out.
 
-supported_type : (types : TypeSet) (tag : Tag) → any is_unsupported (type_tree types tag) ≡ false
-supported_type types (tags.timestamp unit None) = refl
-supported_type types (tags.timestamp unit (Some zone)) = refl
-supported_type types tags.null = refl
-supported_type types tags.boolean = refl
-supported_type types (tags.int bits signed) = refl
-supported_type types tags.binary = refl
-supported_type types tags.utf8 = refl
-supported_type Core (tags.floating_point precision) = refl
-supported_type All (tags.floating_point precision) = refl
-supported_type types (tags.date unit) = refl
-supported_type types (tags.time unit) = refl
-supported_type types tags.list = refl
-supported_type types tags.struct = refl
-supported_type types tags.large_binary = refl
-supported_type types tags.large_utf8 = refl
-supported_type types tags.large_list = refl
-supported_type types (tags.fixed_size_binary width) = refl
-supported_type types (tags.duration unit) = refl
-
 supported_encoding : (e : Option Encoding) → any is_unsupported (encoding_tree e) ≡ false
 supported_encoding None = refl
 supported_encoding (Some e) = refl
-
-known_type : (types : TypeSet) (tag : Tag) → is_none (taken types (type_code (tag_code tag))) ≡ leaves_out types tag
-known_type types tags.null = refl
-known_type types tags.boolean = refl
-known_type types (tags.int bits signed) = refl
-known_type Core (tags.floating_point precision) = refl
-known_type All (tags.floating_point precision) = refl
-known_type types tags.binary = refl
-known_type types tags.utf8 = refl
-known_type types (tags.date unit) = refl
-known_type types (tags.time unit) = refl
-known_type types (tags.timestamp unit place) = refl
-known_type types tags.list = refl
-known_type types tags.struct = refl
-known_type types tags.large_binary = refl
-known_type types tags.large_utf8 = refl
-known_type types tags.large_list = refl
-known_type types (tags.fixed_size_binary width) = refl
-known_type types (tags.duration unit) = refl
 
 or_nothing : (b : Bool) → (b || false) ≡ b
 or_nothing true = refl
@@ -184,43 +106,40 @@ known_width widths.Sixteen = refl
 known_width widths.ThirtyTwo = refl
 known_width widths.SixtyFour = refl
 
+fitting_all : (tag : Tag) → is_wide tag ≡ false → any is_misfit (type_tree All tag) ≡ false
+fitting_all (tags.int widths.Eight signed) narrow = refl
+fitting_all (tags.int widths.Sixteen signed) narrow = refl
+fitting_all (tags.int widths.ThirtyTwo signed) narrow = refl
+fitting_all (tags.int widths.SixtyFour signed) narrow = refl
+fitting_all (tags.floating_point precisions.Half) narrow = refl
+fitting_all (tags.floating_point precisions.Single) narrow = refl
+fitting_all (tags.floating_point precisions.Double) narrow = refl
+fitting_all (tags.date dates.Day) narrow = refl
+fitting_all (tags.date dates.Millisecond) narrow = refl
+fitting_all (tags.time times.Second) narrow = refl
+fitting_all (tags.time times.Millisecond) narrow = refl
+fitting_all (tags.time times.Microsecond) narrow = refl
+fitting_all (tags.time times.Nanosecond) narrow = refl
+fitting_all (tags.timestamp times.Second None) narrow = refl
+fitting_all (tags.timestamp times.Second (Some zone)) narrow = refl
+fitting_all (tags.timestamp times.Millisecond None) narrow = refl
+fitting_all (tags.timestamp times.Millisecond (Some zone)) narrow = refl
+fitting_all (tags.timestamp times.Microsecond None) narrow = refl
+fitting_all (tags.timestamp times.Microsecond (Some zone)) narrow = refl
+fitting_all (tags.timestamp times.Nanosecond None) narrow = refl
+fitting_all (tags.timestamp times.Nanosecond (Some zone)) narrow = refl
+fitting_all (tags.fixed_size_binary width) narrow = rw narrow refl
+fitting_all (tags.duration times.Second) narrow = refl
+fitting_all (tags.duration times.Millisecond) narrow = refl
+fitting_all (tags.duration times.Microsecond) narrow = refl
+fitting_all (tags.duration times.Nanosecond) narrow = refl
+fitting_all tag narrow = refl
+
 fitting_type : (types : TypeSet) (tag : Tag) → is_wide tag ≡ false → any is_misfit (type_tree types tag) ≡ false
-fitting_type types (tags.int widths.Eight signed) narrow = refl
-fitting_type types (tags.int widths.Sixteen signed) narrow = refl
-fitting_type types (tags.int widths.ThirtyTwo signed) narrow = refl
-fitting_type types (tags.int widths.SixtyFour signed) narrow = refl
-fitting_type Core (tags.floating_point precision) narrow = refl
-fitting_type All (tags.floating_point precisions.Half) narrow = refl
-fitting_type All (tags.floating_point precisions.Single) narrow = refl
-fitting_type All (tags.floating_point precisions.Double) narrow = refl
-fitting_type types (tags.date dates.Day) narrow = refl
-fitting_type types (tags.date dates.Millisecond) narrow = refl
-fitting_type types (tags.time times.Second) narrow = refl
-fitting_type types (tags.time times.Millisecond) narrow = refl
-fitting_type types (tags.time times.Microsecond) narrow = refl
-fitting_type types (tags.time times.Nanosecond) narrow = refl
-fitting_type types (tags.timestamp times.Second None) narrow = refl
-fitting_type types (tags.timestamp times.Second (Some zone)) narrow = refl
-fitting_type types (tags.timestamp times.Millisecond None) narrow = refl
-fitting_type types (tags.timestamp times.Millisecond (Some zone)) narrow = refl
-fitting_type types (tags.timestamp times.Microsecond None) narrow = refl
-fitting_type types (tags.timestamp times.Microsecond (Some zone)) narrow = refl
-fitting_type types (tags.timestamp times.Nanosecond None) narrow = refl
-fitting_type types (tags.timestamp times.Nanosecond (Some zone)) narrow = refl
-fitting_type types tags.null narrow = refl
-fitting_type types tags.boolean narrow = refl
-fitting_type types tags.binary narrow = refl
-fitting_type types tags.utf8 narrow = refl
-fitting_type types tags.list narrow = refl
-fitting_type types tags.struct narrow = refl
-fitting_type types tags.large_binary narrow = refl
-fitting_type types tags.large_utf8 narrow = refl
-fitting_type types tags.large_list narrow = refl
-fitting_type types (tags.fixed_size_binary width) narrow = rw narrow refl
-fitting_type types (tags.duration times.Second) narrow = refl
-fitting_type types (tags.duration times.Millisecond) narrow = refl
-fitting_type types (tags.duration times.Microsecond) narrow = refl
-fitting_type types (tags.duration times.Nanosecond) narrow = refl
+fitting_type types tag narrow = elim (opened_or_none types tag) [
+      inl absent ↦ ap (any is_misfit) absent
+    | inr same ↦ ap (any is_misfit) same ∙ fitting_all tag narrow
+    ]
 
 fitting_encoding : (e : Option Encoding) → any is_misfit (encoding_tree e) ≡ false
 fitting_encoding None = refl

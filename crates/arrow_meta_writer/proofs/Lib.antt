@@ -1,4 +1,5 @@
 pub mod Standing
+pub mod TypeTrees
 pub mod StandingMessages
 pub mod Again
 pub mod Faultless

@@ -9,20 +9,18 @@ use Rattle.arrow_flatbuf.specs.Nodes as laid
 use Rattle.arrow_flatbuf.specs.Place.{target_at}
 use Rattle.arrow_flatbuf.specs.Stands.{SlotStands}
 use Rattle.arrow_flatbuf.specs.Table.{field_place}
-use Rattle.arrow_types.specs.DataType as tags
-use Rattle.arrow_types.specs.DataType.{Tag}
 use Rattle.arrow_types.specs.Field as columns
 use Rattle.arrow_types.specs.Field.{Head, Fields}
 use Rattle.arrow_types.specs.Notes.{KeyValue, Notes, SchemaShape}
 use Rattle.arrow_types.specs.declared.data_type.BitWidth.{BitWidth}
 use Rattle.arrow_types.specs.declared.type_set.TypeSet.{TypeSet}
-use Rattle.arrow_types.specs.declared.type_set.TypeSet.TheVariants.{Core, All}
 use Rattle.arrow_types.specs.declared.field.Encoding.{Encoding}
+use Rattle.arrow_meta_reader.specs.declared.codes.TypeCode.TheVariants as codes
 use Rattle.arrow_meta_reader.specs.declared.kinds.TableKind.TheVariants as kinds
 use Rattle.arrow_meta_reader.specs.declared.kinds.FieldForm.TheVariants as forms
 use Rattle.arrow_meta_writer.specs.Aligned.{StandsAligned, AllAligned, LiesAligned}
-use Rattle.arrow_meta_reader.specs.Kinds.{spot, spots_of, code_at, header_table, type_table}
-use Rattle.arrow_meta_writer.specs.Layouts.{tag_code, int_cells, zone_cells, type_cells}
+use Rattle.arrow_meta_reader.specs.Kinds.{spot, spots_of, code_at, header_table}
+use Rattle.arrow_meta_writer.specs.Layouts.{tag_code, int_cells}
 use Rattle.arrow_meta_writer.specs.Layouts.{encoding_cells, with_encoding, field_cells, field_nodes}
 use Rattle.arrow_meta_writer.specs.Layouts.{schema_cells, node_pair, buffer_pair, batch_cells}
 use Rattle.arrow_meta_writer.specs.Layouts.{dictionary_cells, header_code, header_cells}
@@ -31,16 +29,17 @@ use Rattle.arrow_meta_writer.specs.Layouts.{first_pairs, first_below, first_rest
 use Rattle.arrow_meta_reader.specs.Lies.{elements}
 use Rattle.arrow_meta_reader.specs.Means.{PlainBatch, PlainHeader, schema, dictionary, batch, PlainMessage}
 use Rattle.arrow_meta_reader.specs.Parts.{parts}
-use Rattle.arrow_meta_writer.specs.Written.{int_parts, zone_tree, type_tree, encoding_tree}
+use Rattle.arrow_meta_writer.specs.Written.{int_parts, encoding_tree}
 use Rattle.arrow_meta_writer.specs.Written.{field_parts, field_trees, schema_parts, batch_parts}
 use Rattle.arrow_meta_writer.specs.Written.{dictionary_parts, header_tree, message_parts}
 use Rattle.arrow_meta_writer.specs.Written.{message_tree, pair_tree, pair_trees, metadata_tree}
-use Rattle.arrow_meta_writer.proofs.Standing.{at, absent_spot, closed_spot, number_field, text_field}
+use Rattle.arrow_meta_writer.proofs.TypeTrees.{type_stands}
+use Rattle.arrow_meta_writer.proofs.Standing.{at, absent_spot, number_field, text_field}
 use Rattle.arrow_meta_writer.proofs.Standing.{pairs_field, table_spot, table_field, opened_field}
 use Rattle.arrow_meta_writer.proofs.Standing.{tables_field, code_there, bytes_field}
 
 -- an Int table
-int_stands : (b : List ℕ) (p : ℕ) (bits : BitWidth) (signed : Bool) → CellsStand b p 0 (int_cells bits signed) → AllAligned b (spots_of kinds.Int (at b p)) (int_parts bits signed)
+int_stands : (b : List ℕ) (p : ℕ) (bits : BitWidth) (signed : Bool) → CellsStand b p 0 (int_cells bits signed) → AllAligned b (spots_of (kinds.Type codes.Int) (at b p)) (int_parts bits signed)
 int_stands b p bits signed h = (number_field Four b p 0 _ h.0, (number_field One b p 1 _ h.1.0, tt))
 
 -- a RecordBatch table
@@ -69,45 +68,13 @@ dictionary_stands b p id delta x h =
       ),
     )
 
--- a time zone, behind a timestamp's unit
-zone_stands : (b : List ℕ) (p : ℕ) (zone : Option (List ℕ)) → CellsStand b p 1 (zone_cells zone) → StandsAligned b (spot forms.Text (at b p) 1) (zone_tree zone)
-zone_stands b p None h = absent_spot b forms.Text (field_place (at b p) 1) (h 1 (omega arith))
-zone_stands b p (Some name) h = text_field b p 1 h.0 name h.1 h.2
-
--- a type's table, where a reader opens it
-type_stands : (types : TypeSet) (b : List ℕ) (p r : ℕ) (tag : Tag) → code_at (at b p) 2 ≡ tag_code tag → SlotStands (at b p) 3 (Target r) → NodeStands b r (laid.table (type_cells tag)) → StandsAligned b (spot (forms.Type types) (at b p) 3) (type_tree types tag)
-type_stands types b p r tags.null e h k = closed_spot b (type_table types (code_at (at b p) 2)) (field_place (at b p) 3) (ap (type_table types) e)
-type_stands types b p r tags.boolean e h k = closed_spot b (type_table types (code_at (at b p) 2)) (field_place (at b p) 3) (ap (type_table types) e)
-type_stands types b p r tags.binary e h k = closed_spot b (type_table types (code_at (at b p) 2)) (field_place (at b p) 3) (ap (type_table types) e)
-type_stands types b p r tags.utf8 e h k = closed_spot b (type_table types (code_at (at b p) 2)) (field_place (at b p) 3) (ap (type_table types) e)
-type_stands types b p r tags.list e h k = closed_spot b (type_table types (code_at (at b p) 2)) (field_place (at b p) 3) (ap (type_table types) e)
-type_stands types b p r tags.struct e h k = closed_spot b (type_table types (code_at (at b p) 2)) (field_place (at b p) 3) (ap (type_table types) e)
-type_stands types b p r tags.large_binary e h k = closed_spot b (type_table types (code_at (at b p) 2)) (field_place (at b p) 3) (ap (type_table types) e)
-type_stands types b p r tags.large_utf8 e h k = closed_spot b (type_table types (code_at (at b p) 2)) (field_place (at b p) 3) (ap (type_table types) e)
-type_stands types b p r tags.large_list e h k = closed_spot b (type_table types (code_at (at b p) 2)) (field_place (at b p) 3) (ap (type_table types) e)
-type_stands types b p r (tags.int bits signed) e h k =
-    opened_field b p 3 r (type_table types (code_at (at b p) 2)) kinds.Int (int_parts bits signed) (ap (type_table types) e) h k.0 (int_stands b r bits signed k.1)
-type_stands Core b p r (tags.floating_point precision) e h k = closed_spot b (type_table Core (code_at (at b p) 2)) (field_place (at b p) 3) (ap (type_table Core) e)
-type_stands All b p r (tags.floating_point precision) e h k =
-    opened_field b p 3 r (type_table All (code_at (at b p) 2)) kinds.FloatingPoint (parts (type_tree All (tags.floating_point precision))) (ap (type_table All) e) h k.0 (number_field Two b r 0 _ k.1.0, tt)
-type_stands types b p r (tags.date unit) e h k =
-    opened_field b p 3 r (type_table types (code_at (at b p) 2)) kinds.Date (parts (type_tree types (tags.date unit))) (ap (type_table types) e) h k.0 (number_field Two b r 0 _ k.1.0, tt)
-type_stands types b p r (tags.duration unit) e h k =
-    opened_field b p 3 r (type_table types (code_at (at b p) 2)) kinds.Duration (parts (type_tree types (tags.duration unit))) (ap (type_table types) e) h k.0 (number_field Two b r 0 _ k.1.0, tt)
-type_stands types b p r (tags.fixed_size_binary width) e h k =
-    opened_field b p 3 r (type_table types (code_at (at b p) 2)) kinds.FixedSizeBinary (parts (type_tree types (tags.fixed_size_binary width))) (ap (type_table types) e) h k.0 (number_field Four b r 0 _ k.1.0, tt)
-type_stands types b p r (tags.time unit) e h k =
-    opened_field b p 3 r (type_table types (code_at (at b p) 2)) kinds.Time (parts (type_tree types (tags.time unit))) (ap (type_table types) e) h k.0 (number_field Two b r 0 _ k.1.0, (number_field Four b r 1 _ k.1.1.0, tt))
-type_stands types b p r (tags.timestamp unit zone) e h k =
-    opened_field b p 3 r (type_table types (code_at (at b p) 2)) kinds.Timestamp (parts (type_tree types (tags.timestamp unit zone))) (ap (type_table types) e) h k.0 (number_field Two b r 0 _ k.1.0, (zone_stands b r zone k.1.1, tt))
-
 -- a DictionaryEncoding table
 encoding_parts_stand : (b : List ℕ) (p : ℕ) (e : Encoding) → CellsStand b p 0 (encoding_cells e) → AllAligned b (spots_of kinds.DictionaryEncoding (at b p)) (parts (encoding_tree (Some e)))
 encoding_parts_stand b p e h =
     let index = h.1 in (
       number_field Eight b p 0 _ h.0,
       (
-        table_field b p 1 index.0 kinds.Int (int_parts e.index.bits e.index.signed) index.1 index.2.0 (int_stands b index.0 e.index.bits e.index.signed index.2.1),
+        table_field b p 1 index.0 (kinds.Type codes.Int) (int_parts e.index.bits e.index.signed) index.1 index.2.0 (int_stands b index.0 e.index.bits e.index.signed index.2.1),
         (
           number_field One b p 2 _ index.3.0,
           (number_field Two b p 3 _ index.3.1.0, tt),

@@ -21,6 +21,7 @@ use Rattle.arrow_types.specs.declared.field.Encoding.{Encoding}
 use Rattle.arrow_types.specs.declared.node.FieldNode.{FieldNode}
 use Rattle.arrow_types.specs.declared.node.Buffer.{Buffer}
 use Rattle.arrow_meta_reader.specs.Codes.{number_of_version, schema_code, dictionary_code, batch_code}
+use Rattle.arrow_meta_reader.specs.Types.{code_of, type_row}
 use Rattle.arrow_meta_reader.specs.Means.{PlainBatch, PlainHeader, schema, dictionary, batch, PlainMessage}
 
 -- a truth value as a byte
@@ -30,22 +31,7 @@ flag false = 0
 
 -- the code of a type (Schema.fbs, union "Type")
 abbrev pub tag_code : Tag → ℕ
-tag_code tags.null = 1
-tag_code (tags.int bits signed) = 2
-tag_code (tags.floating_point precision) = 3
-tag_code tags.binary = 4
-tag_code tags.utf8 = 5
-tag_code tags.boolean = 6
-tag_code (tags.date unit) = 8
-tag_code (tags.time unit) = 9
-tag_code (tags.timestamp unit place) = 10
-tag_code tags.list = 12
-tag_code tags.struct = 13
-tag_code (tags.fixed_size_binary width) = 15
-tag_code (tags.duration unit) = 18
-tag_code tags.large_binary = 19
-tag_code tags.large_utf8 = 20
-tag_code tags.large_list = 21
+tag_code tag = (type_row (code_of tag)).code
 
 -- the number of a precision (Schema.fbs, enum "Precision")
 abbrev pub precision_number : Precision → ℕ

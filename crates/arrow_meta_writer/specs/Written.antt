@@ -1,21 +1,25 @@
 -- The tree that a message is written as: what a reader is to find.
 use Rattle.std.specs.Prelude.{ℕ, ℤ, Bool, List, [], ◌∷◌, map, Option, Some, None}
 use Rattle.std.specs.Int.{cast_unsigned, w64}
-use Rattle.arrow_types.specs.DataType as tags
-use Rattle.arrow_types.specs.DataType.{Tag, bits_of, time_width_of}
+use Rattle.arrow_flatbuf.specs.Nodes.{Node, Cells, last, absent as gap, scalar, offset}
+use Rattle.arrow_flatbuf.specs.Nodes as laid
+use Rattle.arrow_types.specs.DataType.{Tag, bits_of}
 use Rattle.arrow_types.specs.Field as columns
 use Rattle.arrow_types.specs.Field.{Head, Fields}
 use Rattle.arrow_types.specs.Notes.{KeyValue, Notes, SchemaShape}
 use Rattle.arrow_types.specs.declared.type_set.TypeSet.{TypeSet}
-use Rattle.arrow_types.specs.declared.type_set.TypeSet.TheVariants.{Core, All}
 use Rattle.arrow_types.specs.declared.data_type.BitWidth.{BitWidth}
 use Rattle.arrow_types.specs.declared.field.Encoding.{Encoding}
 use Rattle.arrow_meta_reader.specs.Codes.{number_of_version}
+use Rattle.arrow_meta_reader.specs.declared.codes.TypeCode.TheVariants as codes
+use Rattle.arrow_meta_reader.specs.declared.kinds.FieldForm.{FieldForm}
+use Rattle.arrow_meta_reader.specs.declared.kinds.TableKind.{TableKind}
 use Rattle.arrow_meta_reader.specs.declared.kinds.TableKind.TheVariants as kinds
-use Rattle.arrow_meta_writer.specs.Layouts.{flag, tag_code, date_number, precision_number, time_number, node_pair}
+use Rattle.arrow_meta_reader.specs.Kinds.{forms_of, type_table}
+use Rattle.arrow_meta_writer.specs.Layouts.{flag, tag_code, type_cells, node_pair}
 use Rattle.arrow_meta_writer.specs.Layouts.{buffer_pair, header_code, first_pairs, first_below, first_rest}
 use Rattle.arrow_meta_reader.specs.Means.{PlainBatch, PlainHeader, schema, dictionary, batch, PlainMessage}
-use Rattle.arrow_meta_reader.specs.Trees.{absent, number, text, byte_string, pairs, Tree, leaf, table, tables, Trees}
+use Rattle.arrow_meta_reader.specs.Trees.{absent, number, text, byte_string, pairs, Leaf, Tree, leaf, table, tables, Trees}
 use Rattle.arrow_meta_reader.specs.Trees.{none, more}
 
 -- a field that holds a number
@@ -26,37 +30,33 @@ of_number n = leaf (number n)
 abbrev pub int_parts : BitWidth → Bool → Trees
 int_parts bits signed = more (of_number (bits_of bits)) (more (of_number (flag signed)) none)
 
--- a time zone, where there is one
-abbrev pub zone_tree : Option (List ℕ) → Tree
-zone_tree None = leaf absent
-zone_tree (Some zone) = leaf (text zone)
+-- what an offset leads to, where a type's table has one: a text
+abbrev pub node_leaf : Node → Leaf
+node_leaf (laid.text s) = text s
+node_leaf node = absent
 
--- the table of a type that a reader of this set of types opens
+-- The fields of these forms, as they are found in the cells of a table. Those after the last cell are absent.
+abbrev pub cell_trees : List FieldForm → Cells → Trees
+cell_trees [] cells = none
+cell_trees (form ∷ rest) last = more (leaf absent) (cell_trees rest last)
+cell_trees (form ∷ rest) (gap cells) = more (leaf absent) (cell_trees rest cells)
+cell_trees (form ∷ rest) (scalar width n cells) = more (of_number n) (cell_trees rest cells)
+cell_trees (form ∷ rest) (offset node cells) = more (leaf (node_leaf node)) (cell_trees rest cells)
+
+-- the table that is opened, where one is
+abbrev pub laid_tree : Option TableKind → Cells → Tree
+laid_tree None cells = leaf absent
+laid_tree (Some kind) cells = table kind (cell_trees (forms_of kind) cells)
+
+-- the table of a type, where a reader of this set of types opens it
 abbrev pub type_tree : TypeSet → Tag → Tree
-type_tree types (tags.int bits signed) = table kinds.Int (int_parts bits signed)
-type_tree Core (tags.floating_point precision) = leaf absent
-type_tree All (tags.floating_point precision) = table kinds.FloatingPoint (more (of_number (precision_number precision)) none)
-type_tree types (tags.date unit) = table kinds.Date (more (of_number (date_number unit)) none)
-type_tree types (tags.time unit) =
-    table kinds.Time (more (of_number (time_number unit)) (more (of_number (bits_of (time_width_of unit))) none))
-type_tree types (tags.timestamp unit zone) = table kinds.Timestamp (more (of_number (time_number unit)) (more (zone_tree zone) none))
-type_tree types (tags.fixed_size_binary width) = table kinds.FixedSizeBinary (more (of_number width) none)
-type_tree types (tags.duration unit) = table kinds.Duration (more (of_number (time_number unit)) none)
-type_tree types tags.null = leaf absent
-type_tree types tags.boolean = leaf absent
-type_tree types tags.binary = leaf absent
-type_tree types tags.utf8 = leaf absent
-type_tree types tags.list = leaf absent
-type_tree types tags.struct = leaf absent
-type_tree types tags.large_binary = leaf absent
-type_tree types tags.large_utf8 = leaf absent
-type_tree types tags.large_list = leaf absent
+type_tree types tag = laid_tree (type_table types (tag_code tag)) (type_cells tag)
 
 -- a field's encoding, where it has one
 abbrev pub encoding_tree : Option Encoding → Tree
 encoding_tree None = leaf absent
 encoding_tree (Some e) =
-    table kinds.DictionaryEncoding (more (of_number (cast_unsigned w64 e.id)) (more (table kinds.Int (int_parts e.index.bits e.index.signed))
+    table kinds.DictionaryEncoding (more (of_number (cast_unsigned w64 e.id)) (more (table (kinds.Type codes.Int) (int_parts e.index.bits e.index.signed))
     (more (of_number (flag e.ordered)) (more (of_number 0) none))))
 
 -- a KeyValue table

@@ -6,7 +6,7 @@
 //! width is a number of bits, or for `FixedSizeBinary` of bytes.
 ghost use Rattle.std.specs.Prelude.{◌≡◌, ◌≤◌, ◌<◌, option_map, string_bytes, true, Some, OnOk};
 ghost use Rattle.arrow_flatbuf.specs.Nodes.{count, table as table_node};
-ghost use Rattle.arrow_meta_reader.specs.Codes.{type_code as code_named};
+ghost use Rattle.arrow_meta_reader.specs.Types.{type_code as code_named};
 ghost use Rattle.arrow_meta_reader.specs.Conditions.{children_fit};
 ghost use Rattle.arrow_meta_writer.specs.Appends.{HasRoom, Appends};
 ghost use Rattle.arrow_meta_writer.specs.Layouts.{int_cells, type_cells, flag, tag_code};
