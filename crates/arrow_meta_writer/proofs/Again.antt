@@ -12,10 +12,13 @@ use Rattle.arrow_types.specs.Field.{Head, Fields, width}
 use Rattle.arrow_types.specs.Notes.{KeyValue, Notes, unnoted, noted, SchemaShape}
 use Rattle.arrow_types.specs.Schema.{is_wide, is_too_wide}
 use Rattle.arrow_types.specs.TypeSet.{leaves_out, leaves_some_out}
+use Rattle.arrow_types.specs.declared.data_type.Precision.{Precision}
 use Rattle.arrow_types.specs.declared.data_type.Precision.TheVariants as precisions
 use Rattle.arrow_types.specs.declared.data_type.BitWidth.{BitWidth}
 use Rattle.arrow_types.specs.declared.data_type.BitWidth.TheVariants as widths
+use Rattle.arrow_types.specs.declared.data_type.DateUnit.{DateUnit}
 use Rattle.arrow_types.specs.declared.data_type.DateUnit.TheVariants as dates
+use Rattle.arrow_types.specs.declared.data_type.TimeUnit.{TimeUnit}
 use Rattle.arrow_types.specs.declared.data_type.TimeUnit.TheVariants as times
 use Rattle.arrow_types.specs.declared.type_set.TypeSet.{TypeSet}
 use Rattle.arrow_types.specs.declared.type_set.TypeSet.TheVariants.{Core, All}
@@ -23,9 +26,11 @@ use Rattle.arrow_types.specs.declared.field.Encoding.{Encoding}
 use Rattle.arrow_types.specs.declared.node.FieldNode.{FieldNode}
 use Rattle.arrow_types.specs.declared.node.Buffer.{Buffer}
 use Rattle.arrow_meta_reader.specs.Codes.{number_of_version, metadata_version, type_code, bit_width}
+use Rattle.arrow_meta_reader.specs.Codes.{date_unit, precision, time_unit}
 use Rattle.arrow_meta_reader.specs.declared.message.MetadataVersion.{MetadataVersion}
 use Rattle.arrow_meta_reader.specs.declared.message.MetadataVersion.TheVariants as versions
 use Rattle.arrow_meta_writer.specs.Layouts.{flag, tag_code, node_pair, buffer_pair, first_pairs, first_below, first_rest}
+use Rattle.arrow_meta_writer.specs.Layouts.{date_number, precision_number, time_number}
 use Rattle.arrow_meta_reader.specs.Means.{PlainBatch, PlainHeader, schema, dictionary, batch, node_of}
 use Rattle.arrow_meta_reader.specs.Means.{buffer_of, batch_of, meaning_of}
 use Rattle.arrow_meta_reader.specs.Parts.{parts}
@@ -54,41 +59,36 @@ width_again widths.Sixteen = refl
 width_again widths.ThirtyTwo = refl
 width_again widths.SixtyFour = refl
 
+-- a precision
+precision_again : (p : Precision) → unwrap_or (precision (precision_number p)) precisions.Half ≡ p
+precision_again precisions.Half = refl
+precision_again precisions.Single = refl
+precision_again precisions.Double = refl
+
+-- the unit of a date
+date_again : (unit : DateUnit) → unwrap_or (date_unit (date_number unit)) dates.Day ≡ unit
+date_again dates.Day = refl
+date_again dates.Millisecond = refl
+
+-- the unit of a time, a timestamp or a duration
+time_again : (unit : TimeUnit) → unwrap_or (time_unit (time_number unit)) times.Second ≡ unit
+time_again times.Second = refl
+time_again times.Millisecond = refl
+time_again times.Microsecond = refl
+time_again times.Nanosecond = refl
+
 -- a type
 tag_again : (types : TypeSet) (tag : Tag) → is_wide tag ≡ false → leaves_out types tag ≡ false → tag_by (type_code (tag_code tag)) (parts (type_tree types tag)) ≡ tag
-tag_again types tags.null narrow within = refl
-tag_again types tags.boolean narrow within = refl
-tag_again types tags.binary narrow within = refl
-tag_again types tags.utf8 narrow within = refl
-tag_again types tags.list narrow within = refl
-tag_again types tags.struct narrow within = refl
-tag_again types tags.large_binary narrow within = refl
-tag_again types tags.large_utf8 narrow within = refl
-tag_again types tags.large_list narrow within = refl
 tag_again types (tags.int bits signed) narrow within = λ i. tags.int (width_again bits i) (flag_again signed i)
 tag_again Core (tags.floating_point precision) narrow within = absurd (true≢false within)
-tag_again All (tags.floating_point precisions.Half) narrow within = refl
-tag_again All (tags.floating_point precisions.Single) narrow within = refl
-tag_again All (tags.floating_point precisions.Double) narrow within = refl
-tag_again types (tags.date dates.Day) narrow within = refl
-tag_again types (tags.date dates.Millisecond) narrow within = refl
-tag_again types (tags.time times.Second) narrow within = refl
-tag_again types (tags.time times.Millisecond) narrow within = refl
-tag_again types (tags.time times.Microsecond) narrow within = refl
-tag_again types (tags.time times.Nanosecond) narrow within = refl
-tag_again types (tags.timestamp times.Second None) narrow within = refl
-tag_again types (tags.timestamp times.Second (Some zone)) narrow within = refl
-tag_again types (tags.timestamp times.Millisecond None) narrow within = refl
-tag_again types (tags.timestamp times.Millisecond (Some zone)) narrow within = refl
-tag_again types (tags.timestamp times.Microsecond None) narrow within = refl
-tag_again types (tags.timestamp times.Microsecond (Some zone)) narrow within = refl
-tag_again types (tags.timestamp times.Nanosecond None) narrow within = refl
-tag_again types (tags.timestamp times.Nanosecond (Some zone)) narrow within = refl
+tag_again All (tags.floating_point precision) narrow within = ap tags.floating_point (precision_again precision)
+tag_again types (tags.date unit) narrow within = ap tags.date (date_again unit)
+tag_again types (tags.time unit) narrow within = ap tags.time (time_again unit)
+tag_again types (tags.timestamp unit None) narrow within = ap (λ u. tags.timestamp u None) (time_again unit)
+tag_again types (tags.timestamp unit (Some zone)) narrow within = ap (λ u. tags.timestamp u (Some zone)) (time_again unit)
 tag_again types (tags.fixed_size_binary width) narrow within = ap (λ b. tags.fixed_size_binary (unwrap_or (if b then None else Some width) 0)) narrow
-tag_again types (tags.duration times.Second) narrow within = refl
-tag_again types (tags.duration times.Millisecond) narrow within = refl
-tag_again types (tags.duration times.Microsecond) narrow within = refl
-tag_again types (tags.duration times.Nanosecond) narrow within = refl
+tag_again types (tags.duration unit) narrow within = ap tags.duration (time_again unit)
+tag_again types tag narrow within = refl
 
 -- an encoding
 encoding_again : (e : Option Encoding) → HasLongId e → encoding_in (encoding_tree e) ≡ e

@@ -31,22 +31,9 @@ use Rattle.arrow_meta_writer.specs.Written.{message_tree, pair_trees, metadata_t
 type_levels : (types : TypeSet) (tag : Tag) → levels (type_tree types tag) ≡ 0
 type_levels types (tags.timestamp unit None) = refl
 type_levels types (tags.timestamp unit (Some zone)) = refl
-type_levels types tags.null = refl
-type_levels types tags.boolean = refl
-type_levels types (tags.int bits signed) = refl
-type_levels types tags.binary = refl
-type_levels types tags.utf8 = refl
 type_levels Core (tags.floating_point precision) = refl
 type_levels All (tags.floating_point precision) = refl
-type_levels types (tags.date unit) = refl
-type_levels types (tags.time unit) = refl
-type_levels types tags.list = refl
-type_levels types tags.struct = refl
-type_levels types tags.large_binary = refl
-type_levels types tags.large_utf8 = refl
-type_levels types tags.large_list = refl
-type_levels types (tags.fixed_size_binary width) = refl
-type_levels types (tags.duration unit) = refl
+type_levels types tag = refl
 
 encoding_levels : (e : Option Encoding) → levels (encoding_tree e) ≡ 0
 encoding_levels None = refl
@@ -55,22 +42,9 @@ encoding_levels (Some e) = refl
 type_visits : (types : TypeSet) (tag : Tag) → visits (type_tree types tag) ≡ 0
 type_visits types (tags.timestamp unit None) = refl
 type_visits types (tags.timestamp unit (Some zone)) = refl
-type_visits types tags.null = refl
-type_visits types tags.boolean = refl
-type_visits types (tags.int bits signed) = refl
-type_visits types tags.binary = refl
-type_visits types tags.utf8 = refl
 type_visits Core (tags.floating_point precision) = refl
 type_visits All (tags.floating_point precision) = refl
-type_visits types (tags.date unit) = refl
-type_visits types (tags.time unit) = refl
-type_visits types tags.list = refl
-type_visits types tags.struct = refl
-type_visits types tags.large_binary = refl
-type_visits types tags.large_utf8 = refl
-type_visits types tags.large_list = refl
-type_visits types (tags.fixed_size_binary width) = refl
-type_visits types (tags.duration unit) = refl
+type_visits types tag = refl
 
 encoding_visits : (e : Option Encoding) → visits (encoding_tree e) ≡ 0
 encoding_visits None = refl
@@ -83,22 +57,9 @@ encoding_text (Some e) = refl
 type_entries : (types : TypeSet) (tag : Tag) → entries (type_tree types tag) ≡ 0
 type_entries types (tags.timestamp unit None) = refl
 type_entries types (tags.timestamp unit (Some zone)) = refl
-type_entries types tags.null = refl
-type_entries types tags.boolean = refl
-type_entries types (tags.int bits signed) = refl
-type_entries types tags.binary = refl
-type_entries types tags.utf8 = refl
 type_entries Core (tags.floating_point precision) = refl
 type_entries All (tags.floating_point precision) = refl
-type_entries types (tags.date unit) = refl
-type_entries types (tags.time unit) = refl
-type_entries types tags.list = refl
-type_entries types tags.struct = refl
-type_entries types tags.large_binary = refl
-type_entries types tags.large_utf8 = refl
-type_entries types tags.large_list = refl
-type_entries types (tags.fixed_size_binary width) = refl
-type_entries types (tags.duration unit) = refl
+type_entries types tag = refl
 
 encoding_entries : (e : Option Encoding) → entries (encoding_tree e) ≡ 0
 encoding_entries None = refl
@@ -157,22 +118,9 @@ field_entries types (columns.more head children rest) n =
 type_long : (types : TypeSet) (q : ℕ) (tag : Tag) → q + text_bytes (type_tree types tag) ≤ after q (laid.table (type_cells tag))
 type_long types q (tags.timestamp unit (Some zone)) = omega arith
 type_long types q (tags.timestamp unit None) = omega (arith, reaches q (laid.table (type_cells (tags.timestamp unit None))))
-type_long types q tags.null = omega (arith, reaches q (laid.table last))
-type_long types q tags.boolean = omega (arith, reaches q (laid.table last))
-type_long types q tags.binary = omega (arith, reaches q (laid.table last))
-type_long types q tags.utf8 = omega (arith, reaches q (laid.table last))
-type_long types q tags.list = omega (arith, reaches q (laid.table last))
-type_long types q tags.struct = omega (arith, reaches q (laid.table last))
-type_long types q tags.large_binary = omega (arith, reaches q (laid.table last))
-type_long types q tags.large_utf8 = omega (arith, reaches q (laid.table last))
-type_long types q tags.large_list = omega (arith, reaches q (laid.table last))
-type_long types q (tags.int bits signed) = omega (arith, reaches q (laid.table (type_cells (tags.int bits signed))))
 type_long Core q (tags.floating_point precision) = omega (arith, reaches q (laid.table (type_cells (tags.floating_point precision))))
 type_long All q (tags.floating_point precision) = omega (arith, reaches q (laid.table (type_cells (tags.floating_point precision))))
-type_long types q (tags.date unit) = omega (arith, reaches q (laid.table (type_cells (tags.date unit))))
-type_long types q (tags.time unit) = omega (arith, reaches q (laid.table (type_cells (tags.time unit))))
-type_long types q (tags.fixed_size_binary width) = omega (arith, reaches q (laid.table (type_cells (tags.fixed_size_binary width))))
-type_long types q (tags.duration unit) = omega (arith, reaches q (laid.table (type_cells (tags.duration unit))))
+type_long types q tag = omega (arith, reaches q (laid.table (type_cells tag)))
 
 -- the children begin behind the encoding
 encoding_long : (q : ℕ) (e : Option Encoding) (rest : Cells) → (r : ℕ) × (q ≤ r) × (after_cells q (with_encoding e rest) ≡ after_cells r rest)

@@ -10,10 +10,13 @@ use Rattle.arrow_types.specs.Field.{Head, Fields, width}
 use Rattle.arrow_types.specs.Notes.{KeyValue, Notes}
 use Rattle.arrow_types.specs.Schema.{is_nested, is_wide, is_too_wide, types_differ, dictionary_fields}
 use Rattle.arrow_types.specs.TypeSet.{leaves_out, leaves_some_out}
+use Rattle.arrow_types.specs.declared.data_type.Precision.{Precision}
 use Rattle.arrow_types.specs.declared.data_type.Precision.TheVariants as precisions
 use Rattle.arrow_types.specs.declared.data_type.BitWidth.{BitWidth}
 use Rattle.arrow_types.specs.declared.data_type.BitWidth.TheVariants as widths
+use Rattle.arrow_types.specs.declared.data_type.DateUnit.{DateUnit}
 use Rattle.arrow_types.specs.declared.data_type.DateUnit.TheVariants as dates
+use Rattle.arrow_types.specs.declared.data_type.TimeUnit.{TimeUnit}
 use Rattle.arrow_types.specs.declared.data_type.TimeUnit.TheVariants as times
 use Rattle.arrow_types.specs.declared.type_set.TypeSet.{TypeSet}
 use Rattle.arrow_types.specs.declared.type_set.TypeSet.TheVariants.{Core, All}
@@ -21,15 +24,17 @@ use Rattle.arrow_types.specs.declared.field.Encoding.{Encoding}
 use Rattle.arrow_meta_reader.specs.declared.kinds.TableKind.{TableKind}
 use Rattle.arrow_meta_reader.specs.declared.kinds.TableKind.TheVariants as kinds
 use Rattle.arrow_meta_reader.specs.Codes.{number_of_version, metadata_version, taken, type_code, bit_width}
+use Rattle.arrow_meta_reader.specs.Codes.{date_unit, precision, time_unit}
 use Rattle.arrow_meta_reader.specs.declared.fault.MetaFault.{MetaFault}
 use Rattle.arrow_meta_reader.specs.declared.fault.MetaFault.TheVariants.{Metadata, Version, Header, BodyLength, Unsupported}
 use Rattle.arrow_meta_reader.specs.declared.message.MetadataVersion.{MetadataVersion}
 use Rattle.arrow_meta_reader.specs.declared.message.MetadataVersion.TheVariants as versions
 use Rattle.arrow_meta_reader.specs.Conditions.{any, any_in, lacks_table, is_unsupported, is_misfit}
-use Rattle.arrow_meta_reader.specs.Conditions.{children_fit}
+use Rattle.arrow_meta_reader.specs.Conditions.{children_fit, is_time}
 use Rattle.arrow_meta_reader.specs.Faults.{body_of, fault_of, header_in, is_bad_length, is_unsupported_schema, version_in}
 use Rattle.arrow_meta_reader.specs.Kinds.{type_table}
 use Rattle.arrow_meta_writer.specs.Layouts.{tag_code, first_pairs, first_below, first_rest}
+use Rattle.arrow_meta_writer.specs.Layouts.{date_number, precision_number, time_number}
 use Rattle.arrow_meta_reader.specs.Means.{PlainHeader, schema, dictionary, batch, PlainMessage}
 use Rattle.arrow_meta_reader.specs.Parts.{is_table, parts}
 use Rattle.arrow_meta_reader.specs.SchemaMeaning.{fields_from}
@@ -62,22 +67,9 @@ field_passes types test head ps below here type encoding children noted = rw (he
 whole_type : (types : TypeSet) (tag : Tag) → any lacks_table (type_tree types tag) ≡ false
 whole_type types (tags.timestamp unit None) = refl
 whole_type types (tags.timestamp unit (Some zone)) = refl
-whole_type types tags.null = refl
-whole_type types tags.boolean = refl
-whole_type types (tags.int bits signed) = refl
-whole_type types tags.binary = refl
-whole_type types tags.utf8 = refl
 whole_type Core (tags.floating_point precision) = refl
 whole_type All (tags.floating_point precision) = refl
-whole_type types (tags.date unit) = refl
-whole_type types (tags.time unit) = refl
-whole_type types tags.list = refl
-whole_type types tags.struct = refl
-whole_type types tags.large_binary = refl
-whole_type types tags.large_utf8 = refl
-whole_type types tags.large_list = refl
-whole_type types (tags.fixed_size_binary width) = refl
-whole_type types (tags.duration unit) = refl
+whole_type types tag = refl
 
 whole_encoding : (e : Option Encoding) → any lacks_table (encoding_tree e) ≡ false
 whole_encoding None = refl
@@ -85,23 +77,9 @@ whole_encoding (Some e) = refl
 
 -- the type's table is there where its code opens one
 has_type : (types : TypeSet) (tag : Tag) → (is_some (type_table types (tag_code tag)) && not (is_table (type_tree types tag))) ≡ false
-has_type types tags.null = refl
-has_type types tags.boolean = refl
-has_type types (tags.int bits signed) = refl
-has_type types tags.binary = refl
-has_type types tags.utf8 = refl
 has_type Core (tags.floating_point precision) = refl
 has_type All (tags.floating_point precision) = refl
-has_type types (tags.date unit) = refl
-has_type types (tags.time unit) = refl
-has_type types (tags.timestamp unit place) = refl
-has_type types tags.list = refl
-has_type types tags.struct = refl
-has_type types tags.large_binary = refl
-has_type types tags.large_utf8 = refl
-has_type types tags.large_list = refl
-has_type types (tags.fixed_size_binary width) = refl
-has_type types (tags.duration unit) = refl
+has_type types tag = refl
 
 lacks_none : (types : TypeSet) (fields : Fields) (n : Notes) → any_in lacks_table (field_trees types fields n) ≡ false
 lacks_none types columns.none n = refl
@@ -116,45 +94,18 @@ lacks_none types (columns.more head children rest) n =
 supported_type : (types : TypeSet) (tag : Tag) → any is_unsupported (type_tree types tag) ≡ false
 supported_type types (tags.timestamp unit None) = refl
 supported_type types (tags.timestamp unit (Some zone)) = refl
-supported_type types tags.null = refl
-supported_type types tags.boolean = refl
-supported_type types (tags.int bits signed) = refl
-supported_type types tags.binary = refl
-supported_type types tags.utf8 = refl
 supported_type Core (tags.floating_point precision) = refl
 supported_type All (tags.floating_point precision) = refl
-supported_type types (tags.date unit) = refl
-supported_type types (tags.time unit) = refl
-supported_type types tags.list = refl
-supported_type types tags.struct = refl
-supported_type types tags.large_binary = refl
-supported_type types tags.large_utf8 = refl
-supported_type types tags.large_list = refl
-supported_type types (tags.fixed_size_binary width) = refl
-supported_type types (tags.duration unit) = refl
+supported_type types tag = refl
 
 supported_encoding : (e : Option Encoding) → any is_unsupported (encoding_tree e) ≡ false
 supported_encoding None = refl
 supported_encoding (Some e) = refl
 
 known_type : (types : TypeSet) (tag : Tag) → is_none (taken types (type_code (tag_code tag))) ≡ leaves_out types tag
-known_type types tags.null = refl
-known_type types tags.boolean = refl
-known_type types (tags.int bits signed) = refl
 known_type Core (tags.floating_point precision) = refl
 known_type All (tags.floating_point precision) = refl
-known_type types tags.binary = refl
-known_type types tags.utf8 = refl
-known_type types (tags.date unit) = refl
-known_type types (tags.time unit) = refl
-known_type types (tags.timestamp unit place) = refl
-known_type types tags.list = refl
-known_type types tags.struct = refl
-known_type types tags.large_binary = refl
-known_type types tags.large_utf8 = refl
-known_type types tags.large_list = refl
-known_type types (tags.fixed_size_binary width) = refl
-known_type types (tags.duration unit) = refl
+known_type types tag = refl
 
 or_nothing : (b : Bool) → (b || false) ≡ b
 or_nothing true = refl
@@ -184,43 +135,39 @@ known_width widths.Sixteen = refl
 known_width widths.ThirtyTwo = refl
 known_width widths.SixtyFour = refl
 
+known_precision : (p : Precision) → is_none (precision (precision_number p)) ≡ false
+known_precision precisions.Half = refl
+known_precision precisions.Single = refl
+known_precision precisions.Double = refl
+
+known_date : (unit : DateUnit) → is_none (date_unit (date_number unit)) ≡ false
+known_date dates.Day = refl
+known_date dates.Millisecond = refl
+
+known_time : (unit : TimeUnit) → is_none (time_unit (time_number unit)) ≡ false
+known_time times.Second = refl
+known_time times.Millisecond = refl
+known_time times.Microsecond = refl
+known_time times.Nanosecond = refl
+
+-- the width of a time is its unit's
+width_of_time : (unit : TimeUnit) → not (is_time (time_unit (time_number unit)) (bits_of (time_width_of unit))) ≡ false
+width_of_time times.Second = refl
+width_of_time times.Millisecond = refl
+width_of_time times.Microsecond = refl
+width_of_time times.Nanosecond = refl
+
 fitting_type : (types : TypeSet) (tag : Tag) → is_wide tag ≡ false → any is_misfit (type_tree types tag) ≡ false
-fitting_type types (tags.int widths.Eight signed) narrow = refl
-fitting_type types (tags.int widths.Sixteen signed) narrow = refl
-fitting_type types (tags.int widths.ThirtyTwo signed) narrow = refl
-fitting_type types (tags.int widths.SixtyFour signed) narrow = refl
+fitting_type types (tags.int bits signed) narrow = rw (known_width bits) refl
 fitting_type Core (tags.floating_point precision) narrow = refl
-fitting_type All (tags.floating_point precisions.Half) narrow = refl
-fitting_type All (tags.floating_point precisions.Single) narrow = refl
-fitting_type All (tags.floating_point precisions.Double) narrow = refl
-fitting_type types (tags.date dates.Day) narrow = refl
-fitting_type types (tags.date dates.Millisecond) narrow = refl
-fitting_type types (tags.time times.Second) narrow = refl
-fitting_type types (tags.time times.Millisecond) narrow = refl
-fitting_type types (tags.time times.Microsecond) narrow = refl
-fitting_type types (tags.time times.Nanosecond) narrow = refl
-fitting_type types (tags.timestamp times.Second None) narrow = refl
-fitting_type types (tags.timestamp times.Second (Some zone)) narrow = refl
-fitting_type types (tags.timestamp times.Millisecond None) narrow = refl
-fitting_type types (tags.timestamp times.Millisecond (Some zone)) narrow = refl
-fitting_type types (tags.timestamp times.Microsecond None) narrow = refl
-fitting_type types (tags.timestamp times.Microsecond (Some zone)) narrow = refl
-fitting_type types (tags.timestamp times.Nanosecond None) narrow = refl
-fitting_type types (tags.timestamp times.Nanosecond (Some zone)) narrow = refl
-fitting_type types tags.null narrow = refl
-fitting_type types tags.boolean narrow = refl
-fitting_type types tags.binary narrow = refl
-fitting_type types tags.utf8 narrow = refl
-fitting_type types tags.list narrow = refl
-fitting_type types tags.struct narrow = refl
-fitting_type types tags.large_binary narrow = refl
-fitting_type types tags.large_utf8 narrow = refl
-fitting_type types tags.large_list narrow = refl
+fitting_type All (tags.floating_point precision) narrow = rw (known_precision precision) refl
+fitting_type types (tags.date unit) narrow = rw (known_date unit) refl
+fitting_type types (tags.time unit) narrow = rw (width_of_time unit) refl
+fitting_type types (tags.timestamp unit None) narrow = rw (known_time unit) refl
+fitting_type types (tags.timestamp unit (Some zone)) narrow = rw (known_time unit) refl
 fitting_type types (tags.fixed_size_binary width) narrow = rw narrow refl
-fitting_type types (tags.duration times.Second) narrow = refl
-fitting_type types (tags.duration times.Millisecond) narrow = refl
-fitting_type types (tags.duration times.Microsecond) narrow = refl
-fitting_type types (tags.duration times.Nanosecond) narrow = refl
+fitting_type types (tags.duration unit) narrow = rw (known_time unit) refl
+fitting_type types tag narrow = refl
 
 fitting_encoding : (e : Option Encoding) → any is_misfit (encoding_tree e) ≡ false
 fitting_encoding None = refl
