@@ -12,10 +12,13 @@ use Rattle.arrow_types.specs.Field.{Head, Fields, width}
 use Rattle.arrow_types.specs.Notes.{KeyValue, Notes, unnoted, noted, SchemaShape}
 use Rattle.arrow_types.specs.Schema.{is_wide, is_too_wide}
 use Rattle.arrow_types.specs.TypeSet.{leaves_out, leaves_some_out}
+use Rattle.arrow_types.specs.declared.data_type.Precision.{Precision}
 use Rattle.arrow_types.specs.declared.data_type.Precision.TheVariants as precisions
 use Rattle.arrow_types.specs.declared.data_type.BitWidth.{BitWidth}
 use Rattle.arrow_types.specs.declared.data_type.BitWidth.TheVariants as widths
+use Rattle.arrow_types.specs.declared.data_type.DateUnit.{DateUnit}
 use Rattle.arrow_types.specs.declared.data_type.DateUnit.TheVariants as dates
+use Rattle.arrow_types.specs.declared.data_type.TimeUnit.{TimeUnit}
 use Rattle.arrow_types.specs.declared.data_type.TimeUnit.TheVariants as times
 use Rattle.arrow_types.specs.declared.type_set.TypeSet.{TypeSet}
 use Rattle.arrow_types.specs.declared.type_set.TypeSet.TheVariants.{All}
@@ -23,10 +26,12 @@ use Rattle.arrow_types.specs.declared.field.Encoding.{Encoding}
 use Rattle.arrow_types.specs.declared.node.FieldNode.{FieldNode}
 use Rattle.arrow_types.specs.declared.node.Buffer.{Buffer}
 use Rattle.arrow_meta_reader.specs.Codes.{number_of_version, metadata_version, bit_width}
+use Rattle.arrow_meta_reader.specs.Codes.{date_unit, precision, time_unit}
 use Rattle.arrow_meta_reader.specs.Types.{type_code}
 use Rattle.arrow_meta_reader.specs.declared.message.MetadataVersion.{MetadataVersion}
 use Rattle.arrow_meta_reader.specs.declared.message.MetadataVersion.TheVariants as versions
 use Rattle.arrow_meta_writer.specs.Layouts.{flag, tag_code, node_pair, buffer_pair, first_pairs, first_below, first_rest}
+use Rattle.arrow_meta_writer.specs.Layouts.{date_number, precision_number, time_number}
 use Rattle.arrow_meta_reader.specs.Means.{PlainBatch, PlainHeader, schema, dictionary, batch, node_of}
 use Rattle.arrow_meta_reader.specs.Means.{buffer_of, batch_of, meaning_of}
 use Rattle.arrow_meta_reader.specs.Parts.{parts}
@@ -56,31 +61,34 @@ width_again widths.Sixteen = refl
 width_again widths.ThirtyTwo = refl
 width_again widths.SixtyFour = refl
 
+-- a precision
+precision_again : (p : Precision) → unwrap_or (precision (precision_number p)) precisions.Half ≡ p
+precision_again precisions.Half = refl
+precision_again precisions.Single = refl
+precision_again precisions.Double = refl
+
+-- the unit of a date
+date_again : (unit : DateUnit) → unwrap_or (date_unit (date_number unit)) dates.Day ≡ unit
+date_again dates.Day = refl
+date_again dates.Millisecond = refl
+
+-- the unit of a time, a timestamp or a duration
+time_again : (unit : TimeUnit) → unwrap_or (time_unit (time_number unit)) times.Second ≡ unit
+time_again times.Second = refl
+time_again times.Millisecond = refl
+time_again times.Microsecond = refl
+time_again times.Nanosecond = refl
+
 -- a type
 tag_of_all : (tag : Tag) → is_wide tag ≡ false → tag_by (type_code (tag_code tag)) (parts (type_tree All tag)) ≡ tag
 tag_of_all (tags.int bits signed) narrow = λ i. tags.int (width_again bits i) (flag_again signed i)
-tag_of_all (tags.floating_point precisions.Half) narrow = refl
-tag_of_all (tags.floating_point precisions.Single) narrow = refl
-tag_of_all (tags.floating_point precisions.Double) narrow = refl
-tag_of_all (tags.date dates.Day) narrow = refl
-tag_of_all (tags.date dates.Millisecond) narrow = refl
-tag_of_all (tags.time times.Second) narrow = refl
-tag_of_all (tags.time times.Millisecond) narrow = refl
-tag_of_all (tags.time times.Microsecond) narrow = refl
-tag_of_all (tags.time times.Nanosecond) narrow = refl
-tag_of_all (tags.timestamp times.Second None) narrow = refl
-tag_of_all (tags.timestamp times.Second (Some zone)) narrow = refl
-tag_of_all (tags.timestamp times.Millisecond None) narrow = refl
-tag_of_all (tags.timestamp times.Millisecond (Some zone)) narrow = refl
-tag_of_all (tags.timestamp times.Microsecond None) narrow = refl
-tag_of_all (tags.timestamp times.Microsecond (Some zone)) narrow = refl
-tag_of_all (tags.timestamp times.Nanosecond None) narrow = refl
-tag_of_all (tags.timestamp times.Nanosecond (Some zone)) narrow = refl
+tag_of_all (tags.floating_point precision) narrow = ap tags.floating_point (precision_again precision)
+tag_of_all (tags.date unit) narrow = ap tags.date (date_again unit)
+tag_of_all (tags.time unit) narrow = ap tags.time (time_again unit)
+tag_of_all (tags.timestamp unit None) narrow = ap (λ u. tags.timestamp u None) (time_again unit)
+tag_of_all (tags.timestamp unit (Some zone)) narrow = ap (λ u. tags.timestamp u (Some zone)) (time_again unit)
 tag_of_all (tags.fixed_size_binary width) narrow = ap (λ b. tags.fixed_size_binary (unwrap_or (if b then None else Some width) 0)) narrow
-tag_of_all (tags.duration times.Second) narrow = refl
-tag_of_all (tags.duration times.Millisecond) narrow = refl
-tag_of_all (tags.duration times.Microsecond) narrow = refl
-tag_of_all (tags.duration times.Nanosecond) narrow = refl
+tag_of_all (tags.duration unit) narrow = ap tags.duration (time_again unit)
 tag_of_all tag narrow = refl
 
 tag_again : (types : TypeSet) (tag : Tag) → is_wide tag ≡ false → leaves_out types tag ≡ false → tag_by (type_code (tag_code tag)) (parts (type_tree types tag)) ≡ tag

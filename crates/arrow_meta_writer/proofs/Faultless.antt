@@ -10,10 +10,13 @@ use Rattle.arrow_types.specs.Field.{Head, Fields, width}
 use Rattle.arrow_types.specs.Notes.{KeyValue, Notes}
 use Rattle.arrow_types.specs.Schema.{is_nested, is_wide, is_too_wide, types_differ, dictionary_fields}
 use Rattle.arrow_types.specs.TypeSet.{leaves_out, leaves_some_out}
+use Rattle.arrow_types.specs.declared.data_type.Precision.{Precision}
 use Rattle.arrow_types.specs.declared.data_type.Precision.TheVariants as precisions
 use Rattle.arrow_types.specs.declared.data_type.BitWidth.{BitWidth}
 use Rattle.arrow_types.specs.declared.data_type.BitWidth.TheVariants as widths
+use Rattle.arrow_types.specs.declared.data_type.DateUnit.{DateUnit}
 use Rattle.arrow_types.specs.declared.data_type.DateUnit.TheVariants as dates
+use Rattle.arrow_types.specs.declared.data_type.TimeUnit.{TimeUnit}
 use Rattle.arrow_types.specs.declared.data_type.TimeUnit.TheVariants as times
 use Rattle.arrow_types.specs.declared.type_set.TypeSet.{TypeSet}
 use Rattle.arrow_types.specs.declared.type_set.TypeSet.TheVariants.{All}
@@ -21,6 +24,7 @@ use Rattle.arrow_types.specs.declared.field.Encoding.{Encoding}
 use Rattle.arrow_meta_reader.specs.declared.kinds.TableKind.{TableKind}
 use Rattle.arrow_meta_reader.specs.declared.kinds.TableKind.TheVariants as kinds
 use Rattle.arrow_meta_reader.specs.Codes.{number_of_version, metadata_version, bit_width}
+use Rattle.arrow_meta_reader.specs.Codes.{date_unit, precision, time_unit}
 use Rattle.arrow_meta_reader.specs.declared.fault.MetaFault.{MetaFault}
 use Rattle.arrow_meta_reader.specs.declared.fault.MetaFault.TheVariants.{Metadata, Version, Header, BodyLength, Unsupported}
 use Rattle.arrow_meta_reader.specs.declared.message.MetadataVersion.{MetadataVersion}
@@ -28,8 +32,9 @@ use Rattle.arrow_meta_reader.specs.declared.message.MetadataVersion.TheVariants 
 use Rattle.arrow_meta_reader.specs.Conditions.{any, any_in, lacks_table, is_unsupported, is_misfit}
 use Rattle.arrow_meta_reader.specs.Conditions.{children_fit}
 use Rattle.arrow_meta_reader.specs.Faults.{body_of, fault_of, header_in, is_bad_length, is_unsupported_schema, version_in}
-use Rattle.arrow_meta_reader.specs.Types.{type_code}
+use Rattle.arrow_meta_reader.specs.Types.{is_time, type_code}
 use Rattle.arrow_meta_writer.specs.Layouts.{tag_code, first_pairs, first_below, first_rest}
+use Rattle.arrow_meta_writer.specs.Layouts.{date_number, precision_number, time_number}
 use Rattle.arrow_meta_reader.specs.Means.{PlainHeader, schema, dictionary, batch, PlainMessage}
 use Rattle.arrow_meta_reader.specs.Parts.{parts}
 use Rattle.arrow_meta_reader.specs.SchemaMeaning.{fields_from}
@@ -106,33 +111,37 @@ known_width widths.Sixteen = refl
 known_width widths.ThirtyTwo = refl
 known_width widths.SixtyFour = refl
 
+known_precision : (p : Precision) → is_none (precision (precision_number p)) ≡ false
+known_precision precisions.Half = refl
+known_precision precisions.Single = refl
+known_precision precisions.Double = refl
+
+known_date : (unit : DateUnit) → is_none (date_unit (date_number unit)) ≡ false
+known_date dates.Day = refl
+known_date dates.Millisecond = refl
+
+known_time : (unit : TimeUnit) → is_none (time_unit (time_number unit)) ≡ false
+known_time times.Second = refl
+known_time times.Millisecond = refl
+known_time times.Microsecond = refl
+known_time times.Nanosecond = refl
+
+-- the width of a time is its unit's
+width_of_time : (unit : TimeUnit) → not (is_time (time_unit (time_number unit)) (bits_of (time_width_of unit))) ≡ false
+width_of_time times.Second = refl
+width_of_time times.Millisecond = refl
+width_of_time times.Microsecond = refl
+width_of_time times.Nanosecond = refl
+
 fitting_all : (tag : Tag) → is_wide tag ≡ false → any is_misfit (type_tree All tag) ≡ false
-fitting_all (tags.int widths.Eight signed) narrow = refl
-fitting_all (tags.int widths.Sixteen signed) narrow = refl
-fitting_all (tags.int widths.ThirtyTwo signed) narrow = refl
-fitting_all (tags.int widths.SixtyFour signed) narrow = refl
-fitting_all (tags.floating_point precisions.Half) narrow = refl
-fitting_all (tags.floating_point precisions.Single) narrow = refl
-fitting_all (tags.floating_point precisions.Double) narrow = refl
-fitting_all (tags.date dates.Day) narrow = refl
-fitting_all (tags.date dates.Millisecond) narrow = refl
-fitting_all (tags.time times.Second) narrow = refl
-fitting_all (tags.time times.Millisecond) narrow = refl
-fitting_all (tags.time times.Microsecond) narrow = refl
-fitting_all (tags.time times.Nanosecond) narrow = refl
-fitting_all (tags.timestamp times.Second None) narrow = refl
-fitting_all (tags.timestamp times.Second (Some zone)) narrow = refl
-fitting_all (tags.timestamp times.Millisecond None) narrow = refl
-fitting_all (tags.timestamp times.Millisecond (Some zone)) narrow = refl
-fitting_all (tags.timestamp times.Microsecond None) narrow = refl
-fitting_all (tags.timestamp times.Microsecond (Some zone)) narrow = refl
-fitting_all (tags.timestamp times.Nanosecond None) narrow = refl
-fitting_all (tags.timestamp times.Nanosecond (Some zone)) narrow = refl
+fitting_all (tags.int bits signed) narrow = rw (known_width bits) refl
+fitting_all (tags.floating_point precision) narrow = rw (known_precision precision) refl
+fitting_all (tags.date unit) narrow = rw (known_date unit) refl
+fitting_all (tags.time unit) narrow = rw (width_of_time unit) refl
+fitting_all (tags.timestamp unit None) narrow = rw (known_time unit) refl
+fitting_all (tags.timestamp unit (Some zone)) narrow = rw (known_time unit) refl
 fitting_all (tags.fixed_size_binary width) narrow = rw narrow refl
-fitting_all (tags.duration times.Second) narrow = refl
-fitting_all (tags.duration times.Millisecond) narrow = refl
-fitting_all (tags.duration times.Microsecond) narrow = refl
-fitting_all (tags.duration times.Nanosecond) narrow = refl
+fitting_all (tags.duration unit) narrow = rw (known_time unit) refl
 fitting_all tag narrow = refl
 
 fitting_type : (types : TypeSet) (tag : Tag) → is_wide tag ≡ false → any is_misfit (type_tree types tag) ≡ false

@@ -8,14 +8,16 @@ use mir.Val.{SFits}
 use Rattle.arrow_flatbuf.specs.Nodes.{Cells, NodeFits, NodesFit, CellsFit, PairsFit}
 use Rattle.arrow_flatbuf.specs.Nodes as laid
 use Rattle.arrow_types.specs.DataType as tags
-use Rattle.arrow_types.specs.DataType.{Tag, bits_of}
+use Rattle.arrow_types.specs.DataType.{Tag, bits_of, time_width_of}
 use Rattle.arrow_types.specs.Field as columns
 use Rattle.arrow_types.specs.Field.{Head, Fields}
 use Rattle.arrow_types.specs.Notes.{KeyValue, Notes}
 use Rattle.arrow_types.specs.Schema.{is_wide, is_too_wide}
 use Rattle.arrow_types.specs.declared.data_type.BitWidth.{BitWidth}
 use Rattle.arrow_types.specs.declared.data_type.BitWidth.TheVariants as widths
+use Rattle.arrow_types.specs.declared.data_type.Precision.{Precision}
 use Rattle.arrow_types.specs.declared.data_type.Precision.TheVariants as precisions
+use Rattle.arrow_types.specs.declared.data_type.DateUnit.{DateUnit}
 use Rattle.arrow_types.specs.declared.data_type.DateUnit.TheVariants as dates
 use Rattle.arrow_types.specs.declared.data_type.TimeUnit.TheVariants as times
 use Rattle.arrow_types.specs.declared.data_type.TimeUnit.{TimeUnit}
@@ -25,7 +27,8 @@ use Rattle.arrow_types.specs.declared.node.Buffer.{Buffer}
 use Rattle.arrow_meta_reader.specs.Codes.{number_of_version}
 use Rattle.arrow_meta_reader.specs.declared.message.MetadataVersion.{MetadataVersion}
 use Rattle.arrow_meta_reader.specs.declared.message.MetadataVersion.TheVariants as versions
-use Rattle.arrow_meta_writer.specs.Layouts.{flag, tag_code, time_number, int_cells, type_cells}
+use Rattle.arrow_meta_writer.specs.Layouts.{flag, tag_code, int_cells, type_cells}
+use Rattle.arrow_meta_writer.specs.Layouts.{date_number, precision_number, time_number}
 use Rattle.arrow_meta_writer.specs.Layouts.{with_encoding, field_nodes, node_pair, buffer_pair}
 use Rattle.arrow_meta_writer.specs.Layouts.{pair_nodes, metadata_cells, first_pairs, first_below}
 use Rattle.arrow_meta_writer.specs.Layouts.{first_rest}
@@ -60,54 +63,35 @@ bits_fit widths.SixtyFour = omega arith
 int_fits : (bits : BitWidth) (signed : Bool) → NodeFits (laid.table (int_cells bits signed))
 int_fits bits signed = (omega arith, (omega (arith, bits_fit bits), (flag_fits signed, tt)))
 
-pub time_fits : (unit : TimeUnit) → time_number unit < 256
+time_fits : (unit : TimeUnit) → time_number unit < 256
 time_fits times.Second = omega arith
 time_fits times.Millisecond = omega arith
 time_fits times.Microsecond = omega arith
 time_fits times.Nanosecond = omega arith
 
+precision_fits : (p : Precision) → precision_number p < 256
+precision_fits precisions.Half = omega arith
+precision_fits precisions.Single = omega arith
+precision_fits precisions.Double = omega arith
+
+date_fits : (unit : DateUnit) → date_number unit < 256
+date_fits dates.Day = omega arith
+date_fits dates.Millisecond = omega arith
+
 type_fits : (tag : Tag) → HasTextZone tag → is_wide tag ≡ false → NodeFits (laid.table (type_cells tag))
-type_fits tags.null h narrow = (omega arith, tt)
-type_fits tags.boolean h narrow = (omega arith, tt)
-type_fits tags.binary h narrow = (omega arith, tt)
-type_fits tags.utf8 h narrow = (omega arith, tt)
-type_fits tags.list h narrow = (omega arith, tt)
-type_fits tags.struct h narrow = (omega arith, tt)
-type_fits tags.large_binary h narrow = (omega arith, tt)
-type_fits tags.large_utf8 h narrow = (omega arith, tt)
-type_fits tags.large_list h narrow = (omega arith, tt)
 type_fits (tags.int bits signed) h narrow = int_fits bits signed
-type_fits (tags.floating_point precisions.Half) h narrow = (omega arith, (omega arith, tt))
-type_fits (tags.floating_point precisions.Single) h narrow = (omega arith, (omega arith, tt))
-type_fits (tags.floating_point precisions.Double) h narrow = (omega arith, (omega arith, tt))
-type_fits (tags.date dates.Day) h narrow = (omega arith, (omega arith, tt))
-type_fits (tags.date dates.Millisecond) h narrow = (omega arith, (omega arith, tt))
-type_fits (tags.time times.Second) h narrow = (omega arith, (omega arith, (omega arith, tt)))
-type_fits (tags.time times.Millisecond) h narrow = (omega arith, (omega arith, (omega arith, tt)))
-type_fits (tags.time times.Microsecond) h narrow = (omega arith, (omega arith, (omega arith, tt)))
-type_fits (tags.time times.Nanosecond) h narrow = (omega arith, (omega arith, (omega arith, tt)))
+type_fits (tags.floating_point precision) h narrow = (omega arith, (omega (arith, precision_fits precision), tt))
+type_fits (tags.date unit) h narrow = (omega arith, (omega (arith, date_fits unit), tt))
+type_fits (tags.time unit) h narrow = (omega arith, (omega (arith, time_fits unit), (omega (arith, bits_fit (time_width_of unit)), tt)))
 type_fits (tags.timestamp unit None) h narrow = (omega arith, (omega (arith, time_fits unit), tt))
 type_fits (tags.timestamp unit (Some zone)) h narrow = (omega arith, (omega (arith, time_fits unit), (h, tt)))
 type_fits (tags.fixed_size_binary width) h narrow = (omega arith, (omega (arith, ltb-false 2147483647 width narrow), tt))
 type_fits (tags.duration unit) h narrow = (omega arith, (omega (arith, time_fits unit), tt))
+type_fits tag h narrow = (omega arith, tt)
 
 pub code_fits : (tag : Tag) → tag_code tag < 256
 code_fits tags.null = omega arith
-code_fits tags.boolean = omega arith
-code_fits tags.binary = omega arith
-code_fits tags.utf8 = omega arith
-code_fits tags.list = omega arith
-code_fits tags.struct = omega arith
-code_fits tags.large_binary = omega arith
-code_fits tags.large_utf8 = omega arith
-code_fits tags.large_list = omega arith
-code_fits (tags.int bits signed) = omega arith
-code_fits (tags.floating_point precision) = omega arith
-code_fits (tags.date unit) = omega arith
-code_fits (tags.time unit) = omega arith
-code_fits (tags.timestamp unit place) = omega arith
-code_fits (tags.fixed_size_binary width) = omega arith
-code_fits (tags.duration unit) = omega arith
+code_fits tag = omega arith
 
 encoding_fits : (e : Option Encoding) (rest : Cells) → HasLongId e → CellsFit rest → CellsFit (with_encoding e rest)
 encoding_fits None rest h later = later

@@ -9,6 +9,7 @@ pub mod WrittenMeans
 pub mod Capping
 pub mod FieldParts
 pub mod Sizing
+pub mod TypeZones
 pub mod WithEncoding
 pub mod Exact
 pub mod PairRows

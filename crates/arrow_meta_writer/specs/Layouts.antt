@@ -60,6 +60,11 @@ abbrev pub zone_cells : Option (List ℕ) → Cells
 zone_cells None = last
 zone_cells (Some name) = offset (text name) last
 
+-- the time zone of a type, where it has one
+abbrev pub zone_in : Tag → Option (List ℕ)
+zone_in (tags.timestamp unit zone) = zone
+zone_in _ = None
+
 -- a type's table: of FloatingPoint the precision, of Date the unit, of Time the unit and bitWidth, of Timestamp the unit and the time zone, of
 -- FixedSizeBinary the byteWidth, of Duration the unit. The types that no reader opens have a table without fields.
 abbrev pub type_cells : Tag → Cells

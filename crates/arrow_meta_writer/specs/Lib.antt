@@ -1,4 +1,5 @@
 pub mod Layouts
+pub mod TypeSlots
 pub mod Written
 pub mod Metadata
 pub mod Again

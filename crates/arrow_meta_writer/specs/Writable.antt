@@ -29,22 +29,7 @@ IsLong (negsuc n) = n < 2 ^ 63
 -- the name of a type's time zone is a text
 abbrev pub HasTextZone : Tag → Type 0
 HasTextZone (tags.timestamp unit (Some zone)) = is_utf8 zone ≡ true
-HasTextZone (tags.timestamp unit None) = Unit {0}
-HasTextZone tags.null = Unit {0}
-HasTextZone tags.boolean = Unit {0}
-HasTextZone tags.binary = Unit {0}
-HasTextZone tags.utf8 = Unit {0}
-HasTextZone tags.list = Unit {0}
-HasTextZone tags.struct = Unit {0}
-HasTextZone (tags.int bits signed) = Unit {0}
-HasTextZone (tags.floating_point precision) = Unit {0}
-HasTextZone (tags.date unit) = Unit {0}
-HasTextZone (tags.time unit) = Unit {0}
-HasTextZone tags.large_binary = Unit {0}
-HasTextZone tags.large_utf8 = Unit {0}
-HasTextZone tags.large_list = Unit {0}
-HasTextZone (tags.fixed_size_binary width) = Unit {0}
-HasTextZone (tags.duration unit) = Unit {0}
+HasTextZone _ = Unit {0}
 
 -- an encoding's id is a number of 64 bits
 abbrev pub HasLongId : Option Encoding → Type 0

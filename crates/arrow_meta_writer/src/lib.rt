@@ -37,8 +37,6 @@ mod metadata;
 mod sizes;
 mod table_slots;
 mod tables;
-mod type_sizes;
-mod type_slots;
 mod types;
 mod writing;
 

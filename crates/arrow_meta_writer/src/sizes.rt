@@ -20,7 +20,7 @@ use crate::tables::{
     START, TOP, batch_table_end, capped, dictionary_table_end, encoding_table_end, field_table_end,
     message_table_end, schema_table_end, text_after,
 };
-use crate::type_sizes::{int_end, type_end};
+use crate::types::{int_end, type_end};
 use arrow_flatbuf::{Width, aligned};
 use arrow_meta_reader::{Header, Message, MetadataVersion, RecordBatch};
 use arrow_types::{Encoding, Field, Limits, Schema};

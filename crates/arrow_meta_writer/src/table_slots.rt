@@ -51,13 +51,6 @@ pub(crate) fn pair_table(key: usize, value: usize) -> [Slot; KEY_VALUE_FIELDS]
     [Slot::Target(key), Slot::Target(value)]
 }
 
-/// The fields of a Timestamp table with a zone: the unit and the zone.
-pub(crate) fn zone_table(unit: u64, zone: usize) -> [Slot; 2]
-    ensures { result ≡ Slot.Scalar Width.Two unit ∷ Slot.Target zone ∷ [] }
-{
-    [Slot::Scalar(Width::Two, unit), Slot::Target(zone)]
-}
-
 /// The fields of a DictionaryEncoding table: the id, the index's type, whether the values are
 /// ordered, and a dense array for the kind.
 pub(crate) fn encoding_table(

@@ -2,24 +2,21 @@
 //!
 //! Places are those of `sizes`: in bytes, over the greatest size all as one. Each list here has the
 //! widths of a table's fields by number; the numbers and the places in them do not matter.
-ghost use Rattle.std.specs.Prelude.{◌≡◌, ◌≤◌, ℕ, ℤ, Bool, List, length, is_some, Some};
+ghost use Rattle.std.specs.Prelude.{◌≡◌, ◌≤◌, ℤ, Bool, List, length, is_some};
 ghost use Rattle.arrow_flatbuf.specs.Layout.{table_end};
 ghost use Rattle.arrow_flatbuf.specs.Nodes.{Nodes, after, cells_place, text as text_node, byte_string};
 ghost use Rattle.arrow_meta_reader.specs.Means.{PlainBatch, PlainMessage};
 ghost use Rattle.arrow_meta_writer.specs.Capped.{capped};
-ghost use Rattle.arrow_meta_writer.specs.Layouts.{type_cells, encoding_cells, field_cells};
+ghost use Rattle.arrow_meta_writer.specs.Layouts.{encoding_cells, field_cells};
 ghost use Rattle.arrow_meta_writer.specs.Layouts.{schema_cells, batch_cells, dictionary_cells};
 ghost use Rattle.arrow_meta_writer.specs.Layouts.{message_cells, metadata_cells, pair_cells};
-ghost use Rattle.arrow_types.specs.DataType.{timestamp};
 ghost use Rattle.arrow_flatbuf.specs.Nodes.{count};
 ghost use Rattle.arrow_types.specs.Field.{Head};
 ghost use Rattle.arrow_types.specs.Notes.{KeyValue, SchemaShape};
-ghost use Rattle.arrow_types.specs.declared.data_type.TimeUnit.{TimeUnit};
 ghost use Rattle.arrow_types.specs.declared.field.Encoding.{Encoding};
 
 use crate::table_slots::{
     batch_table, dictionary_table, encoding_table, message_table, pair_table, schema_table,
-    zone_table,
 };
 use arrow_flatbuf::{Slot, Width, bytes_end, table_end, text_end};
 
@@ -107,16 +104,6 @@ pub(crate) fn encoding_table_end(place: usize) -> usize
     ensures near { result ≤ 1073741825 }
 {
     table_after(place, &encoding_table(0, 0, 0))
-}
-
-/// The first place after the table of a timestamp with a zone.
-pub(crate) fn zone_table_end(place: usize) -> usize
-    requires { place ≤ 1073741825 }
-    ensures end { (unit : TimeUnit) (zone : List ℕ)
-        → result ≡ capped (cells_place place (type_cells (timestamp unit (Some zone)))) }
-    ensures near { result ≤ 1073741825 }
-{
-    table_after(place, &zone_table(0, 0))
 }
 
 /// The first place after a dictionary batch's table.

@@ -1,29 +1,28 @@
 //! Types as they are written: the code in the field's table, and the type's own table
-//! (`Schema.fbs`, union `Type`, tables `Int`, `Date`, `Time`, `Timestamp`, `FixedSizeBinary`,
-//! `Duration`).
+//! (`Schema.fbs`, union `Type`, tables `Int`, `FloatingPoint`, `Date`, `Time`, `Timestamp`,
+//! `FixedSizeBinary`, `Duration`).
 //!
-//! The table of a type that no reader opens has no fields. Units are the numbers of their enums, a
-//! width is a number of bits, or for `FixedSizeBinary` of bytes.
-ghost use Rattle.std.specs.Prelude.{◌≡◌, ◌≤◌, ◌<◌, option_map, string_bytes, true, Some, OnOk};
-ghost use Rattle.arrow_flatbuf.specs.Nodes.{count, table as table_node};
+//! `type_slots` has one row for each type: what its table holds is counted, measured and written
+//! from there. A type without parameters has a table without fields. Units are the numbers of their
+//! enums, a width is a number of bits, or for `FixedSizeBinary` of bytes. Places are those of
+//! `sizes`: in bytes, over the greatest size all as one.
+ghost use Rattle.std.specs.Prelude.{◌≡◌, ◌≤◌, ◌<◌, ℕ, option_map, length, true, OnOk};
+ghost use Rattle.arrow_flatbuf.specs.Layout.{up};
+ghost use Rattle.arrow_flatbuf.specs.Nodes.{after, cells_place, count, slots, table as table_node};
+ghost use Rattle.arrow_flatbuf.specs.Nodes.{OwnFit};
 ghost use Rattle.arrow_meta_reader.specs.Types.{type_code as code_named};
 ghost use Rattle.arrow_meta_reader.specs.Conditions.{children_fit};
 ghost use Rattle.arrow_meta_writer.specs.Appends.{HasRoom, Appends};
-ghost use Rattle.arrow_meta_writer.specs.Layouts.{int_cells, type_cells, flag, tag_code};
+ghost use Rattle.arrow_meta_writer.specs.Capped.{capped};
+ghost use Rattle.arrow_meta_writer.specs.Layouts.{int_cells, type_cells, zone_in, flag, tag_code};
 ghost use Rattle.arrow_meta_writer.specs.Layouts.{date_number, precision_number, time_number};
+ghost use Rattle.arrow_meta_writer.specs.TypeSlots.{listed};
 ghost use Rattle.arrow_meta_writer.specs.Writable.{HasTextZone};
-ghost use Rattle.arrow_types.specs.DataType.{date, duration, fixed_size_binary, floating_point};
-ghost use Rattle.arrow_types.specs.DataType.{time, timestamp};
 ghost use Rattle.arrow_types.specs.Field.{width as field_width};
 ghost use Rattle.arrow_types.specs.View.{type_view};
 
-use crate::table_slots::zone_table;
-use crate::tables::{INT_FIELDS, zone_table_end};
-use crate::type_slots::{
-    date_slots, duration_slots, fixed_size_slots, float_slots, int_slots, time_slots,
-    timestamp_slots,
-};
-use arrow_flatbuf::{TableWriter, Width, aligned};
+use crate::tables::{INT_FIELDS, table_after, text_after};
+use arrow_flatbuf::{Slot, TableWriter, Width, aligned};
 use arrow_types::{BitWidth, DataType, DateUnit, Precision, TimeUnit};
 use std::alloc::AllocError;
 
@@ -60,27 +59,20 @@ pub(crate) fn type_fields(data_type: &DataType) -> usize
     ensures count { result ≡ count (type_cells (type_view data_type.now).tag) }
     ensures few { result ≤ 2 }
 {
-    match data_type {
-        DataType::Int { .. } => INT_FIELDS,
-        DataType::FloatingPoint(_) => 1,
-        DataType::Date(_) => 1,
-        DataType::Time(_) => 2,
-        DataType::Timestamp(unit, zone) => timestamp_fields(*unit, zone),
-        DataType::FixedSizeBinary(_) => 1,
-        DataType::Duration(_) => 1,
-        _ => 0,
-    }
+    type_slots(data_type, 0).as_slice().len()
 }
 
-/// How many fields a timestamp's table has.
-fn timestamp_fields(unit: TimeUnit, zone: &Option<String>) -> usize
-    ensures count { result
-        ≡ count (type_cells (timestamp unit (option_map string_bytes zone.now))) }
-    ensures few { result ≤ 2 }
+/// The first place after a type's table and what belongs to it.
+pub(crate) fn type_end(place: usize, data_type: &DataType) -> usize
+    requires { place ≤ 1073741825 }
+    ensures end { result
+        ≡ capped (after place (table_node (type_cells (type_view data_type.now).tag))) }
+    ensures near { result ≤ 1073741825 }
 {
-    match zone {
-        None => 1,
-        Some(_) => 2,
+    let table = type_table_end(place, data_type);
+    match zone_of(data_type) {
+        Some(zone) => text_after(table, zone),
+        None => table,
     }
 }
 
@@ -91,89 +83,123 @@ pub(crate) fn write_type(writer: &mut TableWriter, data_type: &DataType) -> Resu
         (Appends writer.old (table_node (type_cells (type_view data_type.now).tag)) writer.new) }
     ensures typed { OnOk result (HasTextZone (type_view data_type.now).tag) }
 {
-    match data_type {
-        DataType::Int { bits, signed } => write_int(writer, *bits, *signed),
-        DataType::FloatingPoint(precision) => write_float(writer, *precision),
-        DataType::Date(unit) => write_date(writer, *unit),
-        DataType::Time(unit) => write_time(writer, *unit),
-        DataType::Timestamp(unit, zone) => write_timestamp(writer, *unit, zone),
-        DataType::FixedSizeBinary(width) => write_fixed_size(writer, *width),
-        DataType::Duration(unit) => write_duration(writer, *unit),
-        _ => writer.table(&[]),
+    let slots = placed_slots(writer.place(), data_type);
+    writer.table(slots.as_slice())?;
+    match zone_of(data_type) {
+        Some(zone) => writer.text(zone),
+        None => Ok(()),
     }
 }
 
-/// Appends a timestamp's table, and its zone.
-fn write_timestamp(
-    writer: &mut TableWriter,
-    unit: TimeUnit,
-    zone: &Option<String>,
-) -> Result<(), AllocError>
-    requires room { HasRoom writer.old
-        (table_node (type_cells (timestamp unit (option_map string_bytes zone.now)))) }
-    ensures bytes { OnOk result
-        (Appends writer.old
-        (table_node (type_cells (timestamp unit (option_map string_bytes zone.now)))) writer.new) }
-    ensures typed { OnOk result
-        (HasTextZone (timestamp unit (option_map string_bytes zone.now))) }
+/// The first place after a type's table, without its time zone.
+fn type_table_end(place: usize, data_type: &DataType) -> usize
+    requires { place ≤ 1073741825 }
+    ensures end { result ≡ capped (cells_place place (type_cells (type_view data_type.now).tag)) }
+    ensures near { result ≤ 1073741825 }
 {
-    match zone {
-        None => writer.table(&timestamp_slots(unit)),
-        Some(zone) => {
-            write_zone(writer, unit, zone)?;
-            Ok(())
+    table_after(place, type_slots(data_type, 0).as_slice())
+}
+
+/// The name of a type's time zone, which is written after its table.
+fn zone_of(data_type: &DataType) -> Option<&str>
+    ensures zone { option_map (λ z. z.now) result ≡ zone_in (type_view data_type.now).tag }
+    ensures typed { HasTextZone (type_view data_type.now).tag }
+{
+    match data_type {
+        DataType::Timestamp(_, Some(zone)) => Some(zone.as_str()),
+        _ => None,
+    }
+}
+
+/// The fields of a type's table that is laid out from a place on.
+fn placed_slots(place: usize, data_type: &DataType) -> TypeSlots
+    requires room { after place (table_node (type_cells (type_view data_type.now).tag))
+        ≤ 1073741824 }
+    ensures slots { let cells = type_cells (type_view data_type.now).tag
+        in listed result ≡ slots (cells_place place cells) cells }
+    ensures fits { OwnFit (type_cells (type_view data_type.now).tag) }
+{
+    let zone = aligned(type_table_end(place, data_type), Width::Four);
+    type_slots(data_type, zone)
+}
+
+/// The fields of a type's table, as many as it has.
+#[derive(Drop)]
+pub(crate) enum TypeSlots {
+    Zero,
+    One([Slot; 1]),
+    Two([Slot; 2]),
+}
+
+impl TypeSlots {
+    /// The fields by number.
+    fn as_slice(&self) -> &[Slot]
+        ensures slots { result.now ≡ listed self.now }
+        ensures few { length result.now ≤ 2 }
+    {
+        match self {
+            TypeSlots::Zero => &[],
+            TypeSlots::One(slots) => slots,
+            TypeSlots::Two(slots) => slots,
         }
     }
 }
 
-/// Appends the table of a timestamp with a zone, and the zone.
-fn write_zone(writer: &mut TableWriter, unit: TimeUnit, zone: &str) -> Result<(), AllocError>
-    requires room { HasRoom writer.old (table_node (type_cells (timestamp unit (Some zone.now)))) }
-    ensures { OnOk result
-        (Appends writer.old (table_node (type_cells (timestamp unit (Some zone.now)))) writer.new) }
+/// The fields of a type's table. `zone` is the place of its time zone, which only a type with a zone
+/// names.
+fn type_slots(data_type: &DataType, zone: usize) -> TypeSlots
+    ensures slots { (q : ℕ) → zone ≡ up 4 q
+        → listed result ≡ slots q (type_cells (type_view data_type.now).tag) }
+    ensures fits { OwnFit (type_cells (type_view data_type.now).tag) }
 {
-    let end = zone_table_end(writer.place());
-    writer.table(&zone_table(time_number(unit), aligned(end, Width::Four)))?;
-    writer.text(zone)?;
-    Ok(())
+    match data_type {
+        DataType::Int { bits, signed } => TypeSlots::Two(int_slots(*bits, *signed)),
+        DataType::FloatingPoint(precision) => {
+            TypeSlots::One([Slot::Scalar(Width::Two, precision_number(*precision))])
+        }
+        DataType::Date(unit) => TypeSlots::One([Slot::Scalar(Width::Two, date_number(*unit))]),
+        DataType::Time(unit) => TypeSlots::Two([
+            Slot::Scalar(Width::Two, time_number(*unit)),
+            Slot::Scalar(Width::Four, u64::from(unit.time_width().bits())),
+        ]),
+        DataType::Timestamp(unit, None) => {
+            TypeSlots::One([Slot::Scalar(Width::Two, time_number(*unit))])
+        }
+        DataType::Timestamp(unit, Some(_)) => {
+            TypeSlots::Two([
+                Slot::Scalar(Width::Two, time_number(*unit)),
+                Slot::Target(zone),
+            ])
+        }
+        DataType::FixedSizeBinary(width) => {
+            TypeSlots::One([Slot::Scalar(Width::Four, u64::from(*width))])
+        }
+        DataType::Duration(unit) => TypeSlots::One([Slot::Scalar(Width::Two, time_number(*unit))]),
+        DataType::Null | DataType::Bool => TypeSlots::Zero,
+        DataType::Binary | DataType::LargeBinary => TypeSlots::Zero,
+        DataType::Utf8 | DataType::LargeUtf8 => TypeSlots::Zero,
+        DataType::List(_) | DataType::LargeList(_) | DataType::Struct(_) => TypeSlots::Zero,
+    }
 }
 
-/// Appends a time's table.
-fn write_time(writer: &mut TableWriter, unit: TimeUnit) -> Result<(), AllocError>
-    ensures { OnOk result (Appends writer.old (table_node (type_cells (time unit))) writer.new) }
+/// The fields of an Int table.
+fn int_slots(bits: BitWidth, signed: bool) -> [Slot; INT_FIELDS]
+    ensures slots { result ≡ slots 0 (int_cells bits signed) }
+    ensures fits { OwnFit (int_cells bits signed) }
 {
-    writer.table(&time_slots(unit))
+    [
+        Slot::Scalar(Width::Four, u64::from(bits.bits())),
+        Slot::Scalar(Width::One, bit(signed)),
+    ]
 }
 
-/// Appends a date's table.
-fn write_date(writer: &mut TableWriter, unit: DateUnit) -> Result<(), AllocError>
-    ensures { OnOk result (Appends writer.old (table_node (type_cells (date unit))) writer.new) }
+/// The first place after an Int table.
+pub(crate) fn int_end(place: usize, bits: BitWidth, signed: bool) -> usize
+    requires { place ≤ 1073741825 }
+    ensures end { result ≡ capped (after place (table_node (int_cells bits signed))) }
+    ensures near { result ≤ 1073741825 }
 {
-    writer.table(&date_slots(unit))
-}
-
-/// Appends the table of a floating-point type.
-fn write_float(writer: &mut TableWriter, precision: Precision) -> Result<(), AllocError>
-    ensures { OnOk result
-        (Appends writer.old (table_node (type_cells (floating_point precision))) writer.new) }
-{
-    writer.table(&float_slots(precision))
-}
-
-/// Appends the table of byte strings of a fixed size.
-fn write_fixed_size(writer: &mut TableWriter, width: u32) -> Result<(), AllocError>
-    ensures { OnOk result
-        (Appends writer.old (table_node (type_cells (fixed_size_binary width))) writer.new) }
-{
-    writer.table(&fixed_size_slots(width))
-}
-
-/// Appends a duration's table.
-fn write_duration(writer: &mut TableWriter, unit: TimeUnit) -> Result<(), AllocError>
-    ensures { OnOk result
-        (Appends writer.old (table_node (type_cells (duration unit))) writer.new) }
-{
-    writer.table(&duration_slots(unit))
+    table_after(place, &int_slots(bits, signed))
 }
 
 /// Appends an Int table.
