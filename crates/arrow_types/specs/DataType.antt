@@ -4,6 +4,7 @@ use Rattle.arrow_types.specs.declared.data_type.BitWidth.{BitWidth}
 use Rattle.arrow_types.specs.declared.data_type.BitWidth.TheVariants.{Eight, Sixteen, ThirtyTwo, SixtyFour}
 use Rattle.arrow_types.specs.declared.data_type.DateUnit.{DateUnit}
 use Rattle.arrow_types.specs.declared.data_type.DateUnit.TheVariants as dates
+use Rattle.arrow_types.specs.declared.data_type.IntervalUnit.{IntervalUnit}
 use Rattle.arrow_types.specs.declared.data_type.Precision.{Precision}
 use Rattle.arrow_types.specs.declared.data_type.Precision.TheVariants.{Half, Single, Double}
 use Rattle.arrow_types.specs.declared.data_type.TimeUnit.{TimeUnit}
@@ -24,6 +25,7 @@ pub data Tag : Type 0 where
   time : TimeUnit → Tag
   timestamp : TimeUnit → Option (List ℕ) → Tag
   duration : TimeUnit → Tag
+  interval : IntervalUnit → Tag
   list : Tag
   large_list : Tag
   struct : Tag

@@ -2,7 +2,8 @@
 use Rattle.std.specs.Prelude.{◌≡◌, ◌≤◌, ℕ, ℤ, Bool, true, false, not, ◌||◌, ◌&&◌, List, [], ◌∷◌, ◌++◌, map, filter, slice_get, Option, Some, None, is_some, Result, Ok, Err, nat_lt, if◌then◌else◌, codes}
 use Rattle.std.specs.List.{list_any}
 use Rattle.std.specs.Ordering.{int_eq}
-use Rattle.arrow_types.specs.DataType.{Tag, null, boolean, int, floating_point, binary, large_binary, fixed_size_binary, utf8, large_utf8, date, time, timestamp, duration, list, large_list, struct}
+use Rattle.arrow_types.specs.DataType.{Tag}
+use Rattle.arrow_types.specs.DataType as tags
 use Rattle.arrow_types.specs.Equality.{is_equal}
 use Rattle.arrow_types.specs.Field.{Head, Fields, none, more, TypeShape, FieldShape, levels, count}
 use Rattle.arrow_types.specs.Notes.{SchemaShape, pair_count}
@@ -26,22 +27,8 @@ field_is_nested f = (is_some f.head.encoding && has_encoding f.children) || is_n
 
 -- whether a type has a fixed number of bytes that is no signed 32-bit number (Schema.fbs, table "FixedSizeBinary")
 abbrev pub is_wide : Tag → Bool
-is_wide null = false
-is_wide boolean = false
-is_wide (int _ _) = false
-is_wide (floating_point _) = false
-is_wide binary = false
-is_wide large_binary = false
-is_wide (fixed_size_binary width) = nat_lt 2147483647 width
-is_wide utf8 = false
-is_wide large_utf8 = false
-is_wide (date _) = false
-is_wide (time _) = false
-is_wide (timestamp _ _) = false
-is_wide (duration _) = false
-is_wide list = false
-is_wide large_list = false
-is_wide struct = false
+is_wide (tags.fixed_size_binary width) = nat_lt 2147483647 width
+is_wide _ = false
 
 -- whether a field of these, on any level, has such a type
 abbrev pub is_too_wide : Fields → Bool

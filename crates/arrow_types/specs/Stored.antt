@@ -6,10 +6,12 @@ use base.Stored.{Gv, gnil, gnum, gcons}
 use Rattle.arrow_types.specs.declared.field.Encoding.{Encoding}
 use Rattle.arrow_types.specs.contracts.data_type.BitWidth.{the_row as width_row}
 use Rattle.arrow_types.specs.contracts.data_type.DateUnit.{the_row as date_row}
+use Rattle.arrow_types.specs.contracts.data_type.IntervalUnit.{the_row as interval_row}
 use Rattle.arrow_types.specs.contracts.data_type.Precision.{the_row as precision_row}
 use Rattle.arrow_types.specs.contracts.data_type.TimeUnit.{the_row as time_row}
 use Rattle.arrow_types.specs.contracts.field.Encoding.{the_row as encoding_row}
-use Rattle.arrow_types.specs.DataType.{Tag, null, boolean, int, floating_point, binary, large_binary, fixed_size_binary, utf8, large_utf8, date, time, timestamp, duration, list, large_list, struct}
+use Rattle.arrow_types.specs.DataType.{Tag}
+use Rattle.arrow_types.specs.DataType as tags
 use Rattle.arrow_types.specs.Field.{Head, Fields, none, more, TypeShape, FieldShape}
 use Rattle.arrow_types.specs.Notes.{KeyValue, Notes, unnoted, noted, FieldNotes, SchemaShape}
 
@@ -19,41 +21,43 @@ zone_code = coded_option (coded_list coded_ℕ)
 
 -- the tree of a type's own part: a number for each kind, beside what the kind holds
 abbrev tag_gv : Tag → Gv
-tag_gv null = gnum 0
-tag_gv boolean = gnum 1
-tag_gv binary = gnum 2
-tag_gv utf8 = gnum 3
-tag_gv list = gnum 4
-tag_gv struct = gnum 5
-tag_gv large_binary = gnum 6
-tag_gv large_utf8 = gnum 7
-tag_gv large_list = gnum 8
-tag_gv (int bits signed) = gcons (gnum 0) (gcons (width_row.coded.code bits) (coded_bool.code signed))
-tag_gv (date unit) = gcons (gnum 1) (date_row.coded.code unit)
-tag_gv (time unit) = gcons (gnum 2) (time_row.coded.code unit)
-tag_gv (timestamp unit zone) = gcons (gnum 3) (gcons (time_row.coded.code unit) (zone_code.code zone))
-tag_gv (duration unit) = gcons (gnum 4) (time_row.coded.code unit)
-tag_gv (fixed_size_binary width) = gcons (gnum 5) (coded_ℕ.code width)
-tag_gv (floating_point precision) = gcons (gnum 6) (precision_row.coded.code precision)
+tag_gv tags.null = gnum 0
+tag_gv tags.boolean = gnum 1
+tag_gv tags.binary = gnum 2
+tag_gv tags.utf8 = gnum 3
+tag_gv tags.list = gnum 4
+tag_gv tags.struct = gnum 5
+tag_gv tags.large_binary = gnum 6
+tag_gv tags.large_utf8 = gnum 7
+tag_gv tags.large_list = gnum 8
+tag_gv (tags.int bits signed) = gcons (gnum 0) (gcons (width_row.coded.code bits) (coded_bool.code signed))
+tag_gv (tags.date unit) = gcons (gnum 1) (date_row.coded.code unit)
+tag_gv (tags.time unit) = gcons (gnum 2) (time_row.coded.code unit)
+tag_gv (tags.timestamp unit zone) = gcons (gnum 3) (gcons (time_row.coded.code unit) (zone_code.code zone))
+tag_gv (tags.duration unit) = gcons (gnum 4) (time_row.coded.code unit)
+tag_gv (tags.fixed_size_binary width) = gcons (gnum 5) (coded_ℕ.code width)
+tag_gv (tags.floating_point precision) = gcons (gnum 6) (precision_row.coded.code precision)
+tag_gv (tags.interval unit) = gcons (gnum 7) (interval_row.coded.code unit)
 
 -- own parts with one tree are equal
 pub tag_inj : (x y : Tag) → tag_gv x ≡ tag_gv y → x ≡ y
-tag_inj null null p = refl
-tag_inj boolean boolean p = refl
-tag_inj binary binary p = refl
-tag_inj utf8 utf8 p = refl
-tag_inj list list p = refl
-tag_inj struct struct p = refl
-tag_inj large_binary large_binary p = refl
-tag_inj large_utf8 large_utf8 p = refl
-tag_inj large_list large_list p = refl
-tag_inj (int a s) (int b t) p = λ i. int (width_row.coded.inj a b (cc) i) (coded_bool.inj s t (cc) i)
-tag_inj (date u) (date v) p = ap date (date_row.coded.inj u v (cc))
-tag_inj (time u) (time v) p = ap time (time_row.coded.inj u v (cc))
-tag_inj (timestamp u x) (timestamp v y) p = λ i. timestamp (time_row.coded.inj u v (cc) i) (zone_code.inj x y (cc) i)
-tag_inj (duration u) (duration v) p = ap duration (time_row.coded.inj u v (cc))
-tag_inj (fixed_size_binary m) (fixed_size_binary n) p = ap fixed_size_binary (coded_ℕ.inj m n (cc))
-tag_inj (floating_point a) (floating_point b) p = ap floating_point (precision_row.coded.inj a b (cc))
+tag_inj tags.null tags.null p = refl
+tag_inj tags.boolean tags.boolean p = refl
+tag_inj tags.binary tags.binary p = refl
+tag_inj tags.utf8 tags.utf8 p = refl
+tag_inj tags.list tags.list p = refl
+tag_inj tags.struct tags.struct p = refl
+tag_inj tags.large_binary tags.large_binary p = refl
+tag_inj tags.large_utf8 tags.large_utf8 p = refl
+tag_inj tags.large_list tags.large_list p = refl
+tag_inj (tags.int a s) (tags.int b t) p = λ i. tags.int (width_row.coded.inj a b (cc) i) (coded_bool.inj s t (cc) i)
+tag_inj (tags.date u) (tags.date v) p = ap tags.date (date_row.coded.inj u v (cc))
+tag_inj (tags.time u) (tags.time v) p = ap tags.time (time_row.coded.inj u v (cc))
+tag_inj (tags.timestamp u x) (tags.timestamp v y) p = λ i. tags.timestamp (time_row.coded.inj u v (cc) i) (zone_code.inj x y (cc) i)
+tag_inj (tags.duration u) (tags.duration v) p = ap tags.duration (time_row.coded.inj u v (cc))
+tag_inj (tags.fixed_size_binary m) (tags.fixed_size_binary n) p = ap tags.fixed_size_binary (coded_ℕ.inj m n (cc))
+tag_inj (tags.floating_point a) (tags.floating_point b) p = ap tags.floating_point (precision_row.coded.inj a b (cc))
+tag_inj (tags.interval u) (tags.interval v) p = ap tags.interval (interval_row.coded.inj u v (cc))
 tag_inj x y p = cc
 
 -- so these trees tell types' own parts apart

@@ -1,28 +1,16 @@
 -- Which types are read and written. (The sets are this project's own; the types are those of Schema.fbs, union "Type".)
 use Rattle.std.specs.Prelude.{Bool, true, false, ◌&&◌, ◌||◌}
-use Rattle.arrow_types.specs.DataType.{Tag, null, boolean, int, floating_point, binary, large_binary, fixed_size_binary, utf8, large_utf8, date, time, timestamp, duration, list, large_list, struct}
+use Rattle.arrow_types.specs.DataType.{Tag}
+use Rattle.arrow_types.specs.DataType as tags
 use Rattle.arrow_types.specs.Field.{Head, Fields, none, more, FieldShape}
 use Rattle.arrow_types.specs.declared.type_set.TypeSet.{TypeSet}
 use Rattle.arrow_types.specs.declared.type_set.TypeSet.TheVariants.{Core, All}
 
 -- whether a type is outside of the core
 abbrev pub is_late : Tag → Bool
-is_late null = false
-is_late boolean = false
-is_late (int _ _) = false
-is_late (floating_point _) = true
-is_late binary = false
-is_late large_binary = false
-is_late (fixed_size_binary _) = false
-is_late utf8 = false
-is_late large_utf8 = false
-is_late (date _) = false
-is_late (time _) = false
-is_late (timestamp _ _) = false
-is_late (duration _) = false
-is_late list = false
-is_late large_list = false
-is_late struct = false
+is_late (tags.floating_point _) = true
+is_late (tags.interval _) = true
+is_late _ = false
 
 -- whether a set has the core alone
 abbrev pub is_core : TypeSet → Bool

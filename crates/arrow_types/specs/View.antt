@@ -1,6 +1,7 @@
 -- What a type, a field and some fields of the program say, level by level.
 use Rattle.std.specs.Prelude.{List, [], ◌∷◌, map, string_bytes, option_map}
-use Rattle.arrow_types.specs.DataType.{Tag, null, boolean, int, floating_point, binary, large_binary, fixed_size_binary, utf8, large_utf8, date, time, timestamp, duration, list, large_list, struct}
+use Rattle.arrow_types.specs.DataType.{Tag}
+use Rattle.arrow_types.specs.DataType as tags
 use Rattle.arrow_types.specs.Field.{Fields, none, TypeShape, FieldShape, fields_of}
 use Rattle.arrow_types.specs.Notes.{Notes, unnoted, FieldNotes, SchemaShape, KeyValue, notes_of, pairs_view}
 use Rattle.arrow_types.specs.declared.data_type.DataType.{DataType, fold-DataType}
@@ -13,22 +14,23 @@ leaf tag = record { tag = tag; children = none }
 
 -- one level of a type, whose children are plain already
 abbrev pub type_step : DataType-F TypeShape FieldShape → TypeShape
-type_step DataType-F.Null = leaf null
-type_step DataType-F.Bool = leaf boolean
-type_step (DataType-F.Int bits signed) = leaf (int bits signed)
-type_step (DataType-F.FloatingPoint precision) = leaf (floating_point precision)
-type_step DataType-F.Binary = leaf binary
-type_step DataType-F.LargeBinary = leaf large_binary
-type_step (DataType-F.FixedSizeBinary width) = leaf (fixed_size_binary width)
-type_step DataType-F.Utf8 = leaf utf8
-type_step DataType-F.LargeUtf8 = leaf large_utf8
-type_step (DataType-F.Date unit) = leaf (date unit)
-type_step (DataType-F.Time unit) = leaf (time unit)
-type_step (DataType-F.Timestamp unit zone) = leaf (timestamp unit (option_map string_bytes zone))
-type_step (DataType-F.Duration unit) = leaf (duration unit)
-type_step (DataType-F.List item) = record { tag = list; children = fields_of (item.value ∷ []) }
-type_step (DataType-F.LargeList item) = record { tag = large_list; children = fields_of (item.value ∷ []) }
-type_step (DataType-F.Struct fields) = record { tag = struct; children = fields_of fields.items }
+type_step DataType-F.Null = leaf tags.null
+type_step DataType-F.Bool = leaf tags.boolean
+type_step (DataType-F.Int bits signed) = leaf (tags.int bits signed)
+type_step (DataType-F.FloatingPoint precision) = leaf (tags.floating_point precision)
+type_step DataType-F.Binary = leaf tags.binary
+type_step DataType-F.LargeBinary = leaf tags.large_binary
+type_step (DataType-F.FixedSizeBinary width) = leaf (tags.fixed_size_binary width)
+type_step DataType-F.Utf8 = leaf tags.utf8
+type_step DataType-F.LargeUtf8 = leaf tags.large_utf8
+type_step (DataType-F.Date unit) = leaf (tags.date unit)
+type_step (DataType-F.Time unit) = leaf (tags.time unit)
+type_step (DataType-F.Timestamp unit zone) = leaf (tags.timestamp unit (option_map string_bytes zone))
+type_step (DataType-F.Duration unit) = leaf (tags.duration unit)
+type_step (DataType-F.Interval unit) = leaf (tags.interval unit)
+type_step (DataType-F.List item) = record { tag = tags.list; children = fields_of (item.value ∷ []) }
+type_step (DataType-F.LargeList item) = record { tag = tags.large_list; children = fields_of (item.value ∷ []) }
+type_step (DataType-F.Struct fields) = record { tag = tags.struct; children = fields_of fields.items }
 
 -- a field, whose type is plain already
 abbrev pub field_step : Field-F TypeShape FieldShape → FieldShape
@@ -51,22 +53,10 @@ fields_view fs = fields_of (map field_view fs)
 
 -- what is noted below one level of a type, whose children's notes are plain already
 abbrev pub type_notes_step : DataType-F Notes FieldNotes → Notes
-type_notes_step DataType-F.Null = unnoted
-type_notes_step DataType-F.Bool = unnoted
-type_notes_step (DataType-F.Int _ _) = unnoted
-type_notes_step (DataType-F.FloatingPoint _) = unnoted
-type_notes_step DataType-F.Binary = unnoted
-type_notes_step DataType-F.LargeBinary = unnoted
-type_notes_step (DataType-F.FixedSizeBinary _) = unnoted
-type_notes_step DataType-F.Utf8 = unnoted
-type_notes_step DataType-F.LargeUtf8 = unnoted
-type_notes_step (DataType-F.Date _) = unnoted
-type_notes_step (DataType-F.Time _) = unnoted
-type_notes_step (DataType-F.Timestamp unit _) = unnoted
-type_notes_step (DataType-F.Duration _) = unnoted
 type_notes_step (DataType-F.List item) = notes_of (item.value ∷ [])
 type_notes_step (DataType-F.LargeList item) = notes_of (item.value ∷ [])
 type_notes_step (DataType-F.Struct fields) = notes_of fields.items
+type_notes_step _ = unnoted
 
 -- what is noted at a field, and below its type
 abbrev pub field_notes_step : Field-F Notes FieldNotes → FieldNotes

@@ -112,6 +112,17 @@ impl Precision {
     }
 }
 
+/// What an interval of the calendar counts (`Schema.fbs`, enum `IntervalUnit`).
+#[derive(Clone, Copy, Debug, PartialEq, Eq)]
+pub enum IntervalUnit {
+    /// Months, in signed numbers of 32 bits.
+    YearMonth,
+    /// Days, then milliseconds, each in a signed number of 32 bits.
+    DayTime,
+    /// Months, then days, each in a signed number of 32 bits, then nanoseconds in one of 64 bits.
+    MonthDayNano,
+}
+
 /// The type of a column's values, without a dictionary (`Schema.fbs`, union `Type`).
 ///
 /// Any tree of types can be built; that it keeps to the limits is tested where a `Schema` is made
@@ -146,6 +157,8 @@ pub enum DataType {
     Timestamp(TimeUnit, Option<String>),
     /// Lengths of time, in signed 64-bit numbers.
     Duration(TimeUnit),
+    /// Intervals of the calendar, whose months and days have no fixed length in time.
+    Interval(IntervalUnit),
     /// Lists of values of the one child field, between offsets of 32 bits.
     List(Box<Field>),
     /// The same between offsets of 64 bits.
@@ -195,6 +208,7 @@ impl DataType {
                 Ok(DataType::Timestamp(*unit, Some(zone.clone()?)))
             }
             DataType::Duration(unit) => Ok(DataType::Duration(*unit)),
+            DataType::Interval(unit) => Ok(DataType::Interval(*unit)),
             DataType::List(item) => Ok(DataType::List(Box::new(alloc, item.copy(alloc)?)?)),
             DataType::LargeList(item) => {
                 Ok(DataType::LargeList(Box::new(alloc, item.copy(alloc)?)?))
@@ -241,6 +255,7 @@ pub(crate) fn same_type(one: &DataType, other: &DataType) -> bool
             matches!(other, DataType::Timestamp(u, z) if u == unit && z == zone)
         }
         DataType::Duration(unit) => matches!(other, DataType::Duration(u) if u == unit),
+        DataType::Interval(unit) => matches!(other, DataType::Interval(u) if u == unit),
         DataType::List(item) => matches!(other, DataType::List(i) if same_field(item, i)),
         DataType::LargeList(item) => {
             matches!(other, DataType::LargeList(i) if same_field(item, i))

@@ -37,7 +37,7 @@ mod size;
 mod type_set;
 mod widths;
 
-pub use data_type::{BitWidth, DataType, DateUnit, Precision, TimeUnit};
+pub use data_type::{BitWidth, DataType, DateUnit, IntervalUnit, Precision, TimeUnit};
 pub use field::{Encoding, Field, IndexType};
 pub use limits::Limits;
 pub use node::{Buffer, FieldNode};

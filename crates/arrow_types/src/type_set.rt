@@ -15,7 +15,7 @@ pub enum TypeSet {
     /// The types that have always been there: Null, Bool, Int, Binary, LargeBinary, FixedSizeBinary,
     /// Utf8, LargeUtf8, Date, Time, Timestamp, Duration, List, LargeList and Struct.
     Core,
-    /// These and FloatingPoint.
+    /// These, FloatingPoint and Interval.
     All,
 }
 
@@ -63,22 +63,8 @@ impl TypeSet {
 fn is_late(data_type: &DataType) -> bool
     ensures { result ≡ is_late (type_view data_type.now).tag }
 {
-    match data_type {
-        DataType::FloatingPoint(_) => true,
-        DataType::Null
-        | DataType::Bool
-        | DataType::Int { .. }
-        | DataType::Binary
-        | DataType::LargeBinary
-        | DataType::FixedSizeBinary(_)
-        | DataType::Utf8
-        | DataType::LargeUtf8
-        | DataType::Date(_)
-        | DataType::Time(_)
-        | DataType::Timestamp(..)
-        | DataType::Duration(_)
-        | DataType::List(_)
-        | DataType::LargeList(_)
-        | DataType::Struct(_) => false,
-    }
+    matches!(
+        data_type,
+        DataType::FloatingPoint(_) | DataType::Interval(_)
+    )
 }
