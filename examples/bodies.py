@@ -6,11 +6,12 @@ What stands in slot i is told by KINDS below, and in words by KINDS in crates/ar
 import struct
 
 import frames
+from type_table import BITS, BY_NAME, INT, NULLS, WITH_OFFSETS
 
 LENGTHS = [0, 1, 7, 8, 9, 63, 64, 65]
 
 # Which slots are null: none, the first, the last, all, each third.
-NULLS = [
+NULL_SLOTS = [
     lambda slot, length: False,
     lambda slot, length: slot == 0,
     lambda slot, length: slot == length - 1,
@@ -28,29 +29,42 @@ def number(bits, signed, slot):
 
 
 def integers(bits, signed):
-    form = dict(zip((8, 16, 32, 64), "bhiq"))[bits]
-    return (lambda slot: number(bits, signed, slot)), lambda values: frames.numbers(values, form if signed else form.upper())
+    return (lambda slot: number(bits, signed, slot)), column_of(INT.form((bits, signed)))
 
 
 def string(slot):
     return STRINGS[slot % 4].encode()
 
 
-def large_offsets(values):
-    ends = [0]
-    for value in values:
-        ends.append(ends[-1] + len(value or ()))
-    return struct.pack(f"<{len(ends)}q", *ends)
-
-
 def large_strings(values):
-    return frames.Column([frames.node(values)],
-                         [frames.validity(values), large_offsets(values), b"".join(value or b"" for value in values)])
+    return frames.strings(values, "q")
 
 
 def fixed(values, width):
-    return frames.Column([frames.node(values)],
-                         [frames.validity(values), b"".join(value or bytes(width) for value in values)])
+    return slots(values, f"{width}s")
+
+
+def slots(values, form):
+    """Values that take as many bytes each, by a format of the module struct: a number, bytes, or a tuple of several numbers."""
+    packed = (bytes(struct.calcsize("<" + form)) if it is None else struct.pack("<" + form, *(it if isinstance(it, tuple) else [it]))
+              for it in values)
+    return frames.Column([frames.node(values)], [frames.validity(values), b"".join(packed)])
+
+
+def column_of(form):
+    """What lays out values of a type without children, by its Form."""
+    if form.layout == NULLS:
+        return lambda values: frames.nulls(len(values))
+    if form.layout == BITS:
+        return frames.bools
+    if form.layout in WITH_OFFSETS:
+        return lambda values: frames.strings(values, form.slot)
+    return lambda values: slots(values, form.slot)
+
+
+def intervals(values, unit):
+    """Months, of which each value may be a number; pairs of days and milliseconds; or triples of months, days and nanoseconds."""
+    return column_of(BY_NAME["Interval"].form((unit,)))(values)
 
 
 def bytes_of_number(values):
@@ -62,9 +76,7 @@ def items(slot):
 
 
 def large_lists(values, of):
-    child = of([item for value in values for item in value or ()])
-    return frames.Column([frames.node(values)] + child.nodes,
-                         [frames.validity(values), large_offsets(values)] + child.buffers)
+    return frames.lists(values, of, "q")
 
 
 def pair(slot):
@@ -86,7 +98,7 @@ def pairs_in_list(slot):
 KINDS = [
     (lambda slot: None, lambda values: frames.nulls(len(values))),
     (lambda slot: slot % 3 == 0, frames.bools),
-    *(integers(bits, signed) for bits in (8, 16, 32, 64) for signed in (True, False)),
+    *(integers(bits, signed) for bits, signed in INT.cases),
     *2 * [integers(32, True)],      # days, and times of day in seconds
     *2 * [integers(64, True)],      # timestamps, and lengths of time
     *2 * [(string, frames.strings)],
@@ -109,7 +121,7 @@ def sum_of(kind, length):
     """A sum over the nodes, the places of the buffers and the bytes, for all places of nulls and both alignments."""
     value, column = kind
     total = 1
-    for is_null in NULLS:
+    for is_null in NULL_SLOTS:
         values = [None if is_null(slot, length) else value(slot) for slot in range(length)]
         for align in (8, 64):
             nodes, places, body = frames.laid([column(values)], align)

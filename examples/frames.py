@@ -10,8 +10,11 @@ as zeros, an empty text or an empty list.
 
 Run by itself, it compares two frames, a metadata and some bodies with bytes that are written out.
 """
+import functools
 import struct
 import sys
+
+from type_table import BY_NAME, TEXT
 
 END_MARKER = b"\xff\xff\xff\xff\0\0\0\0"
 
@@ -134,41 +137,23 @@ def metadata_in(words):
     return words[8:8 + int.from_bytes(words[4:8], "little")]
 
 
-# Types: the code of the union Type and the type's table.
-NULL, BINARY, UTF8, BOOL, LIST, STRUCT = [(code, table()) for code in (1, 4, 5, 6, 12, 13)]
-LARGE_BINARY, LARGE_UTF8, LARGE_LIST = [(code, table()) for code in (19, 20, 21)]
+def of_type(name, *values):
+    """A type by its name in Schema.fbs: its code in the union Type, and its table with these values of its fields, None where one is
+    absent."""
+    row = BY_NAME[name]
+    fields = ((it, value) for it, value in zip(row.fields, values) if value is not None)
+    return row.code, table(*(text(value) if it.width == TEXT else scalar(it.letter, value) for it, value in fields))
 
 
-def integer(bits, signed):
-    return (2, table(scalar("i", bits), scalar("B", signed)))
-
-
+NULL, BINARY, UTF8, BOOL, LIST, STRUCT = map(of_type, ("Null", "Binary", "Utf8", "Bool", "List", "Struct_"))
+LARGE_BINARY, LARGE_UTF8, LARGE_LIST = map(of_type, ("LargeBinary", "LargeUtf8", "LargeList"))
+integer, floating, date, timestamp, interval, fixed_size_binary, duration = (functools.partial(of_type, it) for it in (
+    "Int", "FloatingPoint", "Date", "Timestamp", "Interval", "FixedSizeBinary", "Duration"))
 INT32 = integer(32, True)
 
 
-def floating(precision):
-    return (3, table(scalar("h", precision)))
-
-
-def date(unit):
-    return (8, table(scalar("h", unit)))
-
-
 def time(unit):
-    return (9, table(scalar("h", unit), scalar("i", 32 if unit < 2 else 64)))
-
-
-def timestamp(unit, zone=None):
-    fields = [scalar("h", unit)] + ([] if zone is None else [text(zone)])
-    return (10, table(*fields))
-
-
-def fixed_size_binary(width):
-    return (15, table(scalar("i", width)))
-
-
-def duration(unit):
-    return (18, table(scalar("h", unit)))
+    return of_type("Time", unit, 32 if unit < 2 else 64)
 
 
 def dictionary(number, bits=32, signed=True, ordered=False):
@@ -213,11 +198,11 @@ def validity(values):
     return bits([value is not None for value in values]) if None in values else b""
 
 
-def offsets(values):
+def offsets(values, form="i"):
     ends = [0]
     for value in values:
         ends.append(ends[-1] + len(value or ()))
-    return struct.pack(f"<{len(ends)}i", *ends)
+    return struct.pack(f"<{len(ends)}{form}", *ends)
 
 
 # Columns of values, of which None is null.
@@ -235,16 +220,16 @@ def numbers(values, form="i"):
     return Column([node(values)], [validity(values), packed])
 
 
-def strings(values):
-    """Texts or byte strings."""
+def strings(values, form="i"):
+    """Texts or byte strings, whose offsets have a format of the module struct."""
     plain = [value.encode() if isinstance(value, str) else value for value in values]
-    return Column([node(plain)], [validity(plain), offsets(plain), b"".join(value or b"" for value in plain)])
+    return Column([node(plain)], [validity(plain), offsets(plain, form), b"".join(value or b"" for value in plain)])
 
 
-def lists(values, of):
-    """Lists, whose items are a column made by `of`."""
+def lists(values, of, form="i"):
+    """Lists, whose items are a column made by `of`, with such offsets."""
     child = of([item for value in values for item in value or ()])
-    return Column([node(values)] + child.nodes, [validity(values), offsets(values)] + child.buffers)
+    return Column([node(values)] + child.nodes, [validity(values), offsets(values, form)] + child.buffers)
 
 
 def structs(values, *children):

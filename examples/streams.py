@@ -11,6 +11,7 @@ import frames
 import noted
 from frames import (BINARY, BOOL, END_MARKER, INT32, LIST, NULL, STRUCT, UTF8, batch, bools, date, dictionary,
                     dictionary_batch, field, integer, lists, nulls, numbers, schema, strings, structs, time, timestamp)
+from type_table import INT
 
 # The places where the frames of the growing dictionary begin, and its end, at an alignment of 8.
 GROWING_PLACES = [0, 200, 424, 592, 816, 976, 1208, 1368, 1376]
@@ -118,8 +119,7 @@ ENCODED = {
 }
 
 # The names of the columns of numbers below, and the formats of the module struct for them.
-NUMBERS = [(f"{sign}{bits}", integer(bits, sign == "i"), form if sign == "i" else form.upper())
-           for bits, form in ((8, "b"), (16, "h"), (32, "i"), (64, "q")) for sign in "iu"]
+NUMBERS = [(f"{'i' if signed else 'u'}{bits}", integer(bits, signed), INT.form((bits, signed)).slot) for bits, signed in INT.cases]
 MOMENTS = [("days", date(0), "i"), ("dates", date(1), "q"), ("s", time(0), "i"), ("ms", time(1), "i"), ("us", time(2), "q"),
            ("ns", time(3), "q"), *((f"at {unit}", timestamp(unit), "q") for unit in range(4))]
 

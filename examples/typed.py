@@ -3,10 +3,11 @@ from frames import (BINARY, BOOL, END_MARKER, INT32, LARGE_BINARY, LARGE_LIST, L
                     dictionary, dictionary_batch, duration, field, fixed_size_binary, floating, integer, lists, numbers, schema, strings,
                     structs, time, timestamp)
 from streams import four_fields
+from type_table import INT
 
 
 def every_type():
-    widths = [integer(bits, signed) for bits in (8, 16, 32, 64) for signed in (True, False)]
+    widths = [integer(*it) for it in INT.cases]
     times = [kind(unit) for unit in range(4) for kind in (time, timestamp)]
     plain = [NULL, BOOL, *widths, BINARY, UTF8, date(0), date(1), *times]
     columns = [field(f"c{number}", kind) for number, kind in enumerate(plain)]

@@ -1,5 +1,6 @@
 """What `arrowflow schema` has to print of an input, by a model of its own: written from docs/FORMAT.md, in another
-language, with no code and no definition of the crates. It reads a whole list of bytes at once and keeps no state.
+language, with no code and no definition of the crates; what a type is stands in examples/type_table.py. It reads a whole list of
+bytes at once and keeps no state.
 
 `answer(bytes)` gives standard output, standard error and the exit status; `first_schema(bytes)` gives what stands behind
 them, custom metadata as well, which no text shows. Limits are the defaults; of the sets of types it is the core, or the one that is
@@ -7,6 +8,12 @@ given.
 """
 import collections
 import functools
+import pathlib
+import sys
+
+sys.dont_write_bytecode = True
+sys.path.insert(0, str(pathlib.Path(__file__).resolve().parent.parent / "examples"))
+from type_table import BY_CODE, INT, TEXT
 
 MAX_METADATA = 67_108_864
 MAX_BODY = 2 ** 36
@@ -16,17 +23,6 @@ MAX_FIELDS = 65_536
 MAX_PAIRS = 65_536
 READ_VERSIONS = (3, 4)
 CORE, ALL = "core", "all"
-INT, FLOATING, DATE, TIME, TIMESTAMP, LIST, STRUCT = 2, 3, 8, 9, 10, 12, 13
-FIXED_SIZE, DURATION, LARGE_LIST = 15, 18, 21
-WITH_TABLE = (INT, FLOATING, DATE, TIME, TIMESTAMP, FIXED_SIZE, DURATION)
-# Types that the core leaves out.
-LATE = (FLOATING,)
-NAMES = {1: "null", INT: "int", FLOATING: "floating", 4: "binary", 5: "utf8", 6: "bool", DATE: "date", TIME: "time",
-         TIMESTAMP: "timestamp", LIST: "list", STRUCT: "struct", FIXED_SIZE: "fixed_size_binary",
-         DURATION: "duration", 19: "large_binary", 20: "large_utf8", LARGE_LIST: "large_list"}
-UNITS = ("s", "ms", "us", "ns")
-PRECISIONS = ("halffloat", "float", "double")
-WIDTHS = (8, 16, 32, 64)
 
 Schema = collections.namedtuple("Schema", "endianness fields pairs")
 Message = collections.namedtuple("Message", "version code header body schema")
@@ -42,7 +38,12 @@ class Refused(Exception):
 
 def is_taken(code, types):
     """Whether a set has the type of this code."""
-    return code in NAMES and (types == ALL or code not in LATE)
+    return code in BY_CODE and (types == ALL or BY_CODE[code].is_core)
+
+
+def has_table(code, types):
+    """Whether a set has the type of this code, and its table has fields."""
+    return is_taken(code, types) and BY_CODE[code].fields != ()
 
 
 def signed(number, width):
@@ -133,24 +134,16 @@ class Metadata:
             yield self.table(self.target(first + 4 * number))
 
 
+def values_of(metadata, opened, row):
+    """The values of the fields of a type's table; a text that is absent is None."""
+    return tuple(metadata.text(opened, at) if it.width == TEXT else type(it.default)(
+        signed(metadata.scalar(opened, at, it.width, it.default), it.width)) for at, it in enumerate(row.fields))
+
+
 def type_of(metadata, table, code):
     """What the table of a type says, None where it is absent or not opened."""
-    if code not in WITH_TABLE or not is_taken(code, metadata.types):
-        return None
-    opened = metadata.child(table, 3)
-    if opened is None:
-        return None
-    if code == INT:
-        return signed(metadata.scalar(opened, 0, 4, 0), 4), metadata.scalar(opened, 1, 1, 0) != 0
-    if code == FIXED_SIZE:
-        return (signed(metadata.scalar(opened, 0, 4, 0), 4),)
-    if code == FLOATING:
-        return (signed(metadata.scalar(opened, 0, 2, 0), 2),)
-    if code in (DATE, DURATION):
-        return (signed(metadata.scalar(opened, 0, 2, 1), 2),)
-    if code == TIME:
-        return signed(metadata.scalar(opened, 0, 2, 1), 2), signed(metadata.scalar(opened, 1, 4, 32), 4)
-    return signed(metadata.scalar(opened, 0, 2, 0), 2), metadata.text(opened, 1)
+    opened = metadata.child(table, 3) if has_table(code, metadata.types) else None
+    return None if opened is None else values_of(metadata, opened, BY_CODE[code])
 
 
 def encoding_of(metadata, table):
@@ -159,9 +152,7 @@ def encoding_of(metadata, table):
     if encoding is None:
         return None
     index = metadata.child(encoding, 1)
-    index_type = (32, True)
-    if index is not None:
-        index_type = signed(metadata.scalar(index, 0, 4, 0), 4), metadata.scalar(index, 1, 1, 0) != 0
+    index_type = (32, True) if index is None else values_of(metadata, index, INT)
     return (signed(metadata.scalar(encoding, 0, 8, 0), 8), index_type,
             metadata.scalar(encoding, 2, 1, 0) != 0, metadata.scalar(encoding, 3, 2, 0))
 
@@ -236,7 +227,7 @@ def read_message(held, types=CORE):
     header = metadata.child(root, 2) if code in (1, 2, 3) else None
     schema = header_of(metadata, header, code) if header is not None else None
     every = all_fields(schema.fields) if schema else []
-    if any(field["code"] in WITH_TABLE and is_taken(field["code"], types) and field["type"] is None for field in every):
+    if any(has_table(field["code"], types) and field["type"] is None for field in every):
         raise Unreadable
     return Message(version, code, header, body, schema)
 
@@ -248,21 +239,16 @@ def is_unsupported(schema, types=CORE):
             or any(field["encoding"] and field["encoding"][3] != 0 for field in every))
 
 
+def form_of(field):
+    """The Form of a field's type, None where its widths or units are none."""
+    return BY_CODE[field["code"]].form(field["type"] or ())
+
+
 def fits(field):
     """Whether widths, units and the number of children are those of the type."""
-    code, kind = field["code"], field["type"]
-    if field["encoding"] and field["encoding"][1][0] not in WIDTHS:
+    if form_of(field) is None or field["encoding"] and INT.form(field["encoding"][1]) is None:
         return False
-    if code == INT and kind[0] not in WIDTHS or code == DATE and kind[0] not in (0, 1):
-        return False
-    if code in (TIME, TIMESTAMP, DURATION) and kind[0] not in range(4) or code == FLOATING and kind[0] not in range(3):
-        return False
-    if code == FIXED_SIZE and kind[0] < 0:
-        return False
-    if code == TIME and kind[1] != (32 if kind[0] < 2 else 64):
-        return False
-    count = len(field["children"])
-    return count == 1 if code in (LIST, LARGE_LIST) else code == STRUCT or count == 0
+    return BY_CODE[field["code"]].children in (None, len(field["children"]))
 
 
 def value_type(field):
@@ -318,37 +304,13 @@ def escaped(text):
     return b"".join(b"\\x%02x" % byte if byte < 32 or byte in (92, 127) else bytes([byte]) for byte in text)
 
 
-def int_name(width, is_signed):
-    return (b"int" if is_signed else b"uint") + str(width).encode()
-
-
-def type_name(field):
-    code, kind = field["code"], field["type"]
-    if code == INT:
-        return int_name(*kind)
-    if code == FLOATING:
-        return PRECISIONS[kind[0]].encode()
-    if code == DATE:
-        return b"date[ms]" if kind[0] else b"date[day]"
-    if code == FIXED_SIZE:
-        return b"fixed_size_binary[%d]" % kind[0]
-    if code == DURATION:
-        return b"duration[" + UNITS[kind[0]].encode() + b"]"
-    if code == TIME:
-        return b"time[" + UNITS[kind[0]].encode() + b"]"
-    if code == TIMESTAMP:
-        zone = b"" if kind[1] is None else b", " + escaped(kind[1])
-        return b"timestamp[" + UNITS[kind[0]].encode() + zone + b"]"
-    return NAMES[code].encode()
-
-
 def lines(fields, level=0):
     text = b""
     for field in fields:
-        column = type_name(field)
+        column = escaped(form_of(field).printed.encode())
         if field["encoding"]:
             number, index, ordered, _ = field["encoding"]
-            column = b"dictionary<%s, %s> id %d" % (int_name(*index), column, number) + (b" ordered" if ordered else b"")
+            column = b"dictionary<%s, %s> id %d" % (INT.form(index).printed.encode(), column, number) + (b" ordered" if ordered else b"")
         text += b"  " * level + escaped(field["name"]) + b": " + column
         text += (b"" if field["nullable"] else b" not null") + b"\n" + lines(field["children"], level + 1)
     return text

@@ -1,6 +1,6 @@
 """Schemas with custom metadata as chance will have them, and the bytes of messages that say them.
 
-With the set of all types, floating-point numbers are among them. A schema is what the model reads: a model.Schema, whose fields are dicts. It is laid out by examples/frames.py, and what the
+A schema is what the model reads: a model.Schema, whose fields are dicts. It is laid out by examples/frames.py, and what the
 standard lets a writer choose is chosen here by chance: what has its default may be left out, what means the same may stand
 once and be named by many offsets, the message may be of V4, and what no reader looks at may lead anywhere.
 """
@@ -14,12 +14,11 @@ sys.dont_write_bytecode = True
 sys.path.insert(0, str(pathlib.Path(__file__).resolve().parent.parent / "examples"))
 import frames
 from frames import scalar, table, vector
+from type_table import BY_CODE, INT, TEXT, TYPES
 
 V4, V5 = 3, 4
 KEYS = [b"", b"k", b"key", b"k", "Schlüssel".encode(), b"\xff\xfe", b"\0", b"ARROW:extension:name", b"\xc3", b"k" * 40]
 NAMES = ["", "n", "column", "ä", "a\\b\tc", "日本"]
-WIDTHS = [8, 16, 32, 64]
-PLAIN = [1, 4, 5, 6, 19, 20]
 
 
 def any_pairs(chance):
@@ -30,14 +29,10 @@ def any_pairs(chance):
 
 
 def any_type(chance, levels, types):
-    """The code of a type of a set, what its table says, and how many children it has."""
-    late = [*model.LATE] * 3 if types == model.ALL else []
-    code = chance.choice(PLAIN + [2, 2, 8, 9, 10, 15, 18] + late + ([12, 13, 13, 21] if levels > 1 else []))
-    unit = chance.randrange(4)
-    said = {2: (chance.choice(WIDTHS), chance.random() < 0.5), 8: (unit % 2,), 9: (unit, 32 if unit < 2 else 64),
-            10: (unit, chance.choice([None, b"", b"UTC"])), 15: (chance.choice([0, 7, 2 ** 31 - 1]),), 18: (unit,),
-            model.FLOATING: (unit % 3,)}
-    return code, said.get(code), {12: 1, 21: 1, 13: chance.randrange(4)}.get(code, 0)
+    """The code of a type of a set, what its table says, and how many children it has; those that the core leaves out are likelier."""
+    its = [it for it in TYPES if model.is_taken(it.code, types) and (levels > 1 or it.children == 0)]
+    row = chance.choice([it for it in its for _ in range(1 if it.is_core else 3)])
+    return row.code, chance.choice(row.cases) or None, chance.randrange(4) if row.children is None else row.children
 
 
 def any_field(chance, levels, ids, may_encode=True, types=model.CORE):
@@ -45,8 +40,7 @@ def any_field(chance, levels, ids, may_encode=True, types=model.CORE):
     code, said, count = any_type(chance, levels, types)
     encoding = None
     if may_encode and chance.random() < 0.2:
-        index = (chance.choice(WIDTHS), chance.random() < 0.7)
-        encoding, may_encode = (next(ids), index, chance.random() < 0.3, 0), False
+        encoding, may_encode = (next(ids), chance.choice(INT.cases), chance.random() < 0.3, 0), False
     return {"name": chance.choice(NAMES).encode(), "nullable": chance.random() < 0.5, "code": code, "type": said,
             "encoding": encoding, "children": [any_field(chance, levels - 1, ids, may_encode, types) for _ in range(count)],
             "pairs": any_pairs(chance)}
@@ -141,38 +135,25 @@ class Straight:
     def pairs(self, pairs):
         return self.shared(("pairs", *pairs), 2, vector([self.pair(*pair) for pair in pairs])) if pairs else None
 
-    def integer(self, bits, is_signed):
-        return self.table(scalar("i", bits), self.unless(not is_signed, scalar("B", is_signed)))
-
-    def type_table(self, code, said):
-        if code == model.INT:
-            return self.integer(*said)
-        if code == model.FIXED_SIZE:
-            return self.table(self.unless(said[0] == 0, scalar("i", said[0])))
-        if code == model.FLOATING:
-            return self.table(self.unless(said[0] == 0, scalar("h", said[0])))
-        if code in (model.DATE, model.DURATION):
-            return self.table(self.unless(said[0] == 1, scalar("h", said[0])))
-        if code == model.TIME:
-            return self.table(self.unless(said[0] == 1, scalar("h", said[0])), self.unless(said[1] == 32, scalar("i", said[1])))
-        if code == model.TIMESTAMP:
-            zone = None if said[1] is None else self.string(said[1])
-            return self.table(self.unless(said[0] == 0, scalar("h", said[0])), zone)
-        return self.unless(True, table())
+    def type_table(self, row, said):
+        if not row.fields:
+            return self.unless(True, table())
+        return self.table(*((None if it is None else self.string(it)) if field.width == TEXT else
+            self.unless(it == field.default, scalar(field.letter, it)) for field, it in zip(row.fields, said)))
 
     def encoding(self, said):
         if said is None:
             return None
         number, index, ordered, _ = said
         return self.table(self.unless(number == 0, scalar("q", number)),
-                          self.unless(index == (32, True), self.integer(*index)),
+                          self.unless(index == (32, True), self.type_table(INT, index)),
                           self.unless(not ordered, scalar("B", ordered)), self.unless(True, scalar("h", 0)))
 
     def field(self, field, level=1):
         children = vector([self.field(below, level + 1) for below in field["children"]])
         value = self.table(self.unless(not field["name"], self.string(field["name"])),
                            self.unless(not field["nullable"], scalar("B", field["nullable"])), scalar("B", field["code"]),
-                           self.type_table(field["code"], field["type"]), self.encoding(field["encoding"]),
+                           self.type_table(BY_CODE[field["code"]], field["type"]), self.encoding(field["encoding"]),
                            self.unless(not field["children"], children), self.pairs(field["pairs"]))
         return self.shared(("field", level, repr(field)), 40 - level, value)
 

@@ -9,13 +9,10 @@ import struct
 
 import floats
 import model
-from model import CORE, FIXED_SIZE, FLOATING, LARGE_LIST, LIST, STRUCT, Refused, Unreadable, signed
+from model import CORE, Refused, Unreadable, signed
+from type_table import BITS, BYTES, FIXED, FLOATING, INT, LISTS, NULLS, STRUCTS, TEXTS, WITH_OFFSETS
 
 MAX_ROWS = 2 ** 31 - 1
-NULL, BINARY, UTF8, BOOL, LARGE_BINARY, LARGE_UTF8 = 1, 4, 5, 6, 19, 20
-# Codes of types whose values stand behind offsets, with the bytes of an offset.
-OFFSETS = {BINARY: 4, UTF8: 4, LIST: 4, LARGE_BINARY: 8, LARGE_UTF8: 8, LARGE_LIST: 8}
-TEXTS = (UTF8, LARGE_UTF8)
 
 
 # ---- metadata of batches
@@ -53,6 +50,11 @@ def count_nodes(fields):
 # ---- columns
 
 
+def form_of(field):
+    """The Form of what a column itself holds, of an encoded one that of its indices."""
+    return INT.form(field["encoding"][1]) if field["encoding"] else model.form_of(field)
+
+
 def bit(held, at):
     return held[at // 8] >> at % 8 & 1
 
@@ -62,27 +64,27 @@ class Column:
 
     def __init__(self, field, length, validity, held, children=()):
         self.field, self.length, self.validity, self.held, self.children = field, length, validity, held, children
-        self.dictionary = None
+        self.form, self.dictionary = form_of(field), None
 
     def is_valid(self, at):
-        is_plain_null = self.field["code"] == NULL and not self.field["encoding"]
-        return not is_plain_null and (not self.validity or bit(self.validity, at) == 1)
+        return self.form.layout != NULLS and (not self.validity or bit(self.validity, at) == 1)
 
-    def number(self, at, width, is_signed):
-        return int.from_bytes(self.held[0][width * at:width * (at + 1)], "little", signed=is_signed)
+    def numbers(self, at):
+        """The numbers in a slot, or its bytes."""
+        return struct.unpack_from("<" + self.form.slot, self.held[0], self.form.width * at)
 
     def index(self, at):
-        width, is_signed = self.field["encoding"][1]
-        return self.number(at, width // 8, is_signed)
+        return self.numbers(at)[0]
 
-    def bits(self, at):
-        """The bits of a floating-point number."""
-        return self.number(at, *number_of(self.field))
+    def span(self, at, count=2):
+        """From where to where a slot's values go, or so many offsets."""
+        return struct.unpack_from(f"<{count}{self.form.slot}", self.held[0], self.form.width * at)
 
-    def span(self, at):
-        """From where to where a slot's values go."""
-        width = OFFSETS[self.field["code"]]
-        return struct.unpack_from("<ii" if width == 4 else "<qq", self.held[0], width * at)
+    def leaf(self, at):
+        """The bit, the numbers or the bytes of a slot of a type without children."""
+        if self.form.layout == BITS:
+            return bit(self.held[0], at)
+        return self.held[1][slice(*self.span(at))] if self.form.layout in WITH_OFFSETS else self.numbers(at)
 
     def entry(self, at):
         """The column of a dictionary and the slot in it that an index leads to."""
@@ -106,40 +108,26 @@ class Column:
 
     def text(self, at):
         """What is shown of a slot that is not null."""
-        code, kind = self.field["code"], self.field["type"]
+        layout = self.form.layout
         if self.field["encoding"]:
             column, slot = self.entry(at)
             return column.text(slot)
-        if code == BOOL:
-            return "true" if bit(self.held[0], at) else "false"
-        if code == FIXED_SIZE:
-            return self.held[0][kind[0] * at:kind[0] * (at + 1)].hex()
-        if code == STRUCT:
+        if layout == STRUCTS:
             return "{" + ";".join(f"{it.field['name'].decode()}={it.inside(at)}" for it in self.children) + "}"
-        if code == FLOATING:
-            return floats.text(kind[0], self.bits(at))
-        if code in OFFSETS:
-            start, end = self.span(at)
-            if code in (LIST, LARGE_LIST):
-                return "[" + ";".join(self.children[0].inside(it) for it in range(start, end)) + "]"
-            held = self.held[1][start:end]
-            return held.decode() if code in TEXTS else held.hex()
-        width, is_signed = number_of(self.field)
-        return str(self.number(at, width, is_signed))
+        if layout == LISTS:
+            return "[" + ";".join(self.children[0].inside(it) for it in range(*self.span(at))) + "]"
+        return text_of(self.field, self.form, self.leaf(at))
 
 
-def number_of(field):
-    """How many bytes a number has, and whether it has a sign."""
-    code, kind = field["code"], field["type"]
-    if code == model.INT:
-        return kind[0] // 8, kind[1]
-    if code == FLOATING:
-        return floats.BYTES[kind[0]], False
-    if code == model.DATE:
-        return (8 if kind[0] else 4), True
-    if code == model.TIME:
-        return kind[1] // 8, True
-    return 8, True
+def text_of(field, form, leaf):
+    """What is shown of a value of a type without children."""
+    if form.layout == BITS:
+        return "true" if leaf else "false"
+    if form.layout == TEXTS:
+        return leaf.decode()
+    if form.layout in (BYTES, FIXED):
+        return (leaf if form.layout == BYTES else leaf[0]).hex()
+    return floats.text(*field["type"], *leaf) if field["code"] == FLOATING.code else form.text.format(*leaf)
 
 
 class Body:
@@ -161,8 +149,8 @@ class Body:
     def column(self, field):
         length, nulls = next(self.nodes, (-1, 0))
         self.need(0 <= length <= MAX_ROWS)
-        code = field["code"]
-        if code == NULL and not field["encoding"]:
+        form = form_of(field)
+        if form.layout == NULLS:
             return self.keep(Column(field, length, b"", []))
         validity = self.buffer()
         self.need(not validity or 8 * len(validity) >= length)
@@ -170,26 +158,19 @@ class Body:
             bit(validity, at) for at in range(length // 8 * 8, length)) if validity else 0
         self.need(nulls in (-1, zeros))
         column = self.keep(Column(field, length, validity, []))
-        if field["encoding"]:
-            column.held = [self.values(length * field["encoding"][1][0] // 8)]
-        elif code == BOOL:
-            column.held = [self.values((length + 7) // 8)]
-        elif code == FIXED_SIZE:
-            column.held = [self.values(length * field["type"][0])]
-        elif code == STRUCT:
+        if form.layout == STRUCTS:
             column.children = [self.column(it) for it in field["children"]]
             self.need(all(it.length >= length for it in column.children))
-        elif code in OFFSETS:
-            offsets = self.buffer()
-            if code in (LIST, LARGE_LIST):
+        elif form.layout in WITH_OFFSETS:
+            column.held = [self.buffer()]
+            if form.layout == LISTS:
                 column.children = [self.column(field["children"][0])]
-                self.rise(offsets, OFFSETS[code], length, column.children[0].length)
-                column.held = [offsets]
+                self.rise(column, column.children[0].length)
             else:
-                column.held = [offsets, self.buffer()]
-                self.rise(offsets, OFFSETS[code], length, len(column.held[1]))
+                column.held.append(self.buffer())
+                self.rise(column, len(column.held[1]))
         else:
-            column.held = [self.values(length * number_of(field)[0])]
+            column.held = [self.values((length + 7) // 8 if form.layout == BITS else length * form.width)]
         return column
 
     def keep(self, column):
@@ -201,12 +182,13 @@ class Body:
         self.need(len(held) >= least)
         return held
 
-    def rise(self, offsets, width, length, top):
+    def rise(self, column, top):
         """Offsets may be left out for no slots; else the first is not below 0, none falls, and the last is at most the top."""
+        offsets, length = column.held[0], column.length
         if not offsets and length == 0:
             return
-        self.need(len(offsets) >= width * (length + 1))
-        found = struct.unpack_from(f"<{length + 1}{'i' if width == 4 else 'q'}", offsets)
+        self.need(len(offsets) >= column.form.width * (length + 1))
+        found = column.span(0, length + 1)
         self.need(found[0] >= 0 and found[-1] <= top and all(one <= other for one, other in zip(found, found[1:])))
 
     def columns(self, fields, rows, dictionaries):
@@ -214,7 +196,7 @@ class Body:
         columns = [self.column(it) for it in fields]
         self.need(all(it.length == rows for it in columns))
         for column in self.every:
-            if column.field["code"] in TEXTS and not column.field["encoding"]:
+            if column.form.layout == TEXTS:
                 self.look_at_texts(column)
         for column in self.every:
             if column.field["encoding"]:

@@ -1,10 +1,11 @@
 """Columns, dictionaries and batches as chance will have them: streams of all types, laid out by examples/frames.py, and the rows
-that `arrowflow show` has to print of them, by docs/FORMAT.md alone. With the set of all types, floating-point numbers are among them.
+that `arrowflow show` has to print of them, by docs/FORMAT.md alone.
 
 A kind is a type, with what stands below it, and perhaps the dictionary by which its values are told. A value is None where it
 is null, else a truth, a number, bytes, a text, a list, or a tuple of the fields of a struct; by a dictionary it is an index.
 """
 import pathlib
+import struct
 import sys
 
 sys.dont_write_bytecode = True
@@ -13,81 +14,78 @@ import bodies
 import floats
 import frames
 from model import ALL, CORE
+from type_table import BITS, BYTES, FIXED, FLOATING, INT, NULLS, TEXTS, TYPES
 
-TEXTS = ["", "a", "b,c", 'say "no"', "é€", "line\nbreak", "return\r", "a;b", "x" * 40, "null", "0"]
+WORDS = ["", "a", "b,c", 'say "no"', "é€", "line\nbreak", "return\r", "a;b", "x" * 40, "null", "0"]
 NAMES = ["n", "column", "", "ä", "a b", 'q"', "c,d"]
-WIDTHS = {8: "b", 16: "h", 32: "i", 64: "q"}
-# How the bits of a floating-point number are laid out.
-FORMS = {floats.HALF: "H", floats.SINGLE: "I", floats.DOUBLE: "Q"}
+# The most bytes of a slot.
+WIDEST = 16
 
 
 class Kind:
-    """A type without children, by its code and table, by what chance makes of it, and how its values are laid out and shown."""
+    """A type without children, with its parameters. Several numbers in a slot are a tuple."""
 
-    def __init__(self, of, any_value, laid, shown):
-        self.of, self.any_value, self.laid, self.shown = of, any_value, laid, lambda value, held: shown(value)
+    def __init__(self, row, values):
+        self.row, self.values, self.form = row, values, row.form(values)
+        self.laid = bodies.column_of(self.form)
 
     def field(self, name, nullable=True, encoding=None):
-        return frames.field(name, self.of, nullable=nullable, encoding=encoding)
+        return frames.field(name, frames.of_type(self.row.name, *self.values), nullable=nullable, encoding=encoding)
 
     def value(self, chance, held):
         return None if chance.random() < chance.nulls else self.any_value(chance)
 
+    def any_value(self, chance):
+        if self.row is FLOATING:
+            return any_float(chance, *self.values)
+        if self.form.layout == NULLS:
+            return None
+        if self.form.layout == BITS:
+            return chance.random() < 0.5
+        if self.form.layout == TEXTS:
+            return chance.choice(WORDS).encode()
+        if self.form.layout in (BYTES, FIXED):
+            count = self.form.width if self.form.layout == FIXED else chance.choice([0, 1, 3, 20])
+            return bytes(chance.randrange(256) for _ in range(count))
+        return tuple(any_number(chance, it) for it in self.form.slot)
 
-def number(of, bits, signed=True):
-    form = WIDTHS[bits] if signed else WIDTHS[bits].upper()
+    def shown(self, value, held):
+        if self.form.layout == BITS:
+            return "true" if value else "false"
+        if self.form.layout in (BYTES, FIXED):
+            return value.hex()
+        if self.form.layout == TEXTS:
+            return value.decode()
+        return floats.text(*self.values, value) if self.row is FLOATING else self.form.text.format(*value)
+
+
+def any_number(chance, form):
+    """A number by its format of the module struct: the least, the greatest, 0, 1, or any."""
+    bits, signed = 8 * struct.calcsize("<" + form), form.islower()
     low, high = (-2 ** (bits - 1), 2 ** (bits - 1) - 1) if signed else (0, 2 ** bits - 1)
-    return Kind(of, lambda chance: chance.choice([low, high, 0, 1, chance.randint(low, high)]),
-                lambda values: frames.numbers(values, form), str)
+    return chance.choice([low, high, 0, 1, chance.randint(low, high)])
 
 
-def floating(precision):
-    """Floating-point numbers, told by their bits: of each kind, of few digits, and any."""
+def any_float(chance, precision):
+    """A floating-point number by its bits: of each kind, of few digits, or any."""
     width, size = floats.FRACTION[precision], 8 * floats.BYTES[precision]
     infinite = (1 << size - 1) - (1 << width)
     known = [0, 1, (1 << width) - 1, 1 << width, infinite - 1, infinite, infinite + 1, infinite | 1 << width - 1, (1 << size - 1) - 1]
-
-    def any_bits(chance):
-        sign, what = chance.randrange(2) << size - 1, chance.randrange(4)
-        if what == 0:
-            return sign | chance.choice(known)
-        if what == 1:
-            return sign | floats.nearest(precision, round(chance.random() * 10 ** chance.randrange(5), chance.randrange(4)))
-        if what == 2:
-            return sign | floats.nearest(precision, float(f"{chance.randrange(1, 1000)}e{chance.randrange(-20, 20)}"))
-        return chance.getrandbits(size)
-    return Kind(frames.floating(precision), any_bits, lambda values: frames.numbers(values, FORMS[precision]),
-                lambda bits: floats.text(precision, bits))
-
-
-def any_bytes(chance):
-    return bytes(chance.randrange(256) for _ in range(chance.choice([0, 1, 3, 20])))
-
-
-def fixed(width):
-    return Kind(frames.fixed_size_binary(width), lambda chance: bytes(chance.randrange(256) for _ in range(width)),
-                lambda values: bodies.fixed(values, width), bytes.hex)
+    sign, what = chance.randrange(2) << size - 1, chance.randrange(4)
+    if what == 0:
+        return sign | chance.choice(known)
+    if what == 1:
+        return sign | floats.nearest(precision, round(chance.random() * 10 ** chance.randrange(5), chance.randrange(4)))
+    if what == 2:
+        return sign | floats.nearest(precision, float(f"{chance.randrange(1, 1000)}e{chance.randrange(-20, 20)}"))
+    return chance.getrandbits(size)
 
 
 def any_plain(chance, types):
     """A kind without children, of a set of types."""
-    if types == ALL and chance.random() < 0.4:
-        return floating(chance.randrange(3))
-    unit = chance.randrange(4)
-    return chance.choice([
-        lambda: Kind(frames.NULL, lambda chance: None, lambda values: frames.nulls(len(values)), str),
-        lambda: Kind(frames.BOOL, lambda chance: chance.random() < 0.5, frames.bools, lambda it: "true" if it else "false"),
-        lambda: (lambda bits, signed: number(frames.integer(bits, signed), bits, signed))(chance.choice([*WIDTHS]), unit % 2 == 0),
-        lambda: Kind(frames.BINARY, any_bytes, frames.strings, bytes.hex),
-        lambda: Kind(frames.LARGE_BINARY, any_bytes, bodies.large_strings, bytes.hex),
-        lambda: Kind(frames.UTF8, lambda chance: chance.choice(TEXTS).encode(), frames.strings, bytes.decode),
-        lambda: Kind(frames.LARGE_UTF8, lambda chance: chance.choice(TEXTS).encode(), bodies.large_strings, bytes.decode),
-        lambda: fixed(chance.choice([0, 1, 3, 16])),
-        lambda: number(frames.date(unit % 2), 64 if unit % 2 else 32),
-        lambda: number(frames.time(unit), 32 if unit < 2 else 64),
-        lambda: number(frames.timestamp(unit, chance.choice([None, "", "UTC"])), 64),
-        lambda: number(frames.duration(unit), 64),
-    ])()
+    late = types == ALL and chance.random() < 0.4
+    row = chance.choice([it for it in TYPES if it.children == 0 and it.is_core != late])
+    return Kind(row, chance.choice([it for it in row.cases if row.form(it).width <= WIDEST]))
 
 
 def inside(kind, value, held):
@@ -158,7 +156,7 @@ class Encoded:
         return chance.randrange(places) if places and chance.random() >= chance.nulls else None
 
     def laid(self, values):
-        return frames.numbers(values, WIDTHS[self.bits] if self.signed else WIDTHS[self.bits].upper())
+        return frames.numbers(values, INT.form((self.bits, self.signed)).slot)
 
     def shown(self, value, held):
         return self.kind.shown(held[self.number][value], held)
@@ -167,7 +165,7 @@ class Encoded:
 def any_kind(chance, levels, known, may_encode=True, types=CORE):
     """A kind of at most so many levels; `known` are those with dictionaries, by their numbers."""
     if may_encode and chance.random() < 0.3:
-        bits, signed = chance.choice([*WIDTHS]), chance.random() < 0.5
+        bits, signed = chance.choice(INT.cases)
         if known and chance.random() < 0.3:
             other = chance.choice([*known.values()])
             return Encoded(other.number, other.kind, bits, signed)

@@ -5,13 +5,11 @@ import struct
 import bodies
 import frames
 import stream
-from bodies import fixed
 from frames import END_MARKER
-from model import CORE, FIXED_SIZE, LARGE_LIST, LIST, STRUCT
+from model import CORE
+from type_table import LISTS, STRUCTS
 from worked import split
 
-FORMS = {(width, signed): form if signed else form.upper() for width, form in ((1, "b"), (2, "h"), (4, "i"), (8, "q"))
-    for signed in (True, False)}
 # The ways as the program numbers them: whether deltas are sent, and the alignment.
 WAYS = [(True, 8), (False, 8), (True, 64), (False, 64)]
 
@@ -19,34 +17,14 @@ WAYS = [(True, 8), (False, 8), (True, 64), (False, 64)]
 def again(field, its):
     """A column of slots, each a column and a place in it, or None for a null."""
     its = [None if it is None or not it[0].is_valid(it[1]) else it for it in its]
-    code, children = field["code"], field["children"]
-    if field["encoding"]:
-        width, signed = field["encoding"][1]
-        return frames.numbers([it and it[0].index(it[1]) for it in its], FORMS[width // 8, signed])
-    if code == stream.NULL:
-        return frames.nulls(len(its))
-    if code == stream.BOOL:
-        return frames.bools([None if it is None else stream.bit(it[0].held[0], it[1]) for it in its])
-    if code == FIXED_SIZE:
-        width = field["type"][0]
-        return fixed([it and it[0].held[0][width * it[1]:width * (it[1] + 1)] for it in its], width)
-    if code == STRUCT:
+    form, children = stream.form_of(field), field["children"]
+    if form.layout == STRUCTS:
         return frames.structs([it and () for it in its], *(again(child, [it and (it[0].children[at], it[1]) for it in its])
             for at, child in enumerate(children)))
-    if code in stream.OFFSETS:
-        return of_spans(field, its, [it and it[0].span(it[1]) for it in its])
-    width, signed = stream.number_of(field)
-    return frames.numbers([it and it[0].number(it[1], width, signed) for it in its], FORMS[width, signed])
-
-
-def of_spans(field, its, spans):
-    """A column whose values stand behind offsets."""
-    is_large = stream.OFFSETS[field["code"]] == 8
-    if field["code"] in (LIST, LARGE_LIST):
-        items = [None if span is None else [(it[0].children[0], at) for at in range(*span)] for it, span in zip(its, spans)]
-        return (bodies.large_lists if is_large else frames.lists)(items, lambda found: again(field["children"][0], found))
-    held = [None if span is None else it[0].held[1][span[0]:span[1]] for it, span in zip(its, spans)]
-    return (bodies.large_strings if is_large else frames.strings)(held)
+    if form.layout == LISTS:
+        items = [it and [(it[0].children[0], at) for at in range(*it[0].span(it[1]))] for it in its]
+        return frames.lists(items, lambda found: again(children[0], found), form.slot)
+    return bodies.column_of(form)([it and it[0].leaf(it[1]) for it in its])
 
 
 def aligned(frame, align):

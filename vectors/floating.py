@@ -1,6 +1,7 @@
 """Streams with floating-point numbers, which are read with the set of all types. Numbers are given by their bits, as columns hold them.
 
 SD and BD are written out, by an encoder that is none of this repository: what is laid out by examples/ has to be this."""
+import bodies
 import changes
 import copied
 import floats
@@ -14,6 +15,7 @@ from laying import FIELD, NODE, TYPE, VALIDITY, VALUES, column, stream
 from places import Stream
 from table import MALFORMED, OWN, STANDARD
 from told import ALL, CORE, OF_ALL, answers
+from type_table import FLOATING
 
 # The schema of one nullable column `d` of doubles, and a batch of 1.5 and a null.
 SD = bytes.fromhex("""
@@ -47,12 +49,11 @@ OF_CORE = "core/"
 REFUSED = "refuse Unsupported at 0\nend Unsupported at 0\n"
 WORDS = {HALF: "half", SINGLE: "single", DOUBLE: "double"}
 MANY = {HALF: "halves", SINGLE: "singles", DOUBLE: "doubles"}
-FORMS = {HALF: "H", SINGLE: "I", DOUBLE: "Q"}
 
 
 def of(precision):
     """How numbers of a precision are laid out."""
-    return lambda values: numbers(values, FORMS[precision])
+    return bodies.column_of(FLOATING.form((precision,)))
 
 
 halves, singles, doubles = map(of, WORDS)
@@ -173,7 +174,7 @@ def nested():
         "struct_of_a_single_and_a_double": (STANDARD, "a struct of a single and a double, both 0.1", stream(schema(
             field("s", STRUCT, pair)), batch(structs([()], *(lay(it) for lay, it in zip((singles, doubles), tenth)))))),
         "large_lists_of_halves": (STANDARD, "large lists of halves, with nulls", stream(schema(
-            field("l", LARGE_LIST, [field("item", floating(HALF))])), batch(laying.bodies.large_lists(large, halves)))),
+            field("l", LARGE_LIST, [field("item", floating(HALF))])), batch(bodies.large_lists(large, halves)))),
         "beside_other_columns": (STANDARD, "columns of each precision beside a text and an unsigned integer of the same bits", stream(
             schema(*(field(WORDS[it], floating(it)) for it in WORDS), field("t", UTF8), field("n", integer(64, False))),
             batch(*(of(it)([bits(it, 2.5)[0], nan(it, 3), None]) for it in WORDS), strings(["a,b", None, "1.5"]),
@@ -231,7 +232,7 @@ def growing(precision):
 def kind_of(precision):
     """A precision as a kind: what is no number with a payload, and -0.0, and nine edges."""
     its = edges(precision)
-    return kinds.Kind(WORDS[precision], [floating(precision)], of(precision), nan(precision, 1), its[9], [*its[:8], its[-1]])
+    return kinds.Kind(FLOATING.name, (precision,), nan(precision, 1), its[9], [*its[:8], its[-1]], name=WORDS[precision])
 
 
 def each():

@@ -1,73 +1,69 @@
 """Each type of the profile: alone, with nulls and without them, and by a dictionary that grows by a delta and is replaced; and of
 each a column of nine slots, of which every condition of the layout is broken by itself."""
+import re
+
 import bodies
-from frames import (BINARY, BOOL, END_MARKER, INT32, LARGE_BINARY, LARGE_LIST, LARGE_UTF8, LIST, NULL, STRUCT, UTF8, batch, bools,
-                    date, dictionary, dictionary_batch, duration, field, fixed_size_binary, integer, lists, nulls, numbers, schema,
-                    strings, time, timestamp)
-from laying import large_texts, stream
+from frames import END_MARKER, INT32, UTF8, batch, dictionary, dictionary_batch, field, lists, numbers, of_type, schema, strings
+from laying import stream
 from layouts import Conditions, Nine, untold
 from streams import points
+from type_table import BY_NAME, INT, WITH_OFFSETS
 
-UNITS = ["s", "ms", "us", "ns"]
 # The last unit of a day.
 LAST = [86_399, 86_399_999, 86_399_999_999, 86_399_999_999_999]
 DAY_IN_MS = 86_400_000
-INDICES = [(bits, signed) for bits in (8, 16, 32, 64) for signed in (True, False)]
-FORMS = {8: "b", 16: "h", 32: "i", 64: "q"}
+INDICES = INT.cases
 POINT = [field("x", INT32), field("y", UTF8)]
 LETTERS = "abcdefghi"
 
 
 class Kind:
-    """A type by its name: how its values are laid out, two of them, and nine with what their column has."""
+    """A type of type_table.py with its parameters, by the name that is printed of it or another: how its values are laid out, two of
+    them, and nine with what their column has."""
 
-    def __init__(self, name, kind, laid, first, second, nine=None, **has):
-        self.name, self.words, self.kind, self.laid = name, name.replace("_", " "), kind, laid
-        self.first, self.second = first, second
+    def __init__(self, of, parameters, first, second, nine=None, name=None, below=(), laid=None, **has):
+        form = BY_NAME[of].form(parameters)
+        self.name = name or re.sub(r"\W", "_", form.printed).rstrip("_")
+        self.words, self.kind = self.name.replace("_", " "), [of_type(of, *parameters), *below]
+        self.laid, self.first, self.second = laid or bodies.column_of(form), first, second
         self.values = list(nine or ([second, first] * 5)[:9])
-        self.nine = Nine(laid(self.values), **has)
-
-
-def of(form):
-    return lambda values: numbers(values, form)
+        width = form.width if form.layout in WITH_OFFSETS else 0
+        self.nine = Nine(self.laid(self.values), width, form.layout, **has)
 
 
 def integers():
-    for bits, signed in INDICES:
+    for bits, signed in INT.cases:
         low, high = (-2 ** (bits - 1), 2 ** (bits - 1) - 1) if signed else (0, 2 ** bits - 1)
-        form = FORMS[bits] if signed else FORMS[bits].upper()
-        yield Kind(f"{'' if signed else 'u'}int{bits}", [integer(bits, signed)], of(form), low, high)
+        yield Kind("Int", (bits, signed), low, high)
 
 
 def moments():
-    yield Kind("date_day", [date(0)], of("i"), -1, 20_000)
-    yield Kind("date_ms", [date(1)], of("q"), -DAY_IN_MS, 20_000 * DAY_IN_MS)
-    for at, unit in enumerate(UNITS):
-        yield Kind(f"time_{unit}", [time(at)], of("i" if at < 2 else "q"), 0, LAST[at])
-    for at, unit in enumerate(UNITS):
-        yield Kind(f"timestamp_{unit}", [timestamp(at)], of("q"), -1, 2 ** 62)
-    yield Kind("timestamp_in_a_zone", [timestamp(2, "Europe/Berlin")], of("q"), 0, -2 ** 63)
-    for at, unit in enumerate(UNITS):
-        yield Kind(f"duration_{unit}", [duration(at)], of("q"), -1, 2 ** 63 - 1)
+    yield Kind("Date", (0,), -1, 20_000)
+    yield Kind("Date", (1,), -DAY_IN_MS, 20_000 * DAY_IN_MS)
+    for parameters, last in zip(BY_NAME["Time"].cases, LAST):
+        yield Kind("Time", parameters, 0, last)
+    for unit in range(4):
+        yield Kind("Timestamp", (unit, None), -1, 2 ** 62)
+    yield Kind("Timestamp", (2, b"Europe/Berlin"), 0, -2 ** 63, name="timestamp_in_a_zone")
+    for parameters in BY_NAME["Duration"].cases:
+        yield Kind("Duration", parameters, -1, 2 ** 63 - 1)
 
 
 def others():
     octets, triples = [it.encode() for it in LETTERS], [bytes([at, 0, 255]) for at in range(9)]
-    small, large = {"width": 4}, {"width": 8}
     items, words = [[None], *([at] for at in range(1, 9))], [[None], *([it] for it in LETTERS[1:])]
-    yield Kind("null", [NULL], lambda values: nulls(len(values)), None, None)
-    yield Kind("bool", [BOOL], bools, True, False, lies="truths")
-    yield Kind("binary", [BINARY], strings, b"\xff\x00", b"", octets, **small, lies="bytes")
-    yield Kind("utf8", [UTF8], strings, "é€", "", LETTERS, **small, lies="texts")
-    yield Kind("large_binary", [LARGE_BINARY], bodies.large_strings, b"\x80", b"", octets, **large, lies="bytes")
-    yield Kind("large_utf8", [LARGE_UTF8], large_texts, "é€", "", LETTERS, **large, lies="texts")
-    yield Kind("fixed_size_binary", [fixed_size_binary(3)], lambda values: bodies.fixed(values, 3), b"\x00\x01\xff", b"abc",
-        triples)
-    yield Kind("list", [LIST, [field("item", INT32)]], lambda values: lists(values, numbers), [1, None], [], items, **small,
+    yield Kind("Null", (), None, None)
+    yield Kind("Bool", (), True, False)
+    yield Kind("Binary", (), b"\xff\x00", b"", octets)
+    yield Kind("Utf8", (), "é€", "", LETTERS)
+    yield Kind("LargeBinary", (), b"\x80", b"", octets)
+    yield Kind("LargeUtf8", (), "é€", "", LETTERS)
+    yield Kind("FixedSizeBinary", (3,), b"\x00\x01\xff", b"abc", triples, name="fixed_size_binary")
+    yield Kind("List", (), [1, None], [], items, below=[[field("item", INT32)]], laid=lambda values: lists(values, numbers),
         validities=(0, 2))
-    yield Kind("large_list", [LARGE_LIST, [field("item", UTF8)]], lambda values: bodies.large_lists(values, strings), ["a", None],
-        [], words, **large, validities=(0, 2))
-    yield Kind("struct", [STRUCT, POINT], points, (7, "a"), (None, ""), [(None, "a"), *((at, None) for at in range(1, 9))],
+    yield Kind("LargeList", (), ["a", None], [], words, below=[[field("item", UTF8)]],
+        laid=lambda values: bodies.large_lists(values, strings), validities=(0, 2))
+    yield Kind("Struct_", (), (7, "a"), (None, ""), [(None, "a"), *((at, None) for at in range(1, 9))], below=[POINT], laid=points,
         validities=(0, 1, 3))
 
 
@@ -84,9 +80,9 @@ def alone(it):
 
 def by_index(index):
     """Nine indices of a width and a sign, and how indices of it are laid out."""
-    bits, signed = index
-    places = of(FORMS[bits] if signed else FORMS[bits].upper())
-    return places, Nine(places(list(range(9))), lies=bits // 8)
+    form = INT.form(index)
+    places = bodies.column_of(form)
+    return places, Nine(places(list(range(9))), lies=form.width)
 
 
 def by_a_dictionary(it, index):

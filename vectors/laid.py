@@ -3,9 +3,9 @@ last, children with more slots. A copy has none of it (copied.py)."""
 from frames import (BINARY, BOOL, INT32, LARGE_BINARY, LARGE_LIST, LARGE_UTF8, LIST, NULL, STRUCT, UTF8, batch, dictionary,
                     dictionary_batch, duration, field, fixed_size_binary, lists, numbers, schema)
 from laying import column, i32, i64, stream
+from type_table import INT
 
 ITEM = field("item", INT32)
-FORMS = {8: "b", 16: "h", 32: "i", 64: "q"}
 
 
 def batches(kind, *columns):
@@ -135,7 +135,7 @@ def of_indices():
         return stream(schema(kind), values, *(batch(it) for it in columns))
     in_list, in_struct = field("l", LIST, [by(8)]), field("s", STRUCT, [by(8), field("n", INT32)])
     found = {f"hidden_in_indices_of_{bits}_bits": (f"indices of {bits} bits to lists, with one under a null", of(by(bits),
-        column([(3, 1)], b"\x05", numbers([2, 9, 1], form).buffers[1]))) for bits, form in FORMS.items()}
+        column([(3, 1)], b"\x05", numbers([2, 9, 1], INT.form((bits, True)).slot).buffers[1]))) for bits in (8, 16, 32, 64)}
     return found | {
         "hidden_in_lists_of_indices": ("lists of indices to lists, with an index under a null", of(in_list,
             column([(1, 0), (3, 1)], b"", i32(0, 3), *held[1:]), column([(2, 1), (3, 1)], b"\x02", i32(0, 0, 3), *held[1:]))),

@@ -2,7 +2,6 @@
 several of them have."""
 import struct
 
-import bodies
 import constants
 import frames
 import streams
@@ -55,10 +54,6 @@ def stream(*parts):
 def one_batch_of(kind, *columns, **how):
     """A batch of one column of a type, which is a type with what stands below it."""
     return stream(schema(field("c", *kind)), batch(*columns, **how))
-
-
-def large_texts(values):
-    return bodies.large_strings([value if value is None else value.encode() for value in values])
 
 
 def of_another_writer(place):

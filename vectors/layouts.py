@@ -5,6 +5,7 @@ from frames import Column, batch
 from laying import FAR_BEFORE, i32, raw_batch
 from places import Stream
 from told import CORE, ending
+from type_table import BITS, BYTES, TEXTS
 
 SLOTS = 9
 FF = "ff" * 8
@@ -18,7 +19,7 @@ def number(value):
 
 class Nine:
     """A column of nine slots, the first of which is null, over a value that it hides. `width` is that of its offsets, or 0; `lies`
-    says what its values are: `texts`, `bytes`, `truths`, or indices of so many bytes; `validities` are the buffers that are one."""
+    is the layout of its values, or of how many bytes they are as indices; `validities` are the buffers that are one."""
 
     def __init__(self, column, width=0, lies="", validities=(0,)):
         self.column, self.width, self.lies, self.validities = column, width, lies, validities
@@ -37,13 +38,13 @@ class Nine:
         buffers = list(self.column.buffers)
         if self.has_validity:
             buffers[0] = b"\xfe\xff"
-        if self.lies == "truths":
+        if self.lies == BITS:
             buffers[1] = buffers[1][:1] + b"\xff"
         if isinstance(self.lies, int):
             buffers[1] = b"\xff" * self.lies + buffers[1][self.lies:]
         if self.width:
             buffers[1] = buffers[1][:-self.width] + (SLOTS - 1).to_bytes(self.width, "little")
-        if self.lies in ("texts", "bytes"):
+        if self.lies in (TEXTS, BYTES):
             buffers[2] = b"\xff" + buffers[2][1:]
         return Column(self.column.nodes, buffers)
 
@@ -126,7 +127,7 @@ class Conditions:
             yield f"{body}.1[{width}]", "09"
             yield f"{body}.1[{SLOTS * width}]", "0a"
             yield f"{body}.1[{SLOTS * width + width - 1}]", "01"
-        if lies == "texts":
+        if lies == TEXTS:
             yield from ((f"{body}.2[{at}]", word) for at, word in ((1, "ff"), (SLOTS - 1, "ff"), (1, "c3")))
         if isinstance(lies, int):
             yield f"{body}.1[{lies}]", "09"

@@ -8,6 +8,8 @@ offset, its own name is that of the offset's four bytes, and what stands where i
 """
 import struct
 
+from type_table import TYPES
+
 # The fields of each table in the order of their numbers: a number of bytes, `text`, a table, a vector of tables in brackets, or
 # a vector of pairs of two numbers; a union is opened by the code before it.
 TABLES = {
@@ -18,12 +20,10 @@ TABLES = {
     "DictionaryEncoding": "id:8 index_type:Int is_ordered:1 dictionary_kind:2",
     "RecordBatch": "length:8 nodes:length,null_count buffers:offset,length",
     "DictionaryBatch": "id:8 data:RecordBatch is_delta:1",
-    "Int": "bit_width:4 is_signed:1", "FloatingPoint": "precision:2", "Date": "unit:2", "Time": "unit:2 bit_width:4", "Timestamp": "unit:2 timezone:text",
-    "FixedSizeBinary": "byte_width:4", "Duration": "unit:2", "": "",
+    **{of.name: " ".join(f"{it.name}:{it.width}" for it in of.fields) for of in TYPES}, "": "",
 }
 FIELDS = {name: [tuple(it.split(":")) for it in words.split()] for name, words in TABLES.items()}
-UNIONS = {"header": {1: "Schema", 2: "DictionaryBatch", 3: "RecordBatch"},
-          "type": {2: "Int", 3: "FloatingPoint", 8: "Date", 9: "Time", 10: "Timestamp", 15: "FixedSizeBinary", 18: "Duration"}}
+UNIONS = {"header": {1: "Schema", 2: "DictionaryBatch", 3: "RecordBatch"}, "type": {it.code: it.name for it in TYPES}}
 
 
 class Parts:

@@ -9,8 +9,8 @@ from frames import (BOOL, END_MARKER, INT32, LARGE_BINARY, LARGE_LIST, LARGE_UTF
                     UTF8, batch, bools, date, dictionary, dictionary_batch, duration, field, fixed_size_binary, frame, integer,
                     lists, nulls, numbers, pairs, scalar, schema, strings, structs, table, time, timestamp, vector)
 from kinds import DAY_IN_MS, POINT
-from laying import (FIELD, INT32S, NODE, TEXTS, TYPE, VALIDITY, WORDS, column, frames_of_another, i32, in_one, large_texts, letters,
-                    one_batch_of, raw_batch, raw_field, raw_schema, schema_in_one, stream, written_by_another)
+from laying import (FIELD, INT32S, NODE, TEXTS, TYPE, VALIDITY, WORDS, column, frames_of_another, i32, in_one, letters, one_batch_of,
+                    raw_batch, raw_field, raw_schema, schema_in_one, stream, written_by_another)
 from places import Stream
 
 ABC = WORDS + letters("abc")
@@ -28,8 +28,8 @@ def later_types():
     """Columns of the five types with large offsets, fixed widths and durations, each with a null."""
     hashes = [b"\x00\x01\xff", None, b"abc"]
     return stream(schema(field("u", LARGE_UTF8), field("b", LARGE_BINARY), field("l", LARGE_LIST, [field("item", LARGE_UTF8)]),
-        field("f", fixed_size_binary(3)), field("d", duration(1))), batch(large_texts(["a", None, "bc"]),
-        bodies.large_strings([b"\xff", b"", None]), bodies.large_lists([["x", None], None, []], large_texts),
+        field("f", fixed_size_binary(3)), field("d", duration(1))), batch(bodies.large_strings(["a", None, "bc"]),
+        bodies.large_strings([b"\xff", b"", None]), bodies.large_lists([["x", None], None, []], bodies.large_strings),
         bodies.fixed(hashes, 3), numbers([-1, None, 2 ** 40], "q")))
 
 
@@ -85,7 +85,7 @@ def columns():
         "texts": ("texts, one of them null", streams.joined(streams.COLUMNS, "TEXTS THREE_TEXTS END")),
         "four_fields": ("a column by a dictionary, a list, a struct and a timestamp in a zone",
             stream(streams.four_fields(), letters("ab"), batch(*four))),
-        "large_texts": ("large texts, one of them null", one_batch_of([LARGE_UTF8], large_texts(["a", None, "bc"]))),
+        "large_texts": ("large texts, one of them null", one_batch_of([LARGE_UTF8], bodies.large_strings(["a", None, "bc"]))),
         "fixed_bytes": ("byte strings of three bytes, one of them null", one_batch_of([fixed_size_binary(3)],
             bodies.fixed([b"\x00\x01\xff", None], 3))),
         "later_types": ("each type with large offsets or of a fixed width, with nulls", later_types()),
@@ -228,7 +228,7 @@ def indices():
         "ordered_dictionary": ("a dictionary whose order means something, of a column that is not nullable",
             stream(schema(field("k", UTF8, nullable=False, encoding=dictionary(4, 8, True, True))), letters_of(4, "ab"),
             batch(numbers([1, 0], "b")))),
-        "dictionary_of_large_texts": ("a dictionary of large texts that grows", two_batches([LARGE_UTF8], ["a", None], large_texts,
+        "dictionary_of_large_texts": ("a dictionary of large texts that grows", two_batches([LARGE_UTF8], ["a", None], bodies.large_strings,
             ["bc"])),
         "dictionary_of_fixed_bytes": ("a dictionary of byte strings of three bytes that grows",
             two_batches([fixed_size_binary(3)], [b"\x00\x01\xff", None], lambda it: bodies.fixed(it, 3), [b"abc"])),

@@ -9,7 +9,11 @@ TOP = pathlib.Path(__file__).resolve().parent.parent
 sys.path[:0] = [str(TOP / "fuzz"), str(TOP / "examples")]
 import model
 import stream
-from model import ALL, CORE, FIXED_SIZE, FLOATING, LARGE_LIST, LIST, STRUCT
+from model import ALL, CORE
+from type_table import BY_CODE, BY_NAME, BYTES, FIXED, FLOATING, LISTS, STRUCTS, TEXTS
+
+# The program does not read intervals yet, so to the model that answers here they are a type of no set. Once it does, this line goes.
+del BY_CODE[BY_NAME["Interval"].code]
 
 # What the names of the vectors begin with that are read with all types.
 OF_ALL = "all/"
@@ -31,18 +35,16 @@ def value(column, at):
         return "null"
     if column.field["encoding"]:
         return f"{column.index(at)} -> {value(*column.entry(at))}"
-    code = column.field["code"]
-    if code == stream.BOOL:
-        return column.text(at)
-    if code in stream.TEXTS:
+    layout = column.form.layout
+    if layout == TEXTS:
         return json.dumps(column.text(at), ensure_ascii=False)
-    if code in (stream.BINARY, stream.LARGE_BINARY, FIXED_SIZE):
+    if layout in (BYTES, FIXED):
         return f'x"{column.text(at)}"'
-    if code in (LIST, LARGE_LIST):
+    if layout == LISTS:
         return "[" + ", ".join(value(column.children[0], it) for it in range(*column.span(at))) + "]"
-    if code == FLOATING:
-        return f"0x{column.bits(at):0{2 * stream.number_of(column.field)[0]}x}={column.text(at)}"
-    if code == STRUCT:
+    if column.field["code"] == FLOATING.code:
+        return f"0x{column.numbers(at)[0]:0{2 * column.form.width}x}={column.text(at)}"
+    if layout == STRUCTS:
         names = (json.dumps(it.field["name"].decode(), ensure_ascii=False) for it in column.children)
         return "{" + ", ".join(f"{name}: {value(it, at)}" for name, it in zip(names, column.children)) + "}"
     return column.text(at)

@@ -1,17 +1,18 @@
 """What the format strings of the Arrow C data interface say, of the types that are read."""
 from __future__ import annotations
 
+import struct
 from typing import Optional
 
 _UNITS = {"s": "s", "m": "ms", "u": "us", "n": "ns"}
 _WORDS = {
     "n": "null", "b": "bool", "c": "int8", "C": "uint8", "s": "int16", "S": "uint16", "i": "int32", "I": "uint32", "l": "int64",
     "L": "uint64", "e": "halffloat", "f": "float", "g": "double", "z": "binary", "Z": "large_binary", "u": "utf8", "U": "large_utf8",
-    "+l": "list", "+L": "large_list", "+s": "struct", "tdD": "date[day]", "tdm": "date[ms]"}
-# How the module `struct` unpacks numbers, without the order of bytes.
+    "+l": "list", "+L": "large_list", "+s": "struct", "tdD": "date[day]", "tdm": "date[ms]",
+    "tiM": "month_interval", "tiD": "day_time_interval", "tin": "month_day_nano_interval"}
+# How the module `struct` unpacks the numbers of a slot, without the order of bytes.
 _CODES = {"c": "b", "C": "B", "s": "h", "S": "H", "i": "i", "I": "I", "l": "q", "L": "Q", "e": "e", "f": "f", "g": "d",
-          "tdD": "i", "tdm": "q", "tts": "i", "ttm": "i", "ttu": "q", "ttn": "q"}
-_WIDTHS = {"b": 1, "B": 1, "h": 2, "H": 2, "i": 4, "I": 4, "q": 8, "Q": 8, "e": 2, "f": 4, "d": 8}
+          "tdD": "i", "tdm": "q", "tts": "i", "ttm": "i", "ttu": "q", "ttn": "q", "tiM": "i", "tiD": "ii", "tin": "iiq"}
 _OFFSETS = {"z": "i", "u": "i", "+l": "i", "Z": "q", "U": "q", "+L": "q"}
 
 
@@ -32,7 +33,7 @@ def zone_of(format: str) -> Optional[str]:
 
 
 def code_of(format: str) -> Optional[str]:
-    """How the module `struct` unpacks a number of this format, or None where slots have none."""
+    """How the module `struct` unpacks the numbers of a slot of this format, or None where slots have none."""
     return "q" if format[:2] in ("ts", "tD") else _CODES.get(format)
 
 
@@ -41,7 +42,7 @@ def width_of(format: str) -> int:
     if format.startswith("w:"):
         return int(format[2:])
     code = code_of(format)
-    return _WIDTHS[code] if code else 0
+    return struct.calcsize(f"<{code}") if code else 0
 
 
 def offset_code_of(format: str) -> Optional[str]:
@@ -52,4 +53,4 @@ def offset_code_of(format: str) -> Optional[str]:
 def offset_width_of(format: str) -> int:
     """The bytes of an offset, or 0 where there are none."""
     code = offset_code_of(format)
-    return _WIDTHS[code] if code else 0
+    return struct.calcsize(f"<{code}") if code else 0

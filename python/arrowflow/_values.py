@@ -5,6 +5,7 @@ import copy
 import datetime
 import functools
 import re
+import struct
 from typing import TYPE_CHECKING, Any, Callable, Dict, List, Optional
 
 from ._formats import code_of, offset_code_of, width_of, zone_of
@@ -41,8 +42,11 @@ def _fixed(of: "Column", start: int, stop: int) -> List[Any]:
         width = width_of(of.format)
         found = of._raw(1, width * start, width * stop)
         return [found[width * k:width * (k + 1)] for k in range(stop - start)]
+    if of.format in ("tiD", "tin"):
+        width = width_of(of.format)
+        return [*struct.iter_unpack(f"<{code_of(of.format)}", of._raw(1, width * start, width * stop))]
     numbers = [*of._numbers(start, stop)]
-    return [*map(_converter(of.format), numbers)] if of.format.startswith("t") else numbers
+    return [*map(_converter(of.format), numbers)] if of.format[:2] in ("td", "tt", "tD", "ts") else numbers
 
 
 def _structs(of: "Column", start: int, stop: int) -> List[Dict[str, Any]]:

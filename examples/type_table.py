@@ -1,0 +1,123 @@
+"""The types of Schema.fbs that this project has, a row each: frames.py, bodies.py, vectors/ and fuzz/ read here what a type is.
+
+A type has a table, the values of whose fields are its parameters. Each choice of them that is allowed has a Form.
+"""
+import dataclasses
+import struct
+from typing import Any, Callable, Optional
+
+TEXT = "text"
+UNITS = "s", "ms", "us", "ns"
+
+# Layouts: what a column's buffers have after the validity. NUMBERS and FIXED have slots of one width, BYTES, TEXTS and LISTS offsets.
+NULLS, BITS, NUMBERS, FIXED, BYTES, TEXTS, LISTS, STRUCTS = "nulls", "bits", "numbers", "fixed", "bytes", "texts", "lists", "structs"
+WITH_OFFSETS = BYTES, TEXTS, LISTS
+
+
+@dataclasses.dataclass(frozen=True)
+class Field:
+    """A field of a type's table: its width in bytes, or TEXT, and its value where it is absent."""
+    name: str
+    width: Any
+    default: Any
+
+    @property
+    def letter(self):
+        """The format of its number for the module struct."""
+        return {1: "B", 2: "h", 4: "i"}[self.width]
+
+
+@dataclasses.dataclass(frozen=True)
+class Form:
+    """A type with its parameters: the name that `arrowflow schema` prints, the format string in the C data interface, and the layout.
+    `slot` is the little-endian format, for the module struct, of a slot's numbers or bytes, or of an offset; `text` is what
+    `arrowflow show` prints of a slot's numbers, but for floating point."""
+    printed: str
+    format: str
+    layout: str
+    slot: str = ""
+    text: str = "{}"
+
+    @property
+    def width(self):
+        """The bytes of a slot, or of an offset."""
+        return struct.calcsize("<" + self.slot)
+
+
+@dataclasses.dataclass(frozen=True)
+class Type:
+    """A type by its name and its code in the union Type. `form` gives the Form of parameters, or None where they are not allowed;
+    `cases` are all that are allowed, or some where they are many. `children` is None where any number is allowed."""
+    name: str
+    code: int
+    form: Callable[[tuple], Optional[Form]]
+    cases: tuple
+    fields: tuple = ()
+    children: Optional[int] = 0
+    is_core: bool = True
+
+
+def closed(name, code, forms, *fields, **how):
+    """A type whose parameters are few."""
+    return Type(name, code, forms.get, (*forms,), fields, **how)
+
+
+def single(name, code, printed, *form, **how):
+    """A type without parameters."""
+    return closed(name, code, {(): Form(printed, *form)}, **how)
+
+
+def integers():
+    kinds = [(bits, signed) for bits in (8, 16, 32, 64) for signed in (True, False)]
+    return {(bits, signed): Form(f"{'' if signed else 'u'}int{bits}", format, NUMBERS, slot)
+            for (bits, signed), format, slot in zip(kinds, "cCsSiIlL", "bBhHiIqQ")}
+
+
+def timestamp(values):
+    unit, zone = values
+    if unit not in range(4):
+        return None
+    zone = None if zone is None else zone.decode()
+    return Form(f"timestamp[{UNITS[unit]}{'' if zone is None else f', {zone}'}]", f"ts{UNITS[unit][0]}:{zone or ''}", NUMBERS, "q")
+
+
+def fixed_size_binary(values):
+    width, = values
+    return Form(f"fixed_size_binary[{width}]", f"w:{width}", FIXED, f"{width}s") if width >= 0 else None
+
+
+TYPES = (
+    single("Null", 1, "null", "n", NULLS),
+    closed("Int", 2, integers(), Field("bit_width", 4, 0), Field("is_signed", 1, False)),
+    closed("FloatingPoint", 3, {
+        (0,): Form("halffloat", "e", NUMBERS, "H"), (1,): Form("float", "f", NUMBERS, "I"), (2,): Form("double", "g", NUMBERS, "Q"),
+    }, Field("precision", 2, 0), is_core=False),
+    single("Binary", 4, "binary", "z", BYTES, "i"),
+    single("Utf8", 5, "utf8", "u", TEXTS, "i"),
+    single("Bool", 6, "bool", "b", BITS),
+    closed("Date", 8, {
+        (0,): Form("date[day]", "tdD", NUMBERS, "i"), (1,): Form("date[ms]", "tdm", NUMBERS, "q"),
+    }, Field("unit", 2, 1)),
+    closed("Time", 9, {
+        (0, 32): Form("time[s]", "tts", NUMBERS, "i"), (1, 32): Form("time[ms]", "ttm", NUMBERS, "i"),
+        (2, 64): Form("time[us]", "ttu", NUMBERS, "q"), (3, 64): Form("time[ns]", "ttn", NUMBERS, "q"),
+    }, Field("unit", 2, 1), Field("bit_width", 4, 32)),
+    Type("Timestamp", 10, timestamp, tuple((unit, zone) for unit in range(4) for zone in (None, b"", b"UTC")),
+        (Field("unit", 2, 0), Field("timezone", TEXT, None))),
+    closed("Interval", 11, {
+        (0,): Form("month_interval", "tiM", NUMBERS, "i", "{}M"),
+        (1,): Form("day_time_interval", "tiD", NUMBERS, "ii", "{}d{}ms"),
+        (2,): Form("month_day_nano_interval", "tin", NUMBERS, "iiq", "{}M{}d{}ns"),
+    }, Field("unit", 2, 0), is_core=False),
+    single("List", 12, "list", "+l", LISTS, "i", children=1),
+    single("Struct_", 13, "struct", "+s", STRUCTS, children=None),
+    Type("FixedSizeBinary", 15, fixed_size_binary, ((0,), (3,), (16,), (2 ** 31 - 1,)), (Field("byte_width", 4, 0),)),
+    closed("Duration", 18, {(at,): Form(f"duration[{it}]", f"tD{it[0]}", NUMBERS, "q") for at, it in enumerate(UNITS)},
+        Field("unit", 2, 1)),
+    single("LargeBinary", 19, "large_binary", "Z", BYTES, "q"),
+    single("LargeUtf8", 20, "large_utf8", "U", TEXTS, "q"),
+    single("LargeList", 21, "large_list", "+L", LISTS, "q", children=1),
+)
+BY_CODE = {it.code: it for it in TYPES}
+BY_NAME = {it.name: it for it in TYPES}
+INT, FLOATING = BY_NAME["Int"], BY_NAME["FloatingPoint"]
