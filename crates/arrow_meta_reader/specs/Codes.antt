@@ -4,6 +4,8 @@ use Rattle.arrow_types.specs.declared.data_type.BitWidth.{BitWidth}
 use Rattle.arrow_types.specs.declared.data_type.BitWidth.TheVariants as widths
 use Rattle.arrow_types.specs.declared.data_type.DateUnit.{DateUnit}
 use Rattle.arrow_types.specs.declared.data_type.DateUnit.TheVariants as dates
+use Rattle.arrow_types.specs.declared.data_type.IntervalUnit.{IntervalUnit}
+use Rattle.arrow_types.specs.declared.data_type.IntervalUnit.TheVariants as intervals
 use Rattle.arrow_types.specs.declared.data_type.Precision.{Precision}
 use Rattle.arrow_types.specs.declared.data_type.Precision.TheVariants as precisions
 use Rattle.arrow_types.specs.declared.data_type.TimeUnit.{TimeUnit}
@@ -76,3 +78,10 @@ time_unit n =
     (if n == 1 then Some times.Millisecond else
     (if n == 2 then Some times.Microsecond else
     (if n == 3 then Some times.Nanosecond else None)))
+
+-- the unit of an Interval (Schema.fbs, enum "IntervalUnit")
+abbrev pub interval_unit : ℕ → Option IntervalUnit
+interval_unit n =
+    if n == 0 then Some intervals.YearMonth else
+    (if n == 1 then Some intervals.DayTime else
+    (if n == 2 then Some intervals.MonthDayNano else None))

@@ -8,6 +8,7 @@ use Rattle.arrow_types.specs.TypeSet.{leaves_out}
 use Rattle.arrow_types.specs.declared.data_type.BitWidth.{BitWidth}
 use Rattle.arrow_types.specs.declared.data_type.BitWidth.TheVariants as widths
 use Rattle.arrow_types.specs.declared.data_type.DateUnit.TheVariants as dates
+use Rattle.arrow_types.specs.declared.data_type.IntervalUnit.TheVariants as intervals
 use Rattle.arrow_types.specs.declared.data_type.Precision.TheVariants as precisions
 use Rattle.arrow_types.specs.declared.data_type.TimeUnit.{TimeUnit}
 use Rattle.arrow_types.specs.declared.data_type.TimeUnit.TheVariants as times
@@ -16,7 +17,7 @@ use Rattle.arrow_meta_reader.specs.declared.codes.TypeCode.{TypeCode}
 use Rattle.arrow_meta_reader.specs.declared.codes.TypeCode.TheVariants as codes
 use Rattle.arrow_meta_reader.specs.declared.kinds.FieldForm.{FieldForm}
 use Rattle.arrow_meta_reader.specs.declared.kinds.FieldForm.TheVariants as forms
-use Rattle.arrow_meta_reader.specs.Codes.{bit_width, byte_width, date_unit, precision, time_unit}
+use Rattle.arrow_meta_reader.specs.Codes.{bit_width, byte_width, date_unit, interval_unit, precision, time_unit}
 use Rattle.arrow_meta_reader.specs.Parts.{nth, number_at, flag_at, some_text_in}
 use Rattle.arrow_meta_reader.specs.Trees.{Trees, none}
 
@@ -78,6 +79,8 @@ type_row codes.Time =
 -- unit, timezone
 type_row codes.Timestamp =
     tabled 10 (forms.Short ∷ forms.Text ∷ []) (λ xs. is_none (time_unit (number_at 0 0 xs))) (λ xs. tags.timestamp (time_in 0 xs) (some_text_in (nth 1 xs)))
+-- unit
+type_row codes.Interval = tabled 11 (forms.Short ∷ []) (λ xs. is_none (interval_unit (number_at 0 0 xs))) (λ xs. tags.interval (unwrap_or (interval_unit (number_at 0 0 xs)) intervals.YearMonth))
 type_row codes.List = bare 12 (Some 1) tags.list
 type_row codes.Struct = bare 13 None tags.struct
 -- byteWidth
@@ -93,7 +96,7 @@ type_row codes.LargeList = bare 21 (Some 1) tags.large_list
 abbrev all_types : List TypeCode
 all_types =
     codes.Null ∷ codes.Int ∷ codes.FloatingPoint ∷ codes.Binary ∷ codes.Utf8 ∷ codes.Bool ∷ codes.Date ∷ codes.Time ∷ codes.Timestamp ∷
-    codes.List ∷ codes.Struct ∷ codes.FixedSizeBinary ∷ codes.Duration ∷ codes.LargeBinary ∷ codes.LargeUtf8 ∷ codes.LargeList ∷ []
+    codes.Interval ∷ codes.List ∷ codes.Struct ∷ codes.FixedSizeBinary ∷ codes.Duration ∷ codes.LargeBinary ∷ codes.LargeUtf8 ∷ codes.LargeList ∷ []
 
 -- the first of these types that has this number
 abbrev numbered : ℕ → List TypeCode → Option TypeCode
@@ -124,6 +127,7 @@ code_of (tags.date unit) = codes.Date
 code_of (tags.time unit) = codes.Time
 code_of (tags.timestamp unit zone) = codes.Timestamp
 code_of (tags.duration unit) = codes.Duration
+code_of (tags.interval unit) = codes.Interval
 code_of tags.list = codes.List
 code_of tags.large_list = codes.LargeList
 code_of tags.struct = codes.Struct

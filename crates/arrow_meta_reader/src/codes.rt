@@ -1,10 +1,10 @@
 //! The numbers that stand for versions, headers, types, widths and units (`Message.fbs`, `Schema.fbs`).
 ghost use Rattle.std.specs.Prelude.{◌≡◌};
 ghost use Rattle.arrow_meta_reader.specs.Codes.{metadata_version, header_kind};
-ghost use Rattle.arrow_meta_reader.specs.Codes.{bit_width, byte_width, date_unit, precision, time_unit};
+ghost use Rattle.arrow_meta_reader.specs.Codes.{bit_width, byte_width, date_unit, interval_unit, precision, time_unit};
 
 use crate::message::MetadataVersion;
-use arrow_types::{BitWidth, DateUnit, Precision, Schema, TimeUnit};
+use arrow_types::{BitWidth, DateUnit, IntervalUnit, Precision, Schema, TimeUnit};
 
 /// The version of this number, None outside the profile: 0 is V1, 1 is V2 and 2 is V3.
 pub(crate) fn metadata_version(number: u64) -> Option<MetadataVersion>
@@ -52,6 +52,7 @@ pub(crate) enum TypeCode {
     Date,
     Time,
     Timestamp,
+    Interval,
     List,
     Struct,
     FixedSizeBinary,
@@ -122,6 +123,19 @@ pub(crate) fn time_unit(unit: u64) -> Option<TimeUnit>
         2 => Some(TimeUnit::Microsecond),
         3 => Some(TimeUnit::Nanosecond),
         // a number that is no time's unit
+        _ => None,
+    }
+}
+
+/// The unit of an interval.
+pub(crate) fn interval_unit(unit: u64) -> Option<IntervalUnit>
+    ensures unit { result ≡ interval_unit unit }
+{
+    match unit {
+        0 => Some(IntervalUnit::YearMonth),
+        1 => Some(IntervalUnit::DayTime),
+        2 => Some(IntervalUnit::MonthDayNano),
+        // a number that is no interval's unit
         _ => None,
     }
 }

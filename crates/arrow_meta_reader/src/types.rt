@@ -7,7 +7,7 @@ ghost use Rattle.std.specs.Prelude.{◌≡◌, ◌≤◌, ◌==◌, ◌∷◌, �
 ghost use Rattle.std.specs.Prelude.{not, option_map};
 ghost use Rattle.std.specs.Option.{unwrap_or};
 ghost use Rattle.arrow_meta_reader.specs.Builds.{BuildsType, Refuses, leaf_type};
-ghost use Rattle.arrow_meta_reader.specs.Codes.{byte_width, date_unit, precision};
+ghost use Rattle.arrow_meta_reader.specs.Codes.{byte_width, date_unit, interval_unit, precision};
 ghost use Rattle.arrow_meta_reader.specs.Conditions.{children_fit};
 ghost use Rattle.arrow_meta_reader.specs.Parts.{number_at};
 ghost use Rattle.arrow_meta_reader.specs.SchemaMeaning.{tag_by};
@@ -19,12 +19,12 @@ ghost use Rattle.arrow_types.specs.Field.{none as empty};
 ghost use Rattle.arrow_types.specs.Notes.{unnoted};
 ghost use Rattle.arrow_types.specs.View.{fields_view, notes_view, type_notes, type_view};
 
-use crate::codes::{TypeCode, bit_width, byte_width, date_unit, precision, time_unit};
+use crate::codes::{TypeCode, bit_width, byte_width, date_unit, interval_unit, precision, time_unit};
 use crate::fields::FieldFault;
 use crate::kinds::FieldForm;
 use crate::message_tree::Tree;
 use crate::parts::{flag_at, into_some_text, number_at, some_text_at, take};
-use arrow_types::{BitWidth, DataType, DateUnit, Field, Precision, TimeUnit, TypeSet};
+use arrow_types::{BitWidth, DataType, DateUnit, Field, IntervalUnit, Precision, TimeUnit, TypeSet};
 use std::alloc::Global;
 
 /// The first field of a type's table: `bitWidth` of an Int, `precision`, `unit` or `byteWidth`.
@@ -47,6 +47,7 @@ pub(crate) fn type_code(number: u64) -> Option<TypeCode>
         8 => TypeCode::Date,
         9 => TypeCode::Time,
         10 => TypeCode::Timestamp,
+        11 => TypeCode::Interval,
         12 => TypeCode::List,
         13 => TypeCode::Struct,
         15 => TypeCode::FixedSizeBinary,
@@ -64,7 +65,7 @@ pub(crate) fn taken(types: TypeSet, code: Option<TypeCode>) -> Option<TypeCode>
     ensures code { result ≡ taken types code }
 {
     match (code, types) {
-        (Some(TypeCode::FloatingPoint), TypeSet::Core) => None,
+        (Some(TypeCode::FloatingPoint | TypeCode::Interval), TypeSet::Core) => None,
         (code, _) => code,
     }
 }
@@ -82,6 +83,7 @@ pub(crate) fn type_fields(code: TypeCode) -> &'static [FieldForm]
         TypeCode::Date => &[Short],
         TypeCode::Time => &[Short, Int],
         TypeCode::Timestamp => &[Short, Text],
+        TypeCode::Interval => &[Short],
         TypeCode::FixedSizeBinary => &[Int],
         TypeCode::Duration => &[Short],
         _ => &[],
@@ -112,6 +114,7 @@ pub(crate) fn is_type_misfit(code: TypeCode, parts: &[Tree]) -> bool
             !is_time(unit, number_at(parts, SECOND, 32))
         }
         TypeCode::Timestamp => time_unit(number_at(parts, FIRST, 0)).is_none(),
+        TypeCode::Interval => interval_unit(number_at(parts, FIRST, 0)).is_none(),
         TypeCode::FixedSizeBinary => byte_width(number_at(parts, FIRST, 0)).is_none(),
         TypeCode::Duration => time_unit(number_at(parts, FIRST, 1)).is_none(),
         _ => false,
@@ -140,6 +143,7 @@ pub(crate) fn data_type(
         Some(TypeCode::Date) => childless(DataType::Date(date_in(&parts)), children),
         Some(TypeCode::Time) => childless(DataType::Time(time_in(&parts, 1)), children),
         Some(TypeCode::Timestamp) => childless(timestamp_type(parts), children),
+        Some(TypeCode::Interval) => childless(DataType::Interval(interval_in(&parts)), children),
         Some(TypeCode::List) => list_type(alloc, children),
         Some(TypeCode::Struct) => Ok(DataType::Struct(children)),
         Some(TypeCode::FixedSizeBinary) => {
@@ -167,6 +171,7 @@ pub(crate) fn same_part(code: TypeCode, one: &[Tree], other: &[Tree]) -> bool
                 && same_zone(some_text_at(one, SECOND), some_text_at(other, SECOND))
         }
         TypeCode::FixedSizeBinary => fixed_size_in(one) == fixed_size_in(other),
+        TypeCode::Interval => interval_in(one) == interval_in(other),
         _ => true,
     }
 }
@@ -293,6 +298,14 @@ fn time_in(parts: &[Tree], default: u64) -> TimeUnit
     ensures unit { result ≡ time_in default (plain_all parts.now) }
 {
     time_unit(number_at(parts, FIRST, default)).unwrap_or(TimeUnit::Second)
+}
+
+/// The unit that an Interval table with these fields says.
+fn interval_in(parts: &[Tree]) -> IntervalUnit
+    ensures unit { result
+        ≡ unwrap_or (interval_unit (number_at 0 0 (plain_all parts.now))) IntervalUnit.YearMonth }
+{
+    interval_unit(number_at(parts, FIRST, 0)).unwrap_or(IntervalUnit::YearMonth)
 }
 
 /// The number of bytes that a FixedSizeBinary table with these fields says.

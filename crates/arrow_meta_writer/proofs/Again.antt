@@ -13,6 +13,8 @@ use Rattle.arrow_types.specs.Notes.{KeyValue, Notes, unnoted, noted, SchemaShape
 use Rattle.arrow_types.specs.Schema.{is_wide, is_too_wide}
 use Rattle.arrow_types.specs.TypeSet.{leaves_out, leaves_some_out}
 use Rattle.arrow_types.specs.declared.data_type.Precision.{Precision}
+use Rattle.arrow_types.specs.declared.data_type.IntervalUnit.{IntervalUnit}
+use Rattle.arrow_types.specs.declared.data_type.IntervalUnit.TheVariants as intervals
 use Rattle.arrow_types.specs.declared.data_type.Precision.TheVariants as precisions
 use Rattle.arrow_types.specs.declared.data_type.BitWidth.{BitWidth}
 use Rattle.arrow_types.specs.declared.data_type.BitWidth.TheVariants as widths
@@ -26,12 +28,12 @@ use Rattle.arrow_types.specs.declared.field.Encoding.{Encoding}
 use Rattle.arrow_types.specs.declared.node.FieldNode.{FieldNode}
 use Rattle.arrow_types.specs.declared.node.Buffer.{Buffer}
 use Rattle.arrow_meta_reader.specs.Codes.{number_of_version, metadata_version, bit_width}
-use Rattle.arrow_meta_reader.specs.Codes.{date_unit, precision, time_unit}
+use Rattle.arrow_meta_reader.specs.Codes.{date_unit, interval_unit, precision, time_unit}
 use Rattle.arrow_meta_reader.specs.Types.{type_code}
 use Rattle.arrow_meta_reader.specs.declared.message.MetadataVersion.{MetadataVersion}
 use Rattle.arrow_meta_reader.specs.declared.message.MetadataVersion.TheVariants as versions
 use Rattle.arrow_meta_writer.specs.Layouts.{flag, tag_code, node_pair, buffer_pair, first_pairs, first_below, first_rest}
-use Rattle.arrow_meta_writer.specs.Layouts.{date_number, precision_number, time_number}
+use Rattle.arrow_meta_writer.specs.Layouts.{date_number, interval_number, precision_number, time_number}
 use Rattle.arrow_meta_reader.specs.Means.{PlainBatch, PlainHeader, schema, dictionary, batch, node_of}
 use Rattle.arrow_meta_reader.specs.Means.{buffer_of, batch_of, meaning_of}
 use Rattle.arrow_meta_reader.specs.Parts.{parts}
@@ -67,6 +69,12 @@ precision_again precisions.Half = refl
 precision_again precisions.Single = refl
 precision_again precisions.Double = refl
 
+-- the unit of an interval
+interval_again : (unit : IntervalUnit) → unwrap_or (interval_unit (interval_number unit)) intervals.YearMonth ≡ unit
+interval_again intervals.YearMonth = refl
+interval_again intervals.DayTime = refl
+interval_again intervals.MonthDayNano = refl
+
 -- the unit of a date
 date_again : (unit : DateUnit) → unwrap_or (date_unit (date_number unit)) dates.Day ≡ unit
 date_again dates.Day = refl
@@ -89,6 +97,7 @@ tag_of_all (tags.timestamp unit None) narrow = ap (λ u. tags.timestamp u None) 
 tag_of_all (tags.timestamp unit (Some zone)) narrow = ap (λ u. tags.timestamp u (Some zone)) (time_again unit)
 tag_of_all (tags.fixed_size_binary width) narrow = ap (λ b. tags.fixed_size_binary (unwrap_or (if b then None else Some width) 0)) narrow
 tag_of_all (tags.duration unit) narrow = ap tags.duration (time_again unit)
+tag_of_all (tags.interval unit) narrow = ap tags.interval (interval_again unit)
 tag_of_all tag narrow = refl
 
 tag_again : (types : TypeSet) (tag : Tag) → is_wide tag ≡ false → leaves_out types tag ≡ false → tag_by (type_code (tag_code tag)) (parts (type_tree types tag)) ≡ tag

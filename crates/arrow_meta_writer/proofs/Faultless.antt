@@ -11,6 +11,8 @@ use Rattle.arrow_types.specs.Notes.{KeyValue, Notes}
 use Rattle.arrow_types.specs.Schema.{is_nested, is_wide, is_too_wide, types_differ, dictionary_fields}
 use Rattle.arrow_types.specs.TypeSet.{leaves_out, leaves_some_out}
 use Rattle.arrow_types.specs.declared.data_type.Precision.{Precision}
+use Rattle.arrow_types.specs.declared.data_type.IntervalUnit.{IntervalUnit}
+use Rattle.arrow_types.specs.declared.data_type.IntervalUnit.TheVariants as intervals
 use Rattle.arrow_types.specs.declared.data_type.Precision.TheVariants as precisions
 use Rattle.arrow_types.specs.declared.data_type.BitWidth.{BitWidth}
 use Rattle.arrow_types.specs.declared.data_type.BitWidth.TheVariants as widths
@@ -24,7 +26,7 @@ use Rattle.arrow_types.specs.declared.field.Encoding.{Encoding}
 use Rattle.arrow_meta_reader.specs.declared.kinds.TableKind.{TableKind}
 use Rattle.arrow_meta_reader.specs.declared.kinds.TableKind.TheVariants as kinds
 use Rattle.arrow_meta_reader.specs.Codes.{number_of_version, metadata_version, bit_width}
-use Rattle.arrow_meta_reader.specs.Codes.{date_unit, precision, time_unit}
+use Rattle.arrow_meta_reader.specs.Codes.{date_unit, interval_unit, precision, time_unit}
 use Rattle.arrow_meta_reader.specs.declared.fault.MetaFault.{MetaFault}
 use Rattle.arrow_meta_reader.specs.declared.fault.MetaFault.TheVariants.{Metadata, Version, Header, BodyLength, Unsupported}
 use Rattle.arrow_meta_reader.specs.declared.message.MetadataVersion.{MetadataVersion}
@@ -34,7 +36,7 @@ use Rattle.arrow_meta_reader.specs.Conditions.{children_fit}
 use Rattle.arrow_meta_reader.specs.Faults.{body_of, fault_of, header_in, is_bad_length, is_unsupported_schema, version_in}
 use Rattle.arrow_meta_reader.specs.Types.{is_time, type_code}
 use Rattle.arrow_meta_writer.specs.Layouts.{tag_code, first_pairs, first_below, first_rest}
-use Rattle.arrow_meta_writer.specs.Layouts.{date_number, precision_number, time_number}
+use Rattle.arrow_meta_writer.specs.Layouts.{date_number, interval_number, precision_number, time_number}
 use Rattle.arrow_meta_reader.specs.Means.{PlainHeader, schema, dictionary, batch, PlainMessage}
 use Rattle.arrow_meta_reader.specs.Parts.{parts}
 use Rattle.arrow_meta_reader.specs.SchemaMeaning.{fields_from}
@@ -116,6 +118,11 @@ known_precision precisions.Half = refl
 known_precision precisions.Single = refl
 known_precision precisions.Double = refl
 
+known_interval : (unit : IntervalUnit) → is_none (interval_unit (interval_number unit)) ≡ false
+known_interval intervals.YearMonth = refl
+known_interval intervals.DayTime = refl
+known_interval intervals.MonthDayNano = refl
+
 known_date : (unit : DateUnit) → is_none (date_unit (date_number unit)) ≡ false
 known_date dates.Day = refl
 known_date dates.Millisecond = refl
@@ -142,6 +149,7 @@ fitting_all (tags.timestamp unit None) narrow = rw (known_time unit) refl
 fitting_all (tags.timestamp unit (Some zone)) narrow = rw (known_time unit) refl
 fitting_all (tags.fixed_size_binary width) narrow = rw narrow refl
 fitting_all (tags.duration unit) narrow = rw (known_time unit) refl
+fitting_all (tags.interval unit) narrow = rw (known_interval unit) refl
 fitting_all tag narrow = refl
 
 fitting_type : (types : TypeSet) (tag : Tag) → is_wide tag ≡ false → any is_misfit (type_tree types tag) ≡ false

@@ -16,6 +16,8 @@ use Rattle.arrow_types.specs.Schema.{is_wide, is_too_wide}
 use Rattle.arrow_types.specs.declared.data_type.BitWidth.{BitWidth}
 use Rattle.arrow_types.specs.declared.data_type.BitWidth.TheVariants as widths
 use Rattle.arrow_types.specs.declared.data_type.Precision.{Precision}
+use Rattle.arrow_types.specs.declared.data_type.IntervalUnit.{IntervalUnit}
+use Rattle.arrow_types.specs.declared.data_type.IntervalUnit.TheVariants as intervals
 use Rattle.arrow_types.specs.declared.data_type.Precision.TheVariants as precisions
 use Rattle.arrow_types.specs.declared.data_type.DateUnit.{DateUnit}
 use Rattle.arrow_types.specs.declared.data_type.DateUnit.TheVariants as dates
@@ -28,7 +30,7 @@ use Rattle.arrow_meta_reader.specs.Codes.{number_of_version}
 use Rattle.arrow_meta_reader.specs.declared.message.MetadataVersion.{MetadataVersion}
 use Rattle.arrow_meta_reader.specs.declared.message.MetadataVersion.TheVariants as versions
 use Rattle.arrow_meta_writer.specs.Layouts.{flag, tag_code, int_cells, type_cells}
-use Rattle.arrow_meta_writer.specs.Layouts.{date_number, precision_number, time_number}
+use Rattle.arrow_meta_writer.specs.Layouts.{date_number, precision_number, interval_number, time_number}
 use Rattle.arrow_meta_writer.specs.Layouts.{with_encoding, field_nodes, node_pair, buffer_pair}
 use Rattle.arrow_meta_writer.specs.Layouts.{pair_nodes, metadata_cells, first_pairs, first_below}
 use Rattle.arrow_meta_writer.specs.Layouts.{first_rest}
@@ -69,6 +71,11 @@ time_fits times.Millisecond = omega arith
 time_fits times.Microsecond = omega arith
 time_fits times.Nanosecond = omega arith
 
+interval_fits : (unit : IntervalUnit) → interval_number unit < 256
+interval_fits intervals.YearMonth = omega arith
+interval_fits intervals.DayTime = omega arith
+interval_fits intervals.MonthDayNano = omega arith
+
 precision_fits : (p : Precision) → precision_number p < 256
 precision_fits precisions.Half = omega arith
 precision_fits precisions.Single = omega arith
@@ -80,6 +87,7 @@ date_fits dates.Millisecond = omega arith
 
 type_fits : (tag : Tag) → HasTextZone tag → is_wide tag ≡ false → NodeFits (laid.table (type_cells tag))
 type_fits (tags.int bits signed) h narrow = int_fits bits signed
+type_fits (tags.interval unit) h narrow = (omega arith, (omega (arith, interval_fits unit), tt))
 type_fits (tags.floating_point precision) h narrow = (omega arith, (omega (arith, precision_fits precision), tt))
 type_fits (tags.date unit) h narrow = (omega arith, (omega (arith, date_fits unit), tt))
 type_fits (tags.time unit) h narrow = (omega arith, (omega (arith, time_fits unit), (omega (arith, bits_fit (time_width_of unit)), tt)))

@@ -13,6 +13,8 @@ use Rattle.arrow_types.specs.Notes.{KeyValue, Notes, unnoted, noted, SchemaShape
 use Rattle.arrow_types.specs.declared.data_type.BitWidth.{BitWidth}
 use Rattle.arrow_types.specs.declared.data_type.DateUnit.{DateUnit}
 use Rattle.arrow_types.specs.declared.data_type.DateUnit.TheVariants as dates
+use Rattle.arrow_types.specs.declared.data_type.IntervalUnit.{IntervalUnit}
+use Rattle.arrow_types.specs.declared.data_type.IntervalUnit.TheVariants as intervals
 use Rattle.arrow_types.specs.declared.data_type.Precision.{Precision}
 use Rattle.arrow_types.specs.declared.data_type.Precision.TheVariants as precisions
 use Rattle.arrow_types.specs.declared.data_type.TimeUnit.{TimeUnit}
@@ -51,6 +53,12 @@ time_number times.Millisecond = 1
 time_number times.Microsecond = 2
 time_number times.Nanosecond = 3
 
+-- the number of an interval's unit (Schema.fbs, enum "IntervalUnit")
+abbrev pub interval_number : IntervalUnit → ℕ
+interval_number intervals.YearMonth = 0
+interval_number intervals.DayTime = 1
+interval_number intervals.MonthDayNano = 2
+
 -- an Int table: bitWidth, is_signed
 abbrev pub int_cells : BitWidth → Bool → Cells
 int_cells bits signed = scalar Four (bits_of bits) (scalar One (flag signed) last)
@@ -65,8 +73,9 @@ abbrev pub zone_in : Tag → Option (List ℕ)
 zone_in (tags.timestamp unit zone) = zone
 zone_in _ = None
 
--- a type's table: of FloatingPoint the precision, of Date the unit, of Time the unit and bitWidth, of Timestamp the unit and the time zone, of
--- FixedSizeBinary the byteWidth, of Duration the unit. The types that no reader opens have a table without fields.
+-- a type's table: of FloatingPoint the precision, of Date, Duration and Interval the unit, of Time the unit and bitWidth, of
+-- Timestamp the unit and the time zone, of FixedSizeBinary the byteWidth. The types that no reader opens have a table
+-- without fields.
 abbrev pub type_cells : Tag → Cells
 type_cells (tags.int bits signed) = int_cells bits signed
 type_cells (tags.floating_point precision) = scalar Two (precision_number precision) last
@@ -75,15 +84,8 @@ type_cells (tags.time unit) = scalar Two (time_number unit) (scalar Four (bits_o
 type_cells (tags.timestamp unit zone) = scalar Two (time_number unit) (zone_cells zone)
 type_cells (tags.fixed_size_binary width) = scalar Four width last
 type_cells (tags.duration unit) = scalar Two (time_number unit) last
-type_cells tags.null = last
-type_cells tags.boolean = last
-type_cells tags.binary = last
-type_cells tags.utf8 = last
-type_cells tags.list = last
-type_cells tags.struct = last
-type_cells tags.large_binary = last
-type_cells tags.large_utf8 = last
-type_cells tags.large_list = last
+type_cells (tags.interval unit) = scalar Two (interval_number unit) last
+type_cells _ = last
 
 -- a DictionaryEncoding table: id, indexType, isOrdered, dictionaryKind
 abbrev pub encoding_cells : Encoding → Cells

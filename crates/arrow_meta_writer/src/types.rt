@@ -1,6 +1,6 @@
 //! Types as they are written: the code in the field's table, and the type's own table
 //! (`Schema.fbs`, union `Type`, tables `Int`, `FloatingPoint`, `Date`, `Time`, `Timestamp`,
-//! `FixedSizeBinary`, `Duration`).
+//! `FixedSizeBinary`, `Duration`, `Interval`).
 //!
 //! `type_slots` has one row for each type: what its table holds is counted, measured and written
 //! from there. A type without parameters has a table without fields. Units are the numbers of their
@@ -15,7 +15,7 @@ ghost use Rattle.arrow_meta_reader.specs.Conditions.{children_fit};
 ghost use Rattle.arrow_meta_writer.specs.Appends.{HasRoom, Appends};
 ghost use Rattle.arrow_meta_writer.specs.Capped.{capped};
 ghost use Rattle.arrow_meta_writer.specs.Layouts.{int_cells, type_cells, zone_in, flag, tag_code};
-ghost use Rattle.arrow_meta_writer.specs.Layouts.{date_number, precision_number, time_number};
+ghost use Rattle.arrow_meta_writer.specs.Layouts.{date_number, interval_number, precision_number, time_number};
 ghost use Rattle.arrow_meta_writer.specs.TypeSlots.{listed};
 ghost use Rattle.arrow_meta_writer.specs.Writable.{HasTextZone};
 ghost use Rattle.arrow_types.specs.Field.{width as field_width};
@@ -23,7 +23,7 @@ ghost use Rattle.arrow_types.specs.View.{type_view};
 
 use crate::tables::{INT_FIELDS, table_after, text_after};
 use arrow_flatbuf::{Slot, TableWriter, Width, aligned};
-use arrow_types::{BitWidth, DataType, DateUnit, Precision, TimeUnit};
+use arrow_types::{BitWidth, DataType, DateUnit, IntervalUnit, Precision, TimeUnit};
 use std::alloc::AllocError;
 
 /// The code of a type (`Schema.fbs`, union `Type`). A value of the type has the children that it
@@ -44,6 +44,7 @@ pub(crate) fn type_code(data_type: &DataType) -> u64
         DataType::Date(_) => 8,
         DataType::Time(_) => 9,
         DataType::Timestamp(..) => 10,
+        DataType::Interval(_) => 11,
         DataType::List(_) => 12,
         DataType::Struct(_) => 13,
         DataType::FixedSizeBinary(_) => 15,
@@ -175,6 +176,9 @@ fn type_slots(data_type: &DataType, zone: usize) -> TypeSlots
             TypeSlots::One([Slot::Scalar(Width::Four, u64::from(*width))])
         }
         DataType::Duration(unit) => TypeSlots::One([Slot::Scalar(Width::Two, time_number(*unit))]),
+        DataType::Interval(unit) => {
+            TypeSlots::One([Slot::Scalar(Width::Two, interval_number(*unit))])
+        }
         DataType::Null | DataType::Bool => TypeSlots::Zero,
         DataType::Binary | DataType::LargeBinary => TypeSlots::Zero,
         DataType::Utf8 | DataType::LargeUtf8 => TypeSlots::Zero,
@@ -254,5 +258,17 @@ pub(crate) fn time_number(unit: TimeUnit) -> u64
         TimeUnit::Millisecond => 1,
         TimeUnit::Microsecond => 2,
         TimeUnit::Nanosecond => 3,
+    }
+}
+
+/// The number of an interval's unit (`Schema.fbs`, enum `IntervalUnit`).
+pub(crate) fn interval_number(unit: IntervalUnit) -> u64
+    ensures number { result ≡ interval_number unit }
+    ensures small { result < 256 }
+{
+    match unit {
+        IntervalUnit::YearMonth => 0,
+        IntervalUnit::DayTime => 1,
+        IntervalUnit::MonthDayNano => 2,
     }
 }
