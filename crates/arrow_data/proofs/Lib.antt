@@ -20,6 +20,7 @@ pub mod Indices
 pub mod Listing
 pub mod Ids
 pub mod Lists
+mod SignedNumbers
 mod Blocks
 mod OnlyChild
 mod Widened

@@ -1,34 +1,44 @@
 -- The layouts of nodes, and which of them each type has (Columnar Format, "Physical Memory Layout" and "Buffer Listing for
 -- Each Layout"; Schema.fbs, union "Type"). All that is said of buffers and slots goes by this one table.
 use Rattle.std.specs.Prelude.{◌≡◌, ◌-◌, ◌/◌, ◌^◌, ℕ, true, false, Option, Some, None, ⊤}
-use Rattle.arrow_types.specs.DataType.{Tag, null, boolean, int, floating_point, binary, large_binary, fixed_size_binary, utf8, large_utf8, date, time, timestamp, duration, list, large_list, struct, bits_of, date_width_of, float_width_of, time_width_of}
+use Rattle.arrow_types.specs.DataType.{Tag, bits_of, date_width_of, float_width_of, time_width_of}
+use Rattle.arrow_types.specs.DataType as tags
 use Rattle.arrow_types.specs.Field.{Fields, none, more}
 use Rattle.arrow_types.specs.declared.data_type.BitWidth.{BitWidth}
-use Rattle.arrow_types.specs.declared.data_type.BitWidth.TheVariants.{SixtyFour}
+use Rattle.arrow_types.specs.declared.data_type.BitWidth.TheVariants.{ThirtyTwo, SixtyFour}
+use Rattle.arrow_types.specs.declared.data_type.IntervalUnit.{IntervalUnit}
+use Rattle.arrow_types.specs.declared.data_type.IntervalUnit.TheVariants.{YearMonth, DayTime, MonthDayNano}
 use Rattle.arrow_types.specs.declared.field.Encoding.{Encoding}
 use Rattle.arrow_data.specs.declared.form.Form.{Form}
 use Rattle.arrow_data.specs.declared.form.Form.TheVariants as forms
 use Rattle.arrow_data.specs.declared.form.OffsetWidth.{OffsetWidth}
 use Rattle.arrow_data.specs.declared.form.OffsetWidth.TheVariants.{Small, Large}
 
+-- the form of intervals: of months a number, of several numbers the bytes of them all (Schema.fbs, enum "IntervalUnit")
+abbrev pub interval_form : IntervalUnit → Form
+interval_form YearMonth = forms.Numbers ThirtyTwo true
+interval_form DayTime = forms.FixedBytes 8
+interval_form MonthDayNano = forms.FixedBytes 16
+
 -- the form of the values of a type; a floating-point number is the number of its bits
 abbrev pub form_of : Tag → Form
-form_of null = forms.Nulls
-form_of boolean = forms.Bits
-form_of (int bits signed) = forms.Numbers bits signed
-form_of (floating_point precision) = forms.Numbers (float_width_of precision) false
-form_of (date unit) = forms.Numbers (date_width_of unit) true
-form_of (time unit) = forms.Numbers (time_width_of unit) true
-form_of (timestamp unit text) = forms.Numbers SixtyFour true
-form_of (duration unit) = forms.Numbers SixtyFour true
-form_of binary = forms.Bytes Small
-form_of large_binary = forms.Bytes Large
-form_of (fixed_size_binary width) = forms.FixedBytes width
-form_of utf8 = forms.Texts Small
-form_of large_utf8 = forms.Texts Large
-form_of list = forms.Lists Small
-form_of large_list = forms.Lists Large
-form_of struct = forms.Structs
+form_of tags.null = forms.Nulls
+form_of tags.boolean = forms.Bits
+form_of (tags.int bits signed) = forms.Numbers bits signed
+form_of (tags.floating_point precision) = forms.Numbers (float_width_of precision) false
+form_of (tags.date unit) = forms.Numbers (date_width_of unit) true
+form_of (tags.time unit) = forms.Numbers (time_width_of unit) true
+form_of (tags.timestamp unit text) = forms.Numbers SixtyFour true
+form_of (tags.duration unit) = forms.Numbers SixtyFour true
+form_of (tags.interval unit) = interval_form unit
+form_of tags.binary = forms.Bytes Small
+form_of tags.large_binary = forms.Bytes Large
+form_of (tags.fixed_size_binary width) = forms.FixedBytes width
+form_of tags.utf8 = forms.Texts Small
+form_of tags.large_utf8 = forms.Texts Large
+form_of tags.list = forms.Lists Small
+form_of tags.large_list = forms.Lists Large
+form_of tags.struct = forms.Structs
 
 -- the form of a node: a dictionary-encoded one has that of its indices (Columnar Format, "Dictionary-encoded Layout")
 abbrev pub node_form : Tag → Option Encoding → Form

@@ -22,3 +22,4 @@ pub mod FullSlots
 pub mod Laws
 pub mod Half
 pub mod Floats
+pub mod Intervals

@@ -11,6 +11,7 @@ ghost use Rattle.arrow_data.specs.Column.{values_from};
 ghost use Rattle.arrow_data.specs.Floats.{float_shown};
 ghost use Rattle.arrow_data.specs.Form.{node_form};
 ghost use Rattle.arrow_data.specs.FullSlots.{AreFull, IsFirstNull, value_bytes};
+ghost use Rattle.arrow_data.specs.Intervals.{interval_shown};
 ghost use Rattle.arrow_data.specs.Node.{validity_in};
 ghost use Rattle.arrow_data.specs.Shown.{HoldsValue, Shows, value_shown};
 ghost use Rattle.std.specs.List.{flat_map};
@@ -20,6 +21,7 @@ use crate::byte_range::{ByteRange, bytes_in};
 use crate::dictionary::Dictionary;
 use crate::floats::number_of;
 use crate::form::OffsetWidth;
+use crate::intervals::{self, Interval};
 use crate::offsets::OffsetBuffer;
 use crate::shared_body::SharedBody;
 use crate::slot::{first_invalid, is_valid};
@@ -294,8 +296,8 @@ impl Array {
         }
     }
 
-    /// The number in slot `i` of a column of type Int, Date, Time, Timestamp or Duration, the bits of
-    /// one of type FloatingPoint, or the index in slot `i` of a dictionary-encoded column of any
+    /// The number in slot `i` of a column of type Int, Date, Time, Timestamp or Duration, the months
+    /// of one of type Interval in months, the bits of one of type FloatingPoint, or the index in slot `i` of a dictionary-encoded column of any
     /// type. None where the slot is null or holds something else.
     #[inline(always)]
     pub fn int_at(&self, i: usize) -> Option<i128>
@@ -323,7 +325,24 @@ impl Array {
         }
     }
 
-    /// The byte string in slot `i`, also one of a fixed size. None where the slot is null or holds something else.
+    /// The interval in slot `i`. None if the slot is null, or the column has another type or is
+    /// dictionary-encoded.
+    pub fn interval_at(&self, i: usize) -> Option<Interval>
+        requires { i < length self.now.raw }
+        ensures { result ≡ interval_shown self.now i }
+    {
+        match self.data_type() {
+            DataType::Interval(unit) if self.encoding().is_none() => match self.seen(i) {
+                Seen::Number(number) => intervals::of_number(*unit, number),
+                Seen::Binary(bytes) => intervals::of_bytes(*unit, bytes),
+                _ => None,
+            },
+            _ => None,
+        }
+    }
+
+    /// The byte string in slot `i`, also one of a fixed size, or the bytes of an interval of several
+    /// numbers. None where the slot is null or holds something else.
     #[inline(always)]
     pub fn bytes_at(&self, i: usize) -> Option<&[u8]>
         requires { i < length self.now.raw }

@@ -3,12 +3,14 @@
 
 ghost use Rattle.std.specs.Prelude.{false, ◌≡◌, ◌↔◌, IsTrue, true};
 ghost use Rattle.arrow_bits.specs.Numbers.{IsWidth};
+ghost use Rattle.arrow_types.specs.Field.{none};
 ghost use Rattle.arrow_types.specs.View.{type_view};
 ghost use Rattle.arrow_data.specs.Form.{buffers_of, form_of, greatest_offset, node_form};
-ghost use Rattle.arrow_data.specs.Form.{HasFieldsOf, IsLeaf, number_width, offset_bytes};
+ghost use Rattle.arrow_data.specs.Form.{HasFieldsOf, interval_form, IsLeaf, number_width};
+ghost use Rattle.arrow_data.specs.Form.{offset_bytes};
 ghost use Rattle.arrow_data.specs.declared.form.Form.TheVariants as forms;
 
-use arrow_types::{BitWidth, DataType, Encoding};
+use arrow_types::{BitWidth, DataType, Encoding, IntervalUnit};
 
 /// How wide the offsets of a column of variable size are (Columnar Format, "Variable-size Binary
 /// Layout").
@@ -106,6 +108,7 @@ pub fn form_of(data_type: &DataType) -> Form
         DataType::Date(unit) => signed(unit.width()),
         DataType::Time(unit) => signed(unit.time_width()),
         DataType::Timestamp(..) | DataType::Duration(_) => signed(BitWidth::SixtyFour),
+        DataType::Interval(unit) => interval_form(*unit),
         DataType::Binary => Form::Bytes(OffsetWidth::Small),
         DataType::LargeBinary => Form::Bytes(OffsetWidth::Large),
         DataType::FixedSizeBinary(width) => Form::FixedBytes(*width),
@@ -114,6 +117,19 @@ pub fn form_of(data_type: &DataType) -> Form
         DataType::List(_) => Form::Lists(OffsetWidth::Small),
         DataType::LargeList(_) => Form::Lists(OffsetWidth::Large),
         DataType::Struct(_) => Form::Structs,
+    }
+}
+
+// The form of intervals, which are leaves.
+#[inline(always)]
+fn interval_form(unit: IntervalUnit) -> Form
+    ensures same { result ≡ interval_form unit }
+    ensures below { HasFieldsOf result none }
+{
+    match unit {
+        IntervalUnit::YearMonth => signed(BitWidth::ThirtyTwo),
+        IntervalUnit::DayTime => Form::FixedBytes(8),
+        IntervalUnit::MonthDayNano => Form::FixedBytes(16),
     }
 }
 

@@ -20,6 +20,7 @@
 //! | what buffers hold at a slot | `specs/Slots.antt`: `int_slot`, `range_of` .. |
 //! | where the bytes of all texts may be cut | `specs/Cuts.antt`: `AreCuts` |
 //! | the floating-point number of a slot | `specs/Floats.antt`: `float_shown`; of 16 bits `specs/Half.antt` |
+//! | the interval of a slot | `specs/Intervals.antt`: `interval_shown` |
 //! | when buffers hold a node's slots | `specs/Layout.antt`: `IsLaid`, `IsText`, `IsIndexed` |
 //! | the column of a node | `specs/Parts.antt`: `node_column` |
 //! | the type that columns share | `specs/Shared.antt`: `NodeType`, `node_types` |
@@ -46,6 +47,7 @@ mod dictionary;
 pub mod floats;
 pub mod form;
 pub mod half;
+pub mod intervals;
 pub mod laws;
 pub mod layout;
 mod listed;
@@ -64,6 +66,7 @@ pub use array::{Array, SlotValue};
 pub use batch::{Batch, BatchFault};
 pub use byte_range::ByteRange;
 pub use dictionary::Dictionary;
+pub use intervals::Interval;
 pub use listed::Listed;
 pub use offsets::OffsetBuffer;
 pub use parts::{ChildData, NodeBuffers};

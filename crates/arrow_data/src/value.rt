@@ -2,6 +2,7 @@
 
 ghost use Rattle.std.specs.Prelude.{◌≡◌, ◌↔◌, IsTrue, IfOk};
 ghost use Rattle.arrow_data.specs.Floats.{IsFloatValue};
+ghost use Rattle.arrow_data.specs.Intervals.{interval_value};
 ghost use Rattle.arrow_data.specs.Stored.{value_code};
 ghost use Rattle.arrow_data.specs.Value.{value_view, values_view};
 ghost use Rattle.arrow_types.specs.Equality.{is_equal, is_equal_equivalence};
@@ -9,6 +10,8 @@ ghost use Rattle.std.specs.Cmp.{on_per, on_equiv, partial_equiv_from_equiv};
 ghost use Rattle.std.specs.Ordering.{on};
 
 use crate::half;
+use crate::intervals::Interval;
+use arrow_bits::put_int;
 use arrow_types::Precision;
 use std::alloc::{AllocError, Global};
 use std::num::{f32_to_bits_with_nan, f64_to_bits_with_nan, nearest_f64_to_f32_with_nan};
@@ -24,9 +27,9 @@ pub enum Value {
     /// A truth value.
     Bool(bool),
     /// A number of type Int, Date, Time, Timestamp or Duration, the bits of one of type
-    /// FloatingPoint (see [`Value::float`]), or an index.
+    /// FloatingPoint (see [`Value::float`]), the months of an interval of nothing else, or an index.
     Int(i128),
-    /// A byte string.
+    /// A byte string, or an interval of several numbers (see [`Value::interval`]).
     Bytes(Vec<u8>),
     /// A text.
     Text(String),
@@ -50,6 +53,31 @@ impl Value {
             }
             Precision::Double => i128::from(f64_to_bits_with_nan(number)),
         })
+    }
+
+    /// The value of an interval in a column of its unit: of months their number, else the bytes of
+    /// its numbers, 8 or 16 of them. The only error is `AllocError`, if an allocation failed.
+    pub fn interval(alloc: Global, interval: Interval) -> Result<Value, AllocError>
+        ensures { IfOk result (λ v. value_view v ≡ interval_value interval) }
+    {
+        let mut bytes = Vec::new(alloc);
+        match interval {
+            Interval::YearMonth { months } => return Ok(Value::Int(i128::from(months))),
+            Interval::DayTime { days, milliseconds } => {
+                put_int(&mut bytes, 4, i128::from(days))?;
+                put_int(&mut bytes, 4, i128::from(milliseconds))?;
+            }
+            Interval::MonthDayNano {
+                months,
+                days,
+                nanoseconds,
+            } => {
+                put_int(&mut bytes, 4, i128::from(months))?;
+                put_int(&mut bytes, 4, i128::from(days))?;
+                put_int(&mut bytes, 8, i128::from(nanoseconds))?;
+            }
+        }
+        Ok(Value::Bytes(bytes))
     }
 
     /// An equal value in memory of its own, or `AllocError` where a growth was refused.
