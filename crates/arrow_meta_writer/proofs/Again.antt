@@ -42,6 +42,7 @@ use Rattle.arrow_meta_reader.specs.SchemaMeaning.{metadata_from, metadata_in, no
 use Rattle.arrow_meta_reader.specs.Trees.{Trees}
 use Rattle.arrow_meta_writer.specs.Writable.{IsLong, HasLongId, AreFields, AreNodes, AreBuffers}
 use Rattle.arrow_meta_writer.specs.Writable.{AreNotesOf, IsBatch, IsHeader, leaves_header_out}
+use Rattle.arrow_meta_writer.proofs.TypeRows.{flag_again, width_again, tag_of_all}
 use Rattle.arrow_meta_writer.proofs.TypeTrees.{opened_in}
 use Rattle.arrow_meta_writer.specs.Written.{type_tree, encoding_tree, field_parts, field_trees}
 use Rattle.arrow_meta_writer.specs.Written.{batch_parts, message_parts, pair_trees, metadata_tree, schema_parts}
@@ -51,55 +52,7 @@ long_again : (z : ℤ) → IsLong z → cast_signed w64 (cast_unsigned w64 z) �
 long_again (pos n) h = to_z-of_z w64 (pos n) (record { sfits = h })
 long_again (negsuc n) h = to_z-of_z w64 (negsuc n) (record { sfits = h })
 
--- a truth value
-flag_again : (b : Bool) → not (flag b == 0) ≡ b
-flag_again true = refl
-flag_again false = refl
-
--- a width
-width_again : (bits : BitWidth) → unwrap_or (bit_width (bits_of bits)) widths.Eight ≡ bits
-width_again widths.Eight = refl
-width_again widths.Sixteen = refl
-width_again widths.ThirtyTwo = refl
-width_again widths.SixtyFour = refl
-
--- a precision
-precision_again : (p : Precision) → unwrap_or (precision (precision_number p)) precisions.Half ≡ p
-precision_again precisions.Half = refl
-precision_again precisions.Single = refl
-precision_again precisions.Double = refl
-
--- the unit of an interval
-interval_again : (unit : IntervalUnit) → unwrap_or (interval_unit (interval_number unit)) intervals.YearMonth ≡ unit
-interval_again intervals.YearMonth = refl
-interval_again intervals.DayTime = refl
-interval_again intervals.MonthDayNano = refl
-
--- the unit of a date
-date_again : (unit : DateUnit) → unwrap_or (date_unit (date_number unit)) dates.Day ≡ unit
-date_again dates.Day = refl
-date_again dates.Millisecond = refl
-
--- the unit of a time, a timestamp or a duration
-time_again : (unit : TimeUnit) → unwrap_or (time_unit (time_number unit)) times.Second ≡ unit
-time_again times.Second = refl
-time_again times.Millisecond = refl
-time_again times.Microsecond = refl
-time_again times.Nanosecond = refl
-
 -- a type
-tag_of_all : (tag : Tag) → is_wide tag ≡ false → tag_by (type_code (tag_code tag)) (parts (type_tree All tag)) ≡ tag
-tag_of_all (tags.int bits signed) narrow = λ i. tags.int (width_again bits i) (flag_again signed i)
-tag_of_all (tags.floating_point precision) narrow = ap tags.floating_point (precision_again precision)
-tag_of_all (tags.date unit) narrow = ap tags.date (date_again unit)
-tag_of_all (tags.time unit) narrow = ap tags.time (time_again unit)
-tag_of_all (tags.timestamp unit None) narrow = ap (λ u. tags.timestamp u None) (time_again unit)
-tag_of_all (tags.timestamp unit (Some zone)) narrow = ap (λ u. tags.timestamp u (Some zone)) (time_again unit)
-tag_of_all (tags.fixed_size_binary width) narrow = ap (λ b. tags.fixed_size_binary (unwrap_or (if b then None else Some width) 0)) narrow
-tag_of_all (tags.duration unit) narrow = ap tags.duration (time_again unit)
-tag_of_all (tags.interval unit) narrow = ap tags.interval (interval_again unit)
-tag_of_all tag narrow = refl
-
 tag_again : (types : TypeSet) (tag : Tag) → is_wide tag ≡ false → leaves_out types tag ≡ false → tag_by (type_code (tag_code tag)) (parts (type_tree types tag)) ≡ tag
 tag_again types tag narrow within = ap (λ tree. tag_by (type_code (tag_code tag)) (parts tree)) (opened_in types tag within) ∙ tag_of_all tag narrow
 
@@ -108,7 +61,7 @@ encoding_again : (e : Option Encoding) → HasLongId e → encoding_in (encoding
 encoding_again None h = refl
 encoding_again (Some e) h = λ i. Some (record {
   id = long_again e.id h i;
-  index = record { bits = width_again e.index.bits i; signed = flag_again e.index.signed i };
+  index = record { bits = unwrap_or (width_again e.index.bits i) widths.Eight; signed = flag_again e.index.signed i };
   ordered = flag_again e.ordered i;
 })
 

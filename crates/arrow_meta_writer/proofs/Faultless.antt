@@ -45,6 +45,7 @@ use Rattle.arrow_meta_writer.specs.Writable.{IsField, AreFields, IsHeader, leave
 use Rattle.arrow_meta_writer.specs.Written.{type_tree, encoding_tree, field_parts, field_trees}
 use Rattle.arrow_meta_writer.specs.Written.{header_tree, message_parts, pair_tree, pair_trees, metadata_tree}
 use Rattle.arrow_meta_writer.proofs.Again.{fields_again}
+use Rattle.arrow_meta_writer.proofs.TypeRows.{width_again, fitting_all}
 use Rattle.arrow_meta_writer.proofs.TypeTrees.{whole_type, has_type, supported_type, known_type, opened_or_none}
 use Rattle.arrow_types.proofs.Clashes.{none_differ}
 
@@ -107,51 +108,6 @@ all_supported types (columns.more head children rest) n =
 
 -- Nothing is a misfit.
 
-known_width : (bits : BitWidth) → is_none (bit_width (bits_of bits)) ≡ false
-known_width widths.Eight = refl
-known_width widths.Sixteen = refl
-known_width widths.ThirtyTwo = refl
-known_width widths.SixtyFour = refl
-
-known_precision : (p : Precision) → is_none (precision (precision_number p)) ≡ false
-known_precision precisions.Half = refl
-known_precision precisions.Single = refl
-known_precision precisions.Double = refl
-
-known_interval : (unit : IntervalUnit) → is_none (interval_unit (interval_number unit)) ≡ false
-known_interval intervals.YearMonth = refl
-known_interval intervals.DayTime = refl
-known_interval intervals.MonthDayNano = refl
-
-known_date : (unit : DateUnit) → is_none (date_unit (date_number unit)) ≡ false
-known_date dates.Day = refl
-known_date dates.Millisecond = refl
-
-known_time : (unit : TimeUnit) → is_none (time_unit (time_number unit)) ≡ false
-known_time times.Second = refl
-known_time times.Millisecond = refl
-known_time times.Microsecond = refl
-known_time times.Nanosecond = refl
-
--- the width of a time is its unit's
-width_of_time : (unit : TimeUnit) → not (is_time (time_unit (time_number unit)) (bits_of (time_width_of unit))) ≡ false
-width_of_time times.Second = refl
-width_of_time times.Millisecond = refl
-width_of_time times.Microsecond = refl
-width_of_time times.Nanosecond = refl
-
-fitting_all : (tag : Tag) → is_wide tag ≡ false → any is_misfit (type_tree All tag) ≡ false
-fitting_all (tags.int bits signed) narrow = rw (known_width bits) refl
-fitting_all (tags.floating_point precision) narrow = rw (known_precision precision) refl
-fitting_all (tags.date unit) narrow = rw (known_date unit) refl
-fitting_all (tags.time unit) narrow = rw (width_of_time unit) refl
-fitting_all (tags.timestamp unit None) narrow = rw (known_time unit) refl
-fitting_all (tags.timestamp unit (Some zone)) narrow = rw (known_time unit) refl
-fitting_all (tags.fixed_size_binary width) narrow = rw narrow refl
-fitting_all (tags.duration unit) narrow = rw (known_time unit) refl
-fitting_all (tags.interval unit) narrow = rw (known_interval unit) refl
-fitting_all tag narrow = refl
-
 fitting_type : (types : TypeSet) (tag : Tag) → is_wide tag ≡ false → any is_misfit (type_tree types tag) ≡ false
 fitting_type types tag narrow = elim (opened_or_none types tag) [
       inl absent ↦ ap (any is_misfit) absent
@@ -160,7 +116,7 @@ fitting_type types tag narrow = elim (opened_or_none types tag) [
 
 fitting_encoding : (e : Option Encoding) → any is_misfit (encoding_tree e) ≡ false
 fitting_encoding None = refl
-fitting_encoding (Some e) = let known = known_width e.index.bits in rw known refl
+fitting_encoding (Some e) = let known = width_again e.index.bits in rw known refl
 
 fitting_field : (types : TypeSet) (head : Head) (ps : List KeyValue) (children : Fields) (n : Notes) → IsField head children → AreFields children → is_too_wide children ≡ false → leaves_some_out types children ≡ false → is_misfit (kinds.Field types) (field_parts types head ps (field_trees types children n)) ≡ false
 fitting_field types head ps children n h below narrow within =

@@ -10,7 +10,8 @@ use Rattle.arrow_types.specs.Notes.{FieldNotes}
 use Rattle.arrow_meta_writer.specs.Appends.{Begins, after_encoding, field_node}
 use Rattle.arrow_meta_writer.specs.Appends.{head_cells, children_cells}
 use Rattle.arrow_meta_writer.specs.Layouts.{flag, tag_code, type_cells, with_encoding}
-use Rattle.arrow_meta_writer.proofs.Fitting.{flag_fits, code_fits}
+use Rattle.arrow_meta_writer.proofs.Fitting.{code_fits}
+use Rattle.arrow_meta_writer.proofs.TypeRows.{flag_fits}
 use Rattle.arrow_meta_writer.proofs.Noting.{metadata_fit}
 use Rattle.arrow_meta_writer.proofs.WithEncoding.{children_after, last_fit}
 

@@ -38,6 +38,7 @@ use Rattle.arrow_meta_writer.specs.Layouts.{batch_cells, header_code, header_cel
 use Rattle.arrow_meta_reader.specs.Means.{PlainBatch, PlainHeader, schema, dictionary, batch, PlainMessage}
 use Rattle.arrow_meta_writer.specs.Writable.{IsLong, HasTextZone, HasLongId, AreFields, AreNodes}
 use Rattle.arrow_meta_writer.specs.Writable.{AreBuffers, IsBatch, IsHeader}
+use Rattle.arrow_meta_writer.proofs.TypeRows.{flag_fits, bits_fit, int_fits, type_fits}
 
 pub long_fits : (z : ℤ) → IsLong z → cast_unsigned w64 z < 2 ^ 64
 long_fits (pos n) h = omega (arith, h)
@@ -51,51 +52,6 @@ long_from (negsuc n) h = h.sfits
 -- what the bits of a number say, in bits again
 pub bits_again : (z : ℤ) → SFits w64 z → cast_unsigned w64 (cast_signed w64 (cast_unsigned w64 z)) ≡ cast_unsigned w64 z
 bits_again z h = ap (cast_unsigned w64) (to_z-of_z w64 z h)
-
-pub flag_fits : (b : Bool) → flag b < 256
-flag_fits true = omega arith
-flag_fits false = omega arith
-
-pub bits_fit : (bits : BitWidth) → bits_of bits < 256
-bits_fit widths.Eight = omega arith
-bits_fit widths.Sixteen = omega arith
-bits_fit widths.ThirtyTwo = omega arith
-bits_fit widths.SixtyFour = omega arith
-
-int_fits : (bits : BitWidth) (signed : Bool) → NodeFits (laid.table (int_cells bits signed))
-int_fits bits signed = (omega arith, (omega (arith, bits_fit bits), (flag_fits signed, tt)))
-
-time_fits : (unit : TimeUnit) → time_number unit < 256
-time_fits times.Second = omega arith
-time_fits times.Millisecond = omega arith
-time_fits times.Microsecond = omega arith
-time_fits times.Nanosecond = omega arith
-
-interval_fits : (unit : IntervalUnit) → interval_number unit < 256
-interval_fits intervals.YearMonth = omega arith
-interval_fits intervals.DayTime = omega arith
-interval_fits intervals.MonthDayNano = omega arith
-
-precision_fits : (p : Precision) → precision_number p < 256
-precision_fits precisions.Half = omega arith
-precision_fits precisions.Single = omega arith
-precision_fits precisions.Double = omega arith
-
-date_fits : (unit : DateUnit) → date_number unit < 256
-date_fits dates.Day = omega arith
-date_fits dates.Millisecond = omega arith
-
-type_fits : (tag : Tag) → HasTextZone tag → is_wide tag ≡ false → NodeFits (laid.table (type_cells tag))
-type_fits (tags.int bits signed) h narrow = int_fits bits signed
-type_fits (tags.interval unit) h narrow = (omega arith, (omega (arith, interval_fits unit), tt))
-type_fits (tags.floating_point precision) h narrow = (omega arith, (omega (arith, precision_fits precision), tt))
-type_fits (tags.date unit) h narrow = (omega arith, (omega (arith, date_fits unit), tt))
-type_fits (tags.time unit) h narrow = (omega arith, (omega (arith, time_fits unit), (omega (arith, bits_fit (time_width_of unit)), tt)))
-type_fits (tags.timestamp unit None) h narrow = (omega arith, (omega (arith, time_fits unit), tt))
-type_fits (tags.timestamp unit (Some zone)) h narrow = (omega arith, (omega (arith, time_fits unit), (h, tt)))
-type_fits (tags.fixed_size_binary width) h narrow = (omega arith, (omega (arith, ltb-false 2147483647 width narrow), tt))
-type_fits (tags.duration unit) h narrow = (omega arith, (omega (arith, time_fits unit), tt))
-type_fits tag h narrow = (omega arith, tt)
 
 pub code_fits : (tag : Tag) → tag_code tag < 256
 code_fits tags.null = omega arith

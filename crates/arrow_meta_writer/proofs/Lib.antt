@@ -1,5 +1,6 @@
 pub mod Standing
 pub mod TypeTrees
+pub mod TypeRows
 pub mod StandingMessages
 pub mod Again
 pub mod Faultless

@@ -7,7 +7,8 @@ use Rattle.arrow_flatbuf.proofs.Left.{begun, stepped, ended, left_ends}
 use Rattle.arrow_meta_writer.specs.Layouts.{flag, batch_cells, dictionary_cells}
 use Rattle.arrow_meta_reader.specs.Means.{batch_view}
 use Rattle.arrow_meta_writer.proofs.Exact.{exact_table, table_fits}
-use Rattle.arrow_meta_writer.proofs.Fitting.{bits_again, long_fits, long_from, flag_fits}
+use Rattle.arrow_meta_writer.proofs.Fitting.{bits_again, long_fits, long_from}
+use Rattle.arrow_meta_writer.proofs.TypeRows.{flag_fits}
 use Rattle.arrow_meta_writer.proofs.batches.write_dictionary.Goals as goal
 
 pub table-requires-clause-fits : goal.table-requires-clause-fits

@@ -6,7 +6,8 @@ use Rattle.arrow_flatbuf.specs.Nodes.{cells_place, slots, table, scalar, last}
 use Rattle.arrow_flatbuf.proofs.Left.{begun, stepped, ended}
 use Rattle.arrow_meta_writer.specs.Layouts.{flag, int_cells, encoding_cells}
 use Rattle.arrow_meta_writer.proofs.Exact.{exact_table, table_fits}
-use Rattle.arrow_meta_writer.proofs.Fitting.{bits_again, long_fits, flag_fits, long_from}
+use Rattle.arrow_meta_writer.proofs.Fitting.{bits_again, long_fits, long_from}
+use Rattle.arrow_meta_writer.proofs.TypeRows.{flag_fits}
 use Rattle.arrow_meta_writer.proofs.encodings.write_some_encoding.Goals as goal
 
 pub table-requires-clause-fits : goal.table-requires-clause-fits
