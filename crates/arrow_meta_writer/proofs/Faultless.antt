@@ -110,9 +110,9 @@ all_supported types (columns.more head children rest) n =
 
 fitting_type : (types : TypeSet) (tag : Tag) → is_wide tag ≡ false → any is_misfit (type_tree types tag) ≡ false
 fitting_type types tag narrow = elim (opened_or_none types tag) [
-      inl absent ↦ ap (any is_misfit) absent
-    | inr same ↦ ap (any is_misfit) same ∙ fitting_all tag narrow
-    ]
+  | inl absent ↦ ap (any is_misfit) absent
+  | inr same ↦ ap (any is_misfit) same ∙ fitting_all tag narrow
+]
 
 fitting_encoding : (e : Option Encoding) → any is_misfit (encoding_tree e) ≡ false
 fitting_encoding None = refl

@@ -18,7 +18,7 @@ zone_laid : (q : ℕ) (tag : Tag) → laid_cells q (zone_cells (zone_in tag)) �
 zone_laid q (tags.timestamp unit zone) = refl
 zone_laid q tag = refl
 
--- Where the table is written, the zone is left to write.
+-- After the table is written, the zone is left to write.
 pub zone_left : (old now : List ℕ) (tag : Tag) (zone : Option (List ℕ)) (whole : Node) → zone ≡ zone_in tag → Left old now (type_cells tag) whole → Left old now (zone_cells zone) whole
 zone_left old now tag zone whole same left =
     ap (λ z. now ++ laid_cells (length now) (zone_cells z)) same ∙ ap (λ bytes. now ++ bytes) (zone_laid (length now) tag) ∙ left

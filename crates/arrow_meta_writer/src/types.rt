@@ -2,11 +2,12 @@
 //! (`Schema.fbs`, union `Type`, tables `Int`, `FloatingPoint`, `Date`, `Time`, `Timestamp`,
 //! `FixedSizeBinary`, `Duration`, `Interval`).
 //!
-//! `type_slots` has one row for each type: what its table holds is counted, measured and written
-//! from there. A type without parameters has a table without fields. Units are the numbers of their
-//! enums, a width is a number of bits, or for `FixedSizeBinary` of bytes. Places are those of
-//! `sizes`: in bytes, over the greatest size all as one.
-ghost use Rattle.std.specs.Prelude.{◌≡◌, ◌≤◌, ◌<◌, ℕ, option_map, length, true, OnOk};
+//! `type_slots` has one row for each type: the number of fields, the size and the bytes of a type's
+//! table are computed from that row. A type without parameters has a table without fields. A unit or
+//! a precision is the number of its enum, a width is a number of bits, for `FixedSizeBinary` of bytes.
+//! Places are those of `sizes`: in bytes, and all above the greatest size count as one.
+ghost use Rattle.std.specs.Prelude.{◌≡◌, ◌≤◌, ◌<◌, ℕ, [], ◌∷◌, option_map, length, true};
+ghost use Rattle.std.specs.Prelude.{OnOk};
 ghost use Rattle.arrow_flatbuf.specs.Layout.{up};
 ghost use Rattle.arrow_flatbuf.specs.Nodes.{after, cells_place, count, slots, table as table_node};
 ghost use Rattle.arrow_flatbuf.specs.Nodes.{OwnFit};
@@ -92,6 +93,76 @@ pub(crate) fn write_type(writer: &mut TableWriter, data_type: &DataType) -> Resu
     }
 }
 
+/// The fields of a type's table (`Schema.fbs`, tables of the union `Type`). `zone` is the place of
+/// the name of its time zone; only a timestamp with a zone uses it.
+fn type_slots(data_type: &DataType, zone: usize) -> TypeSlots
+    ensures slots { (q : ℕ) → zone ≡ up 4 q
+        → listed result ≡ slots q (type_cells (type_view data_type.now).tag) }
+    ensures fits { OwnFit (type_cells (type_view data_type.now).tag) }
+{
+    match data_type {
+        DataType::Int { bits, signed } => TypeSlots::Two(int_slots(*bits, *signed)),
+        DataType::FloatingPoint(precision) => scalar(Width::Two, precision_number(*precision)),
+        DataType::Date(unit) => scalar(Width::Two, date_number(*unit)),
+        DataType::Time(unit) => TypeSlots::Two([
+            Slot::Scalar(Width::Two, time_number(*unit)),
+            Slot::Scalar(Width::Four, u64::from(unit.time_width().bits())),
+        ]),
+        DataType::Timestamp(unit, None) => scalar(Width::Two, time_number(*unit)),
+        DataType::Timestamp(unit, Some(_)) => TypeSlots::Two([
+            Slot::Scalar(Width::Two, time_number(*unit)),
+            Slot::Target(zone),
+        ]),
+        DataType::FixedSizeBinary(width) => scalar(Width::Four, u64::from(*width)),
+        DataType::Duration(unit) => scalar(Width::Two, time_number(*unit)),
+        DataType::Interval(unit) => scalar(Width::Two, interval_number(*unit)),
+        DataType::Null | DataType::Bool => TypeSlots::Zero,
+        DataType::Binary | DataType::LargeBinary => TypeSlots::Zero,
+        DataType::Utf8 | DataType::LargeUtf8 => TypeSlots::Zero,
+        DataType::List(_) | DataType::LargeList(_) | DataType::Struct(_) => TypeSlots::Zero,
+    }
+}
+
+/// One field: a number of this width.
+fn scalar(width: Width, number: u64) -> TypeSlots
+    ensures { listed result ≡ Slot.Scalar width number ∷ [] }
+{
+    TypeSlots::One([Slot::Scalar(width, number)])
+}
+
+/// The fields of an Int table.
+fn int_slots(bits: BitWidth, signed: bool) -> [Slot; INT_FIELDS]
+    ensures slots { result ≡ slots 0 (int_cells bits signed) }
+    ensures fits { OwnFit (int_cells bits signed) }
+{
+    [
+        Slot::Scalar(Width::Four, u64::from(bits.bits())),
+        Slot::Scalar(Width::One, bit(signed)),
+    ]
+}
+
+/// The fields of a type's table, as many as it has.
+#[derive(Drop)]
+enum TypeSlots {
+    Zero,
+    One([Slot; 1]),
+    Two([Slot; 2]),
+}
+
+impl TypeSlots {
+    /// The fields by number.
+    fn as_slice(&self) -> &[Slot]
+        ensures slots { result.now ≡ listed self.now }
+        ensures few { length result.now ≤ 2 }
+    {
+        match self {
+            TypeSlots::Zero => &[],
+            TypeSlots::One(slots) => slots,
+            TypeSlots::Two(slots) => slots,
+        }
+    }
+}
+
 /// The first place after a type's table, without its time zone.
 fn type_table_end(place: usize, data_type: &DataType) -> usize
     requires { place ≤ 1073741825 }
@@ -122,79 +193,6 @@ fn placed_slots(place: usize, data_type: &DataType) -> TypeSlots
 {
     let zone = aligned(type_table_end(place, data_type), Width::Four);
     type_slots(data_type, zone)
-}
-
-/// The fields of a type's table, as many as it has.
-#[derive(Drop)]
-pub(crate) enum TypeSlots {
-    Zero,
-    One([Slot; 1]),
-    Two([Slot; 2]),
-}
-
-impl TypeSlots {
-    /// The fields by number.
-    fn as_slice(&self) -> &[Slot]
-        ensures slots { result.now ≡ listed self.now }
-        ensures few { length result.now ≤ 2 }
-    {
-        match self {
-            TypeSlots::Zero => &[],
-            TypeSlots::One(slots) => slots,
-            TypeSlots::Two(slots) => slots,
-        }
-    }
-}
-
-/// The fields of a type's table. `zone` is the place of its time zone, which only a type with a zone
-/// names.
-fn type_slots(data_type: &DataType, zone: usize) -> TypeSlots
-    ensures slots { (q : ℕ) → zone ≡ up 4 q
-        → listed result ≡ slots q (type_cells (type_view data_type.now).tag) }
-    ensures fits { OwnFit (type_cells (type_view data_type.now).tag) }
-{
-    match data_type {
-        DataType::Int { bits, signed } => TypeSlots::Two(int_slots(*bits, *signed)),
-        DataType::FloatingPoint(precision) => {
-            TypeSlots::One([Slot::Scalar(Width::Two, precision_number(*precision))])
-        }
-        DataType::Date(unit) => TypeSlots::One([Slot::Scalar(Width::Two, date_number(*unit))]),
-        DataType::Time(unit) => TypeSlots::Two([
-            Slot::Scalar(Width::Two, time_number(*unit)),
-            Slot::Scalar(Width::Four, u64::from(unit.time_width().bits())),
-        ]),
-        DataType::Timestamp(unit, None) => {
-            TypeSlots::One([Slot::Scalar(Width::Two, time_number(*unit))])
-        }
-        DataType::Timestamp(unit, Some(_)) => {
-            TypeSlots::Two([
-                Slot::Scalar(Width::Two, time_number(*unit)),
-                Slot::Target(zone),
-            ])
-        }
-        DataType::FixedSizeBinary(width) => {
-            TypeSlots::One([Slot::Scalar(Width::Four, u64::from(*width))])
-        }
-        DataType::Duration(unit) => TypeSlots::One([Slot::Scalar(Width::Two, time_number(*unit))]),
-        DataType::Interval(unit) => {
-            TypeSlots::One([Slot::Scalar(Width::Two, interval_number(*unit))])
-        }
-        DataType::Null | DataType::Bool => TypeSlots::Zero,
-        DataType::Binary | DataType::LargeBinary => TypeSlots::Zero,
-        DataType::Utf8 | DataType::LargeUtf8 => TypeSlots::Zero,
-        DataType::List(_) | DataType::LargeList(_) | DataType::Struct(_) => TypeSlots::Zero,
-    }
-}
-
-/// The fields of an Int table.
-fn int_slots(bits: BitWidth, signed: bool) -> [Slot; INT_FIELDS]
-    ensures slots { result ≡ slots 0 (int_cells bits signed) }
-    ensures fits { OwnFit (int_cells bits signed) }
-{
-    [
-        Slot::Scalar(Width::Four, u64::from(bits.bits())),
-        Slot::Scalar(Width::One, bit(signed)),
-    ]
 }
 
 /// The first place after an Int table.
