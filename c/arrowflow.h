@@ -104,7 +104,7 @@ size_t arrowflow_error_text(uint32_t kind, uint64_t place, char *out, size_t roo
 enum arrowflow_types {
     ARROWFLOW_TYPES_CORE = 0, /* Null, Bool, Int, Binary, Utf8 and these Large, FixedSizeBinary, Date,
                                * Time, Timestamp, Duration, List, LargeList, Struct: never others */
-    ARROWFLOW_TYPES_ALL = 1   /* also FloatingPoint, and what later versions of the library read */
+    ARROWFLOW_TYPES_ALL = 1   /* also FloatingPoint, Interval, and what later versions of the library read */
 };
 
 /* How much a stranger's stream may ask for, and which types it may have. */
