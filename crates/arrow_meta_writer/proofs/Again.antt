@@ -1,39 +1,26 @@
 -- What a message is written as means the message again.
-use Rattle.std.proofs.Common.{◌≡◌, ℕ, ℤ, pos, negsuc, Bool, true, false, not, ◌||◌, ◌==◌, if◌then◌else◌, List, [], ◌∷◌}
+use Rattle.std.proofs.Common.{◌≡◌, ℕ, ℤ, pos, negsuc, false, ◌||◌, List, [], ◌∷◌}
 use Rattle.std.proofs.Common.{Option, Some, None, map, refl, ap, ◌∙◌}
 use Rattle.std.specs.Int.{cast_signed, cast_unsigned, w64}
 use Rattle.std.specs.Option.{unwrap_or}
 use Rattle.std.proofs.lemmas.Bool.{or_parts}
 use Rattle.std.proofs.lemmas.Int.{to_z-of_z}
-use Rattle.arrow_types.specs.DataType as tags
-use Rattle.arrow_types.specs.DataType.{Tag, bits_of, time_width_of}
+use Rattle.arrow_types.specs.DataType.{Tag}
 use Rattle.arrow_types.specs.Field as columns
 use Rattle.arrow_types.specs.Field.{Head, Fields, width}
 use Rattle.arrow_types.specs.Notes.{KeyValue, Notes, unnoted, noted, SchemaShape}
 use Rattle.arrow_types.specs.Schema.{is_wide, is_too_wide}
 use Rattle.arrow_types.specs.TypeSet.{leaves_out, leaves_some_out}
-use Rattle.arrow_types.specs.declared.data_type.Precision.{Precision}
-use Rattle.arrow_types.specs.declared.data_type.IntervalUnit.{IntervalUnit}
-use Rattle.arrow_types.specs.declared.data_type.IntervalUnit.TheVariants as intervals
-use Rattle.arrow_types.specs.declared.data_type.Precision.TheVariants as precisions
-use Rattle.arrow_types.specs.declared.data_type.BitWidth.{BitWidth}
 use Rattle.arrow_types.specs.declared.data_type.BitWidth.TheVariants as widths
-use Rattle.arrow_types.specs.declared.data_type.DateUnit.{DateUnit}
-use Rattle.arrow_types.specs.declared.data_type.DateUnit.TheVariants as dates
-use Rattle.arrow_types.specs.declared.data_type.TimeUnit.{TimeUnit}
-use Rattle.arrow_types.specs.declared.data_type.TimeUnit.TheVariants as times
 use Rattle.arrow_types.specs.declared.type_set.TypeSet.{TypeSet}
-use Rattle.arrow_types.specs.declared.type_set.TypeSet.TheVariants.{All}
 use Rattle.arrow_types.specs.declared.field.Encoding.{Encoding}
 use Rattle.arrow_types.specs.declared.node.FieldNode.{FieldNode}
 use Rattle.arrow_types.specs.declared.node.Buffer.{Buffer}
-use Rattle.arrow_meta_reader.specs.Codes.{number_of_version, metadata_version, bit_width}
-use Rattle.arrow_meta_reader.specs.Codes.{date_unit, interval_unit, precision, time_unit}
+use Rattle.arrow_meta_reader.specs.Codes.{number_of_version, metadata_version}
 use Rattle.arrow_meta_reader.specs.Types.{type_code}
 use Rattle.arrow_meta_reader.specs.declared.message.MetadataVersion.{MetadataVersion}
 use Rattle.arrow_meta_reader.specs.declared.message.MetadataVersion.TheVariants as versions
-use Rattle.arrow_meta_writer.specs.Layouts.{flag, tag_code, node_pair, buffer_pair, first_pairs, first_below, first_rest}
-use Rattle.arrow_meta_writer.specs.Layouts.{date_number, interval_number, precision_number, time_number}
+use Rattle.arrow_meta_writer.specs.Layouts.{tag_code, node_pair, buffer_pair, first_pairs, first_below, first_rest}
 use Rattle.arrow_meta_reader.specs.Means.{PlainBatch, PlainHeader, schema, dictionary, batch, node_of}
 use Rattle.arrow_meta_reader.specs.Means.{buffer_of, batch_of, meaning_of}
 use Rattle.arrow_meta_reader.specs.Parts.{parts}

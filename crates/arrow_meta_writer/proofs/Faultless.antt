@@ -1,32 +1,18 @@
 -- No fault holds of the tree that a message is written as.
-use Rattle.std.proofs.Common.{◌≡◌, ℕ, ◌^◌, ◌<◌, ◌≤◌, Bool, true, false, ◌||◌, ◌&&◌, not, nat_lt, if◌then◌else◌}
-use Rattle.std.proofs.Common.{List, [], ◌∷◌, Option, Some, None, is_some, refl, sym, ap, ◌∙◌, ◌⊎◌, inl, inr, arith}
-use Rattle.std.specs.Option.{is_none}
+use Rattle.std.proofs.Common.{◌≡◌, ℕ, ◌^◌, ◌<◌, ◌≤◌, Bool, true, false, ◌||◌, not, nat_lt, if◌then◌else◌}
+use Rattle.std.proofs.Common.{List, [], ◌∷◌, Option, Some, None, is_some, refl, sym, ap, ◌∙◌, inl, inr, arith}
 use Rattle.std.proofs.lemmas.Bool.{le-ltb, or_parts}
-use Rattle.arrow_types.specs.DataType as tags
-use Rattle.arrow_types.specs.DataType.{Tag, bits_of, time_width_of}
+use Rattle.arrow_types.specs.DataType.{Tag}
 use Rattle.arrow_types.specs.Field as columns
 use Rattle.arrow_types.specs.Field.{Head, Fields, width}
 use Rattle.arrow_types.specs.Notes.{KeyValue, Notes}
 use Rattle.arrow_types.specs.Schema.{is_nested, is_wide, is_too_wide, types_differ, dictionary_fields}
 use Rattle.arrow_types.specs.TypeSet.{leaves_out, leaves_some_out}
-use Rattle.arrow_types.specs.declared.data_type.Precision.{Precision}
-use Rattle.arrow_types.specs.declared.data_type.IntervalUnit.{IntervalUnit}
-use Rattle.arrow_types.specs.declared.data_type.IntervalUnit.TheVariants as intervals
-use Rattle.arrow_types.specs.declared.data_type.Precision.TheVariants as precisions
-use Rattle.arrow_types.specs.declared.data_type.BitWidth.{BitWidth}
-use Rattle.arrow_types.specs.declared.data_type.BitWidth.TheVariants as widths
-use Rattle.arrow_types.specs.declared.data_type.DateUnit.{DateUnit}
-use Rattle.arrow_types.specs.declared.data_type.DateUnit.TheVariants as dates
-use Rattle.arrow_types.specs.declared.data_type.TimeUnit.{TimeUnit}
-use Rattle.arrow_types.specs.declared.data_type.TimeUnit.TheVariants as times
 use Rattle.arrow_types.specs.declared.type_set.TypeSet.{TypeSet}
-use Rattle.arrow_types.specs.declared.type_set.TypeSet.TheVariants.{All}
 use Rattle.arrow_types.specs.declared.field.Encoding.{Encoding}
 use Rattle.arrow_meta_reader.specs.declared.kinds.TableKind.{TableKind}
 use Rattle.arrow_meta_reader.specs.declared.kinds.TableKind.TheVariants as kinds
-use Rattle.arrow_meta_reader.specs.Codes.{number_of_version, metadata_version, bit_width}
-use Rattle.arrow_meta_reader.specs.Codes.{date_unit, interval_unit, precision, time_unit}
+use Rattle.arrow_meta_reader.specs.Codes.{number_of_version, metadata_version}
 use Rattle.arrow_meta_reader.specs.declared.fault.MetaFault.{MetaFault}
 use Rattle.arrow_meta_reader.specs.declared.fault.MetaFault.TheVariants.{Metadata, Version, Header, BodyLength, Unsupported}
 use Rattle.arrow_meta_reader.specs.declared.message.MetadataVersion.{MetadataVersion}
@@ -34,9 +20,8 @@ use Rattle.arrow_meta_reader.specs.declared.message.MetadataVersion.TheVariants 
 use Rattle.arrow_meta_reader.specs.Conditions.{any, any_in, lacks_table, is_unsupported, is_misfit}
 use Rattle.arrow_meta_reader.specs.Conditions.{children_fit}
 use Rattle.arrow_meta_reader.specs.Faults.{body_of, fault_of, header_in, is_bad_length, is_unsupported_schema, version_in}
-use Rattle.arrow_meta_reader.specs.Types.{is_time, type_code}
+use Rattle.arrow_meta_reader.specs.Types.{type_code}
 use Rattle.arrow_meta_writer.specs.Layouts.{tag_code, first_pairs, first_below, first_rest}
-use Rattle.arrow_meta_writer.specs.Layouts.{date_number, interval_number, precision_number, time_number}
 use Rattle.arrow_meta_reader.specs.Means.{PlainHeader, schema, dictionary, batch, PlainMessage}
 use Rattle.arrow_meta_reader.specs.Parts.{parts}
 use Rattle.arrow_meta_reader.specs.SchemaMeaning.{fields_from}

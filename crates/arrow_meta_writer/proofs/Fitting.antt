@@ -1,8 +1,8 @@
 -- What a message is laid out as can be written.
-use Rattle.std.proofs.Common.{◌≡◌, ◌+◌, ◌^◌, ◌<◌, ◌≤◌, ℤ, pos, negsuc, Bool, true, false, ◌||◌, List, [], ◌∷◌}
+use Rattle.std.proofs.Common.{◌≡◌, ◌+◌, ◌^◌, ◌<◌, ◌≤◌, ℤ, pos, negsuc, false, ◌||◌, List, [], ◌∷◌}
 use Rattle.std.proofs.Common.{map, Option, Some, None, ap, arith}
 use Rattle.std.specs.Int.{cast_signed, cast_unsigned, w64}
-use Rattle.std.proofs.lemmas.Bool.{or_parts, ltb-false}
+use Rattle.std.proofs.lemmas.Bool.{or_parts}
 use Rattle.std.proofs.lemmas.Int.{to_z-of_z}
 use mir.Val.{SFits}
 use Rattle.arrow_flatbuf.specs.Nodes.{Cells, NodeFits, NodesFit, CellsFit, PairsFit}
@@ -13,32 +13,21 @@ use Rattle.arrow_types.specs.Field as columns
 use Rattle.arrow_types.specs.Field.{Head, Fields}
 use Rattle.arrow_types.specs.Notes.{KeyValue, Notes}
 use Rattle.arrow_types.specs.Schema.{is_wide, is_too_wide}
-use Rattle.arrow_types.specs.declared.data_type.BitWidth.{BitWidth}
-use Rattle.arrow_types.specs.declared.data_type.BitWidth.TheVariants as widths
-use Rattle.arrow_types.specs.declared.data_type.Precision.{Precision}
-use Rattle.arrow_types.specs.declared.data_type.IntervalUnit.{IntervalUnit}
-use Rattle.arrow_types.specs.declared.data_type.IntervalUnit.TheVariants as intervals
-use Rattle.arrow_types.specs.declared.data_type.Precision.TheVariants as precisions
-use Rattle.arrow_types.specs.declared.data_type.DateUnit.{DateUnit}
-use Rattle.arrow_types.specs.declared.data_type.DateUnit.TheVariants as dates
-use Rattle.arrow_types.specs.declared.data_type.TimeUnit.TheVariants as times
-use Rattle.arrow_types.specs.declared.data_type.TimeUnit.{TimeUnit}
 use Rattle.arrow_types.specs.declared.field.Encoding.{Encoding}
 use Rattle.arrow_types.specs.declared.node.FieldNode.{FieldNode}
 use Rattle.arrow_types.specs.declared.node.Buffer.{Buffer}
 use Rattle.arrow_meta_reader.specs.Codes.{number_of_version}
 use Rattle.arrow_meta_reader.specs.declared.message.MetadataVersion.{MetadataVersion}
 use Rattle.arrow_meta_reader.specs.declared.message.MetadataVersion.TheVariants as versions
-use Rattle.arrow_meta_writer.specs.Layouts.{flag, tag_code, int_cells, type_cells}
-use Rattle.arrow_meta_writer.specs.Layouts.{date_number, precision_number, interval_number, time_number}
+use Rattle.arrow_meta_writer.specs.Layouts.{tag_code}
 use Rattle.arrow_meta_writer.specs.Layouts.{with_encoding, field_nodes, node_pair, buffer_pair}
 use Rattle.arrow_meta_writer.specs.Layouts.{pair_nodes, metadata_cells, first_pairs, first_below}
 use Rattle.arrow_meta_writer.specs.Layouts.{first_rest}
 use Rattle.arrow_meta_writer.specs.Layouts.{batch_cells, header_code, header_cells, message_node}
 use Rattle.arrow_meta_reader.specs.Means.{PlainBatch, PlainHeader, schema, dictionary, batch, PlainMessage}
-use Rattle.arrow_meta_writer.specs.Writable.{IsLong, HasTextZone, HasLongId, AreFields, AreNodes}
+use Rattle.arrow_meta_writer.specs.Writable.{IsLong, HasLongId, AreFields, AreNodes}
 use Rattle.arrow_meta_writer.specs.Writable.{AreBuffers, IsBatch, IsHeader}
-use Rattle.arrow_meta_writer.proofs.TypeRows.{flag_fits, bits_fit, int_fits, type_fits}
+use Rattle.arrow_meta_writer.proofs.TypeRows.{flag_fits, int_fits, type_fits}
 
 pub long_fits : (z : ℤ) → IsLong z → cast_unsigned w64 z < 2 ^ 64
 long_fits (pos n) h = omega (arith, h)

@@ -1,7 +1,7 @@
 -- Of each type, that what is written of its table can be written, is no misfit, and says the type again: a row each, by the
 -- numbers of its widths and units.
-use Rattle.std.proofs.Common.{◌≡◌, ℕ, ◌<◌, Bool, true, false, not, ◌==◌, if◌then◌else◌, Option, Some, None, refl, ap, arith}
-use Rattle.std.specs.Option.{is_none, unwrap_or}
+use Rattle.std.proofs.Common.{◌≡◌, ◌<◌, Bool, true, false, not, ◌==◌, if◌then◌else◌, Some, None, refl, ap, arith}
+use Rattle.std.specs.Option.{unwrap_or}
 use Rattle.std.proofs.lemmas.Bool.{ltb-false}
 use Rattle.arrow_flatbuf.specs.Nodes.{NodeFits}
 use Rattle.arrow_flatbuf.specs.Nodes as laid
