@@ -1,7 +1,8 @@
 """Schemas of types in each form, laid out by frames.py: what vectors/ROWS changes, and what examples have."""
+import bodies
 from frames import (BINARY, BOOL, END_MARKER, INT32, LARGE_BINARY, LARGE_LIST, LARGE_UTF8, LIST, NULL, STRUCT, UTF8, batch, bools, date,
-                    dictionary, dictionary_batch, duration, field, fixed_size_binary, floating, integer, lists, numbers, schema, strings,
-                    structs, time, timestamp)
+                    dictionary, dictionary_batch, duration, field, fixed_size_binary, floating, integer, interval, lists, numbers, schema,
+                    strings, structs, time, timestamp)
 from streams import four_fields
 from type_table import INT
 
@@ -57,6 +58,28 @@ def floats():
                  lists([None, None], lambda _: structs([], doubles([]), singles([]))), numbers([2, 0], "b"))
     return b"".join([columns, dictionary_batch(7, singles([0x3e800000, 0x33d6bf95])), first,
                      dictionary_batch(7, singles([0x7fffffff]), True), more, END_MARKER])
+
+
+def intervals():
+    """Intervals of each unit: plain, in structs below lists, and by a dictionary that grows."""
+    spans = LIST, [field("item", STRUCT, [field("d", interval(1)), field("m", interval(0))])]
+    columns = schema(field("month", interval(0)), field("day_time", interval(1), nullable=False), field("nano", interval(2)),
+                     field("spans", *spans), field("term", interval(2), encoding=dictionary(7, 8)))
+    def months(values):
+        return bodies.intervals(values, 0)
+    def day_times(values):
+        return bodies.intervals(values, 1)
+    def month_day_nanos(values):
+        return bodies.intervals(values, 2)
+    low, high = -2 ** 31, 2 ** 31 - 1
+    below = structs([(), None, ()], day_times([(1, 0), None, (0, -1)]), months([12, None, -1]))
+    first = batch(months([14, None, -2, 0]), day_times([(2, 500), (-1, -500), (0, 0), (high, low)]),
+                  month_day_nanos([(1, 2, 3), (0, 0, 0), None, (low, high, -2 ** 63)]), lists([[1, 2], [], None, [3]], lambda _: below),
+                  numbers([1, None, 0, 1], "b"))
+    more = batch(months([high, low]), day_times([(low, high), (0, 1)]), month_day_nanos([(12, -30, 2 ** 63 - 1), (0, -1, 0)]),
+                 lists([None, []], lambda _: structs([], day_times([]), months([]))), numbers([2, 0], "b"))
+    return b"".join([columns, dictionary_batch(7, month_day_nanos([(1, 0, 0), (0, 1, 0)])), first,
+                     dictionary_batch(7, month_day_nanos([(0, 0, 86_400_000_000_000)]), True), more, END_MARKER])
 
 
 def shared_columns():

@@ -2,8 +2,8 @@
 another language, with no code and no definition of the crates. It reads a whole list of bytes, message by message.
 
 `answers(bytes)` gives of each command standard output, standard error and the exit status. Limits are the defaults; of the sets of
-types it is the core, or the one that is given. What stands in metadata is read by model.py, what is shown of a floating-point
-number floats.py says.
+types it is the core, or the one that is given. What stands in metadata is read by model.py; what is shown of a floating-point
+number floats.py says, of an interval examples/type_table.py.
 """
 import struct
 

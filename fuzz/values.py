@@ -1,8 +1,9 @@
 """Columns, dictionaries and batches as chance will have them: streams of all types, laid out by examples/frames.py, and the rows
 that `arrowflow show` has to print of them, by docs/FORMAT.md alone.
 
-A kind is a type, with what stands below it, and perhaps the dictionary by which its values are told. A value is None where it
-is null, else a truth, a number, bytes, a text, a list, or a tuple of the fields of a struct; by a dictionary it is an index.
+A kind is a type, one of the core or of those that it leaves out (floating-point numbers, intervals of each unit), with what stands below
+it, and perhaps the dictionary by which its values are told. A value is None where it is null, else a truth, a number, bytes, a text, a
+list, a tuple of the numbers of an interval or of the fields of a struct; by a dictionary it is an index.
 """
 import pathlib
 import struct

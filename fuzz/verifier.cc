@@ -204,6 +204,7 @@ void tell(std::ostream &out, const Field *field) {
             tell(out, type->timezone());
         }
     }
+    if (auto type = field->type_as_Interval()) out << "unit " << type->unit();
     if (auto type = field->type_as_FixedSizeBinary()) out << "width " << type->byteWidth();
     if (auto type = field->type_as_Duration()) out << "unit " << type->unit();
     if (auto by = field->dictionary()) {

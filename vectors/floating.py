@@ -3,7 +3,6 @@
 SD and BD are written out, by an encoder that is none of this repository: what is laid out by examples/ has to be this."""
 import bodies
 import changes
-import copied
 import floats
 import kinds
 import laying
@@ -14,7 +13,7 @@ from layouts import Conditions
 from laying import FIELD, NODE, TYPE, VALIDITY, VALUES, column, stream
 from places import Stream
 from table import MALFORMED, OWN, STANDARD
-from told import ALL, CORE, OF_ALL, answers
+from told import ALL, OF_ALL
 from type_table import FLOATING
 
 # The schema of one nullable column `d` of doubles, and a batch of 1.5 and a null.
@@ -44,9 +43,6 @@ ff ff ff ff 90 00 00 00   10 00 00 00 0c 00 18 00
 """)
 ONE = Stream(schema=SD, batch=BD, end=END_MARKER)
 
-# What the names of the same streams begin with, where they are read with the core.
-OF_CORE = "core/"
-REFUSED = "refuse Unsupported at 0\nend Unsupported at 0\n"
 WORDS = {HALF: "half", SINGLE: "single", DOUBLE: "double"}
 MANY = {HALF: "halves", SINGLE: "singles", DOUBLE: "doubles"}
 
@@ -280,7 +276,7 @@ def vectors():
     for group in (schemas(), batches(), nested(), dictionaries(), of_kinds(), tenths(), foreign()):
         assert not found.keys() & group.keys()
         found.update(group)
-    return {f"{OF_ALL}{name}": it for name, it in found.items()}
+    return found
 
 
 def conditions():
@@ -292,7 +288,7 @@ def conditions():
     return found
 
 
-def of_each_length(types=ALL):
+def of_each_length(types):
     """Connections that break at each place, and a schema of which each byte is another, with a set of types."""
     found = {"doubles_bytes": ("each byte of a schema of doubles set to each other value", "doubles",
         changes.each_byte(ONE, ["schema"], types=types))}
@@ -301,22 +297,6 @@ def of_each_length(types=ALL):
         lines = changes.cuts(b"".join(growing(precision).values()), 8 if types == ALL else 0, types)
         found[f"{name}_cut"] = f"each length of a growing dictionary of {many}", name, lines
     return found
-
-
-def families():
-    """The files of changes by their names: what each is about, its base, and its lines."""
-    its = conditions() | of_each_length()
-    return {f"{OF_ALL}{name}": (about, f"{OF_ALL}{base}", lines) for name, (about, base, lines) in its.items()}
-
-
-def with_the_core():
-    """What the same streams are answered with the core, by names that begin with another word: their text and their bytes."""
-    found = {}
-    for name, (_, about, held) in vectors().items():
-        found[OF_CORE + name.removeprefix(OF_ALL)] = f"{about}, with the core\nbinds own\n{answers(held, CORE)}", held
-    for name, (about, base, lines) in of_each_length(CORE).items():
-        found[f"{OF_CORE}{name}.changes"] = "".join(f"{it}\n" for it in [about, f"base {OF_CORE}{base}", *lines]), b""
-    return {name: (text.encode(), held) for name, (text, held) in found.items()}
 
 
 # What is written of a vector where that is not the vector itself, in way 0: the schema is written whole, in V5, nothing under a null
@@ -328,22 +308,6 @@ AS_IT_IS = ("doubles_and_no_batch singles_and_no_batch halves_and_no_batch doubl
     "not_nullable_doubles").split()
 
 
-def copies():
-    """What is written of the vectors, by names NAME.copyWAY, as copied.py lays it out, where the schema is one of frames.py."""
-    its = vectors()
-    held = {name: found[2] for name, found in its.items()}
-    found = {f"{OF_ALL}{name}.copy0": held[OF_ALL + word] for name, word in [*WRITTEN.items(), *((it, it) for it in AS_IT_IS)]}
-    for at, (name, (binds, _, stream_of)) in enumerate(its.items()):
-        if binds == STANDARD and name.removeprefix(OF_ALL) not in (*WRITTEN, "floats_of_another_writer"):
-            for way in (0, 3) if "hidden" in name or "dictionary" in name else (at % 4,):
-                found.setdefault(f"{name}.copy{way}", copied.copy(stream_of, way, ALL))
-    return found
-
-
-def check():
-    """What is laid out or answered otherwise than it is written out."""
-    its = [("the schema of doubles", schema_of(DOUBLE), SD), ("the batch of 1.5", batch(doubles([0x3ff8 << 48, None])), BD)]
-    its += [(f"{name} with the core", answers(held, CORE), REFUSED) for name, (_, _, held) in vectors().items()
-        if name != f"{OF_ALL}version_3_of_doubles"]
-    its += [(f"the copy of {it}", copied.copy(held, 0, ALL), held) for it in AS_IT_IS for held in [vectors()[OF_ALL + it][2]]]
-    return [f"{name}: not as it is written out" for name, held, wanted in its if held != wanted]
+def written_out():
+    """What is written out, beside what is laid out."""
+    return [("the schema of doubles", schema_of(DOUBLE), SD), ("the batch of 1.5", batch(doubles([0x3ff8 << 48, None])), BD)]

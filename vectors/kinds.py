@@ -7,6 +7,7 @@ from frames import END_MARKER, INT32, UTF8, batch, dictionary, dictionary_batch,
 from laying import stream
 from layouts import Conditions, Nine, untold
 from streams import points
+from told import CORE
 from type_table import BY_NAME, INT, WITH_OFFSETS
 
 # The last unit of a day.
@@ -96,15 +97,16 @@ def by_a_dictionary(it, index):
         "values": dictionary_batch(0, it.nine.column), "nine": plain, "spare": spare, "bare": bare, "end": END_MARKER}
 
 
-def all_of():
+def all_of(kinds=KINDS):
     """Each type with its index, and the frames of both its streams."""
-    for at, it in enumerate(KINDS):
+    for at, it in enumerate(kinds):
         yield it, INDICES[at % 8], alone(it), by_a_dictionary(it, INDICES[at % 8])
 
 
-def vectors():
+def vectors(kinds=KINDS):
+    """Each type, of the core or of these, alone and by a dictionary."""
     found = {}
-    for it, _, plain, encoded in all_of():
+    for it, _, plain, encoded in all_of(kinds):
         found[f"{it.name}_alone"] = (
             f"a column of the type {it.words}, with a null, without rows, without nulls, and of nine slots", b"".join(plain.values()))
         found[f"{it.name}_by_a_dictionary"] = (
@@ -126,10 +128,10 @@ def untold_vectors():
     }
 
 
-def changes():
-    """Of each type what breaks its layout, as a column of it and as one of indices to it."""
+def changes(kinds=KINDS, types=CORE):
+    """Of each type what breaks its layout, as a column of it and as one of indices to it, with a set of types."""
     found = {}
-    for it, index, plain, encoded in all_of():
+    for it, index, plain, encoded in all_of(kinds):
         for name, nine, its in ((f"{it.name}_alone", it.nine, plain), (f"{it.name}_by_a_dictionary", by_index(index)[1], encoded)):
-            found[name] = "each condition of nine slots by itself", name, Conditions(nine, its).all()
+            found[name] = "each condition of nine slots by itself", name, Conditions(nine, its, types).all()
     return found

@@ -2,6 +2,7 @@
 docs/FORMAT.md alone. README.md says what the lines mean."""
 import json
 import pathlib
+import struct
 import sys
 
 sys.dont_write_bytecode = True
@@ -10,10 +11,7 @@ sys.path[:0] = [str(TOP / "fuzz"), str(TOP / "examples")]
 import model
 import stream
 from model import ALL, CORE
-from type_table import BY_CODE, BY_NAME, BYTES, FIXED, FLOATING, LISTS, STRUCTS, TEXTS
-
-# The program does not read intervals yet, so to the model that answers here they are a type of no set. Once it does, this line goes.
-del BY_CODE[BY_NAME["Interval"].code]
+from type_table import BYTES, FIXED, FLOATING, LISTS, NUMBERS, STRUCTS, TEXTS
 
 # What the names of the vectors begin with that are read with all types.
 OF_ALL = "all/"
@@ -42,12 +40,20 @@ def value(column, at):
         return f'x"{column.text(at)}"'
     if layout == LISTS:
         return "[" + ", ".join(value(column.children[0], it) for it in range(*column.span(at))) + "]"
-    if column.field["code"] == FLOATING.code:
-        return f"0x{column.numbers(at)[0]:0{2 * column.form.width}x}={column.text(at)}"
+    if layout == NUMBERS:
+        return number(column, at)
     if layout == STRUCTS:
         names = (json.dumps(it.field["name"].decode(), ensure_ascii=False) for it in column.children)
         return "{" + ", ".join(f"{name}: {value(it, at)}" for name, it in zip(names, column.children)) + "}"
     return column.text(at)
+
+
+def number(column, at):
+    """The number in a slot: of a floating-point one the bits and the text; several numbers are the bytes that they take."""
+    form, its = column.form, column.numbers(at)
+    if column.field["code"] == FLOATING.code:
+        return f"0x{its[0]:0{2 * form.width}x}={column.text(at)}"
+    return str(its[0]) if len(its) == 1 else f'x"{struct.pack("<" + form.slot, *its).hex()}"'
 
 
 def pairs(noted):

@@ -3,9 +3,9 @@ any Arrow library reads, and a line for each, whose numbers are counted here."""
 import re
 
 import copied
-import floating
 import kinds
 import laid
+import late
 import rows
 import streams
 from frames import BINARY, END_MARKER, UTF8, batch, field, schema, strings
@@ -36,17 +36,17 @@ def listed(vectors):
     found = {}
     for name in (vectors["LIST"] + vectors["all/LIST"]).decode().split():
         found[name] = (vectors[name], b"") if name.endswith(".changes") else (vectors[f"{name}.txt"], vectors[f"{name}.arrows"])
-    return found | floating.with_the_core() | rows.texts() | {name: (b"", held) for name, held in copies().items()}
+    return found | late.with_the_core() | rows.texts() | {name: (b"", held) for name, held in copies().items()}
 
 
 def copies():
     """What is written of the vectors, by names NAME.copyWAY: of those that hold more than their values in two ways, of each type in
-    one, as copied.py lays it out, and what floating.py says."""
+    one, as copied.py lays it out, and what late.py says."""
     held, more = streams.written(), laid.all_of()
     found = {f"{name}.copy{way}": held[word][1] for name, ways in COPIES.items() for way, word in ways.items()}
     found |= {f"{name}.copy{way}": copied.copy(its, way) for name, (_, its) in more.items() for way in (0, 3)}
     found |= {f"{name}.copy{at % 4}": copied.copy(its, at % 4) for at, (name, (_, its)) in enumerate(kinds.vectors().items())}
-    return found | floating.copies()
+    return found | late.copies()
 
 
 def files(vectors):

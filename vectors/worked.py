@@ -269,9 +269,11 @@ RULES = {
     "an empty buffer may stand anywhere": (["empty_buffer_outside", "empty_buffer_before_the_body"], "", []),
     "a validity that is not empty has a bit for each slot": (["validity_of_all_bits", "spare_bit", "nulls_of_a5"], "Layout",
         ["validity_too_short"]),
-    "values and indices have all their slots": (["spare_bits_and_slots", "fixed_bytes_of_width_0", "all/doubles_for_singles"], "Layout", [
+    "values and indices have all their slots": (["spare_bits_and_slots", "fixed_bytes_of_width_0", "all/doubles_for_singles",
+        "all/day_times_for_months"], "Layout", [
         "values_too_short", "truths_too_short", "fixed_bytes_too_short", "durations_too_short", "indices_too_short",
-        "all/doubles_too_short", "all/singles_for_doubles"]),
+        "all/doubles_too_short", "all/singles_for_doubles", "all/months_too_short", "all/day_times_too_short",
+        "all/month_day_nanos_too_short", "all/months_for_day_times"]),
     "there is one offset more than slots, or there are no slots": (["one_offset", "no_offsets", "no_large_offsets"], "Layout", [
         "offsets_too_short", "large_offsets_too_short", "no_offsets_for_a_slot", "two_bytes_of_offsets", "three_bytes_of_offsets"]),
     "the first offset is not negative": (["first_offset_above_zero", "text_behind_two_bytes"], "Layout", [
@@ -348,16 +350,21 @@ def stands(line, wanted):
     return re.fullmatch(".*".join(map(re.escape, wanted.split("*"))), line)
 
 
+def lacking(files, name, stated):
+    """The lines that are stated of vectors and do not stand in their texts, each behind those before it."""
+    for vector, wanted in stated.items():
+        text = files.get(vector if vector.endswith(".changes") else f"{vector}.txt")
+        lines = iter(text.decode().splitlines() if text else [])
+        for it in wanted:
+            if not any(stands(line, it) for line in lines):
+                yield f"{name}: {vector} lacks, or has before another: {it}"
+                break
+
+
 def wrong_texts(files):
-    """The lines that are stated and do not stand in the texts, each behind those before it."""
+    """The same of all worked examples."""
     for name, (_, stated) in EXAMPLES.items():
-        for vector, wanted in stated.items():
-            text = files.get(vector if vector.endswith(".changes") else f"{vector}.txt")
-            lines = iter(text.decode().splitlines() if text else [])
-            for it in wanted:
-                if not any(stands(line, it) for line in lines):
-                    yield f"{name}: {vector} lacks, or has before another: {it}"
-                    break
+        yield from lacking(files, name, stated)
 
 
 def laid(frame):
