@@ -11,8 +11,9 @@ sys.path[:0] = [str(TOP / "fuzz"), str(TOP / "examples")]
 import model
 import stream
 from model import ALL, CORE
-from type_table import BYTES, FIXED, FLOATING, LISTS, NUMBERS, STRUCTS, TEXTS
+from type_table import BY_NAME, BYTES, FIXED, FLOATING, LISTS, NUMBERS, STRUCTS, TEXTS
 
+INTERVAL = BY_NAME["Interval"]
 # What the names of the vectors begin with that are read with all types.
 OF_ALL = "all/"
 
@@ -49,11 +50,13 @@ def value(column, at):
 
 
 def number(column, at):
-    """The number in a slot: of a floating-point one the bits and the text; several numbers are the bytes that they take."""
+    """The number in a slot: of a floating-point one the bits, of several numbers the bytes that they take; of these and of months the
+    text that is shown, too."""
     form, its = column.form, column.numbers(at)
     if column.field["code"] == FLOATING.code:
         return f"0x{its[0]:0{2 * form.width}x}={column.text(at)}"
-    return str(its[0]) if len(its) == 1 else f'x"{struct.pack("<" + form.slot, *its).hex()}"'
+    held = str(its[0]) if len(its) == 1 else f'x"{struct.pack("<" + form.slot, *its).hex()}"'
+    return f"{held}={column.text(at)}" if column.field["code"] == INTERVAL.code else held
 
 
 def pairs(noted):
