@@ -1,6 +1,6 @@
 //! Values as a text tells them.
 
-use arrow_data::{Array, Batch, Dictionary, SlotValue, floats, half};
+use arrow_data::{Array, Batch, Dictionary, Interval, SlotValue, floats, half};
 use arrow_types::{DataType, Field, Precision};
 use ryu::{Buffer, Float};
 use std::alloc::AllocError;
@@ -68,8 +68,14 @@ fn push_plain(text: &mut String, column: &Array, at: usize, levels: u32) -> Resu
     match column.slot(at) {
         SlotValue::Null => text.push_str("null"),
         SlotValue::Bool(truth) => write!(text, "{truth}"),
-        SlotValue::Int(number) => push_number(text, column.data_type(), number),
-        SlotValue::Bytes(bytes) => push_bytes(text, bytes),
+        SlotValue::Int(number) => {
+            push_number(text, column.data_type(), number)?;
+            push_interval(text, column.interval_at(at))
+        }
+        SlotValue::Bytes(bytes) => {
+            push_bytes(text, bytes)?;
+            push_interval(text, column.interval_at(at))
+        }
         SlotValue::Text(words) => push_text(text, words),
         SlotValue::List(start, end, items) => push_list(text, items, (start, end), levels),
         SlotValue::Struct(parts, place) => {
@@ -85,6 +91,22 @@ fn push_number(text: &mut String, data_type: &DataType, number: i128) -> Result<
             push_float(text, *precision, floats::bits_in(number))
         }
         _ => write!(text, "{number}"),
+    }
+}
+
+/// Appends the text of an interval after the number or the bytes that it is.
+fn push_interval(text: &mut String, interval: Option<Interval>) -> Result<(), AllocError> {
+    match interval {
+        None => Ok(()),
+        Some(Interval::YearMonth { months }) => write!(text, "={months}M"),
+        Some(Interval::DayTime { days, milliseconds }) => {
+            write!(text, "={days}d{milliseconds}ms")
+        }
+        Some(Interval::MonthDayNano {
+            months,
+            days,
+            nanoseconds,
+        }) => write!(text, "={months}M{days}d{nanoseconds}ns"),
     }
 }
 
