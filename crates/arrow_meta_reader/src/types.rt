@@ -19,12 +19,16 @@ ghost use Rattle.arrow_types.specs.Field.{none as empty};
 ghost use Rattle.arrow_types.specs.Notes.{unnoted};
 ghost use Rattle.arrow_types.specs.View.{fields_view, notes_view, type_notes, type_view};
 
-use crate::codes::{TypeCode, bit_width, byte_width, date_unit, interval_unit, precision, time_unit};
+use crate::codes::{
+    TypeCode, bit_width, byte_width, date_unit, interval_unit, precision, time_unit,
+};
 use crate::fields::FieldFault;
 use crate::kinds::FieldForm;
 use crate::message_tree::Tree;
 use crate::parts::{flag_at, into_some_text, number_at, some_text_at, take};
-use arrow_types::{BitWidth, DataType, DateUnit, Field, IntervalUnit, Precision, TimeUnit, TypeSet};
+use arrow_types::{
+    BitWidth, DataType, DateUnit, Field, IntervalUnit, Precision, TimeUnit, TypeSet,
+};
 use std::alloc::Global;
 
 /// The first field of a type's table: `bitWidth` of an Int, `precision`, `unit` or `byteWidth`.

@@ -102,11 +102,13 @@ fn push_interval(text: &mut String, interval: Option<Interval>) -> Result<(), Al
         Some(Interval::DayTime { days, milliseconds }) => {
             write!(text, "={days}d{milliseconds}ms")
         }
-        Some(Interval::MonthDayNano {
-            months,
-            days,
-            nanoseconds,
-        }) => write!(text, "={months}M{days}d{nanoseconds}ns"),
+        Some(
+            Interval::MonthDayNano {
+                months,
+                days,
+                nanoseconds,
+            },
+        ) => write!(text, "={months}M{days}d{nanoseconds}ns"),
     }
 }
 
