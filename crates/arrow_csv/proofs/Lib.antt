@@ -3,6 +3,7 @@ pub mod Written
 mod Chunked
 mod Digits
 mod Numerals
+mod UnitTexts
 mod FloatTexts
 mod Making
 pub mod Naming

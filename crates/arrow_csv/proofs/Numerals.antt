@@ -13,7 +13,7 @@ use lib.Ieee.{nan, inf, fin}
 use Rattle.arrow_csv.proofs.Digits.{byte_plain}
 
 -- two texts that call for none call for none together
-both_plain : (front back : List ℕ) → needs_quotes default_writer front ≡ false → needs_quotes default_writer back ≡ false → needs_quotes default_writer (front ++ back) ≡ false
+pub both_plain : (front back : List ℕ) → needs_quotes default_writer front ≡ false → needs_quotes default_writer back ≡ false → needs_quotes default_writer (front ++ back) ≡ false
 both_plain front back f b = rw (list_any-append (needs_byte default_writer) front back, f, b) refl
 
 -- digits call for none

@@ -5,8 +5,8 @@ use Rattle.std.specs.Float.Ieee.{fits}
 use Rattle.std.specs.Fmt.{decimal, signed_decimal}
 use Rattle.std.specs.List.{range_with_len}
 use Rattle.std.proofs.lemmas.Grind.{flat_map-append}
-use Rattle.hex.specs.Hex.{encode_lower}
-use Rattle.arrow_types.specs.DataType.{Tag, null, boolean, int, floating_point, binary, large_binary, fixed_size_binary, utf8, large_utf8, date, time, timestamp, duration, list, large_list, struct}
+use Rattle.arrow_types.specs.DataType.{Tag}
+use Rattle.arrow_types.specs.DataType as tags
 use Rattle.arrow_types.specs.declared.data_type.Precision.{Precision}
 use Rattle.arrow_types.specs.declared.data_type.Precision.TheVariants.{Half, Single, Double}
 use Rattle.arrow_types.specs.Field.{Fields, none, more, TypeShape}
@@ -16,6 +16,7 @@ use Rattle.arrow_data.specs.PlainValue.{PlainValue, PlainValues, null_value, boo
 use Rattle.arrow_data.specs.Floats.{bits_in, number_of}
 use Rattle.arrow_csv.specs.Floats.{IsFloatText, IsNumberText, text_format}
 use Rattle.arrow_csv.proofs.FloatTexts.{bits_fit, float_text, half_fits}
+use Rattle.arrow_csv.specs.Intervals.{bytes_text, months_text}
 use Rattle.arrow_csv.specs.Records.{AreBatchRows, AreColumnTexts, AreRows, record_of, rows_text}
 use Rattle.arrow_csv.specs.Texts.{AreItemTexts, ArePartTexts, Each, IsText, joined}
 
@@ -66,22 +67,9 @@ some_float precision bits = float_text (text_format precision) (number_of precis
 
 -- each number has
 some_number : (tag : Tag) (z : ℤ) → (text : List ℕ) × IsNumberText tag z text
-some_number (floating_point precision) z = some_float precision (bits_in z)
-some_number null z = (signed_decimal z, refl)
-some_number boolean z = (signed_decimal z, refl)
-some_number (int _ _) z = (signed_decimal z, refl)
-some_number binary z = (signed_decimal z, refl)
-some_number large_binary z = (signed_decimal z, refl)
-some_number (fixed_size_binary _) z = (signed_decimal z, refl)
-some_number utf8 z = (signed_decimal z, refl)
-some_number large_utf8 z = (signed_decimal z, refl)
-some_number (date _) z = (signed_decimal z, refl)
-some_number (time _) z = (signed_decimal z, refl)
-some_number (timestamp _ _) z = (signed_decimal z, refl)
-some_number (duration _) z = (signed_decimal z, refl)
-some_number list z = (signed_decimal z, refl)
-some_number large_list z = (signed_decimal z, refl)
-some_number struct z = (signed_decimal z, refl)
+some_number (tags.floating_point precision) z = some_float precision (bits_in z)
+some_number (tags.interval _) z = (months_text z, refl)
+some_number _ z = (signed_decimal z, refl)
 
 -- each value has: lists and structs by the texts of what is in them
 mutual
@@ -90,7 +78,7 @@ mutual
   some_text empty type (bool_value true) = (codes "true", refl)
   some_text empty type (bool_value false) = (codes "false", refl)
   some_text empty type (int_value z) = some_number type.tag z
-  some_text empty type (binary_value bytes) = (encode_lower bytes, refl)
+  some_text empty type (binary_value bytes) = (bytes_text type.tag bytes, refl)
   some_text empty type (utf8_value bytes) = (bytes, refl)
   some_text empty type (list_value items) = let w = some_items type.children items in (codes "[" ++ joined w.0 ++ codes "]", (w.0, w.1, refl))
   some_text empty type (struct_value parts) = let w = some_parts type.children parts in (codes "{" ++ joined w.0 ++ codes "}", (w.0, w.1, refl))

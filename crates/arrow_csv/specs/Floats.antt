@@ -1,12 +1,15 @@
--- The texts of numbers: of whole numbers in decimal, of floating-point numbers whatever reads back as the same number.
+-- The texts of numbers: of whole numbers in decimal, of floating-point numbers whatever reads back as the same number. An
+-- interval that is a number has so many months.
 use Rattle.std.specs.Prelude.{ℕ, ℤ, List, ◌≡◌, Some}
 use Rattle.std.specs.Float.{Format, binary32, binary64}
 use Rattle.std.specs.Float.Parse.{parse_float}
 use Rattle.std.specs.Fmt.{signed_decimal}
-use Rattle.arrow_types.specs.DataType.{Tag, null, boolean, int, floating_point, binary, large_binary, fixed_size_binary, utf8, large_utf8, date, time, timestamp, duration, list, large_list, struct}
+use Rattle.arrow_types.specs.DataType.{Tag}
+use Rattle.arrow_types.specs.DataType as tags
 use Rattle.arrow_types.specs.declared.data_type.Precision.{Precision}
 use Rattle.arrow_types.specs.declared.data_type.Precision.TheVariants.{Half, Single, Double}
 use Rattle.arrow_data.specs.Floats.{bits_in, number_of}
+use Rattle.arrow_csv.specs.Intervals.{months_text}
 
 -- the format in which a text is read back: a number of 16 bits shows as the one of 32 bits that it equals
 abbrev pub text_format : Precision → Format
@@ -20,19 +23,6 @@ IsFloatText precision bits text = parse_float (text_format precision) text ≡ S
 
 -- a text of the number that a value of this type is
 abbrev pub IsNumberText : Tag → ℤ → List ℕ → Type 0
-IsNumberText (floating_point precision) z text = IsFloatText precision (bits_in z) text
-IsNumberText null z text = text ≡ signed_decimal z
-IsNumberText boolean z text = text ≡ signed_decimal z
-IsNumberText (int _ _) z text = text ≡ signed_decimal z
-IsNumberText binary z text = text ≡ signed_decimal z
-IsNumberText large_binary z text = text ≡ signed_decimal z
-IsNumberText (fixed_size_binary _) z text = text ≡ signed_decimal z
-IsNumberText utf8 z text = text ≡ signed_decimal z
-IsNumberText large_utf8 z text = text ≡ signed_decimal z
-IsNumberText (date _) z text = text ≡ signed_decimal z
-IsNumberText (time _) z text = text ≡ signed_decimal z
-IsNumberText (timestamp _ _) z text = text ≡ signed_decimal z
-IsNumberText (duration _) z text = text ≡ signed_decimal z
-IsNumberText list z text = text ≡ signed_decimal z
-IsNumberText large_list z text = text ≡ signed_decimal z
-IsNumberText struct z text = text ≡ signed_decimal z
+IsNumberText (tags.floating_point precision) z text = IsFloatText precision (bits_in z) text
+IsNumberText (tags.interval _) z text = text ≡ months_text z
+IsNumberText _ z text = text ≡ signed_decimal z

@@ -1,3 +1,4 @@
+pub mod Intervals
 pub mod Texts
 pub mod Floats
 pub mod Records

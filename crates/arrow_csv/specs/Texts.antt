@@ -1,8 +1,8 @@
 -- The text of a value. (This project's own: the standard gives none.)
 use Rattle.std.specs.Prelude.{◌≡◌, ℕ, true, false, List, [], ◌∷◌, ◌++◌, codes, ⊤}
-use Rattle.hex.specs.Hex.{encode_lower}
 use Rattle.csv.specs.Writing.{default_writer, field_text, needs_quotes}
 use Rattle.arrow_csv.specs.Floats.{IsNumberText}
+use Rattle.arrow_csv.specs.Intervals.{bytes_text}
 use Rattle.arrow_types.specs.Field.{Fields, none, more, TypeShape}
 use Rattle.arrow_data.specs.PlainValue.{PlainValue, PlainValues, null_value, bool_value, int_value, binary_value, utf8_value, list_value, struct_value, no_values, more_values, values_of}
 
@@ -25,14 +25,14 @@ Each R (x ∷ xs) (y ∷ ys) = R x y × Each R xs ys
 
 abbrev mutual
   -- A text of a value of this type. A null shows as the given text; inside of lists and structs it is `null`. Numbers are
-  -- decimal; of a floating-point number it is one of the texts that read back as it. Bytes are hexadecimal digits, a text is
-  -- itself.
+  -- decimal; of a floating-point number it is one of the texts that read back as it. Bytes are hexadecimal digits, those of an
+  -- interval its numbers with their units, a text is itself.
   pub IsText : List ℕ → TypeShape → PlainValue → List ℕ → Type 0
   IsText null type null_value text = text ≡ null
   IsText null type (bool_value true) text = text ≡ codes "true"
   IsText null type (bool_value false) text = text ≡ codes "false"
   IsText null type (int_value z) text = IsNumberText type.tag z text
-  IsText null type (binary_value bytes) text = text ≡ encode_lower bytes
+  IsText null type (binary_value bytes) text = text ≡ bytes_text type.tag bytes
   IsText null type (utf8_value bytes) text = text ≡ bytes
   IsText null type (list_value items) text = (texts : List (List ℕ)) × AreItemTexts type.children items texts × (text ≡ codes "[" ++ joined texts ++ codes "]")
   IsText null type (struct_value parts) text = (texts : List (List ℕ)) × ArePartTexts type.children parts texts × (text ≡ codes "{" ++ joined texts ++ codes "}")

@@ -1,4 +1,5 @@
-//! The texts of numbers by the type of the value: floating-point numbers are given by their bits.
+//! The texts of numbers by the type of the value: floating-point numbers are given by their bits,
+//! some intervals by their months.
 
 ghost use Rattle.std.specs.Prelude.{◌≡◌, OnOk, Some};
 ghost use Rattle.ryu.specs.Parse.{parse_float};
@@ -6,6 +7,7 @@ ghost use Rattle.arrow_types.specs.View.{type_view};
 ghost use Rattle.arrow_csv.specs.Floats.{IsFloatText, IsNumberText};
 ghost use Rattle.arrow_csv.specs.Texts.{Appends, IsPlain};
 
+use crate::intervals::push_months;
 use crate::texts::push_number;
 use arrow_data::floats::bits_in;
 use arrow_data::half;
@@ -26,21 +28,8 @@ pub(crate) fn push_int(
 {
     match data_type {
         DataType::FloatingPoint(precision) => push_float(out, *precision, bits_in(number)),
-        DataType::Null
-        | DataType::Bool
-        | DataType::Int { .. }
-        | DataType::Binary
-        | DataType::LargeBinary
-        | DataType::FixedSizeBinary(_)
-        | DataType::Utf8
-        | DataType::LargeUtf8
-        | DataType::Date(_)
-        | DataType::Time(_)
-        | DataType::Timestamp(_, _)
-        | DataType::Duration(_)
-        | DataType::List(_)
-        | DataType::LargeList(_)
-        | DataType::Struct(_) => push_number(out, number),
+        DataType::Interval(_) => push_months(out, number),
+        _ => push_number(out, number),
     }
 }
 

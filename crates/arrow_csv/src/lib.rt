@@ -11,7 +11,8 @@
 //! Which texts a value has, is said by `IsText` (`specs/Texts.antt`), over plain values: one, but
 //! where a floating-point number is in it, which shows as a text that reads back as the same number.
 //! The one that is written is short: `1.5`, `-0.0`, `1e300`, `inf` and `NaN`, by the crate `ryu`. A
-//! number of 16 bits shows as the number of 32 bits that it equals. No number calls for quotes.
+//! number of 16 bits shows as the number of 32 bits that it equals. No number calls for quotes. An
+//! interval shows as its numbers with their units: `14M`, `2d500ms` or `1M2d3ns`.
 //!
 //! [`header`], [`rows`] and [`BatchRows::push`] give records of such texts for every schema and every
 //! batch. The standard gives no such text; this one is the project's own, and it is not claimed that
@@ -25,6 +26,7 @@
 //! |---|---|
 //! | a text of a value | `specs/Texts.antt`: `IsText` |
 //! | a text of a number | `specs/Floats.antt`: `IsNumberText`, `IsFloatText` |
+//! | the text of bytes, of an interval | `specs/Intervals.antt`: `bytes_text`, `interval_text` |
 //! | texts of a row, the record of a schema | `specs/Records.antt`: `AreColumnTexts`, `header_record` |
 //! | records of a batch, of a stream | `specs/Records.antt`: `AreBatchRows`, `IsStreamText` |
 //! | columns chosen by their names | `specs/Named.antt`: `chosen`, `chosen_shape`, `lacking` |
@@ -36,6 +38,7 @@ mod chunks;
 mod column_text;
 mod fields;
 mod floats;
+mod intervals;
 mod named;
 mod records;
 mod texts;

@@ -14,8 +14,9 @@ ghost use Rattle.arrow_csv.specs.Records.{AreBatchRows, AreRows, IsRowBehind, he
 use crate::column_text::ColumnText;
 use crate::fields::{push_field_text, quote_from};
 use crate::floats::push_int;
+use crate::intervals::push_binary;
 use crate::named::{columns_named, place_of};
-use crate::texts::{push_bytes, push_items, push_parts};
+use crate::texts::{push_items, push_parts};
 use arrow_data::{Array, Batch, SlotValue};
 use arrow_types::{Field, Schema};
 use csv::{ByteRecord, WriterBuilder};
@@ -284,7 +285,7 @@ pub(crate) fn push_field(
         SlotValue::Bool(true) => out.extend_from_slice(b"true"),
         SlotValue::Bool(false) => out.extend_from_slice(b"false"),
         SlotValue::Int(number) => push_int(out, column.data_type(), number),
-        SlotValue::Bytes(bytes) => push_bytes(out, bytes),
+        SlotValue::Bytes(bytes) => push_binary(out, column.data_type(), bytes),
         SlotValue::Text(text) => push_field_text(out, text.as_bytes()),
         SlotValue::List(start, end, items) => {
             let place = out.len();

@@ -12,6 +12,7 @@ ghost use Rattle.arrow_types.specs.View.{fields_view};
 ghost use Rattle.arrow_csv.specs.Texts.{Appends, IsItemText, IsListOf, IsStructOf};
 
 use crate::floats::push_int;
+use crate::intervals::push_binary;
 use arrow_data::{Array, SlotValue};
 use arrow_types::Field;
 use itoa::{Buffer, Integer};
@@ -38,7 +39,7 @@ fn push_value(
         SlotValue::Bool(true) => out.extend_from_slice(b"true"),
         SlotValue::Bool(false) => out.extend_from_slice(b"false"),
         SlotValue::Int(number) => push_int(out, column.data_type(), number),
-        SlotValue::Bytes(bytes) => push_bytes(out, bytes),
+        SlotValue::Bytes(bytes) => push_binary(out, column.data_type(), bytes),
         SlotValue::Text(text) => out.extend_from_slice(text.as_bytes()),
         SlotValue::List(start, end, items) => push_items(out, items, start, end),
         SlotValue::Struct(children, place) => {

@@ -7,6 +7,7 @@ mod dictionaries;
 mod floats;
 mod full;
 mod indices;
+mod intervals;
 mod making;
 mod told;
 mod utf8;

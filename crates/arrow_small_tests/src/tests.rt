@@ -1,4 +1,4 @@
-//! A file for each library; `records`, `chunks`, `dictionaries` and `nested` are of `arrow_csv`,
+//! A file for each library; `records`, `chunks`, `dictionaries`, `intervals` and `nested` are of `arrow_csv`,
 //! `refusals` and `sinks` of `arrow_sink`, and `columns` builds what these show.
 
 mod bits;
@@ -6,6 +6,7 @@ mod chunks;
 mod columns;
 mod dictionaries;
 mod flatbuf;
+mod intervals;
 mod nested;
 mod records;
 mod refusals;

@@ -6,7 +6,8 @@
 #![tactic(auto)]
 
 use arrow_types::{
-    BitWidth, DataType, DateUnit, Encoding, Field, IndexType, Precision, Schema, TimeUnit,
+    BitWidth, DataType, DateUnit, Encoding, Field, IndexType, IntervalUnit, Precision, Schema,
+    TimeUnit,
 };
 use std::alloc::Global;
 
@@ -86,6 +87,7 @@ fn data_type(alloc: Global, word: &str, behind: &mut Vec<Field>) -> Option<DataT
         "time" => DataType::Time(time_unit(unit)?),
         "timestamp" => DataType::Timestamp(time_unit(unit)?, None),
         "duration" => DataType::Duration(time_unit(unit)?),
+        "interval" => DataType::Interval(interval_unit(unit)?),
         "list" => DataType::List(item(alloc, behind)?),
         "large_list" => DataType::LargeList(item(alloc, behind)?),
         "struct" => DataType::Struct(parts(alloc, count(unit)?, behind)?),
@@ -121,6 +123,15 @@ fn time_unit(word: &str) -> Option<TimeUnit> {
         "ms" => Some(TimeUnit::Millisecond),
         "us" => Some(TimeUnit::Microsecond),
         "ns" => Some(TimeUnit::Nanosecond),
+        _ => None,
+    }
+}
+
+fn interval_unit(word: &str) -> Option<IntervalUnit> {
+    match word {
+        "year_month" => Some(IntervalUnit::YearMonth),
+        "day_time" => Some(IntervalUnit::DayTime),
+        "month_day_nano" => Some(IntervalUnit::MonthDayNano),
         _ => None,
     }
 }

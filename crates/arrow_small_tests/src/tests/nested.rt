@@ -12,7 +12,12 @@ const NUMBER: DataType = DataType::Int {
 };
 
 // That a column of these values has these records.
-fn are_shown(rt: &(impl Abort + AllocGlobal), of: DataType, values: &[Value], want: &str) {
+pub(super) fn are_shown(
+    rt: &(impl Abort + AllocGlobal),
+    of: DataType,
+    values: &[Value],
+    want: &str,
+) {
     let schema = schema(rt, of);
     let mut column = builder(rt, &schema);
     for value in values {
@@ -50,12 +55,12 @@ fn truth_values_are_words(rt: HostRuntime) {
 }
 
 // The type of lists.
-fn lists(rt: &(impl Abort + AllocGlobal), items: DataType) -> DataType {
+pub(super) fn lists(rt: &(impl Abort + AllocGlobal), items: DataType) -> DataType {
     DataType::List(Box::new(rt.alloc(), field(rt, "item", items)).expect(rt, MEMORY))
 }
 
 // A list of an item, a null, and another item.
-fn list(rt: &(impl Abort + AllocGlobal), first: Value, last: Value) -> Value {
+pub(super) fn list(rt: &(impl Abort + AllocGlobal), first: Value, last: Value) -> Value {
     Value::List(vec![in rt.alloc(); first, Value::Null, last].expect(rt, MEMORY))
 }
 

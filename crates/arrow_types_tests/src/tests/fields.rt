@@ -1,7 +1,8 @@
 // Fields that are built of what stands in words.
 
 use arrow_types::{
-    BitWidth, DataType, Encoding, Field, IndexType, Precision, Schema, SchemaFault, TimeUnit,
+    BitWidth, DataType, Encoding, Field, IndexType, IntervalUnit, Precision, Schema, SchemaFault,
+    TimeUnit,
 };
 use std::process::Abort;
 
@@ -48,6 +49,15 @@ fn unit_in(rt: &impl Abort, word: &str) -> TimeUnit {
     }
 }
 
+fn interval_unit_in(rt: &impl Abort, word: &str) -> IntervalUnit {
+    match word {
+        "year_month" => IntervalUnit::YearMonth,
+        "day_time" => IntervalUnit::DayTime,
+        "month_day_nano" => IntervalUnit::MonthDayNano,
+        _ => panic!(rt; "{word} is no unit of intervals"),
+    }
+}
+
 // The type that a word names. Behind a dot stand the width of byte strings, the unit of times, the
 // zone of timestamps in microseconds, or how many fields before it a struct takes; a list takes one.
 fn data_type(rt: &(impl Abort + AllocGlobal), before: &mut Vec<Field>, word: &str) -> DataType {
@@ -68,6 +78,7 @@ fn data_type(rt: &(impl Abort + AllocGlobal), before: &mut Vec<Field>, word: &st
         "large_utf8" => DataType::LargeUtf8,
         "time" => DataType::Time(unit_in(rt, more)),
         "duration" => DataType::Duration(unit_in(rt, more)),
+        "interval" => DataType::Interval(interval_unit_in(rt, more)),
         "timestamp" => DataType::Timestamp(TimeUnit::Microsecond, zoned(rt, more)),
         _ => panic!(rt; "{name} is no type"),
     }

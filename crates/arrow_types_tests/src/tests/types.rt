@@ -50,7 +50,7 @@ fn a_set_of_types_changes_no_number(rt: HostRuntime) {
 }
 
 // Columns, and whether the core leaves the type of a field among them out.
-static LATE: [(&str, bool); 9] = [
+static LATE: [(&str, bool); 14] = [
     ("", false),
     (
         "a:null b:bool c:fixed.4 d:time.s e:timestamp f:duration.ns",
@@ -66,6 +66,14 @@ static LATE: [(&str, bool); 9] = [
     ("d@1:double", true),
     ("d:double l:list l:large_list", true),
     ("n:null d@1:double s:struct.2 n:null", true),
+    ("m:interval.year_month", true),
+    ("n:null t:interval.day_time", true),
+    ("i:interval.month_day_nano n:null", true),
+    ("i@1:interval.year_month", true),
+    (
+        "n:null i@1:interval.day_time s:struct.2 l:list n:null",
+        true,
+    ),
 ];
 
 #[test]
@@ -208,7 +216,8 @@ fn children_of_lists_and_structs(rt: HostRuntime) {
 }
 
 const COPIED: &str = "k@1:utf8 z:timestamp.UTC i:time.s l:list d:duration.ns f:fixed.16 \
-    b:large_binary t:large_utf8 m:large_list n:large_list s:struct.6 d:double f:float";
+    b:large_binary t:large_utf8 m:large_list n:large_list s:struct.6 d:double f:float \
+    m:interval.year_month t:interval.day_time i:interval.month_day_nano s:struct.3";
 
 fn is_copied(rt: &(impl Abort + AllocGlobal), field: &Field) {
     assert!(rt; field.copy(rt.alloc()).expect(rt, MEMORY) == *field);
@@ -224,7 +233,7 @@ fn copies_are_equal(rt: HostRuntime) {
     }
     let copy = schema.copy(rt.alloc()).expect(&rt, MEMORY);
     assert!(rt; copy == schema);
-    assert!(rt; has_ids(&copy, &[1], 4));
+    assert!(rt; has_ids(&copy, &[1], 5));
 }
 
 // Fields that each differ from `k@0:timestamp.UTC`, and whether their type is the same.
@@ -261,7 +270,8 @@ fn equality_reads_everything(rt: HostRuntime) {
 // Types of which no two are the same; then lists of each width of offsets, of two items.
 const APART: &str = "c:binary c:large_binary c:fixed.0 c:fixed.3 c:fixed.4 c:utf8 c:large_utf8 \
     c:time.s c:duration.s c:duration.ms c:duration.us c:duration.ns c:struct.0 c:null \
-    c:halffloat c:float c:double";
+    c:halffloat c:float c:double c:interval.year_month c:interval.day_time \
+    c:interval.month_day_nano";
 
 const LISTS: &str =
     "t:utf8 l:list t:utf8 l:large_list t:large_utf8 l:list t:large_utf8 l:large_list";

@@ -6,7 +6,9 @@ use Rattle.arrow_data.specs.PlainValue.{int_value, value_at}
 use Rattle.arrow_data.specs.Shown.{HoldsValue}
 use Rattle.arrow_types.specs.View.{fields_view, type_view}
 use Rattle.arrow_csv.specs.Floats.{IsNumberText}
+use Rattle.arrow_csv.specs.Intervals.{bytes_text}
 use Rattle.arrow_csv.specs.Texts.{IsFieldOf, IsListOf, IsPlain, IsStructOf, IsText}
+use Rattle.arrow_csv.proofs.UnitTexts.{binary_text}
 use Rattle.arrow_csv.proofs.Joining.{appends_weaker, list_text, number_text, struct_text}
 use Rattle.arrow_csv.proofs.Written.{field_appended, plain_field}
 use Rattle.arrow_csv.proofs.records.push_field.Goals as goal
@@ -36,6 +38,17 @@ returns-in-Int c =
     let same : to_z w128 (of_z w128 z) ≡ z = search rules in
     on_ok_weaker c.push_int.result (appends_weaker (IsPlain (IsNumberText type.tag (to_z w128 (of_z w128 z)))) (IsFieldOf column.data_type value) _ _
     (λ text is. plain_field column.data_type value text (number_text [] column.data_type type value (to_z w128 (of_z w128 z)) text (holds ∙ ap int_value (sym same)) c.data_type.ensures is.0) is.1)) c.push_int.ensures
+
+-- so does the text of bytes
+pub returns-in-Bytes : goal.returns-in-Bytes
+returns-in-Bytes c =
+    let column = c.args.column.now in
+    let type = type_view c.data_type-in-Bytes.result.now in
+    let bytes = c.in-Bytes.bytes.now in
+    let value = value_at column.resolved c.args.i in
+    let holds = subst (HoldsValue column c.args.i) c.in-Bytes.is c.requires.holds in
+    on_ok_weaker c.push_binary.result (appends_weaker (IsPlain (λ text. text ≡ bytes_text type.tag bytes)) (IsFieldOf column.data_type value) _ _
+    (λ text is. plain_field column.data_type value text (binary_text [] column.data_type type value bytes text holds c.data_type-in-Bytes.ensures is.0) is.1)) c.push_binary.ensures
 
 -- and the struct
 pub returns-in_ok-push_parts-in-Struct : goal.returns-in_ok-push_parts-in-Struct

@@ -8,7 +8,9 @@ use Rattle.arrow_data.specs.PlainValue.{int_value, value_at}
 use Rattle.arrow_data.specs.Shown.{HoldsValue}
 use Rattle.arrow_data.proofs.Sameness.{child_smaller, parts_smaller}
 use Rattle.arrow_csv.specs.Floats.{IsNumberText}
+use Rattle.arrow_csv.specs.Intervals.{bytes_text}
 use Rattle.arrow_csv.specs.Texts.{IsItemText, IsListOf, IsPlain, IsStructOf}
+use Rattle.arrow_csv.proofs.UnitTexts.{binary_text}
 use Rattle.arrow_csv.proofs.Joining.{appends_weaker, as_many, items_more, list_text, number_text, parts_done, parts_more, separator, separator_first, separator_later, struct_text}
 use Rattle.arrow_csv.proofs.texts.+text.Goals as goal
 use Rattle.arrow_csv.proofs.texts.+text.Goals.{push_items-then-k-start+in_ok-push-2, push_items-else-k-start, push_parts-then-k-gt0+in_ok-push-2, push_parts-else-k-gt0}
@@ -47,6 +49,16 @@ push_value-returns-in-Int t c =
     let same : to_z w128 (of_z w128 z) ≡ z = search rules in
     on_ok_weaker c.push_int.result (appends_weaker (IsPlain (IsNumberText type.tag (to_z w128 (of_z w128 z)))) (IsItemText column.data_type (value_at column.resolved c.args.i)) _ _
     (λ text is. number_text (codes "null") column.data_type type (value_at column.resolved c.args.i) (to_z w128 (of_z w128 z)) text (h ∙ ap int_value (sym same)) c.data_type.ensures is.0)) c.push_int.ensures
+
+-- the text of the bytes is one of the value
+pub push_value-returns-in-Bytes : goal.push_value-returns-in-Bytes
+push_value-returns-in-Bytes t c =
+    let column = c.args.column.now in
+    let type = type_view c.data_type-in-Bytes.result.now in
+    let bytes = c.in-Bytes.bytes.now in
+    let h = subst (HoldsValue column c.args.i) c.in-Bytes.is c.requires.holds in
+    on_ok_weaker c.push_binary.result (appends_weaker (IsPlain (λ text. text ≡ bytes_text type.tag bytes)) (IsItemText column.data_type (value_at column.resolved c.args.i)) _ _
+    (λ text is. binary_text (codes "null") column.data_type type (value_at column.resolved c.args.i) bytes text h c.data_type-in-Bytes.ensures is.0)) c.push_binary.ensures
 
 -- what the fields make is a text of the struct
 pub push_value-returns-in-Struct : goal.push_value-returns-in-Struct

@@ -1,0 +1,28 @@
+-- The texts of intervals: each number in decimal with its sign, then its unit. (This project's own: the standard gives none.)
+use Rattle.std.specs.Prelude.{◌++◌, ℕ, ℤ, List, Some, None, codes}
+use Rattle.std.specs.Fmt.{signed_decimal}
+use Rattle.hex.specs.Hex.{encode_lower}
+use Rattle.arrow_types.specs.DataType.{Tag}
+use Rattle.arrow_types.specs.DataType as tags
+use Rattle.arrow_data.specs.Intervals.{interval_of_bytes}
+use Rattle.arrow_data.specs.declared.intervals.Interval.{Interval}
+use Rattle.arrow_data.specs.declared.intervals.Interval.TheVariants.{YearMonth, DayTime, MonthDayNano}
+
+-- a number, then its unit
+abbrev pub counted : ℤ → List ℕ → List ℕ
+counted number unit = signed_decimal number ++ unit
+
+-- so many months
+abbrev pub months_text : ℤ → List ℕ
+months_text months = counted months (codes "M")
+
+-- all numbers of an interval, also those that are 0
+abbrev pub interval_text : Interval → List ℕ
+interval_text (YearMonth months) = months_text months
+interval_text (DayTime days milliseconds) = counted days (codes "d") ++ counted milliseconds (codes "ms")
+interval_text (MonthDayNano months days nanoseconds) = months_text months ++ counted days (codes "d") ++ counted nanoseconds (codes "ns")
+
+-- the text of bytes by the type of the value: of an interval its own, of all others hexadecimal digits
+abbrev pub bytes_text : Tag → List ℕ → List ℕ
+bytes_text (tags.interval unit) bytes = elim (interval_of_bytes unit bytes) [ None ↦ encode_lower bytes | Some interval ↦ interval_text interval ]
+bytes_text _ bytes = encode_lower bytes
