@@ -7,7 +7,7 @@ use Rattle.arrow_data.specs.Floats.{bits_in, number_of}
 use Rattle.arrow_data.specs.PlainValue.{PlainValue, value_at, null_value, bool_value, int_value, binary_value, utf8_value, list_value, struct_value}
 use Rattle.arrow_data.specs.declared.array.SlotValue.{SlotValue}
 use Rattle.arrow_data.specs.declared.array.SlotValue.TheVariants as values
-use Rattle.arrow_types.specs.DataType.{Tag, null, boolean, int, floating_point, binary, large_binary, fixed_size_binary, utf8, large_utf8, date, time, timestamp, duration, list, large_list, struct}
+use Rattle.arrow_types.specs.DataType.{Tag, floating_point}
 use Rattle.arrowflow_c.specs.declared.cells.CellC.{CellC}
 use Rattle.arrowflow_c.specs.declared.reading.Reading.{Reading}
 use Rattle.arrowflow_c.specs.Texts.{filled}
@@ -30,21 +30,7 @@ number_cell (negsuc n) = if nat_lt n (2 ^ 63) then record (bare_cell 2) { number
 -- the cell of a number by the type of its column: of a floating-point one that of the number that its bits say
 abbrev pub int_cell : Tag → ℤ → CellC
 int_cell (floating_point precision) z = record (bare_cell 10) { real = number_of precision (bits_in z) }
-int_cell null z = number_cell z
-int_cell boolean z = number_cell z
-int_cell (int _ _) z = number_cell z
-int_cell binary z = number_cell z
-int_cell large_binary z = number_cell z
-int_cell (fixed_size_binary _) z = number_cell z
-int_cell utf8 z = number_cell z
-int_cell large_utf8 z = number_cell z
-int_cell (date _) z = number_cell z
-int_cell (time _) z = number_cell z
-int_cell (timestamp _ _) z = number_cell z
-int_cell (duration _) z = number_cell z
-int_cell list z = number_cell z
-int_cell large_list z = number_cell z
-int_cell struct z = number_cell z
+int_cell _ z = number_cell z
 
 -- The value of a type was told, and of a byte string or a text as much as fits was put into the room.
 abbrev pub Gives : Tag → PlainValue → List ℕ → CellC → List ℕ → Type 0

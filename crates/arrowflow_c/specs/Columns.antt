@@ -4,7 +4,7 @@ use Rattle.arrow_data.specs.Batch.{Table}
 use Rattle.arrow_data.specs.Column.{Column, HasChild, HasDictionary, HasField, HasValue, IsList, ValueList, struct_fields, type_of_field}
 use Rattle.arrow_data.specs.Form.{offset_bytes}
 use Rattle.arrow_data.specs.View.{AreBuffersOf}
-use Rattle.arrow_types.specs.DataType.{Tag, null, boolean, int, floating_point, binary, large_binary, fixed_size_binary, utf8, large_utf8, date, time, timestamp, duration, list, large_list, struct}
+use Rattle.arrow_types.specs.DataType.{Tag, floating_point}
 use Rattle.arrow_data.specs.declared.view.Buffers.{Buffers}
 use Rattle.arrow_data.specs.declared.view.Buffers.TheVariants as buffers
 use Rattle.arrow_data.specs.declared.view.NumberBuffers.{NumberBuffers}
@@ -58,22 +58,8 @@ with_strings c of = record c { width = offset_bytes of.width; validity = of.vali
 
 -- whether numbers of a type are floating-point ones
 abbrev pub is_float : Tag → Bool
-is_float null = false
-is_float boolean = false
-is_float (int _ _) = false
 is_float (floating_point _) = true
-is_float binary = false
-is_float large_binary = false
-is_float (fixed_size_binary _) = false
-is_float utf8 = false
-is_float large_utf8 = false
-is_float (date _) = false
-is_float (time _) = false
-is_float (timestamp _ _) = false
-is_float (duration _) = false
-is_float list = false
-is_float large_list = false
-is_float struct = false
+is_float _ = false
 
 -- the plain column of buffers of a type, with so many slots, of which one is meant
 abbrev pub told_of : Tag → ℕ → ℕ → Buffers → PlainColumn

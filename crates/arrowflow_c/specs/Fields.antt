@@ -11,9 +11,9 @@ use Rattle.arrowflow_c.specs.declared.fields.FieldC.{FieldC}
 use Rattle.arrowflow_c.specs.declared.places.Place.{Place}
 use Rattle.arrowflow_c.specs.declared.places.Place.TheVariants as places
 use Rattle.arrowflow_c.specs.declared.reading.Reading.{Reading}
-use Rattle.arrowflow_c.specs.Formats.{format_of}
 use Rattle.arrowflow_c.specs.Survey.{reported}
 use Rattle.arrowflow_c.specs.Texts.{filled}
+use Rattle.arrowflow_report.specs.TypeWords.{format_of}
 
 -- a field with its metadata and those below it
 pub record NotedField : Type 0 where

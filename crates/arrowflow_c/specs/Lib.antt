@@ -8,7 +8,6 @@ pub mod Reading
 pub mod Cells
 pub mod Columns
 pub mod Lending
-pub mod Formats
 pub mod Pens
 pub mod Fields
 pub mod Copied

@@ -7,9 +7,10 @@ ghost use Rattle.arrowflow_c.specs.Fields.{below_by, field_below, field_format, 
 ghost use Rattle.arrowflow_c.specs.Fields.{nth_field};
 ghost use Rattle.arrowflow_c.specs.Pens.{Puts};
 
-use crate::formats::{int_format, put_type};
+use crate::formats::put_type;
 use crate::pens::Pen;
 use arrow_types::{Encoding, Field, Schema};
+use arrowflow_report::int_words;
 
 /// What a path leads to.
 #[derive(Clone, Copy)]
@@ -93,7 +94,8 @@ impl<'a> Place<'a> {
             result room.new }
     {
         if let Some(Encoding { index, .. }) = self.encoding() {
-            return pen.put(room, int_format(index.bits, index.signed).as_bytes());
+            let index = int_words(index.bits, index.signed);
+            return pen.put(room, index.format.as_bytes());
         }
         match self {
             Place::Schema(_) => pen.put(room, b"+s"),

@@ -16,6 +16,7 @@ pub mod Lines
 pub mod Reports
 pub mod OfFront
 pub mod TypeNames
+pub mod TypeWords
 pub mod Shown
 pub mod Calls
 pub mod Chosen

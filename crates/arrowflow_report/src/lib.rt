@@ -53,6 +53,7 @@ pub mod session;
 mod telling;
 mod tool_fault;
 mod type_names;
+mod type_words;
 mod what;
 
 pub use columns::{ColumnsFault, Selection};
@@ -63,4 +64,5 @@ pub use reports::{check, check_quietly, show, show_columns, show_first};
 pub use schema_call::schema_text;
 pub use schema_lines::schema_lines_of;
 pub use tool_fault::ToolFault;
+pub use type_words::{TypeWords, int_words, words_of};
 pub use what::What;

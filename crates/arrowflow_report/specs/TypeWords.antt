@@ -1,0 +1,82 @@
+-- The words of types: the name in the text of a schema, which is this project's own, and the format string (Arrow C data interface, "Data
+-- type description -- format strings"). The types are those of Schema.fbs, union "Type".
+use Rattle.std.specs.Prelude.{ℕ, true, false, List, [], ◌++◌, Option, Some, None, codes}
+use Rattle.std.specs.Fmt.{decimal}
+use Rattle.arrow_types.specs.DataType.{Tag, null, boolean, int, floating_point, binary, large_binary, fixed_size_binary, utf8, large_utf8, date, time, timestamp, duration, interval, list, large_list, struct}
+use Rattle.arrow_types.specs.declared.data_type.BitWidth.TheVariants.{Eight, Sixteen, ThirtyTwo, SixtyFour}
+use Rattle.arrow_types.specs.declared.data_type.DateUnit.TheVariants as dates
+use Rattle.arrow_types.specs.declared.data_type.IntervalUnit.TheVariants.{YearMonth, DayTime, MonthDayNano}
+use Rattle.arrow_types.specs.declared.data_type.Precision.TheVariants.{Half, Single, Double}
+use Rattle.arrow_types.specs.declared.data_type.TimeUnit.TheVariants as times
+use Rattle.arrowflow_report.specs.Escapes.{escaped}
+
+-- a name and a format string
+pub record Texts : Type 0 where
+  pub name : List ℕ
+  pub format : List ℕ
+
+-- a row of the table
+abbrev pub words : List ℕ → List ℕ → Texts
+words name format = record { name = name; format = format }
+
+-- the fixed texts of a type without its children, up to its width or its time zone
+abbrev pub words_of : Tag → Texts
+words_of null = words (codes "null") (codes "n")
+words_of boolean = words (codes "bool") (codes "b")
+words_of (int Eight true) = words (codes "int8") (codes "c")
+words_of (int Sixteen true) = words (codes "int16") (codes "s")
+words_of (int ThirtyTwo true) = words (codes "int32") (codes "i")
+words_of (int SixtyFour true) = words (codes "int64") (codes "l")
+words_of (int Eight false) = words (codes "uint8") (codes "C")
+words_of (int Sixteen false) = words (codes "uint16") (codes "S")
+words_of (int ThirtyTwo false) = words (codes "uint32") (codes "I")
+words_of (int SixtyFour false) = words (codes "uint64") (codes "L")
+words_of (floating_point Half) = words (codes "halffloat") (codes "e")
+words_of (floating_point Single) = words (codes "float") (codes "f")
+words_of (floating_point Double) = words (codes "double") (codes "g")
+words_of binary = words (codes "binary") (codes "z")
+words_of large_binary = words (codes "large_binary") (codes "Z")
+words_of (fixed_size_binary _) = words (codes "fixed_size_binary[") (codes "w:")
+words_of utf8 = words (codes "utf8") (codes "u")
+words_of large_utf8 = words (codes "large_utf8") (codes "U")
+words_of (date dates.Day) = words (codes "date[day]") (codes "tdD")
+words_of (date dates.Millisecond) = words (codes "date[ms]") (codes "tdm")
+words_of (time times.Second) = words (codes "time[s]") (codes "tts")
+words_of (time times.Millisecond) = words (codes "time[ms]") (codes "ttm")
+words_of (time times.Microsecond) = words (codes "time[us]") (codes "ttu")
+words_of (time times.Nanosecond) = words (codes "time[ns]") (codes "ttn")
+words_of (timestamp times.Second _) = words (codes "timestamp[s") (codes "tss:")
+words_of (timestamp times.Millisecond _) = words (codes "timestamp[ms") (codes "tsm:")
+words_of (timestamp times.Microsecond _) = words (codes "timestamp[us") (codes "tsu:")
+words_of (timestamp times.Nanosecond _) = words (codes "timestamp[ns") (codes "tsn:")
+words_of (duration times.Second) = words (codes "duration[s]") (codes "tDs")
+words_of (duration times.Millisecond) = words (codes "duration[ms]") (codes "tDm")
+words_of (duration times.Microsecond) = words (codes "duration[us]") (codes "tDu")
+words_of (duration times.Nanosecond) = words (codes "duration[ns]") (codes "tDn")
+words_of (interval YearMonth) = words (codes "month_interval") (codes "tiM")
+words_of (interval DayTime) = words (codes "day_time_interval") (codes "tiD")
+words_of (interval MonthDayNano) = words (codes "month_day_nano_interval") (codes "tin")
+words_of list = words (codes "list") (codes "+l")
+words_of large_list = words (codes "large_list") (codes "+L")
+words_of struct = words (codes "struct") (codes "+s")
+
+-- what follows a name: the width, or the time zone if there is one, be it empty
+abbrev pub name_end : Tag → List ℕ
+name_end (fixed_size_binary width) = decimal width ++ codes "]"
+name_end (timestamp _ None) = codes "]"
+name_end (timestamp _ (Some zone)) = codes ", " ++ escaped zone ++ codes "]"
+name_end _ = []
+
+-- what follows a format string: the width, or the time zone if there is one
+abbrev pub format_end : Tag → List ℕ
+format_end (fixed_size_binary width) = decimal width
+format_end (timestamp _ (Some zone)) = zone
+format_end _ = []
+
+-- the name of a type without its children
+abbrev pub type_name : Tag → List ℕ
+type_name tag = (words_of tag).name ++ name_end tag
+
+-- the format string of a type without its children
+abbrev pub format_of : Tag → List ℕ
+format_of tag = (words_of tag).format ++ format_end tag
