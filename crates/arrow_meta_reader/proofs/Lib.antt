@@ -12,6 +12,7 @@ pub mod OwnParts
 pub mod Places
 pub mod Misfits
 pub mod Narrow
+pub mod Mapped
 pub mod Shallow
 pub mod Least
 pub mod OneAnswer

@@ -10,9 +10,9 @@ use Rattle.arrow_meta_reader.specs.declared.fields.FieldFault.TheVariants.{Misfi
 use Rattle.arrow_meta_reader.specs.Builds.{Refuses, size, size_all}
 use Rattle.std.proofs.lemmas.Bool.{or_left, or_right}
 use Rattle.arrow_meta_reader.specs.Types.{type_code}
-use Rattle.arrow_meta_reader.specs.Conditions.{any, any_in, is_misfit, children_fit}
+use Rattle.arrow_meta_reader.specs.Conditions.{any, any_in, is_misfit, children_fit, entries_fit}
 use Rattle.arrow_meta_reader.specs.Parts.{nth, number_at}
-use Rattle.arrow_meta_reader.specs.SchemaMeaning.{fields_in}
+use Rattle.arrow_meta_reader.specs.SchemaMeaning.{fields_at, fields_in}
 use Rattle.arrow_meta_reader.specs.Trees.{table, Trees, none, more}
 
 -- what is found in field i is found in the row
@@ -28,7 +28,10 @@ refuses_more Memory a b f h = tt
 
 -- A Field table with another number of children than its type has is a misfit.
 pub misfit_here : (xs : Trees) → not (children_fit (type_code (number_at 2 0 xs)) (width (fields_in (nth 5 xs)))) ≡ true → any is_misfit (table (kinds.Field All) xs) ≡ true
-misfit_here xs h = or_left (is_misfit (kinds.Field All) xs) (any_in is_misfit xs) h
+misfit_here xs h =
+    let code = type_code (number_at 2 0 xs) in
+    or_left (is_misfit (kinds.Field All) xs) (any_in is_misfit xs)
+    (or_left (not (children_fit code (width (fields_in (nth 5 xs))))) (not (entries_fit code (fields_at 5 xs))) h)
 
 -- A Field table is a misfit where what stands in one of its fields is.
 pub misfit_below : (xs : Trees) (i : ℕ) → any is_misfit (nth i xs) ≡ true → any is_misfit (table (kinds.Field All) xs) ≡ true

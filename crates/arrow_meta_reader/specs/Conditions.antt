@@ -1,16 +1,18 @@
 -- What makes a single table one that no message has, and whether a tree holds such a table.
 use Rattle.std.specs.Prelude.{ℕ, Bool, true, false, ◌||◌, ◌&&◌, not, Option, Some, None, is_some, ◌==◌}
 use Rattle.std.specs.Option.{is_none}
-use Rattle.arrow_types.specs.Field.{width}
+use Rattle.arrow_types.specs.Field.{Fields, width}
+use Rattle.arrow_types.specs.Schema.{are_entries}
 use Rattle.arrow_meta_reader.specs.declared.kinds.TableKind.{TableKind}
 use Rattle.arrow_meta_reader.specs.declared.kinds.TableKind.TheVariants as kinds
 use Rattle.arrow_meta_reader.specs.declared.codes.TypeCode.{TypeCode}
+use Rattle.arrow_meta_reader.specs.declared.codes.TypeCode.TheVariants as codes
 use Rattle.arrow_meta_reader.specs.declared.conditions.Test.{Test}
 use Rattle.arrow_meta_reader.specs.declared.conditions.Test.TheVariants as tests
 use Rattle.arrow_meta_reader.specs.Types.{type_row, type_code, taken, has_children}
 use Rattle.arrow_meta_reader.specs.Kinds.{type_table}
 use Rattle.arrow_meta_reader.specs.Parts.{nth, number_at, is_table}
-use Rattle.arrow_meta_reader.specs.SchemaMeaning.{fields_in}
+use Rattle.arrow_meta_reader.specs.SchemaMeaning.{fields_at, fields_in}
 use Rattle.arrow_meta_reader.specs.Slots as slots
 use Rattle.arrow_meta_reader.specs.Trees.{Tree, leaf, table, tables, Trees, none, more}
 
@@ -48,18 +50,26 @@ is_unsupported kinds.DictionaryBatch xs = false
 is_unsupported (kinds.Type code) xs = false
 is_unsupported kinds.KeyValue xs = false
 
--- A list has one child, a struct any number, each other type none (Columnar Format, "Physical memory layout"), and a
+-- A list and a map have one child, a struct any number, each other type none (Columnar Format, "Physical memory layout"), and a
 -- type outside the profile none that is looked at.
 abbrev pub children_fit : Option TypeCode → ℕ → Bool
 children_fit None n = n == 0
 children_fit (Some code) n = has_children (type_row code).children n
 
+-- The child of a map is a struct of two fields that is not dictionary-encoded (Schema.fbs, table "Map"). Of no other type
+-- more is looked at than the number of its children.
+abbrev pub entries_fit : Option TypeCode → Fields → Bool
+entries_fit (Some codes.Map) children = are_entries children
+entries_fit code children = true
+
 -- Schema: a width or a unit outside its list, a time's width that is not its unit's, a number of children that the
--- type does not have.
+-- type does not have, a map's child that cannot be its entries.
 abbrev pub is_misfit : TableKind → Trees → Bool
 is_misfit (kinds.Message types) xs = false
 is_misfit (kinds.Schema types) xs = false
-is_misfit (kinds.Field types) xs = not (children_fit (type_code (number_at slots.field_type_type 0 xs)) (width (fields_in (nth slots.field_children xs))))
+is_misfit (kinds.Field types) xs =
+    not (children_fit (type_code (number_at slots.field_type_type 0 xs)) (width (fields_in (nth slots.field_children xs))))
+    || not (entries_fit (type_code (number_at slots.field_type_type 0 xs)) (fields_at slots.field_children xs))
 is_misfit kinds.DictionaryEncoding xs = false
 is_misfit kinds.RecordBatch xs = false
 is_misfit kinds.DictionaryBatch xs = false

@@ -86,6 +86,8 @@ type_row codes.Struct = bare 13 None tags.struct
 -- byteWidth
 type_row codes.FixedSizeBinary =
     tabled 15 (forms.Int ∷ []) (λ xs. is_none (byte_width (number_at 0 0 xs))) (λ xs. tags.fixed_size_binary (unwrap_or (byte_width (number_at 0 0 xs)) 0))
+-- keysSorted
+type_row codes.Map = record { code = 17; fields = forms.Byte ∷ []; children = Some 1; is_misfit = λ xs. false; tag = λ xs. tags.map (flag_at 0 xs) }
 -- unit (MILLISECOND)
 type_row codes.Duration = tabled 18 (forms.Short ∷ []) (λ xs. is_none (time_unit (number_at 0 1 xs))) (λ xs. tags.duration (time_in 1 xs))
 type_row codes.LargeBinary = bare 19 (Some 0) tags.large_binary
@@ -96,7 +98,7 @@ type_row codes.LargeList = bare 21 (Some 1) tags.large_list
 abbrev all_types : List TypeCode
 all_types =
     codes.Null ∷ codes.Int ∷ codes.FloatingPoint ∷ codes.Binary ∷ codes.Utf8 ∷ codes.Bool ∷ codes.Date ∷ codes.Time ∷ codes.Timestamp ∷
-    codes.Interval ∷ codes.List ∷ codes.Struct ∷ codes.FixedSizeBinary ∷ codes.Duration ∷ codes.LargeBinary ∷ codes.LargeUtf8 ∷ codes.LargeList ∷ []
+    codes.Interval ∷ codes.List ∷ codes.Struct ∷ codes.FixedSizeBinary ∷ codes.Map ∷ codes.Duration ∷ codes.LargeBinary ∷ codes.LargeUtf8 ∷ codes.LargeList ∷ []
 
 -- the first of these types that has this number
 abbrev numbered : ℕ → List TypeCode → Option TypeCode
@@ -131,6 +133,7 @@ code_of (tags.interval unit) = codes.Interval
 code_of tags.list = codes.List
 code_of tags.large_list = codes.LargeList
 code_of tags.struct = codes.Struct
+code_of (tags.map sorted) = codes.Map
 
 -- whether a type may have so many children
 abbrev pub has_children : Option ℕ → ℕ → Bool

@@ -56,6 +56,7 @@ pub(crate) enum TypeCode {
     List,
     Struct,
     FixedSizeBinary,
+    Map,
     Duration,
     LargeBinary,
     LargeUtf8,

@@ -1,12 +1,19 @@
 //! What makes a single table one that no message has, and whether a tree holds such a table.
 ghost use Rattle.std.specs.Prelude.{◌≡◌};
-ghost use Rattle.arrow_meta_reader.specs.Conditions.{any, any_in, finds, is_misfit};
+ghost use Rattle.arrow_meta_reader.specs.Conditions.{any, any_in, entries_fit, finds, is_misfit};
 ghost use Rattle.arrow_meta_reader.specs.Conditions.{is_unsupported, lacks_table};
 ghost use Rattle.arrow_meta_reader.specs.Parts.{nth};
-ghost use Rattle.arrow_meta_reader.specs.SchemaMeaning.{fields_in, fields_from, is_field};
+ghost use Rattle.arrow_meta_reader.specs.SchemaMeaning.{fields_at, fields_in, fields_from, head_of};
+ghost use Rattle.arrow_meta_reader.specs.SchemaMeaning.{is_field, tag_by};
+ghost use Rattle.arrow_meta_reader.specs.Slots as slots;
+ghost use Rattle.arrow_meta_reader.specs.Trees.{Trees};
 ghost use Rattle.arrow_meta_reader.specs.Views.{plain, plain_all};
-ghost use Rattle.arrow_types.specs.Field.{width};
+ghost use Rattle.arrow_types.specs.Field.{more, none as no_fields, width};
+ghost use Rattle.arrow_types.specs.Schema.{are_entries, is_struct};
 
+use crate::codes::TypeCode;
+use crate::field_tables::{children_of, first_field};
+use crate::fields::encoding_at;
 use crate::forms::type_table;
 use crate::kinds::TableKind;
 use crate::message_tree::Tree;
@@ -21,7 +28,7 @@ pub(crate) enum Test {
     LacksTable,
     /// It holds something outside the profile.
     Unsupported,
-    /// It holds a width, a unit or a number of children that no type has.
+    /// It holds a width, a unit, a number of children or the entries of a map that no type has.
     Misfit,
 }
 
@@ -97,18 +104,59 @@ fn is_unsupported(kind: TableKind, parts: &[Tree]) -> bool
     }
 }
 
-/// Whether a table holds a width, a unit or a number of children that no type has.
+/// Whether a table holds a width, a unit, a number of children or the entries of a map that no type
+/// has.
 fn is_misfit(kind: TableKind, parts: &[Tree]) -> bool
     ensures misfit { result ≡ is_misfit kind (plain_all parts.now) }
 {
     match kind {
-        TableKind::Field(_) => !children_fit(
-            type_code(number_at(parts, slots::field::TYPE_TYPE, 0)),
-            fields_at(parts, slots::field::CHILDREN),
-        ),
+        TableKind::Field(_) => {
+            let code = type_code(number_at(parts, slots::field::TYPE_TYPE, 0));
+            !children_fit(code, fields_at(parts, slots::field::CHILDREN))
+                || !entries_fit(code, children_of(parts))
+        }
         TableKind::Type(code) => is_type_misfit(code, parts),
         _ => false,
     }
+}
+
+/// Whether a type of this code may have the fields of these tables as children, where their number
+/// fits.
+fn entries_fit(code: Option<TypeCode>, tables: &[Tree]) -> bool
+    ensures fit { result ≡ entries_fit code (fields_from (plain_all tables.now)) }
+{
+    match code {
+        Some(TypeCode::Map) => are_entries(tables),
+        _ => true,
+    }
+}
+
+/// Whether the first of the Field tables can be the entries of a map.
+fn are_entries(tables: &[Tree]) -> bool
+    ensures entries { result ≡ are_entries (fields_from (plain_all tables.now)) }
+{
+    match first_field(tables) {
+        Some(entries) => are_entries_of(entries.parts),
+        None => false,
+    }
+}
+
+/// Whether a Field table with these fields is a struct of two fields that is not
+/// dictionary-encoded (`Schema.fbs`, table `Map`).
+fn are_entries_of(parts: &[Tree]) -> bool
+    ensures entries { result
+        ≡ are_entries (more (head_of (plain_all parts.now)) (fields_at slots.field_children (plain_all parts.now)) no_fields) }
+{
+    is_struct(type_code(number_at(parts, slots::field::TYPE_TYPE, 0)))
+        && encoding_at(parts, slots::field::DICTIONARY).is_none()
+        && count_fields(children_of(parts)) == 2
+}
+
+/// Whether it is the code of a struct.
+fn is_struct(code: Option<TypeCode>) -> bool
+    ensures is { (xs : Trees) → result ≡ is_struct (tag_by code xs) }
+{
+    matches!(code, Some(TypeCode::Struct))
 }
 
 /// How many fields stand in the vector in field `index`.

@@ -9,7 +9,7 @@ ghost use Rattle.std.specs.Option.{unwrap_or};
 ghost use Rattle.arrow_meta_reader.specs.Builds.{BuildsType, Refuses, leaf_type};
 ghost use Rattle.arrow_meta_reader.specs.Codes.{byte_width, date_unit, interval_unit, precision};
 ghost use Rattle.arrow_meta_reader.specs.Conditions.{children_fit};
-ghost use Rattle.arrow_meta_reader.specs.Parts.{number_at};
+ghost use Rattle.arrow_meta_reader.specs.Parts.{flag_at, number_at};
 ghost use Rattle.arrow_meta_reader.specs.SchemaMeaning.{tag_by};
 ghost use Rattle.arrow_meta_reader.specs.Sharing.{lent_bytes};
 ghost use Rattle.arrow_meta_reader.specs.Trees.{none};
@@ -31,7 +31,8 @@ use arrow_types::{
 };
 use std::alloc::Global;
 
-/// The first field of a type's table: `bitWidth` of an Int, `precision`, `unit` or `byteWidth`.
+/// The first field of a type's table: `bitWidth` of an Int, `precision`, `unit`, `byteWidth` or
+/// `keysSorted`.
 const FIRST: u16 = 0;
 
 /// The second one: `is_signed` of an Int, `bitWidth` of a Time, `timezone`.
@@ -55,6 +56,7 @@ pub(crate) fn type_code(number: u64) -> Option<TypeCode>
         12 => TypeCode::List,
         13 => TypeCode::Struct,
         15 => TypeCode::FixedSizeBinary,
+        17 => TypeCode::Map,
         18 => TypeCode::Duration,
         19 => TypeCode::LargeBinary,
         20 => TypeCode::LargeUtf8,
@@ -69,7 +71,7 @@ pub(crate) fn taken(types: TypeSet, code: Option<TypeCode>) -> Option<TypeCode>
     ensures code { result ≡ taken types code }
 {
     match (code, types) {
-        (Some(TypeCode::FloatingPoint | TypeCode::Interval), TypeSet::Core) => None,
+        (Some(TypeCode::FloatingPoint | TypeCode::Interval | TypeCode::Map), TypeSet::Core) => None,
         (code, _) => code,
     }
 }
@@ -89,6 +91,7 @@ pub(crate) fn type_fields(code: TypeCode) -> &'static [FieldForm]
         TypeCode::Timestamp => &[Short, Text],
         TypeCode::Interval => &[Short],
         TypeCode::FixedSizeBinary => &[Int],
+        TypeCode::Map => &[Byte],
         TypeCode::Duration => &[Short],
         _ => &[],
     }
@@ -99,7 +102,7 @@ pub(crate) fn children_fit(code: Option<TypeCode>, count: usize) -> bool
     ensures fit { result ≡ children_fit code count }
 {
     match code {
-        Some(TypeCode::List | TypeCode::LargeList) => count == 1,
+        Some(TypeCode::List | TypeCode::LargeList | TypeCode::Map) => count == 1,
         Some(TypeCode::Struct) => true,
         _ => count == 0,
     }
@@ -135,8 +138,7 @@ pub(crate) fn data_type(
     ensures built { BuildsType result code (plain_all parts.items) children.items }
 {
     match code {
-        None => childless(DataType::Null, children),
-        Some(TypeCode::Null) => childless(DataType::Null, children),
+        None | Some(TypeCode::Null) => childless(DataType::Null, children),
         Some(TypeCode::Int) => childless(int_type(&parts), children),
         Some(TypeCode::FloatingPoint) => {
             childless(DataType::FloatingPoint(precision_in(&parts)), children)
@@ -157,6 +159,7 @@ pub(crate) fn data_type(
         Some(TypeCode::LargeBinary) => childless(DataType::LargeBinary, children),
         Some(TypeCode::LargeUtf8) => childless(DataType::LargeUtf8, children),
         Some(TypeCode::LargeList) => large_list_type(alloc, children),
+        Some(TypeCode::Map) => map_type(alloc, &parts, children),
     }
 }
 
@@ -176,6 +179,7 @@ pub(crate) fn same_part(code: TypeCode, one: &[Tree], other: &[Tree]) -> bool
         }
         TypeCode::FixedSizeBinary => fixed_size_in(one) == fixed_size_in(other),
         TypeCode::Interval => interval_in(one) == interval_in(other),
+        TypeCode::Map => sorted_in(one) == sorted_in(other),
         _ => true,
     }
 }
@@ -229,6 +233,14 @@ fn large_list_type(alloc: Global, children: Vec<Field>) -> Result<DataType, Fiel
     ensures built { BuildsType result (Some TypeCode.LargeList) none children.items }
 {
     Ok(DataType::LargeList(only(alloc, children)?))
+}
+
+/// A map of the one child, its entries.
+fn map_type(alloc: Global, parts: &[Tree], children: Vec<Field>) -> Result<DataType, FieldFault>
+    ensures built { BuildsType result (Some TypeCode.Map) (plain_all parts.now) children.items }
+{
+    let sorted = sorted_in(parts);
+    Ok(DataType::Map(only(alloc, children)?, sorted))
 }
 
 /// The one child, if there is just one.
@@ -310,6 +322,13 @@ fn interval_in(parts: &[Tree]) -> IntervalUnit
         ≡ unwrap_or (interval_unit (number_at 0 0 (plain_all parts.now))) IntervalUnit.YearMonth }
 {
     interval_unit(number_at(parts, FIRST, 0)).unwrap_or(IntervalUnit::YearMonth)
+}
+
+/// Whether a Map table with these fields says that the keys of each map are sorted.
+fn sorted_in(parts: &[Tree]) -> bool
+    ensures sorted { result ≡ flag_at 0 (plain_all parts.now) }
+{
+    flag_at(parts, FIRST)
 }
 
 /// The number of bytes that a FixedSizeBinary table with these fields says.

@@ -10,7 +10,8 @@ use Rattle.arrow_types.specs.declared.data_type.Precision.TheVariants.{Half, Sin
 use Rattle.arrow_types.specs.declared.data_type.TimeUnit.{TimeUnit}
 use Rattle.arrow_types.specs.declared.data_type.TimeUnit.TheVariants as times
 
--- A type's own part. A zone is given by the bytes of its name, a fixed size by its number of bytes.
+-- A type's own part. A zone is given by the bytes of its name, a fixed size by its number of bytes, a map by
+-- whether its keys are sorted.
 pub data Tag : Type 0 where
   null : Tag
   boolean : Tag
@@ -29,6 +30,7 @@ pub data Tag : Type 0 where
   list : Tag
   large_list : Tag
   struct : Tag
+  map : Bool → Tag
 
 -- a width in bits (Schema.fbs, table "Int")
 abbrev pub bits_of : BitWidth → ℕ

@@ -1,15 +1,16 @@
 -- What makes fields a schema (Schema.fbs, table "Schema"), and which fault applies to fields that are none.
-use Rattle.std.specs.Prelude.{◌≡◌, ◌≤◌, ℕ, ℤ, Bool, true, false, not, ◌||◌, ◌&&◌, List, [], ◌∷◌, ◌++◌, map, filter, slice_get, Option, Some, None, is_some, Result, Ok, Err, nat_lt, if◌then◌else◌, codes}
+use Rattle.std.specs.Prelude.{◌≡◌, ◌≤◌, ℕ, ℤ, Bool, true, false, not, ◌||◌, ◌&&◌, ◌==◌, List, [], ◌∷◌, ◌++◌, map, filter, slice_get, Option, Some, None, is_some, Result, Ok, Err, nat_lt, if◌then◌else◌, codes}
 use Rattle.std.specs.List.{list_any}
+use Rattle.std.specs.Option.{is_none}
 use Rattle.std.specs.Ordering.{int_eq}
 use Rattle.arrow_types.specs.DataType.{Tag}
 use Rattle.arrow_types.specs.DataType as tags
 use Rattle.arrow_types.specs.Equality.{is_equal}
-use Rattle.arrow_types.specs.Field.{Head, Fields, none, more, TypeShape, FieldShape, levels, count}
+use Rattle.arrow_types.specs.Field.{Head, Fields, none, more, TypeShape, FieldShape, levels, count, width}
 use Rattle.arrow_types.specs.Notes.{SchemaShape, pair_count}
 use Rattle.arrow_types.specs.Stored.{type_code}
 use Rattle.arrow_types.specs.declared.schema.SchemaFault.{SchemaFault}
-use Rattle.arrow_types.specs.declared.schema.SchemaFault.TheVariants.{TooDeep, TooManyFields, NestedDictionary, SharedIdTypesDiffer, Memory, ByteWidth, TooManyPairs}
+use Rattle.arrow_types.specs.declared.schema.SchemaFault.TheVariants.{TooDeep, TooManyFields, NestedDictionary, SharedIdTypesDiffer, Memory, ByteWidth, TooManyPairs, MapEntries}
 
 -- whether a field of these, on any level, is dictionary-encoded
 abbrev pub has_encoding : Fields → Bool
@@ -38,6 +39,35 @@ is_too_wide (more head children rest) = is_wide head.tag || is_too_wide children
 -- the same of one field and those below it
 abbrev pub field_is_too_wide : FieldShape → Bool
 field_is_too_wide f = is_wide f.head.tag || is_too_wide f.children
+
+-- whether a type is that of structs
+abbrev pub is_struct : Tag → Bool
+is_struct tags.struct = true
+is_struct _ = false
+
+-- whether a type is that of maps
+abbrev pub is_map : Tag → Bool
+is_map (tags.map _) = true
+is_map _ = false
+
+-- whether the first of these fields can be the entries of a map: a struct of two fields, the key and the value, that is not
+-- dictionary-encoded (Schema.fbs, table "Map")
+abbrev pub are_entries : Fields → Bool
+are_entries none = false
+are_entries (more head children rest) = is_struct head.tag && is_none head.encoding && width children == 2
+
+-- whether a type with these child fields is a map without entries
+abbrev pub lacks_entries : Tag → Fields → Bool
+lacks_entries tag children = is_map tag && not (are_entries children)
+
+-- whether a field of these, on any level, has such a type
+abbrev pub some_lack_entries : Fields → Bool
+some_lack_entries none = false
+some_lack_entries (more head children rest) = lacks_entries head.tag children || some_lack_entries children || some_lack_entries rest
+
+-- the same of one field and those below it
+abbrev pub field_lacks_entries : FieldShape → Bool
+field_lacks_entries f = lacks_entries f.head.tag f.children || some_lack_entries f.children
 
 -- what a dictionary-encoded field says of its dictionary: the id, and the type of the values
 pub record DictionaryField : Type 0 where
@@ -85,12 +115,14 @@ pub record AreIdsOfOneType (ids : List ℤ) (ds : List DictionaryField) : Type 0
   pub once : ids ≡ each_once (map (λ (d : DictionaryField). d.id) ds)
   pub one_type : types_differ ds ≡ false
 
--- at most 32 levels, at most 65,536 fields, no dictionary below a dictionary, no width over the limit
+-- at most 32 levels, at most 65,536 fields, no dictionary below a dictionary, no width over the limit, no map without
+-- entries
 pub record IsBounded (s : Fields) : Type 0 where
   pub shallow : levels s ≤ 32
   pub few : count s ≤ 65536
   pub flat : is_nested s ≡ false
   pub narrow : is_too_wide s ≡ false
+  pub mapped : some_lack_entries s ≡ false
 
 -- what is known of the fields of every schema
 pub record IsSchema (s : Fields) : Type 0 where
@@ -115,11 +147,12 @@ fault_or other s =
     (if is_nested s then Some NestedDictionary else
     (if types_differ (dictionary_fields s) then Some SharedIdTypesDiffer else other)))
 
--- the faults after want of memory: a width over the limit, and more than 65,536 pairs
+-- the faults after Memory: a width over the limit, more than 65,536 pairs, and a map without entries
 abbrev pub late_fault : SchemaShape → Option SchemaFault
 late_fault s =
     if is_too_wide s.fields then Some ByteWidth else
-    (if nat_lt 65536 (pair_count s) then Some TooManyPairs else None)
+    (if nat_lt 65536 (pair_count s) then Some TooManyPairs else
+    (if some_lack_entries s.fields then Some MapEntries else None))
 
 -- the first of the faults that apply to fields and pairs; none where they make a schema
 abbrev pub fault_of : SchemaShape → Option SchemaFault
@@ -142,6 +175,7 @@ number_of SharedIdTypesDiffer = 4
 number_of Memory = 5
 number_of ByteWidth = 6
 number_of TooManyPairs = 7
+number_of MapEntries = 8
 
 -- the words of a fault
 abbrev pub words_of : SchemaFault → List ℕ
@@ -152,3 +186,4 @@ words_of SharedIdTypesDiffer = codes "two value types for one dictionary id"
 words_of Memory = codes "out of memory"
 words_of ByteWidth = codes "byte strings of more than 2,147,483,647 bytes"
 words_of TooManyPairs = codes "more than 65,536 pairs of metadata"
+words_of MapEntries = codes "a map whose child is not a struct of two fields"

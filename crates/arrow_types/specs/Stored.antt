@@ -38,6 +38,7 @@ tag_gv (tags.duration unit) = gcons (gnum 4) (time_row.coded.code unit)
 tag_gv (tags.fixed_size_binary width) = gcons (gnum 5) (coded_ℕ.code width)
 tag_gv (tags.floating_point precision) = gcons (gnum 6) (precision_row.coded.code precision)
 tag_gv (tags.interval unit) = gcons (gnum 7) (interval_row.coded.code unit)
+tag_gv (tags.map sorted) = gcons (gnum 8) (coded_bool.code sorted)
 
 -- own parts with one tree are equal
 pub tag_inj : (x y : Tag) → tag_gv x ≡ tag_gv y → x ≡ y
@@ -58,6 +59,7 @@ tag_inj (tags.duration u) (tags.duration v) p = ap tags.duration (time_row.coded
 tag_inj (tags.fixed_size_binary m) (tags.fixed_size_binary n) p = ap tags.fixed_size_binary (coded_ℕ.inj m n (cc))
 tag_inj (tags.floating_point a) (tags.floating_point b) p = ap tags.floating_point (precision_row.coded.inj a b (cc))
 tag_inj (tags.interval u) (tags.interval v) p = ap tags.interval (interval_row.coded.inj u v (cc))
+tag_inj (tags.map a) (tags.map b) p = ap tags.map (coded_bool.inj a b (cc))
 tag_inj x y p = cc
 
 -- so these trees tell types' own parts apart

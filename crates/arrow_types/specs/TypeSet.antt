@@ -10,6 +10,7 @@ use Rattle.arrow_types.specs.declared.type_set.TypeSet.TheVariants.{Core, All}
 abbrev pub is_late : Tag → Bool
 is_late (tags.floating_point _) = true
 is_late (tags.interval _) = true
+is_late (tags.map _) = true
 is_late _ = false
 
 -- whether a set has the core alone

@@ -165,10 +165,14 @@ pub enum DataType {
     LargeList(Box<Field>),
     /// A value of each child field.
     Struct(Vec<Field>),
+    /// Lists of entries of the one child field, between offsets of 32 bits, and whether the keys of
+    /// each list are sorted, which is kept and enforced nowhere (`Schema.fbs`, table `Map`). In a
+    /// `Schema` the child is a struct of two fields, the key and the value.
+    Map(Box<Field>, bool),
 }
 
 impl DataType {
-    /// The child fields: those of a struct, the one of a list, none of any other type. Takes no
+    /// The child fields: those of a struct, the one of a list or a map, none of any other type. Takes no
     /// memory.
     pub fn children(&self) -> &[Field]
         ensures fields { fields_view result.now ≡ (type_view self.now).children }
@@ -178,6 +182,7 @@ impl DataType {
             DataType::List(item) => std::slice::from_ref(item),
             DataType::LargeList(item) => std::slice::from_ref(item),
             DataType::Struct(fields) => fields,
+            DataType::Map(entries, _) => std::slice::from_ref(entries),
             _ => &[],
         }
     }
@@ -214,6 +219,9 @@ impl DataType {
                 Ok(DataType::LargeList(Box::new(alloc, item.copy(alloc)?)?))
             }
             DataType::Struct(fields) => Ok(DataType::Struct(copy_fields(alloc, fields)?)),
+            DataType::Map(entries, sorted) => {
+                Ok(DataType::Map(Box::new(alloc, entries.copy(alloc)?)?, *sorted))
+            }
         }
     }
 
@@ -262,6 +270,9 @@ pub(crate) fn same_type(one: &DataType, other: &DataType) -> bool
         }
         DataType::Struct(fields) => {
             matches!(other, DataType::Struct(f) if same_fields(fields, f))
+        }
+        DataType::Map(entries, sorted) => {
+            matches!(other, DataType::Map(e, s) if s == sorted && same_field(entries, e))
         }
     }
 }

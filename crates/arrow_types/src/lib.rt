@@ -26,6 +26,7 @@ mod data_type;
 mod dictionaries;
 mod differing;
 mod dismantle;
+mod entries;
 mod field;
 pub mod laws;
 mod limits;

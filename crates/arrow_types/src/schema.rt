@@ -8,6 +8,7 @@ ghost use Rattle.arrow_types.specs.View.{fields_view, notes_view, schema_view};
 use crate::dictionaries::ids_of;
 use crate::differing::types_differ;
 use crate::dismantle::dismantle;
+use crate::entries::some_lack_entries;
 use crate::field::{Field, copy_fields, same_fields};
 use crate::nesting::are_nested;
 use crate::notes::{after_notes, after_pairs, are_noted_alike, copy_pairs, same_pairs};
@@ -36,6 +37,8 @@ pub enum SchemaFault {
     ByteWidth,
     /// There are more than 65,536 pairs of custom metadata in the whole schema.
     TooManyPairs,
+    /// The child of a map is not a struct of two fields, or it is dictionary-encoded.
+    MapEntries,
 }
 
 impl SchemaFault {
@@ -53,6 +56,7 @@ impl SchemaFault {
             SchemaFault::Memory => 5,
             SchemaFault::ByteWidth => 6,
             SchemaFault::TooManyPairs => 7,
+            SchemaFault::MapEntries => 8,
         }
     }
 }
@@ -74,6 +78,9 @@ impl fmt::Display for SchemaFault {
             SchemaFault::Memory => f.write_str("out of memory"),
             SchemaFault::ByteWidth => f.write_str("byte strings of more than 2,147,483,647 bytes"),
             SchemaFault::TooManyPairs => f.write_str("more than 65,536 pairs of metadata"),
+            SchemaFault::MapEntries => f.write_str(
+                "a map whose child is not a struct of two fields",
+            ),
         }
     }
 }
@@ -83,8 +90,9 @@ impl Error for SchemaFault {}
 /// The columns of a stream's batches (`Schema.fbs`, table `Schema`).
 ///
 /// Its fields keep to the limits of 32 levels and 65,536 fields; none of its dictionaries stands
-/// below another, those of one id have one value type, and no width in bytes is over the greatest
-/// signed 32-bit number. It has at most 65,536 pairs of metadata, those of its fields among them.
+/// below another, those of one id have one value type, no width in bytes is over the greatest
+/// signed 32-bit number, and the child of each map is a struct of two fields that is not
+/// dictionary-encoded. It has at most 65,536 pairs of metadata, those of its fields among them.
 /// Nobody who holds a schema has to test that again.
 #[derive(Debug, Drop)]
 pub struct Schema {
@@ -215,7 +223,7 @@ impl Schema {
     }
 }
 
-/// The first of the faults behind `Memory` that apply to these fields and pairs.
+/// The first of the faults after `Memory` that apply to these fields and pairs.
 fn late_fault(fields: &[Field], pairs: &[(Vec<u8>, Vec<u8>)]) -> Option<SchemaFault>
     ensures { result ≡ late_fault (schema_view fields.now (pairs_view pairs.now)) }
 {
@@ -224,6 +232,9 @@ fn late_fault(fields: &[Field], pairs: &[(Vec<u8>, Vec<u8>)]) -> Option<SchemaFa
     }
     if have_too_many_pairs(fields, pairs) {
         return Some(SchemaFault::TooManyPairs);
+    }
+    if some_lack_entries(fields) {
+        return Some(SchemaFault::MapEntries);
     }
     None
 }

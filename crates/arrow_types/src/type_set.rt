@@ -15,7 +15,7 @@ pub enum TypeSet {
     /// The types that have always been there: Null, Bool, Int, Binary, LargeBinary, FixedSizeBinary,
     /// Utf8, LargeUtf8, Date, Time, Timestamp, Duration, List, LargeList and Struct.
     Core,
-    /// These, FloatingPoint and Interval.
+    /// These, FloatingPoint, Interval and Map.
     All,
 }
 
@@ -65,6 +65,6 @@ fn is_late(data_type: &DataType) -> bool
 {
     matches!(
         data_type,
-        DataType::FloatingPoint(_) | DataType::Interval(_)
+        DataType::FloatingPoint(_) | DataType::Interval(_) | DataType::Map(..)
     )
 }

@@ -59,13 +59,15 @@ fn interval_unit_in(rt: &impl Abort, word: &str) -> IntervalUnit {
 }
 
 // The type that a word names. Behind a dot stand the width of byte strings, the unit of times, the
-// zone of timestamps in microseconds, or how many fields before it a struct takes; a list takes one.
+// zone of timestamps in microseconds, how many fields before it a struct takes, or that the keys of a
+// map are sorted; a list and a map take one field.
 fn data_type(rt: &(impl Abort + AllocGlobal), before: &mut Vec<Field>, word: &str) -> DataType {
     let (name, more) = word.split_once('.').unwrap_or((word, ""));
     match name {
         "list" => DataType::List(boxed(rt, before)),
         "large_list" => DataType::LargeList(boxed(rt, before)),
         "struct" => DataType::Struct(last_fields(rt, before, count_in(rt, more))),
+        "map" => DataType::Map(boxed(rt, before), more == "sorted"),
         "null" => DataType::Null,
         "bool" => DataType::Bool,
         "binary" => DataType::Binary,

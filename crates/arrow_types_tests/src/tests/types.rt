@@ -2,7 +2,8 @@
 
 use super::fields::{MEMORY, add_empty, column, columns, number};
 use arrow_types::SchemaFault::{
-    ByteWidth, Memory, NestedDictionary, SharedIdTypesDiffer, TooDeep, TooManyFields, TooManyPairs,
+    ByteWidth, MapEntries, Memory, NestedDictionary, SharedIdTypesDiffer, TooDeep, TooManyFields,
+    TooManyPairs,
 };
 use arrow_types::{
     BitWidth, DateUnit, Field, Limits, Precision, Schema, SchemaFault, TimeUnit, TypeSet,
@@ -50,7 +51,7 @@ fn a_set_of_types_changes_no_number(rt: HostRuntime) {
 }
 
 // Columns, and whether the core leaves the type of a field among them out.
-static LATE: [(&str, bool); 14] = [
+static LATE: [(&str, bool); 16] = [
     ("", false),
     (
         "a:null b:bool c:fixed.4 d:time.s e:timestamp f:duration.ns",
@@ -74,6 +75,8 @@ static LATE: [(&str, bool); 14] = [
         "n:null i@1:interval.day_time s:struct.2 l:list n:null",
         true,
     ),
+    ("k:utf8 v:bool e:struct.2 m:map", true),
+    ("k:utf8 v:bool e:struct.2 m:map.sorted l:list", true),
 ];
 
 #[test]
@@ -138,19 +141,59 @@ static FAULTS: [(&str, usize, u8); 26] = [
     ("f:fixed.2147483647", 65_537, 7),
 ];
 
-#[test]
-fn the_least_fault_is_given(rt: HostRuntime) {
-    for (words, own, want) in &FAULTS {
-        let columns = columns(&rt, words);
+// That each of these columns and pairs has this fault.
+fn are_judged(rt: &(impl Abort + AllocGlobal), rows: &[(&str, usize, u8)]) {
+    for (words, own, want) in rows {
+        let columns = columns(rt, words);
         let mut pairs = Vec::new(rt.alloc());
-        add_empty(&rt, &mut pairs, *own);
+        add_empty(rt, &mut pairs, *own);
         let made = Schema::with_metadata(rt.alloc(), columns, pairs);
         assert!(rt; number(made) == *want, "{words} and {own} pairs");
     }
 }
 
+#[test]
+fn the_least_fault_is_given(rt: HostRuntime) {
+    are_judged(&rt, &FAULTS);
+}
+
+// The same of maps.
+static MAPS: [(&str, usize, u8); 18] = [
+    // Maps whose entries are a struct of two fields.
+    ("k:utf8 v:bool e:struct.2 m:map", 0, 0),
+    ("k:utf8 v:bool e:struct.2 m:map.sorted", 1, 0),
+    ("k:utf8 v:bool e:struct.2 m@1:map", 0, 0),
+    ("k@1:utf8 v@2:bool e:struct.2 m:map", 0, 0),
+    (
+        "k:utf8 k:utf8 v:bool e:struct.2 v:map e:struct.2 m:map",
+        0,
+        0,
+    ),
+    // Maps of another child: no struct, of another number of fields, dictionary-encoded.
+    ("n:null m:map", 0, 8),
+    ("k:utf8 l:list m:map", 0, 8),
+    ("e:struct.0 m:map", 0, 8),
+    ("k:utf8 e:struct.1 m:map", 0, 8),
+    ("k:utf8 v:bool w:bool e:struct.3 m:map.sorted", 0, 8),
+    ("k:utf8 v:bool e@1:struct.2 m:map", 0, 8),
+    ("k:utf8 v:bool e:struct.2 m:map m:map", 0, 8),
+    // Below other fields, and beside a map that has entries.
+    ("n:null m:map l:list s:struct.1", 0, 8),
+    ("k:utf8 n:null v:map e:struct.2 m:map", 0, 8),
+    ("k:utf8 v:bool e:struct.2 m:map n:null m:map", 2, 8),
+    // The last of all faults.
+    ("f:fixed.2147483648 n:null m:map", 0, 6),
+    ("n:null m:map", 65_537, 7),
+    ("k@1:utf8 m@2:map", 0, 3),
+];
+
+#[test]
+fn maps_have_entries(rt: HostRuntime) {
+    are_judged(&rt, &MAPS);
+}
+
 // The faults in the order of their numbers, which begin at 1, and what each says.
-static WORDS: [(SchemaFault, &str); 7] = [
+static WORDS: [(SchemaFault, &str); 8] = [
     (TooDeep, "more than 32 levels of fields"),
     (TooManyFields, "more than 65,536 fields"),
     (NestedDictionary, "a dictionary below a dictionary"),
@@ -158,6 +201,10 @@ static WORDS: [(SchemaFault, &str); 7] = [
     (Memory, "out of memory"),
     (ByteWidth, "byte strings of more than 2,147,483,647 bytes"),
     (TooManyPairs, "more than 65,536 pairs of metadata"),
+    (
+        MapEntries,
+        "a map whose child is not a struct of two fields",
+    ),
 ];
 
 #[test]
@@ -192,13 +239,14 @@ fn ids_stand_in_pre_order_once(rt: HostRuntime) {
 }
 
 // A column, the names of its children, and whether there is a dictionary below it.
-static CHILDREN: [(&str, &[&str], bool); 6] = [
+static CHILDREN: [(&str, &[&str], bool); 7] = [
     ("item:bool l:list", &["item"], false),
     (":bool :bool k@0:utf8 s:struct.3", &["", "", "k"], true),
     ("t:utf8", &[], false),
     ("t:large_utf8", &[], false),
     ("k@0:duration.s l:large_list", &["k"], true),
     (":bool :bool k@0:utf8 i:struct.3 l:list", &["i"], true),
+    ("k:utf8 v@3:bool e:struct.2 m:map", &["e"], true),
 ];
 
 fn are_named(fields: &[Field], names: &[&str]) -> bool {
@@ -217,7 +265,8 @@ fn children_of_lists_and_structs(rt: HostRuntime) {
 
 const COPIED: &str = "k@1:utf8 z:timestamp.UTC i:time.s l:list d:duration.ns f:fixed.16 \
     b:large_binary t:large_utf8 m:large_list n:large_list s:struct.6 d:double f:float \
-    m:interval.year_month t:interval.day_time i:interval.month_day_nano s:struct.3";
+    m:interval.year_month t:interval.day_time i:interval.month_day_nano s:struct.3 \
+    k:utf8 v:bool e:struct.2 y:map.sorted";
 
 fn is_copied(rt: &(impl Abort + AllocGlobal), field: &Field) {
     assert!(rt; field.copy(rt.alloc()).expect(rt, MEMORY) == *field);
@@ -271,7 +320,7 @@ fn equality_reads_everything(rt: HostRuntime) {
 const APART: &str = "c:binary c:large_binary c:fixed.0 c:fixed.3 c:fixed.4 c:utf8 c:large_utf8 \
     c:time.s c:duration.s c:duration.ms c:duration.us c:duration.ns c:struct.0 c:null \
     c:halffloat c:float c:double c:interval.year_month c:interval.day_time \
-    c:interval.month_day_nano";
+    c:interval.month_day_nano e:struct.0 c:map e:struct.0 c:map.sorted k:null c:map";
 
 const LISTS: &str =
     "t:utf8 l:list t:utf8 l:large_list t:large_utf8 l:list t:large_utf8 l:large_list";
