@@ -1,7 +1,7 @@
 -- A schema and its fields as a caller gets them (Arrow C data interface, "The ArrowSchema structure").
 use Rattle.std.specs.Prelude.{◌≡◌, ℕ, zero, suc, pos, ◌+◌, Bool, true, false, if◌then◌else◌, List, [], ◌∷◌, ◌++◌, length, flat_map, Option, Some, None, MatchOption}
 use Rattle.arrow_bits.specs.Numbers.{number_bytes}
-use Rattle.arrow_types.specs.DataType.{int, struct}
+use Rattle.arrow_types.specs.DataType.{Tag, int, map, struct}
 use Rattle.arrow_types.specs.Field.{Head, Fields, none, more, FieldShape, width}
 use Rattle.arrow_types.specs.Notes.{KeyValue, Notes, unnoted, noted, FieldNotes, SchemaShape}
 use Rattle.arrow_types.specs.View.{field_notes, field_view}
@@ -72,9 +72,14 @@ abbrev pub is_ordered : Option Encoding → Bool
 is_ordered None = false
 is_ordered (Some e) = e.ordered
 
--- ARROW_FLAG_DICTIONARY_ORDERED 1, ARROW_FLAG_NULLABLE 2
+-- whether slots are maps with sorted keys
+abbrev pub has_sorted_keys : Tag → Option Encoding → Bool
+has_sorted_keys (map sorted) None = sorted
+has_sorted_keys _ _ = false
+
+-- ARROW_FLAG_DICTIONARY_ORDERED 1, ARROW_FLAG_NULLABLE 2, ARROW_FLAG_MAP_KEYS_SORTED 4
 abbrev pub flags_of : Head → ℕ
-flags_of h = flag (is_ordered h.encoding) 1 + flag h.nullable 2
+flags_of h = flag (is_ordered h.encoding) 1 + flag h.nullable 2 + flag (has_sorted_keys h.tag h.encoding) 4
 
 -- the format string of a field: of one that holds indices that of their type
 abbrev pub field_format : Head → List ℕ

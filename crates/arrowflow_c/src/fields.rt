@@ -14,7 +14,8 @@ use arrow_types::{Encoding, Schema};
 pub struct FieldC {
     /// 0 no such field, 1 the schema, 2 a field.
     pub found: u32,
-    /// 1 where the dictionary's order means something, and 2 where slots may be null, together.
+    /// The sum of 1 if the dictionary's order means something, 2 if slots may be null, and 4 if the
+    /// keys of maps are sorted.
     pub flags: u32,
     /// Whether the slots hold indices into a dictionary.
     pub is_encoded: bool,

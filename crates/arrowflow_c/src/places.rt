@@ -4,12 +4,12 @@ ghost use Rattle.std.specs.Prelude.{◌≡◌, option_map};
 ghost use Rattle.arrow_types.specs.Notes.{pairs_view};
 ghost use Rattle.arrow_types.specs.View.{fields_view, notes_view};
 ghost use Rattle.arrowflow_c.specs.Fields.{below_by, field_below, field_format, field_in, flags_of};
-ghost use Rattle.arrowflow_c.specs.Fields.{nth_field};
+ghost use Rattle.arrowflow_c.specs.Fields.{has_sorted_keys, nth_field};
 ghost use Rattle.arrowflow_c.specs.Pens.{Puts};
 
 use crate::formats::put_type;
 use crate::pens::Pen;
-use arrow_types::{Encoding, Field, Schema};
+use arrow_types::{DataType, Encoding, Field, Schema};
 use arrowflow_report::int_words;
 
 /// What a path leads to.
@@ -55,14 +55,29 @@ impl<'a> Place<'a> {
         }
     }
 
-    /// The flags: 1 where the dictionary is ordered, 2 where slots may be null.
+    /// Whether the slots are maps with sorted keys.
+    fn has_sorted_keys(self) -> bool
+        ensures { let head = (field_in self.entry).shape.head
+            in result ≡ has_sorted_keys head.tag head.encoding }
+    {
+        match self {
+            Place::Schema(_) => false,
+            Place::Field(field) if field.dictionary.is_some() => false,
+            Place::Field(field) | Place::Values(field) => {
+                matches!(field.data_type, DataType::Map(_, true))
+            }
+        }
+    }
+
+    /// The flags: 1 if the dictionary is ordered, 2 if slots may be null, 4 if keys are sorted.
     pub(crate) fn flags(self) -> u32
         ensures { result ≡ flags_of (field_in self.entry).shape.head }
     {
         let nullable = if self.is_nullable() { 2 } else { 0 };
+        let sorted = if self.has_sorted_keys() { 4 } else { 0 };
         match self.encoding() {
-            Some(encoding) if encoding.ordered => nullable + 1,
-            Some(_) | None => nullable,
+            Some(encoding) if encoding.ordered => 1 + nullable + sorted,
+            Some(_) | None => nullable + sorted,
         }
     }
 

@@ -2,7 +2,7 @@
 -- type description -- format strings"). The types are those of Schema.fbs, union "Type".
 use Rattle.std.specs.Prelude.{ℕ, true, false, List, [], ◌++◌, Option, Some, None, codes}
 use Rattle.std.specs.Fmt.{decimal}
-use Rattle.arrow_types.specs.DataType.{Tag, null, boolean, int, floating_point, binary, large_binary, fixed_size_binary, utf8, large_utf8, date, time, timestamp, duration, interval, list, large_list, struct}
+use Rattle.arrow_types.specs.DataType.{Tag, null, boolean, int, floating_point, binary, large_binary, fixed_size_binary, utf8, large_utf8, date, time, timestamp, duration, interval, list, large_list, map, struct}
 use Rattle.arrow_types.specs.declared.data_type.BitWidth.TheVariants.{Eight, Sixteen, ThirtyTwo, SixtyFour}
 use Rattle.arrow_types.specs.declared.data_type.DateUnit.TheVariants as dates
 use Rattle.arrow_types.specs.declared.data_type.IntervalUnit.TheVariants.{YearMonth, DayTime, MonthDayNano}
@@ -58,6 +58,8 @@ words_of (interval DayTime) = words (codes "day_time_interval") (codes "tiD")
 words_of (interval MonthDayNano) = words (codes "month_day_nano_interval") (codes "tin")
 words_of list = words (codes "list") (codes "+l")
 words_of large_list = words (codes "large_list") (codes "+L")
+words_of (map false) = words (codes "map") (codes "+m")
+words_of (map true) = words (codes "map[sorted]") (codes "+m")
 words_of struct = words (codes "struct") (codes "+s")
 
 -- what follows a name: the width, or the time zone if there is one, be it empty

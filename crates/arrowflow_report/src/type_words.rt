@@ -53,6 +53,8 @@ pub fn words_of(data_type: &DataType) -> TypeWords
         DataType::Interval(IntervalUnit::MonthDayNano) => words("month_day_nano_interval", "tin"),
         DataType::List(_) => words("list", "+l"),
         DataType::LargeList(_) => words("large_list", "+L"),
+        DataType::Map(_, false) => words("map", "+m"),
+        DataType::Map(_, true) => words("map[sorted]", "+m"),
         DataType::Struct(_) => words("struct", "+s"),
     }
 }
