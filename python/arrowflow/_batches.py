@@ -181,7 +181,7 @@ class Batch:
         return self._whole().children
 
     def column(self, which: Union[int, str]) -> Column:
-        """The column of this number, from 0 or, below 0, from behind the last one, or of this name. IndexError where there is no such
+        """The column of this number, from 0 or, below 0, counted from the end, or of this name. IndexError where there is no such
         number, KeyError of a name that none or several have."""
         number = found(range(len(self.schema)), self.schema.names, which)
         return Column(self._owned, self._owned.array.children[number].contents, self.schema.fields[number])
