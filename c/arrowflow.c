@@ -1,5 +1,5 @@
-/* The calls of arrowflow.h over those that are proved: NULL is kept out, and a handle is put behind a
- * pointer. */
+/* The calls of arrowflow.h over those that are proved: NULL is kept out, and a handle is kept in memory that
+ * the caller has a pointer to. */
 #include "proved.h"
 
 #include <stdio.h>
@@ -24,7 +24,7 @@ static const size_t *some_path(const size_t *path) {
     return path == NULL ? &nowhere : path;
 }
 
-/* ---- what is told ---- */
+/* ---- names of kinds, and sentences ---- */
 
 const char *arrowflow_version(void) { return ARROWFLOW_VERSION; }
 
@@ -112,8 +112,8 @@ arrowflow_culprit arrowflow_fault_column(const uint8_t *bytes, size_t len, arrow
     return arrowflow_proved_fault_column(some(bytes), len, limits);
 }
 
-/* What of a column's name is told, with other signs for control characters: its front, without a part of a
- * character, where it is long. Answers its length, or -1 where memory was wanting: the schema is a sound one. */
+/* A column's name as a sentence has it, with "?" for control characters; of a long one the first bytes, without
+ * a part of a character. Returns its length, or -1 if an allocation failed: the schema is a sound one. */
 static int name_of(const uint8_t *bytes, size_t len, arrowflow_limits limits, size_t column, char name[NAME_ROOM]) {
     arrowflow_reader *reader;
     arrowflow_reader_open(limits, &reader);

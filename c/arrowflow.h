@@ -1,19 +1,20 @@
 /* arrowflow.h: Arrow IPC streams in memory, checked, written again and shown; a reader and a copier of
  * streams that come in pieces. arrowflow_stream.h hands a stream to other Arrow tools.
  *
- * What a call answers is proved for all bytes, whatever a stranger's stream says: its contract stands in
+ * What a call returns is proved for all bytes, whatever a stranger's stream says: its contract is in
  * crates/arrowflow_c/src, and docs/PROMISES.md says it in words. arrowflow.c, which is plain C and tested,
- * passes each call on to a proved one: it keeps NULL out, and puts handles of readers and of copiers behind
- * pointers. Each call returns, and touches no memory but what it was given and what malloc gave it.
+ * passes each call on to a proved one: it keeps NULL out, and keeps the handle of a reader or a copier in
+ * memory that the caller has a pointer to. Each call returns, and touches no memory but what it was given
+ * and what malloc gave it.
  *
- * Ownership   Nothing that a call answers has to be freed, but for a reader and a copier: what _open makes,
+ * Ownership   Nothing that a call returns has to be freed, but for a reader and a copier: what _open makes,
  *             _close frees. A call keeps no pointer: bytes and rooms may be freed or changed as soon as it
  *             has returned. The pointers that arrowflow_reader_column gives are the reader's: they are
  *             only read, and only until the next call of arrowflow_reader_read or _close.
- * Errors      A call answers a kind (enum arrowflow_kind), or a struct with one: ARROWFLOW_KIND_FINE, or why
+ * Errors      A call returns a kind (enum arrowflow_kind), or a struct with one: ARROWFLOW_KIND_FINE, or why
  *             not. arrowflow_kind_name has its name, arrowflow_error_text a sentence. No call aborts or
- *             prints, and none sets errno but malloc, where it gives NULL.
- * Memory      malloc, realloc and free are called. Where malloc gives NULL the call ends with
+ *             prints, and none sets errno but malloc, when it returns NULL.
+ * Memory      malloc, realloc and free are called. If malloc returns NULL the call ends with
  *             ARROWFLOW_KIND_MEMORY. arrowflow_show takes as much as its text has, which may be far more
  *             than the stream: a batch without columns has many rows in few bytes. `max_rows` bounds
  *             the rows of a batch.
@@ -93,7 +94,7 @@ enum arrowflow_kind {
  * Never NULL. */
 const char *arrowflow_kind_name(uint32_t kind);
 
-/* Puts a sentence on an error into the room, as much of it as fits before a zero byte, and answers how long
+/* Puts a sentence on an error into the room, as much of it as fits before a zero byte, and returns how long
  * it is without that. `place` is the one that came with the kind. It is the program's line, with what the
  * kind means: "fault at byte 976: Truncated, the stream ended inside a message". */
 size_t arrowflow_error_text(uint32_t kind, uint64_t place, char *out, size_t room);
@@ -150,9 +151,9 @@ arrowflow_culprit arrowflow_fault_column(const uint8_t *bytes, size_t len, arrow
  * own. Where there is no memory to look for the column, it is left out. */
 size_t arrowflow_fault_text(const uint8_t *bytes, size_t len, arrowflow_limits limits, char *out, size_t room);
 
-/* What is told of a text, or of a stream that was written again. As much of its front as fits stands in the
- * room, and what the room held after it is as it was. Where `size` is at most `room` it is all there; so a
- * call with a room of 0 bytes measures. With a fault the text is of what came whole before it: a line for each
+/* What a call that writes a text, or a stream again, returns. As many of its first bytes as fit are in the
+ * room, and the bytes of the room after them are unchanged. If `size` is at most `room` all of it is there; so
+ * a call with a room of 0 bytes measures. With a fault the text is of what came whole before it: a line for each
  * message, the rows of each batch, or as a copy the schema and the batches, with the dictionaries that these
  * refer to (with ARROWFLOW_KIND_MEMORY a beginning of that; of arrowflow_schema none). */
 typedef struct {
@@ -194,7 +195,7 @@ arrowflow_text arrowflow_schema(const uint8_t *bytes, size_t len, arrowflow_limi
  * into memory. What a copier holds is bounded by a message and what it is written as. */
 typedef struct arrowflow_copier arrowflow_copier;
 
-/* What is told of a copy so far. */
+/* What is reported of a copy so far. */
 typedef struct {
     uint32_t kind;    /* FINE, a fault of the stream, MEMORY, NO_HANDLE, or why the writer refused */
     bool is_over;     /* it takes no more bytes: after a fault, the end marker or arrowflow_copier_end */
@@ -202,23 +203,23 @@ typedef struct {
     uint64_t waiting; /* bytes that are written and were not taken yet */
 } arrowflow_copied;
 
-/* Makes a copier in *copier, and answers ARROWFLOW_KIND_FINE; or ARROWFLOW_KIND_MEMORY or _BAD_LIMITS, and
+/* Makes a copier in *copier, and returns ARROWFLOW_KIND_FINE; or ARROWFLOW_KIND_MEMORY or _BAD_LIMITS, and
  * then *copier is NULL. */
 uint32_t arrowflow_copier_open(arrowflow_limits limits, arrowflow_options options, arrowflow_copier **copier);
 
-/* Gives the copier the next piece of its stream, all of which it takes, and tells how the copy stands. What
- * the messages that are whole with it are written as waits, to be taken. How a stream is cut changes nothing
- * of the bytes that come out in all. Once the copy is over, the answer stays and pieces are not looked at:
- * after a fault, ARROWFLOW_KIND_MEMORY among them, for good; what was written before it may still be taken,
- * which is of the batches before the fault, without an end marker. */
+/* Gives the copier the next piece of its stream, all of which it takes, and returns the state of the copy.
+ * What the messages that are whole with it are written as waits, to be taken. How a stream is cut changes
+ * nothing of the bytes that come out in all. Once the copy is over, each call returns the same and pieces are
+ * not looked at: after a fault, ARROWFLOW_KIND_MEMORY among them, for good; what was written before it may
+ * still be taken, which is of the batches before the fault, without an end marker. */
 arrowflow_copied arrowflow_copier_put(arrowflow_copier *copier, const uint8_t *piece, size_t len);
 
-/* Tells the copier that its stream ends here: the end marker is written, or the stream's fault is answered,
- * which it has where it ended inside a message or before a schema. With ARROWFLOW_KIND_FINE all that was
+/* Ends the copier's stream here: the end marker is written, or the stream's fault is returned, which it has
+ * if it ended inside a message or before a schema. With ARROWFLOW_KIND_FINE all that was
  * taken, and what is waiting after it, is what arrowflow_copy would give of all pieces. */
 arrowflow_copied arrowflow_copier_end(arrowflow_copier *copier);
 
-/* Moves the first bytes that wait into the room, as many as it has place for, and answers how many. */
+/* Moves the first bytes that wait into the room, as many as it has place for, and returns how many. */
 size_t arrowflow_copier_take(arrowflow_copier *copier, uint8_t *out, size_t room);
 
 /* Frees the copier, and what was not taken. */
@@ -237,7 +238,7 @@ enum arrowflow_message {
     ARROWFLOW_MESSAGE_END = 4
 };
 
-/* What a reader told of a piece. What does not belong to the message, or to a fault, is 0. */
+/* What a reader returns of a piece. What does not belong to the message, or to a fault, is 0. */
 typedef struct {
     uint32_t kind;    /* FINE, a fault of the stream, MEMORY or NO_HANDLE */
     uint32_t message; /* what was whole: enum arrowflow_message */
@@ -254,13 +255,13 @@ typedef struct {
     uint64_t place;
 } arrowflow_fault;
 
-/* Makes a reader of a new stream in *reader, and answers ARROWFLOW_KIND_FINE; or ARROWFLOW_KIND_MEMORY or
+/* Makes a reader of a new stream in *reader, and returns ARROWFLOW_KIND_FINE; or ARROWFLOW_KIND_MEMORY or
  * _BAD_LIMITS, and then *reader is NULL. */
 uint32_t arrowflow_reader_open(arrowflow_limits limits, arrowflow_reader **reader);
 
-/* Gives the reader a piece, of which it takes the bytes up to the end of one message, or all where
- * none is whole. Where a stream was cut changes no answer. After a fault of the stream it takes
- * nothing and answers the same again; after the end marker it takes nothing. The batch that a call
+/* Gives the reader a piece, of which it takes the bytes up to the end of one message, or all if
+ * none is whole. Where a stream was cut changes nothing. After a fault of the stream it takes
+ * nothing and returns the same again; after the end marker it takes nothing. The batch that a call
  * gives is the reader's until the next call. After ARROWFLOW_KIND_MEMORY nothing has changed, as though the
  * call had not been made: it may be made again.
  *
@@ -271,7 +272,7 @@ uint32_t arrowflow_reader_open(arrowflow_limits limits, arrowflow_reader **reade
  *     } while (step.kind == ARROWFLOW_KIND_FINE && step.message != ARROWFLOW_MESSAGE_END && len > 0); */
 arrowflow_step arrowflow_reader_read(arrowflow_reader *reader, const uint8_t *piece, size_t len);
 
-/* What a stream answers that ends here: ARROWFLOW_KIND_NO_SCHEMA, ARROWFLOW_KIND_TRUNCATED, the fault that
+/* How the stream ends if it ends here: ARROWFLOW_KIND_NO_SCHEMA, ARROWFLOW_KIND_TRUNCATED, the fault that
  * came, or ARROWFLOW_KIND_FINE. It changes nothing. */
 arrowflow_fault arrowflow_reader_end(const arrowflow_reader *reader);
 
@@ -284,10 +285,11 @@ void arrowflow_reader_close(arrowflow_reader *reader);
 enum arrowflow_cell_type {
     ARROWFLOW_CELL_NULL = 0,
     ARROWFLOW_CELL_BOOL = 1,   /* `truth` */
-    ARROWFLOW_CELL_NUMBER = 2, /* `number`; of a date, a time, a timestamp or a duration its units */
-    ARROWFLOW_CELL_BYTES = 3,  /* `size` bytes in the room */
-    ARROWFLOW_CELL_TEXT = 4,   /* the same, and UTF-8 */
-    ARROWFLOW_CELL_LIST = 5,   /* not told here, but by arrowflow_reader_column */
+    ARROWFLOW_CELL_NUMBER = 2, /* `number`; of a date, a time, a timestamp or a duration its units, of an
+                                * interval of months these */
+    ARROWFLOW_CELL_BYTES = 3,  /* `size` bytes in the room; of another interval those of its numbers */
+    ARROWFLOW_CELL_TEXT = 4,   /* `size` bytes in the room, and UTF-8 */
+    ARROWFLOW_CELL_LIST = 5,   /* what is in it is read by arrowflow_reader_column */
     ARROWFLOW_CELL_STRUCT = 6, /* the same */
     ARROWFLOW_CELL_LARGE = 7,  /* `large`, a number above INT64_MAX */
     ARROWFLOW_CELL_NONE = 8,   /* no batch, or no such column or row */
@@ -306,8 +308,8 @@ typedef struct {
 } arrowflow_cell;
 
 /* The value in a row and a column, both from 0, of the reader's batch, with indices looked up in the
- * dictionaries as they stood at that batch. As much of a byte string or a text as fits stands in the
- * room. */
+ * dictionaries as they were at that batch. As many of the first bytes of a byte string or a text as fit are
+ * put into the room. */
 arrowflow_cell arrowflow_reader_cell(const arrowflow_reader *reader, size_t column, size_t row,
                                      uint8_t *out, size_t room);
 
@@ -316,10 +318,13 @@ enum arrowflow_layout {
     ARROWFLOW_LAYOUT_NONE = 0,        /* no batch, or nothing where the path leads */
     ARROWFLOW_LAYOUT_NULLS = 1,       /* no buffer: no slot has a value */
     ARROWFLOW_LAYOUT_BITS = 2,        /* slot i is bit i of `values` */
-    ARROWFLOW_LAYOUT_NUMBERS = 3,     /* slot i is the number of `width` bytes at byte width * i */
+    ARROWFLOW_LAYOUT_NUMBERS = 3,     /* slot i is the number of `width` bytes at byte width * i; an
+                                       * interval of months too */
     ARROWFLOW_LAYOUT_BINARIES = 4,    /* slot i is `values` from offset i up to offset i + 1 */
     ARROWFLOW_LAYOUT_TEXTS = 5,       /* the same, and UTF-8 */
-    ARROWFLOW_LAYOUT_FIXED_BYTES = 6, /* slot i is the `width` bytes at byte width * i */
+    ARROWFLOW_LAYOUT_FIXED_BYTES = 6, /* slot i is the `width` bytes at byte width * i: a byte string, or
+                                       * the numbers of an interval, of 8 bytes days and milliseconds
+                                       * (32 bits each), of 16 months, days (32) and nanoseconds (64) */
     ARROWFLOW_LAYOUT_LISTS = 7,       /* slot i are the child's slots from offset i up to offset i + 1 */
     ARROWFLOW_LAYOUT_STRUCTS = 8,     /* slot i is slot i of each child */
     ARROWFLOW_LAYOUT_INDICES = 9,     /* slot i is the number of a value of the dictionary, as NUMBERS */
@@ -328,7 +333,7 @@ enum arrowflow_layout {
 };
 
 /* A column as its buffers. Numbers and offsets are little-endian, and may lie at any address: they
- * are read byte by byte, or by memcpy. Where a length is 0 its pointer is of nothing, and not NULL.
+ * are read byte by byte, or by memcpy. If a length is 0 its pointer is not NULL, and nothing is read there.
  * A buffer has the bytes that the slots take, and may have more. */
 typedef struct {
     uint32_t layout;         /* enum arrowflow_layout */
@@ -337,7 +342,7 @@ typedef struct {
     uint64_t slots;          /* of a column of the batch, as many as rows */
     uint64_t children;       /* of LISTS 1, of STRUCTS one for each field */
     uint64_t entries;        /* of INDICES, how many values the dictionary has */
-    uint64_t slot;           /* where the path ends with a value of a dictionary, the slot it stands in */
+    uint64_t slot;           /* if the path ends with a value of a dictionary, the slot that it is in */
     const uint8_t *validity; /* bit i: slot i has a value; of 0 bytes: each slot has one */
     size_t validity_len;
     const uint8_t *offsets; /* slots + 1 of them; of no slots, there may be 0 bytes */
@@ -346,15 +351,15 @@ typedef struct {
     size_t values_len;
 } arrowflow_column;
 
-/* Tells where the buffers lie of a column of the reader's batch. path[0] is the number of the column, and
- * each number after it leads a level down: below LISTS it is 0, below STRUCTS that of a field, and below
- * INDICES that of a value of the dictionary, which leads to the array that this value stands in, at `slot`.
+/* Returns a column of the reader's batch, with its buffers. path[0] is the number of the column, and each
+ * number after it leads a level down: below LISTS it is 0, below STRUCTS that of a field, and below INDICES
+ * that of a value of the dictionary, which leads to the array that this value is in, at `slot`.
  * The array's other slots are the dictionary's values around it, one after another, so that value
  * n - slot + slots is the first of the next array. Each message of the dictionary brought one such array, of no
  * values too; one that replaces a dictionary takes away those before it. Depth 0 leads nowhere.
  * All of it was tested when the batch was read: offsets never fall and end inside the child or the
- * values, and in a slot that has a value an index is below `entries` and a text is UTF-8. What stands
- * in a slot without a value says nothing. */
+ * values, and in a slot that has a value an index is below `entries` and a text is UTF-8. The bytes of
+ * a slot without a value mean nothing. */
 arrowflow_column arrowflow_reader_column(const arrowflow_reader *reader, const size_t *path, size_t depth);
 
 /* ---- the reader's schema ---- */
@@ -373,9 +378,9 @@ enum arrowflow_flag {
     ARROWFLOW_FLAG_NULLABLE = 2 /* slots may be null: kept, and enforced nowhere */
 };
 
-/* A field, or the schema, as an ArrowSchema of the Arrow C data interface tells it. Its three texts
- * stand one after another in the room, name, format and metadata, with nothing between them or after
- * them: as much of their front as fits, and what the room held after it is as it was. Where
+/* A field, or the schema, as in an ArrowSchema of the Arrow C data interface. Its three texts are one
+ * after another in the room, name, format and metadata, with nothing between them or after them: as many
+ * of their first bytes as fit, and the bytes of the room after these are unchanged. If
  * name_len + format_len + metadata_len is at most `room` all of them are there; so a call with a room
  * of 0 bytes measures. No text ends with a zero byte of its own. */
 typedef struct {
@@ -387,19 +392,18 @@ typedef struct {
                             * field 0: the field of the dictionary's values has them */
     uint64_t name_len;     /* bytes of the name, UTF-8; of the schema and of a dictionary's values 0 */
     uint64_t format_len;   /* bytes of the format string; of the schema it is "+s" */
-    uint64_t metadata_len; /* bytes of the custom metadata; of a dictionary's values, and where there are
+    uint64_t metadata_len; /* bytes of the custom metadata; of a dictionary's values, and if there are
                             * no pairs, 0. Else the number of pairs, and for each the length of the key, the
-                            * key, the length of the value and the value, where numbers and lengths are
-                            * 32-bit and little-endian. Of a length that needs more bits there stand the
-                            * lowest 32 */
+                            * key, the length of the value and the value; numbers and lengths are 32-bit and
+                            * little-endian. Of a length that needs more bits only the lowest 32 are there */
 } arrowflow_field;
 
-/* Tells of the reader's schema, at depth 0, or of the field that a path leads to. path[0] is the number
- * of the column, and each number after it leads a level down, to the child field of this number, from
- * 0. Below a dictionary-encoded field there stands, under 0 alone, the field of the dictionary's values:
- * without a name or metadata, nullable, with the values' format and children. Once the schema was read
- * it answers the same of a path after each further call, until the reader is closed. It changes nothing,
- * and takes no memory. */
+/* Returns the reader's schema, at depth 0, or the field that a path leads to. path[0] is the number of
+ * the column, and each number after it leads a level down, to the child field of this number, from 0.
+ * Below a dictionary-encoded field the number 0 alone leads to something, to the field of the dictionary's
+ * values: without a name or metadata, nullable, with the values' format and children. Once the schema was
+ * read it returns the same for a path after each further call, until the reader is closed. It changes
+ * nothing, and takes no memory. */
 arrowflow_field arrowflow_reader_field(const arrowflow_reader *reader, const size_t *path, size_t depth,
                                        uint8_t *out, size_t room);
 

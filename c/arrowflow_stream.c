@@ -135,7 +135,7 @@ struct source {
     bool has_schema, has_batch, has_ended;
     size_t columns, rows; /* of the batch */
     int status;           /* of a stream that failed, or 0 */
-    const char *told;     /* what get_last_error answers */
+    const char *told;     /* what get_last_error returns */
     char error[ERROR_ROOM];
     struct kept *kept; /* by rising ids */
     size_t kept_count, kept_room;
@@ -158,7 +158,7 @@ static bool set_path(struct source *it, size_t level, size_t number) {
     return true;
 }
 
-/* The stream failed: it answers this to each further call. */
+/* The stream failed: each further call returns this. */
 static int fail(struct source *it, int status) { return it->status = status; }
 
 static int fault(struct source *it, uint32_t kind, uint64_t place) {
@@ -333,7 +333,7 @@ static uint8_t *bytes_of(const struct ArrowArray *array, size_t k) {
 /* ---- arrays ---- */
 
 /* Slots of a column, from `start` up to `end`. Of a dictionary's values it is the array that the value
- * `entry` stands in, or what lies below it. */
+ * `entry` is in, or what is below it. */
 struct run {
     size_t entry, start, end;
 };
@@ -528,7 +528,8 @@ static int build_no_values(struct source *it, size_t depth, struct ArrowArray *o
     return status;
 }
 
-/* How many arrays the values of a dictionary from this one on stand in, or where each of them begins. */
+/* Returns how many arrays the values of a dictionary from this one on are in; if `runs` is not NULL, it gets where
+ * each one begins. */
 static size_t find_runs(struct source *it, size_t depth, size_t entry, size_t entries, struct run *runs) {
     size_t count = 0;
     for (; entry < entries; count++) {
@@ -670,7 +671,7 @@ static int build_below(struct source *it, const struct slots *from, const arrowf
     }
 }
 
-/* Makes an array of these slots, or adds them to one that there is. Where it answers no 0, what there is of the
+/* Makes an array of these slots, or adds them to one that there is. If it does not return 0, what there is of the
  * array is still to be released. */
 static int build(struct source *it, const struct slots *from, struct ArrowArray *out) {
     arrowflow_column like = column_of(it, from, 0);
@@ -699,7 +700,7 @@ static int build_batch(struct source *it, struct ArrowArray *out) {
 
 /* ---- the four calls of a stream ---- */
 
-/* What a call answers, with its text. */
+/* What a call returns, with its text. */
 static int answer(struct source *it, int status) {
     it->told = status == 0 ? NULL : status == ENOMEM ? "Memory: out of memory, the call may be made again" : it->error;
     return status;

@@ -95,8 +95,8 @@ Offset<Vector<Offset<KeyValue>>> any_pairs(FlatBufferBuilder &builder) {
 Offset<Field> any_field(FlatBufferBuilder &builder, Ids &ids, int levels, bool may_encode) {
     static const Type types[] = {Type_Null, Type_Int, Type_Binary, Type_Utf8, Type_Bool, Type_Date, Type_Time,
                                  Type_Timestamp, Type_FixedSizeBinary, Type_Duration, Type_LargeBinary, Type_LargeUtf8,
-                                 Type_List, Type_LargeList, Type_Struct_};
-    Type type = types[below(levels > 1 ? 15 : 12)];
+                                 Type_FloatingPoint, Type_Interval, Type_List, Type_LargeList, Type_Struct_};
+    Type type = types[below(levels > 1 ? 17 : 14)];
     Offset<DictionaryEncoding> encoding = 0;
     if (may_encode && below(4) == 0) {
         encoding = any_encoding(builder, ids);
@@ -111,6 +111,8 @@ Offset<Field> any_field(FlatBufferBuilder &builder, Ids &ids, int levels, bool m
     TimeUnit unit = static_cast<TimeUnit>(below(4));
     switch (type) {
         case Type_Int: table = any_int(builder).Union(); break;
+        case Type_FloatingPoint: table = CreateFloatingPoint(builder, static_cast<Precision>(below(3))).Union(); break;
+        case Type_Interval: table = CreateInterval(builder, static_cast<IntervalUnit>(below(3))).Union(); break;
         case Type_Date: table = CreateDate(builder, static_cast<DateUnit>(below(2))).Union(); break;
         case Type_Time: table = CreateTime(builder, unit, unit < TimeUnit_MICROSECOND ? 32 : 64).Union(); break;
         case Type_Timestamp: {

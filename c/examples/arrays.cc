@@ -96,7 +96,8 @@ public:
 std::size_t width_of(const std::string &format) {
     if (format.rfind("w:", 0) == 0) return std::stoul(format.substr(2));
     if (format == "b") return 0;
-    if (format == "tdD" || format == "tts" || format == "ttm") return 4;
+    if (format == "tdD" || format == "tts" || format == "ttm" || format == "tiM") return 4;
+    if (format == "tin") return 16;
     if (format.size() > 1) return 8;
     return std::string("cC").find(format) != std::string::npos ? 1
         : std::string("sSe").find(format) != std::string::npos ? 2

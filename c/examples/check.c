@@ -192,7 +192,8 @@ static const char *const type_words[][2] = {
     {"e", "halffloat"},    {"f", "float"},         {"g", "double"},        {"z", "binary"},        {"Z", "large_binary"},
     {"u", "utf8"},         {"U", "large_utf8"},    {"tdD", "date[day]"},   {"tdm", "date[ms]"},    {"tts", "time[s]"},
     {"ttm", "time[ms]"},   {"ttu", "time[us]"},    {"ttn", "time[ns]"},    {"tDs", "duration[s]"}, {"tDm", "duration[ms]"},
-    {"tDu", "duration[us]"}, {"tDn", "duration[ns]"}, {"+l", "list"},      {"+L", "large_list"},   {"+s", "struct"},
+    {"tDu", "duration[us]"}, {"tDn", "duration[ns]"}, {"tiM", "month_interval"}, {"tiD", "day_time_interval"},
+    {"tin", "month_day_nano_interval"}, {"+l", "list"}, {"+L", "large_list"}, {"+s", "struct"},
 };
 
 /* The text of a unit of timestamps, after "timestamp[". */

@@ -2,8 +2,9 @@
 //!
 //! Reads a stream in pieces of so many bytes, and prints the number of the batch and the values of
 //! each row, as `arrowflow show` does below its first line; `...` stands for a list or a struct. Texts
-//! are printed out of the buffers of their column, everything else cell by cell. With --bad the calls
-//! of a reader are given what no stream is.
+//! are printed out of the buffers of their column, everything else cell by cell: an interval is a number
+//! or bytes there, which the format string of its field says. With --bad the calls of a reader are given
+//! what no stream is.
 
 use std::io::{self, BufWriter, Write};
 use std::process::ExitCode;
@@ -72,12 +73,31 @@ mod c {
         pub values_len: usize,
     }
 
+    #[repr(C)]
+    pub struct Field {
+        pub found: u32,
+        pub flags: u32,
+        pub is_encoded: bool,
+        pub id: i64,
+        pub children: u64,
+        pub name_len: u64,
+        pub format_len: u64,
+        pub metadata_len: u64,
+    }
+
     unsafe extern "C" {
         pub fn arrowflow_reader_open(limits: Limits, reader: *mut *mut Reader) -> u32;
         pub fn arrowflow_reader_read(reader: *mut Reader, piece: *const u8, len: usize) -> Step;
         pub fn arrowflow_reader_end(reader: *const Reader) -> Fault;
         pub fn arrowflow_reader_cell(reader: *const Reader, column: usize, row: usize, out: *mut u8, room: usize) -> Cell;
         pub fn arrowflow_reader_column(reader: *const Reader, path: *const usize, depth: usize) -> Column;
+        pub fn arrowflow_reader_field(
+            reader: *const Reader,
+            path: *const usize,
+            depth: usize,
+            out: *mut u8,
+            room: usize,
+        ) -> Field;
         pub fn arrowflow_reader_close(reader: *mut Reader);
     }
 }
@@ -156,16 +176,32 @@ impl Reader {
         }
     }
 
+    /// What the schema has for the field that a path leads to. As much of its texts as fits is put into the room.
+    fn field(&self, path: &[usize], room: &mut [u8]) -> c::Field {
+        // SAFETY: as in `read`; no pointer is NULL, and the room is the caller's own.
+        unsafe { c::arrowflow_reader_field(self.0, path.as_ptr(), path.len(), room.as_mut_ptr(), room.len()) }
+    }
+
+    /// The format string of a column's values, which are those of its dictionary if it has one.
+    fn format(&self, column: usize) -> String {
+        let is_encoded = self.field(&[column], &mut []).is_encoded;
+        let path = if is_encoded { &[column, 0][..] } else { &[column] };
+        let of = self.field(path, &mut []);
+        let mut texts = vec![0; (of.name_len + of.format_len) as usize];
+        self.field(path, &mut texts);
+        String::from_utf8(texts.split_off(of.name_len as usize)).expect("UTF-8, as was checked")
+    }
+
     /// A value of the batch that came last, as `show` prints it.
-    fn shown(&self, column: usize, row: usize) -> String {
+    fn shown(&self, column: usize, row: usize, format: &str) -> String {
         match self.column(&[column]).text(row) {
             Some(text) => quoted(text),
-            None => self.cell(column, row),
+            None => self.cell(column, row, format),
         }
     }
 
     /// The same, of a cell.
-    fn cell(&self, column: usize, row: usize) -> String {
+    fn cell(&self, column: usize, row: usize, format: &str) -> String {
         let mut room = vec![0; 64];
         loop {
             // SAFETY: as in `read`; the room is a vector's own.
@@ -173,7 +209,7 @@ impl Reader {
             let is_small = room.len() < cell.size as usize;
             room.resize(cell.size as usize, 0);
             if !is_small {
-                return shown(cell, &room);
+                return shown(cell, &room, format);
             }
         }
     }
@@ -186,11 +222,17 @@ impl Drop for Reader {
     }
 }
 
-fn shown(cell: c::Cell, bytes: &[u8]) -> String {
+fn shown(cell: c::Cell, bytes: &[u8], format: &str) -> String {
     match cell.r#type {
         0 => String::new(),
         1 => cell.truth.to_string(),
+        2 if format == "tiM" => format!("{}M", cell.number),
         2 => cell.number.to_string(),
+        3 if format == "tiD" => format!("{}d{}ms", number_at(bytes, 0), number_at(bytes, 4)),
+        3 if format == "tin" => {
+            let (months, days) = (number_at(bytes, 0), number_at(bytes, 4));
+            format!("{months}M{days}d{}ns", i64::from_le_bytes(bytes[8..].try_into().expect("16 bytes")))
+        }
         3 => bytes.iter().map(|byte| format!("{byte:02x}")).collect(),
         4 => quoted(str::from_utf8(bytes).expect("UTF-8, as was checked")),
         7 => cell.large.to_string(),
@@ -198,6 +240,11 @@ fn shown(cell: c::Cell, bytes: &[u8]) -> String {
         10 => format!("{:?}", cell.real),
         _ => "...".to_string(),
     }
+}
+
+/// The signed number of 32 bits at an offset.
+fn number_at(bytes: &[u8], at: usize) -> i32 {
+    i32::from_le_bytes(bytes[at..at + 4].try_into().expect("four bytes"))
 }
 
 fn quoted(text: &str) -> String {
@@ -218,11 +265,12 @@ fn print(stream: &[u8], size: usize, types: u32, out: &mut impl Write) -> io::Re
             piece = &piece[step.taken as usize..];
             if step.message == 3 {
                 let mut columns = 0..step.columns as usize;
+                let formats: Vec<String> = columns.clone().map(|k| reader.format(k)).collect();
                 assert!(columns.all(|k| reader.column(&[k]).slots == step.rows as usize), "a slot for each row");
                 for row in 0..step.rows as usize {
                     write!(out, "{number}")?;
-                    for column in 0..step.columns as usize {
-                        write!(out, ",{}", reader.shown(column, row))?;
+                    for (column, format) in formats.iter().enumerate() {
+                        write!(out, ",{}", reader.shown(column, row, format))?;
                     }
                     writeln!(out)?;
                 }
@@ -250,7 +298,7 @@ fn bad() -> bool {
         && (fault.kind, fault.place, fault.taken) == (1, 0, 0)
         && again == fault
         && end == c::Fault { kind: 1, place: 0 }
-        && reader.shown(usize::MAX, 0) == "no cell"
+        && reader.shown(usize::MAX, 0, "") == "no cell"
         && [&[][..], &[0], &[0, usize::MAX]].iter().all(|path| reader.column(path).layout == 0)
 }
 

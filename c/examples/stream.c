@@ -51,15 +51,17 @@ static size_t offset_width(const struct ArrowSchema *schema) {
     return is_one_of(schema, "ZU") || is_format(schema, "+L") ? 8 : 0;
 }
 
-/* Bytes of a slot's value that is a number or a byte string of one length. */
+/* Bytes of a slot's value that is a number, an interval or a byte string of one length. */
 static size_t value_width(const struct ArrowSchema *schema) {
     const char *format = schema->format;
     if (is_one_of(schema, "cC")) return 1;
     if (is_one_of(schema, "sSe")) return 2;
-    if (is_one_of(schema, "iIf") || is_format(schema, "tdD")) return 4;
+    if (is_one_of(schema, "iIf") || is_format(schema, "tdD") || is_format(schema, "tiM")) return 4;
     if (is_format(schema, "tts") || is_format(schema, "ttm")) return 4;
+    if (is_format(schema, "tin")) return 16;
     if (strncmp(format, "w:", 2) == 0) return strtoul(format + 2, NULL, 10);
     WANT(is_one_of(schema, "lLg") || is_format(schema, "tdm") || is_format(schema, "ttu") || is_format(schema, "ttn")
+         || is_format(schema, "tiD")
          || (strncmp(format, "ts", 2) == 0 && format[2] != 0 && strchr("smun", format[2]) != NULL && format[3] == ':')
          || (strncmp(format, "tD", 2) == 0 && format[2] != 0 && strchr("smun", format[2]) != NULL && format[3] == 0));
     return 8;
@@ -284,6 +286,30 @@ static void add_number(struct text *to, const struct ArrowSchema *schema, const 
     }
 }
 
+/* The signed number of 32 or 64 bits at an address, and the letters of its unit. */
+static void add_units(struct text *to, const uint8_t *at, size_t width, const char *unit) {
+    char digits[32];
+    uint64_t number = number_at(at, width);
+    if (width == 4 && number >> 31) number |= UINT64_MAX << 32;
+    snprintf(digits, sizeof digits, "%lld%s", (long long)number, unit);
+    add_words(to, digits);
+}
+
+/* An interval: months, or days and milliseconds, or months, days and nanoseconds, in the buffer in this order. */
+static void add_interval(struct text *to, const struct ArrowSchema *schema, const struct ArrowArray *array, size_t i) {
+    const uint8_t *at = (const uint8_t *)array->buffers[1] + value_width(schema) * i;
+    if (is_format(schema, "tiD")) {
+        add_units(to, at, 4, "d");
+        add_units(to, at + 4, 4, "ms");
+        return;
+    }
+    add_units(to, at, 4, "M");
+    if (is_format(schema, "tin")) {
+        add_units(to, at + 4, 4, "d");
+        add_units(to, at + 8, 8, "ns");
+    }
+}
+
 static void add_value(struct text *to, const struct ArrowSchema *schema, const struct ArrowArray *array, size_t i,
                       const char *null);
 
@@ -323,6 +349,7 @@ static void add_value(struct text *to, const struct ArrowSchema *schema, const s
         else add_hex(to, at, len);
     } else if (strncmp(schema->format, "w:", 2) == 0)
         add_hex(to, (const uint8_t *)array->buffers[1] + value_width(schema) * i, value_width(schema));
+    else if (strncmp(schema->format, "ti", 2) == 0) add_interval(to, schema, array, i);
     else add_number(to, schema, array, i);
 }
 

@@ -22,7 +22,7 @@ def opened(name: str, mode: str) -> BinaryIO:
 
 
 def print_text(command: str, name: str, limits: Limits) -> None:
-    """Prints what a call tells of a file, up to the fault where there is one."""
+    """Prints what a call gives for a file, up to the fault if there is one."""
     with opened(name, "rb") as file:
         data = file.read()
     with os.fdopen(1, "wb", closefd=False) as output:

@@ -70,10 +70,10 @@ class Column:
 
     def buffers(self) -> List[Optional[memoryview]]:
         """The buffers, as the Arrow columnar format lays them out, as memoryviews of bytes that can only be read: of a Null column
-        none; else first the validity bitmap, None where each slot has a value; then of numbers, bits and byte strings of one length
-        the values; of lists the offsets; of texts and byte strings the offsets and the bytes; of a dictionary-encoded column the
-        indices. Numbers are little-endian and begin at a multiple of 64 bytes, so `view.cast("i")` reads those of 32 bits.
-        A view, and what is made of it, keeps the memory alive, whatever becomes of the column, the batch and the stream."""
+        none; else first the validity bitmap, None where each slot has a value; then of numbers, intervals, bits and byte strings of
+        one length the values; of lists the offsets; of texts and byte strings the offsets and the bytes; of a dictionary-encoded
+        column the indices. Numbers are little-endian and begin at a multiple of 64 bytes, so `view.cast("i")` reads those of 32
+        bits. A view, and what is made of it, keeps the memory alive, whatever becomes of the column, the batch and the stream."""
         return [self._view(k, size) for k, size in enumerate(self._sizes())]
 
     def to_pylist(self) -> List[Any]:
@@ -81,7 +81,9 @@ class Column:
         up in the dictionary. Where it is exact, of dates a datetime.date, of times a datetime.time, of timestamps a
         datetime.datetime, of durations a datetime.timedelta; else the number of units: nanoseconds that are no whole microsecond,
         years after 9999, a time of a day that has none such. A timestamp with a zone has that zone where `zoneinfo` knows it or it is
-        an offset such as "+02:00", and is in UTC where neither is so. ValueError where two fields of a struct have one name."""
+        an offset such as "+02:00", and is in UTC where neither is so. Of intervals in months the number of months, of the others a
+        tuple of numbers, as they came: (days, milliseconds) or (months, days, nanoseconds). ValueError where two fields of a struct
+        have one name."""
         return values_in(self, 0, len(self))
 
     def __getitem__(self, slot: int) -> Any:
@@ -179,7 +181,7 @@ class Batch:
         return self._whole().children
 
     def column(self, which: Union[int, str]) -> Column:
-        """The column of this number, from 0 or, below 0, from behind the last one, or of this name. IndexError where there is no such
+        """The column of this number, from 0 or, below 0, counted from the end, or of this name. IndexError where there is no such
         number, KeyError of a name that none or several have."""
         number = found(range(len(self.schema)), self.schema.names, which)
         return Column(self._owned, self._owned.array.children[number].contents, self.schema.fields[number])

@@ -82,12 +82,12 @@ def _table(structs: List[Any], kind: Any) -> Any:
 
 
 def schema_capsule(field: Field) -> object:
-    """A capsule of an ArrowSchema that tells a field."""
+    """A capsule of an ArrowSchema of a field."""
     return _capsule(_schema(field), _SCHEMA, _free_schema)
 
 
 def _schema(field: Field) -> ArrowSchema:
-    """A struct that tells a field, with those below it."""
+    """An ArrowSchema of a field, with those below it."""
     made, children = ArrowSchema(), [_schema(it) for it in field.children]
     dictionary = _schema(field.dictionary) if field.dictionary else None
     texts = [ctypes.create_string_buffer(it.encode()) for it in (field.format, field.name)]

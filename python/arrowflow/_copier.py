@@ -66,7 +66,7 @@ class Copier:
         return written
 
     def end(self) -> bytes:
-        """Tells the copier that the stream has ended, and returns the last bytes, with the end marker. ArrowflowError where the stream
+        """Ends the stream, and returns the last bytes, with the end marker. ArrowflowError where the stream
         cannot end here, inside a message or before a schema, or where it has a fault; `partial` has what was not returned yet."""
         told = calls["copier_end"](self._of_thread())
         written = self._take(told.waiting)

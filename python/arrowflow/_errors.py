@@ -11,7 +11,7 @@ from ._library import CLimits, calls
 
 
 class Kind(enum.IntEnum):
-    """How a call ended. FINE is no fault, 1 to 18 are faults of the stream (docs/FORMAT.md of the repository tells them exactly), 32
+    """How a call ended. FINE is no fault, 1 to 18 are faults of the stream (docs/FORMAT.md of the repository defines them), 32
     and more are those of a sound stream that cannot be written again. `str(kind)` is the name that the program `arrowflow` prints."""
     FINE = 0
     CONTINUATION = 1

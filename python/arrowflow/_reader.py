@@ -54,7 +54,7 @@ class Reader:
         return self._taken()
 
     def end(self) -> List[Batch]:
-        """Tells the reader that the stream has ended. ArrowflowError where it cannot end here, inside a message or before a schema, or
+        """Ends the stream. ArrowflowError where it cannot end here, inside a message or before a schema, or
         where it has a fault. Returns the batches that were not returned yet, which there are after a MemoryError alone."""
         self._fed.is_ended = True
         self._read_on()

@@ -129,7 +129,7 @@ def found(things: Sequence[_It], names: Sequence[str], which: Union[int, str]) -
 
 
 def field_of(schema: ArrowSchema) -> Field:
-    """The field that an ArrowSchema tells, of which nothing is referred to."""
+    """The field of an ArrowSchema, copied out of it."""
     children = tuple(field_of(schema.children[k].contents) for k in range(schema.n_children))
     dictionary = field_of(schema.dictionary.contents) if schema.dictionary else None
     format, name = ((it or b"").decode() for it in (schema.format, schema.name))

@@ -116,7 +116,7 @@ class Stream:
     It is handed on as a whole to a library that takes an object with `__arrow_c_stream__`, and is closed then. Any thread may use it:
     calls wait for one another. A fault raises ArrowflowError, from the call that met it and from each one after it; what came before
     it was handed out. What the source raises is raised to the caller as it is, and ends the stream; a library that the stream was
-    handed to is told in words.
+    handed to gets its text.
     """
 
     def __init__(self, handle: Handle) -> None:
@@ -124,7 +124,7 @@ class Stream:
 
     @property
     def schema(self) -> Schema:
-        """The Schema. It is read where it was not yet, and told on when the stream is closed."""
+        """The Schema, which is read if it was not yet. It stays when the stream is closed."""
         return self._handle.schema()
 
     def __iter__(self) -> Iterator[Batch]:

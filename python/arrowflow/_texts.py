@@ -73,7 +73,7 @@ def schema_text(data: Data, limits: Limits = STANDARD) -> str:
 
 
 def _text(call: str, data: Data, limits: Limits, *more: Any, size: Any = lambda read: 4096) -> bytes:
-    """What a call tells; where the room was too small the call is made again with one that is not."""
+    """The text of a call; if the room was too small the call is made again with one that is not."""
     stream, chosen = bytes_of(data), limits_in_c(limits)
     room = ctypes.create_string_buffer(size(len(stream)))
     told = calls[call](stream, len(stream), chosen, *more, room, len(room))

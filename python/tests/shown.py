@@ -5,8 +5,10 @@ import re
 import struct
 
 NUMBERS = {"c": "b", "C": "B", "s": "h", "S": "H", "i": "i", "I": "I", "l": "q", "L": "Q", "e": "e", "f": "f", "g": "d", "tdD": "i",
-           "tdm": "q", "tts": "i", "ttm": "i", "ttu": "q", "ttn": "q"}
+           "tdm": "q", "tts": "i", "ttm": "i", "ttu": "q", "ttn": "q", "tiM": "i"}
 WIDTHS = {"b": 1, "h": 2, "i": 4, "q": 8, "e": 2, "f": 4, "d": 8}
+# The numbers of an interval, each with its bytes and its letters in `show`.
+INTERVALS = {"tiM": ((4, "M"),), "tiD": ((4, "d"), (4, "ms")), "tin": ((4, "M"), (4, "d"), (8, "ns"))}
 OFFSETS = {"z": 4, "u": 4, "+l": 4, "Z": 8, "U": 8, "+L": 8}
 EPOCH = datetime.datetime(1970, 1, 1)
 A_SECOND = {"s": 1, "m": 1000, "u": 1000_000, "n": 1000_000_000}
@@ -32,7 +34,8 @@ class Buffers:
         return self.format != "n" and (self.buffers[0] is None or self.buffers[0][i // 8] >> i % 8 & 1)
 
     def value(self, i):
-        """What a slot holds: None, a bool, a number of units, a float, bytes, a str, a list, or a tuple of a struct's values."""
+        """What a slot holds: None, a bool, a number of units, a float, bytes, a str, a list, or a tuple of a struct's values or of
+        an interval's numbers."""
         if not self.has_value(i):
             return None
         if self.format == "b":
@@ -44,11 +47,21 @@ class Buffers:
         if self.format.startswith("w:"):
             width = int(self.format[2:])
             return bytes(self.buffers[1][width * i:width * (i + 1)])
+        if self.format in ("tiD", "tin"):
+            return tuple(self.numbers_of(i))
         code = NUMBERS.get(self.format, "q")
         if code in "efd":
             return struct.unpack_from(f"<{code}", self.buffers[1], WIDTHS[code] * i)[0]
         number = self.number(1, WIDTHS[code.lower()], i, code.islower())
         return self.dictionary.value(number) if self.dictionary else number
+
+    def numbers_of(self, i):
+        """The numbers of an interval, one after another in its slot."""
+        widths = [width for width, _ in INTERVALS[self.format]]
+        at = sum(widths) * i
+        for width in widths:
+            yield int.from_bytes(self.buffers[1][at:at + width], "little", signed=True)
+            at += width
 
     def between(self, start, end):
         if self.format.startswith("+"):
@@ -119,6 +132,9 @@ def text_of(value, of, null):
     if isinstance(value, float):
         text = repr(value) if of.format == "g" else single(value)
         return {"nan": "NaN"}.get(text, text)
+    if of.format in INTERVALS:
+        numbers = value if isinstance(value, tuple) else (value,)
+        return "".join(f"{number}{letters}" for number, (_, letters) in zip(numbers, INTERVALS[of.format]))
     if isinstance(value, list):
         return "[" + ";".join(text_of(it, of.children[0], "null") for it in value) + "]"
     if isinstance(value, tuple):

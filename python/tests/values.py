@@ -1,4 +1,4 @@
-"""Values of dates and times, and lists and dicts that are nobody else's."""
+"""Values of dates, times and intervals, and lists and dicts that are nobody else's."""
 import datetime
 
 import arrowflow
@@ -86,6 +86,25 @@ def durations():
     yield "the longest duration", one_column(frames.duration(MILLI), [longest // 1000, longest // 1000 + 1], "q"), [
         datetime.timedelta(microseconds=longest // 1000 * 1000), longest // 1000 + 1]
     yield "durations in nanoseconds", one_column(frames.duration(NANO), [1000, 999], "q"), [MICROSECOND, 999]
+
+
+def intervals():
+    """Intervals of each unit, in bytes that are written out: three slots, the second of which is null; also as a dictionary's values."""
+    months, days, nanos = "0e000000 00000000 feffffff", "02000000f4010000 0000000000000000 ffffffff0cfeffff", (
+        "01000000020000000300000000000000 00000000000000000000000000000000 ffffff7f000000800000000000000080")
+    for unit, (name, written, wanted) in enumerate((
+            ("month_interval", months, [14, None, -2]), ("day_time_interval", days, [(2, 500), None, (-1, -500)]),
+            ("month_day_nano_interval", nanos, [(1, 2, 3), None, (2**31 - 1, -2**31, -2**63)]))):
+        kind, its = frames.interval(unit), frames.Column([(3, 1)], [b"\5", bytes.fromhex(written)])
+        plain = frames.schema(frames.field("x", kind)) + frames.batch(its) + frames.END_MARKER
+        column = next(arrowflow.open(plain, arrowflow.ALL_TYPES)).column("x")
+        yield name, (column.type, column.to_pylist(), [column[it] for it in range(3)]), (name, wanted, wanted)
+        yield f"the buffers of {name}", [bytes(it) for it in column.buffers()], [b"\5", bytes.fromhex(written)]
+        yield f"{name} with the core", raised_by(arrowflow.sanitize, plain).kind, arrowflow.Kind.UNSUPPORTED
+        encoded = b"".join([frames.schema(frames.field("x", kind, encoding=frames.dictionary(1))), frames.dictionary_batch(1, its),
+                            frames.batch(frames.numbers([2, 1, None, 0, 2])), frames.END_MARKER])
+        found = next(arrowflow.open(encoded, arrowflow.ALL_TYPES)).column("x").to_pylist()
+        yield f"{name} by a dictionary", found, [wanted[2], None, None, wanted[0], wanted[2]]
 
 
 def nobody_else():
