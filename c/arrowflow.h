@@ -105,7 +105,7 @@ size_t arrowflow_error_text(uint32_t kind, uint64_t place, char *out, size_t roo
 enum arrowflow_types {
     ARROWFLOW_TYPES_CORE = 0, /* Null, Bool, Int, Binary, Utf8 and these Large, FixedSizeBinary, Date,
                                * Time, Timestamp, Duration, List, LargeList, Struct: never others */
-    ARROWFLOW_TYPES_ALL = 1   /* also FloatingPoint, Interval, and what later versions of the library read */
+    ARROWFLOW_TYPES_ALL = 1   /* also FloatingPoint, Interval, Map, and what later versions of the library read */
 };
 
 /* How much a stranger's stream may ask for, and which types it may have. */
@@ -371,11 +371,12 @@ enum arrowflow_found {
     ARROWFLOW_FOUND_FIELD = 2
 };
 
-/* The flags of a field: ARROW_FLAG_DICTIONARY_ORDERED and ARROW_FLAG_NULLABLE of the Arrow C data
- * interface, of which the third flag is of a type that is not read. */
+/* The flags of a field: ARROW_FLAG_DICTIONARY_ORDERED, ARROW_FLAG_NULLABLE and
+ * ARROW_FLAG_MAP_KEYS_SORTED of the Arrow C data interface. */
 enum arrowflow_flag {
-    ARROWFLOW_FLAG_ORDERED = 1, /* the order of the dictionary's values means something */
-    ARROWFLOW_FLAG_NULLABLE = 2 /* slots may be null: kept, and enforced nowhere */
+    ARROWFLOW_FLAG_ORDERED = 1,        /* the order of the dictionary's values means something */
+    ARROWFLOW_FLAG_NULLABLE = 2,       /* slots may be null: kept, and enforced nowhere */
+    ARROWFLOW_FLAG_MAP_KEYS_SORTED = 4 /* the keys of each map are sorted: kept, and enforced nowhere */
 };
 
 /* A field, or the schema, as in an ArrowSchema of the Arrow C data interface. Its three texts are one
