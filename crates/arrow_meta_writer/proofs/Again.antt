@@ -98,6 +98,7 @@ tag_of_all (tags.timestamp unit (Some zone)) narrow = ap (λ u. tags.timestamp u
 tag_of_all (tags.fixed_size_binary width) narrow = ap (λ b. tags.fixed_size_binary (unwrap_or (if b then None else Some width) 0)) narrow
 tag_of_all (tags.duration unit) narrow = ap tags.duration (time_again unit)
 tag_of_all (tags.interval unit) narrow = ap tags.interval (interval_again unit)
+tag_of_all (tags.map sorted) narrow = ap tags.map (flag_again sorted)
 tag_of_all tag narrow = refl
 
 tag_again : (types : TypeSet) (tag : Tag) → is_wide tag ≡ false → leaves_out types tag ≡ false → tag_by (type_code (tag_code tag)) (parts (type_tree types tag)) ≡ tag

@@ -88,6 +88,7 @@ date_fits dates.Millisecond = omega arith
 type_fits : (tag : Tag) → HasTextZone tag → is_wide tag ≡ false → NodeFits (laid.table (type_cells tag))
 type_fits (tags.int bits signed) h narrow = int_fits bits signed
 type_fits (tags.interval unit) h narrow = (omega arith, (omega (arith, interval_fits unit), tt))
+type_fits (tags.map sorted) h narrow = (omega arith, (flag_fits sorted, tt))
 type_fits (tags.floating_point precision) h narrow = (omega arith, (omega (arith, precision_fits precision), tt))
 type_fits (tags.date unit) h narrow = (omega arith, (omega (arith, date_fits unit), tt))
 type_fits (tags.time unit) h narrow = (omega arith, (omega (arith, time_fits unit), (omega (arith, bits_fit (time_width_of unit)), tt)))

@@ -184,8 +184,8 @@ as_all : (types : TypeSet) (code : TypeCode) → (taken types (Some code) ≡ No
 as_all types code =
     let tag = (type_row code).tag none in
     elim (cases_Bool (leaves_out types tag)) [
-      inl out ↦ inl (left types code out)
-    | inr kept ↦ inr (had types code kept ∙ sym (had All code (none_outside tag)))
+      | inl out ↦ inl (left types code out)
+      | inr kept ↦ inr (had types code kept ∙ sym (had All code (none_outside tag)))
     ]
 
 -- the tree of a type is absent, or the one that all types open
@@ -195,8 +195,8 @@ opened_or_none types tag =
     let own = ap (taken types) (named tag) in
     let all = ap (taken All) (named tag) in
     elim (as_all types (code_of tag)) [
-      inl nothing ↦ inl (ap tree (own ∙ nothing))
-    | inr same ↦ inr (ap tree (own ∙ same ∙ sym all))
+      | inl nothing ↦ inl (ap tree (own ∙ nothing))
+      | inr same ↦ inr (ap tree (own ∙ same ∙ sym all))
     ]
 
 -- the tree of a type of the set is the one that all types open
@@ -283,16 +283,16 @@ table_stands b p r opens found tag e which h k =
     let one : P (Some (code_of tag)) = λ e. opened_stands b p r opens (code_of tag) (type_row (code_of tag)).fields (type_cells tag) e (laid_by_row tag) h k in
     let nothing : P None = λ e. closed_spot b opens (field_place (at b p) 3) e in
     elim which [
-      inl is ↦ subst P (sym is) nothing e
-    | inr is ↦ subst P (sym is) one e
+      | inl is ↦ subst P (sym is) nothing e
+      | inr is ↦ subst P (sym is) one e
     ]
 
 taken_or_none : (types : TypeSet) (tag : Tag) → (taken types (type_code (tag_code tag)) ≡ None) ⊎ (taken types (type_code (tag_code tag)) ≡ Some (code_of tag))
 taken_or_none types tag =
     let own = ap (taken types) (named tag) in
     elim (cases_Bool (leaves_out types ((type_row (code_of tag)).tag none))) [
-      inl out ↦ inl (own ∙ left types (code_of tag) out)
-    | inr kept ↦ inr (own ∙ had types (code_of tag) kept)
+      | inl out ↦ inl (own ∙ left types (code_of tag) out)
+      | inr kept ↦ inr (own ∙ had types (code_of tag) kept)
     ]
 
 -- a type's table, where a reader opens it

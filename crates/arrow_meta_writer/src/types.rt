@@ -1,6 +1,6 @@
 //! Types as they are written: the code in the field's table, and the type's own table
 //! (`Schema.fbs`, union `Type`, tables `Int`, `FloatingPoint`, `Date`, `Time`, `Timestamp`,
-//! `FixedSizeBinary`, `Duration`, `Interval`).
+//! `FixedSizeBinary`, `Duration`, `Interval`, `Map`).
 //!
 //! `type_slots` has one row for each type: what its table holds is counted, measured and written
 //! from there. A type without parameters has a table without fields. Units are the numbers of their
@@ -48,6 +48,7 @@ pub(crate) fn type_code(data_type: &DataType) -> u64
         DataType::List(_) => 12,
         DataType::Struct(_) => 13,
         DataType::FixedSizeBinary(_) => 15,
+        DataType::Map(..) => 17,
         DataType::Duration(_) => 18,
         DataType::LargeBinary => 19,
         DataType::LargeUtf8 => 20,
@@ -179,6 +180,7 @@ fn type_slots(data_type: &DataType, zone: usize) -> TypeSlots
         DataType::Interval(unit) => {
             TypeSlots::One([Slot::Scalar(Width::Two, interval_number(*unit))])
         }
+        DataType::Map(_, sorted) => TypeSlots::One([Slot::Scalar(Width::One, bit(*sorted))]),
         DataType::Null | DataType::Bool => TypeSlots::Zero,
         DataType::Binary | DataType::LargeBinary => TypeSlots::Zero,
         DataType::Utf8 | DataType::LargeUtf8 => TypeSlots::Zero,
