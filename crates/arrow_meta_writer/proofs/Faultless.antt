@@ -1,12 +1,13 @@
 -- No fault holds of the tree that a message is written as.
 use Rattle.std.proofs.Common.{◌≡◌, ℕ, ◌^◌, ◌<◌, ◌≤◌, Bool, true, false, ◌||◌, not, nat_lt, if◌then◌else◌}
 use Rattle.std.proofs.Common.{List, [], ◌∷◌, Option, Some, None, is_some, refl, sym, ap, ◌∙◌, inl, inr, arith}
-use Rattle.std.proofs.lemmas.Bool.{le-ltb, or_parts}
+use Rattle.std.proofs.lemmas.Bool.{le-ltb, or_from, or_parts}
+use Rattle.arrow_types.specs.DataType as tags
 use Rattle.arrow_types.specs.DataType.{Tag}
 use Rattle.arrow_types.specs.Field as columns
 use Rattle.arrow_types.specs.Field.{Head, Fields, width}
 use Rattle.arrow_types.specs.Notes.{KeyValue, Notes}
-use Rattle.arrow_types.specs.Schema.{is_nested, is_wide, is_too_wide, types_differ, dictionary_fields}
+use Rattle.arrow_types.specs.Schema.{is_nested, is_wide, is_too_wide, lacks_entries, some_lack_entries, types_differ, dictionary_fields}
 use Rattle.arrow_types.specs.TypeSet.{leaves_out, leaves_some_out}
 use Rattle.arrow_types.specs.declared.type_set.TypeSet.{TypeSet}
 use Rattle.arrow_types.specs.declared.field.Encoding.{Encoding}
@@ -18,7 +19,7 @@ use Rattle.arrow_meta_reader.specs.declared.fault.MetaFault.TheVariants.{Metadat
 use Rattle.arrow_meta_reader.specs.declared.message.MetadataVersion.{MetadataVersion}
 use Rattle.arrow_meta_reader.specs.declared.message.MetadataVersion.TheVariants as versions
 use Rattle.arrow_meta_reader.specs.Conditions.{any, any_in, lacks_table, is_unsupported, is_misfit}
-use Rattle.arrow_meta_reader.specs.Conditions.{children_fit}
+use Rattle.arrow_meta_reader.specs.Conditions.{children_fit, entries_fit}
 use Rattle.arrow_meta_reader.specs.Faults.{body_of, fault_of, header_in, is_bad_length, is_unsupported_schema, version_in}
 use Rattle.arrow_meta_reader.specs.Types.{type_code}
 use Rattle.arrow_meta_writer.specs.Layouts.{tag_code, first_pairs, first_below, first_rest}
@@ -103,23 +104,33 @@ fitting_encoding : (e : Option Encoding) → any is_misfit (encoding_tree e) ≡
 fitting_encoding None = refl
 fitting_encoding (Some e) = let known = width_again e.index.bits in rw known refl
 
-fitting_field : (types : TypeSet) (head : Head) (ps : List KeyValue) (children : Fields) (n : Notes) → IsField head children → AreFields children → is_too_wide children ≡ false → leaves_some_out types children ≡ false → is_misfit (kinds.Field types) (field_parts types head ps (field_trees types children n)) ≡ false
-fitting_field types head ps children n h below narrow within =
-    let fits : children_fit (type_code (tag_code head.tag)) (width (fields_from (field_trees types children n))) ≡ true =
-    ap (λ fs. children_fit (type_code (tag_code head.tag)) (width fs)) (fields_again types children n below narrow within) ∙ h.fits in
-    ap not fits
+-- the entries of a map fit where it has them
+fitting_entries : (tag : Tag) (children : Fields) → lacks_entries tag children ≡ false → not (entries_fit (type_code (tag_code tag)) children) ≡ false
+fitting_entries (tags.map sorted) children mapped = mapped
+fitting_entries tag children mapped = refl
 
-all_fitting : (types : TypeSet) (fields : Fields) (n : Notes) → AreFields fields → is_too_wide fields ≡ false → leaves_some_out types fields ≡ false → any_in is_misfit (field_trees types fields n) ≡ false
-all_fitting types columns.none n h narrow within = refl
-all_fitting types (columns.more head children rest) n h narrow within =
+fitting_field : (types : TypeSet) (head : Head) (ps : List KeyValue) (children : Fields) (n : Notes) → IsField head children → AreFields children → is_too_wide children ≡ false → lacks_entries head.tag children ≡ false
+    → leaves_some_out types children ≡ false → is_misfit (kinds.Field types) (field_parts types head ps (field_trees types children n)) ≡ false
+fitting_field types head ps children n h below narrow mapped within =
+    let code = type_code (tag_code head.tag) in
+    let again = fields_again types children n below narrow within in
+    let fits : children_fit code (width (fields_from (field_trees types children n))) ≡ true = ap (λ fs. children_fit code (width fs)) again ∙ h.fits in
+    let entries : not (entries_fit code (fields_from (field_trees types children n))) ≡ false = ap (λ fs. not (entries_fit code fs)) again ∙ fitting_entries head.tag children mapped in
+    or_from _ _ (ap not fits) entries
+
+all_fitting : (types : TypeSet) (fields : Fields) (n : Notes) → AreFields fields → is_too_wide fields ≡ false → some_lack_entries fields ≡ false → leaves_some_out types fields ≡ false → any_in is_misfit (field_trees types fields n) ≡ false
+all_fitting types columns.none n h narrow mapped within = refl
+all_fitting types (columns.more head children rest) n h narrow mapped within =
     let in_all = or_parts (leaves_out types head.tag || leaves_some_out types children) (leaves_some_out types rest) within in
     let in_own = or_parts (leaves_out types head.tag) (leaves_some_out types children) in_all.0 in
     let both = or_parts (is_wide head.tag || is_too_wide children) (is_too_wide rest) narrow in
     let own = or_parts (is_wide head.tag) (is_too_wide children) both.0 in
+    let mapped_all = or_parts (lacks_entries head.tag children || some_lack_entries children) (some_lack_entries rest) mapped in
+    let mapped_own = or_parts (lacks_entries head.tag children) (some_lack_entries children) mapped_all.0 in
     let ps = first_pairs n in
     let below = first_below n in
-    let here = field_passes types is_misfit head ps (field_trees types children below) (fitting_field types head ps children below h.0 h.1 own.1 in_own.1) (fitting_type types head.tag own.0) (fitting_encoding head.encoding) (all_fitting types children below h.1 own.1 in_own.1) (metadata_pass is_misfit (λ xs. refl) ps) in
-    let later = all_fitting types rest (first_rest n) h.2 both.1 in_all.1 in
+    let here = field_passes types is_misfit head ps (field_trees types children below) (fitting_field types head ps children below h.0 h.1 own.1 mapped_own.0 in_own.1) (fitting_type types head.tag own.0) (fitting_encoding head.encoding) (all_fitting types children below h.1 own.1 mapped_own.1 in_own.1) (metadata_pass is_misfit (λ xs. refl) ps) in
+    let later = all_fitting types rest (first_rest n) h.2 both.1 mapped_all.1 in_all.1 in
     rw (here, later) refl
 
 -- The body's length is neither negative nor over the limit.
@@ -142,7 +153,7 @@ sound_header types max n version (schema s) h within low small =
     let length = good_length max n low small in
     let lacks = lacks_none types fields s.notes in
     let supported = all_supported types fields s.notes ∙ within in
-    let fitting = all_fitting types fields s.notes h.1.fields_are is.bounded.narrow within in
+    let fitting = all_fitting types fields s.notes h.1.fields_are is.bounded.narrow is.bounded.mapped within in
     let again = fields_again types fields s.notes h.1.fields_are is.bounded.narrow within in
     let flat : is_nested (fields_from (field_trees types fields s.notes)) ≡ false = ap is_nested again ∙ is.bounded.flat in
     let shared : types_differ (dictionary_fields (fields_from (field_trees types fields s.notes))) ≡ false = ap (λ fs. types_differ (dictionary_fields fs)) again ∙ none_differ (dictionary_fields fields) is.one_type in

@@ -109,6 +109,7 @@ tag_of_all (tags.timestamp unit None) narrow = ap (λ u. tags.timestamp (unwrap_
 tag_of_all (tags.timestamp unit (Some zone)) narrow = ap (λ u. tags.timestamp (unwrap_or u times.Second) (Some zone)) (time_again unit)
 tag_of_all (tags.fixed_size_binary width) narrow = ap (λ b. tags.fixed_size_binary (unwrap_or (if b then None else Some width) 0)) narrow
 tag_of_all (tags.duration unit) narrow = ap (λ u. tags.duration (unwrap_or u times.Second)) (time_again unit)
+tag_of_all (tags.map sorted) narrow = ap tags.map (flag_again sorted)
 tag_of_all (tags.interval unit) narrow = ap (λ u. tags.interval (unwrap_or u intervals.YearMonth)) (interval_again unit)
 tag_of_all tag narrow = refl
 
@@ -138,5 +139,6 @@ type_fits (tags.timestamp unit None) h narrow = (omega arith, (omega (arith, tim
 type_fits (tags.timestamp unit (Some zone)) h narrow = (omega arith, (omega (arith, time_fits unit), (h, tt)))
 type_fits (tags.fixed_size_binary width) h narrow = (omega arith, (omega (arith, ltb-false 2147483647 width narrow), tt))
 type_fits (tags.duration unit) h narrow = (omega arith, (omega (arith, time_fits unit), tt))
+type_fits (tags.map sorted) h narrow = (omega arith, (flag_fits sorted, tt))
 type_fits (tags.interval unit) h narrow = (omega arith, (omega (arith, interval_fits unit), tt))
 type_fits tag h narrow = (omega arith, tt)

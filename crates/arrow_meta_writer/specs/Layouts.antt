@@ -74,8 +74,8 @@ zone_in (tags.timestamp unit zone) = zone
 zone_in _ = None
 
 -- a type's table: of FloatingPoint the precision, of Date, Duration and Interval the unit, of Time the unit and bitWidth, of
--- Timestamp the unit and the time zone, of FixedSizeBinary the byteWidth. The types that no reader opens have a table
--- without fields.
+-- Timestamp the unit and the time zone, of FixedSizeBinary the byteWidth, of Map keysSorted. The types that no reader
+-- opens have a table without fields.
 abbrev pub type_cells : Tag → Cells
 type_cells (tags.int bits signed) = int_cells bits signed
 type_cells (tags.floating_point precision) = scalar Two (precision_number precision) last
@@ -85,6 +85,7 @@ type_cells (tags.timestamp unit zone) = scalar Two (time_number unit) (zone_cell
 type_cells (tags.fixed_size_binary width) = scalar Four width last
 type_cells (tags.duration unit) = scalar Two (time_number unit) last
 type_cells (tags.interval unit) = scalar Two (interval_number unit) last
+type_cells (tags.map sorted) = scalar One (flag sorted) last
 type_cells _ = last
 
 -- a DictionaryEncoding table: id, indexType, isOrdered, dictionaryKind

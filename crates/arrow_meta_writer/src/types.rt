@@ -1,6 +1,6 @@
 //! Types as they are written: the code in the field's table, and the type's own table
 //! (`Schema.fbs`, union `Type`, tables `Int`, `FloatingPoint`, `Date`, `Time`, `Timestamp`,
-//! `FixedSizeBinary`, `Duration`, `Interval`).
+//! `FixedSizeBinary`, `Duration`, `Interval`, `Map`).
 //!
 //! `type_slots` has one row for each type: the number of fields, the size and the bytes of a type's
 //! table are computed from that row. A type without parameters has a table without fields. A unit or
@@ -49,6 +49,7 @@ pub(crate) fn type_code(data_type: &DataType) -> u64
         DataType::List(_) => 12,
         DataType::Struct(_) => 13,
         DataType::FixedSizeBinary(_) => 15,
+        DataType::Map(..) => 17,
         DataType::Duration(_) => 18,
         DataType::LargeBinary => 19,
         DataType::LargeUtf8 => 20,
@@ -116,6 +117,7 @@ fn type_slots(data_type: &DataType, zone: usize) -> TypeSlots
         DataType::FixedSizeBinary(width) => scalar(Width::Four, u64::from(*width)),
         DataType::Duration(unit) => scalar(Width::Two, time_number(*unit)),
         DataType::Interval(unit) => scalar(Width::Two, interval_number(*unit)),
+        DataType::Map(_, sorted) => scalar(Width::One, bit(*sorted)),
         DataType::Null | DataType::Bool => TypeSlots::Zero,
         DataType::Binary | DataType::LargeBinary => TypeSlots::Zero,
         DataType::Utf8 | DataType::LargeUtf8 => TypeSlots::Zero,
