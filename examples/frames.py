@@ -152,6 +152,11 @@ integer, floating, date, timestamp, interval, fixed_size_binary, duration = (fun
 INT32 = integer(32, True)
 
 
+def map_of(entries, keys_sorted=False):
+    """The type of maps, and its one child: the field of the entries. `keys_sorted` is None if the type's table leaves it out."""
+    return of_type("Map", keys_sorted), [entries]
+
+
 def time(unit):
     return of_type("Time", unit, 32 if unit < 2 else 64)
 

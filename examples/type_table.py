@@ -47,7 +47,8 @@ class Form:
 @dataclasses.dataclass(frozen=True)
 class Type:
     """A type by its name and its code in the union Type. `form` gives the Form of parameters, or None where they are not allowed;
-    `cases` are all that are allowed, or some where they are many. `children` is None where any number is allowed."""
+    `cases` are all that are allowed, or some where they are many. `children` is None where any number is allowed. `entry_fields` is
+    the number of fields that the child has, which then is a struct that is not dictionary-encoded; None if a child may have any type."""
     name: str
     code: int
     form: Callable[[tuple], Optional[Form]]
@@ -55,6 +56,7 @@ class Type:
     fields: tuple = ()
     children: Optional[int] = 0
     is_core: bool = True
+    entry_fields: Optional[int] = None
 
 
 def closed(name, code, forms, *fields, **how):
@@ -112,6 +114,8 @@ TYPES = (
     single("List", 12, "list", "+l", LISTS, "i", children=1),
     single("Struct_", 13, "struct", "+s", STRUCTS, children=None),
     Type("FixedSizeBinary", 15, fixed_size_binary, ((0,), (3,), (16,), (2 ** 31 - 1,)), (Field("byte_width", 4, 0),)),
+    closed("Map", 17, {(False,): Form("map", "+m", LISTS, "i"), (True,): Form("map[sorted]", "+m", LISTS, "i")},
+        Field("keys_sorted", 1, False), children=1, is_core=False, entry_fields=2),
     closed("Duration", 18, {(at,): Form(f"duration[{it}]", f"tD{it[0]}", NUMBERS, "q") for at, it in enumerate(UNITS)},
         Field("unit", 2, 1)),
     single("LargeBinary", 19, "large_binary", "Z", BYTES, "q"),
@@ -120,4 +124,4 @@ TYPES = (
 )
 BY_CODE = {it.code: it for it in TYPES}
 BY_NAME = {it.name: it for it in TYPES}
-INT, FLOATING = BY_NAME["Int"], BY_NAME["FloatingPoint"]
+INT, FLOATING, STRUCT, MAP = (BY_NAME[it] for it in ("Int", "FloatingPoint", "Struct_", "Map"))

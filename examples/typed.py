@@ -1,8 +1,8 @@
 """Schemas of types in each form, laid out by frames.py: what vectors/ROWS changes, and what examples have."""
 import bodies
 from frames import (BINARY, BOOL, END_MARKER, INT32, LARGE_BINARY, LARGE_LIST, LARGE_UTF8, LIST, NULL, STRUCT, UTF8, batch, bools, date,
-                    dictionary, dictionary_batch, duration, field, fixed_size_binary, floating, integer, interval, lists, numbers, schema,
-                    strings, structs, time, timestamp)
+                    dictionary, dictionary_batch, duration, field, fixed_size_binary, floating, integer, interval, lists, map_of, numbers,
+                    schema, strings, structs, time, timestamp)
 from streams import four_fields
 from type_table import INT
 
@@ -80,6 +80,31 @@ def intervals():
                  lists([None, []], lambda _: structs([], day_times([]), months([]))), numbers([2, 0], "b"))
     return b"".join([columns, dictionary_batch(7, month_day_nanos([(1, 0, 0), (0, 1, 0)])), first,
                      dictionary_batch(7, month_day_nanos([(0, 0, 86_400_000_000_000)]), True), more, END_MARKER])
+
+
+def maps():
+    """Maps with sorted keys and without an order: plain, below lists, with values by a dictionary, and by a dictionary that grows."""
+    def of_entries(key, value):
+        return field("entries", STRUCT, [field("key", key, nullable=False), value], nullable=False)
+    counts, names = of_entries(UTF8, field("value", INT32)), of_entries(INT32, field("value", UTF8, encoding=dictionary(3, 8)))
+    columns = schema(field("count", *map_of(counts)), field("name", *map_of(names, True), nullable=False),
+                     field("groups", LIST, [field("item", *map_of(counts, True))]),
+                     field("term", *map_of(counts), encoding=dictionary(7, 8)))
+
+    def pairs_of(keys, values):
+        return lambda its: structs(its, keys([key for key, _ in its]), values([value for _, value in its]))
+
+    def counted(values):
+        return lists(values, pairs_of(strings, numbers))
+
+    def named(values):
+        return lists(values, pairs_of(numbers, lambda its: numbers(its, "b")))
+    first = batch(counted([[("a", 1), ("b", None)], None, [], [("a", -1), ("a", 2)]]),
+                  named([[(1, 0), (2, 1)], [], [(3, None)], [(4, 0)]]),
+                  lists([[[("x", 10), ("y", 20)], None], [], None, [[]]], counted), numbers([1, None, 0, 1], "b"))
+    more = batch(counted([None, [("c,d", 0)]]), named([[], [(-1, 1)]]), lists([None, [[("z", None)]]], counted), numbers([2, 0], "b"))
+    return b"".join([columns, dictionary_batch(3, strings(["one", "two"])), dictionary_batch(7, counted([[], [("k", 5)]])), first,
+                     dictionary_batch(7, counted([[("k", 5), ("l", None)]]), True), more, END_MARKER])
 
 
 def shared_columns():

@@ -13,7 +13,7 @@ import sys
 
 sys.dont_write_bytecode = True
 sys.path.insert(0, str(pathlib.Path(__file__).resolve().parent.parent / "examples"))
-from type_table import BY_CODE, INT, TEXT
+from type_table import BY_CODE, INT, STRUCT, TEXT
 
 MAX_METADATA = 67_108_864
 MAX_BODY = 2 ** 36
@@ -245,10 +245,17 @@ def form_of(field):
 
 
 def fits(field):
-    """Whether widths, units and the number of children are those of the type."""
+    """Whether widths, units and children are those of the type."""
     if form_of(field) is None or field["encoding"] and INT.form(field["encoding"][1]) is None:
         return False
-    return BY_CODE[field["code"]].children in (None, len(field["children"]))
+    row = BY_CODE[field["code"]]
+    return row.children in (None, len(field["children"])) and (row.entry_fields is None or all(
+        has_entries(it, row.entry_fields) for it in field["children"]))
+
+
+def has_entries(field, count):
+    """Whether a field is that of a map's entries: a struct of so many fields, which is not dictionary-encoded."""
+    return field["code"] == STRUCT.code and field["encoding"] is None and len(field["children"]) == count
 
 
 def value_type(field):

@@ -14,7 +14,7 @@ sys.dont_write_bytecode = True
 sys.path.insert(0, str(pathlib.Path(__file__).resolve().parent.parent / "examples"))
 import frames
 from frames import scalar, table, vector
-from type_table import BY_CODE, INT, TEXT, TYPES
+from type_table import BY_CODE, BY_NAME, INT, MAP, STRUCT, TEXT, TYPES
 
 V4, V5 = 3, 4
 KEYS = [b"", b"k", b"key", b"k", "Schlüssel".encode(), b"\xff\xfe", b"\0", b"ARROW:extension:name", b"\xc3", b"k" * 40]
@@ -30,19 +30,22 @@ def any_pairs(chance):
 
 def any_type(chance, levels, types):
     """The code of a type of a set, what its table says, and how many children it has; those that the core leaves out are likelier."""
-    its = [it for it in TYPES if model.is_taken(it.code, types) and (levels > 1 or it.children == 0)]
+    its = [it for it in TYPES if model.is_taken(it.code, types) and (levels > 1 or it.children == 0)
+           and (levels > 2 or it.entry_fields is None)]
     row = chance.choice([it for it in its for _ in range(1 if it.is_core else 3)])
     return row.code, chance.choice(row.cases) or None, chance.randrange(4) if row.children is None else row.children
 
 
-def any_field(chance, levels, ids, may_encode=True, types=model.CORE):
-    """A field; `ids` are the numbers of dictionaries that no field has yet."""
-    code, said, count = any_type(chance, levels, types)
-    encoding = None
-    if may_encode and chance.random() < 0.2:
+def any_field(chance, levels, ids, may_encode=True, types=model.CORE, entry_fields=None):
+    """A field; `ids` are the numbers of dictionaries that no field has yet. With a number of `entry_fields` it is the field of a
+    map's entries."""
+    is_entry = entry_fields is not None
+    code, said, count = (STRUCT.code, None, entry_fields) if is_entry else any_type(chance, levels, types)
+    encoding, below = None, BY_CODE[code].entry_fields
+    if may_encode and not is_entry and chance.random() < 0.2:
         encoding, may_encode = (next(ids), chance.choice(INT.cases), chance.random() < 0.3, 0), False
     return {"name": chance.choice(NAMES).encode(), "nullable": chance.random() < 0.5, "code": code, "type": said,
-            "encoding": encoding, "children": [any_field(chance, levels - 1, ids, may_encode, types) for _ in range(count)],
+            "encoding": encoding, "children": [any_field(chance, levels - 1, ids, may_encode, types, below) for _ in range(count)],
             "pairs": any_pairs(chance)}
 
 
@@ -61,6 +64,29 @@ def any_schema(chance, types=model.CORE):
             known = chance.choice(fields)
             fields.append(known if chance.random() < 0.5 else noted_anew(chance, known))
     return model.Schema(0, fields, any_pairs(chance))
+
+
+def with_children(field, known, children):
+    """The same field, in which one field, itself or one below it, has other children."""
+    below = children if field is known else [with_children(it, known, children) for it in field["children"]]
+    return {**field, "children": below}
+
+
+def misfit(chance, schema):
+    """The schema in which one map has no child, has two, or has one that is not a struct of two fields or is dictionary-encoded; None
+    if no field is a map."""
+    maps = [it for it in model.all_fields(schema.fields) if it["code"] == MAP.code]
+    if not maps:
+        return None
+    known = chance.choice(maps)
+    entries, = known["children"]
+    key, value = entries["children"]
+    others = [{"children": []}, {"children": [key]}, {"children": [key, value, key]}, {"encoding": (1000, (32, True), False, 0)},
+              {"code": INT.code, "type": (32, True), "children": []}, {"code": BY_NAME["List"].code, "children": [value]}]
+    found = [schema._replace(fields=[with_children(it, known, children) for it in schema.fields])
+             for children in ([], [entries, entries], *([{**entries, **it}] for it in others))]
+    # a dictionary below another one is refused by another kind
+    return chance.choice([it for it in found if not model.is_unsupported(it, model.ALL)])
 
 
 class Held:
@@ -193,8 +219,10 @@ class ByChance(Straight):
 
 
 def any_frame(chance, types=model.CORE):
-    """A random schema and a frame of it, now and then of a version that is not read."""
+    """A random schema and a frame of it, now and then of a version that is not read, or with a map whose entries are not allowed."""
     schema = any_schema(chance, types)
+    if chance.random() < 0.2:
+        schema = misfit(chance, schema) or schema
     return schema, ByChance(chance).frame(schema, chance.choice([V4] * 4 + [V5] * 8 + [0, 2, 5]))
 
 

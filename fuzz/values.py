@@ -1,9 +1,9 @@
 """Columns, dictionaries and batches as chance will have them: streams of all types, laid out by examples/frames.py, and the rows
 that `arrowflow show` has to print of them, by docs/FORMAT.md alone.
 
-A kind is a type, one of the core or of those that it leaves out (floating-point numbers, intervals of each unit), with what stands below
-it, and perhaps the dictionary by which its values are told. A value is None where it is null, else a truth, a number, bytes, a text, a
-list, a tuple of the numbers of an interval or of the fields of a struct; by a dictionary it is an index.
+A kind is a type, one of the core or of those that it leaves out (floating-point numbers, intervals of each unit, maps), with the kinds
+below it, and perhaps the dictionary that has its values. A value is None if it is null, else a truth, a number, bytes, a text, a list,
+a tuple of the numbers of an interval or of the fields of a struct; by a dictionary it is an index. A map is a list of structs.
 """
 import pathlib
 import struct
@@ -15,7 +15,7 @@ import bodies
 import floats
 import frames
 from model import ALL, CORE
-from type_table import BITS, BYTES, FIXED, FLOATING, INT, NULLS, TEXTS, TYPES
+from type_table import BITS, BYTES, FIXED, FLOATING, INT, MAP, NULLS, TEXTS, TYPES
 
 WORDS = ["", "a", "b,c", 'say "no"', "é€", "line\nbreak", "return\r", "a;b", "x" * 40, "null", "0"]
 NAMES = ["n", "column", "", "ä", "a b", 'q"', "c,d"]
@@ -143,6 +143,17 @@ class Structs:
         return "{" + ";".join(f"{part}={inside(kind, it, held)}" for (part, kind), it in zip(self.parts, value)) + "}"
 
 
+class Maps(Lists):
+    """Maps of kinds by the names of the key and of the value: lists of structs."""
+
+    def __init__(self, parts, keys_sorted):
+        super().__init__(Structs(parts), False)
+        self.keys_sorted = keys_sorted
+
+    def field(self, name, nullable=True, encoding=None):
+        return frames.field(name, *frames.map_of(self.item.field("entries"), self.keys_sorted), nullable, encoding)
+
+
 class Encoded:
     """Values of a kind, told by their places in the dictionary of a number."""
 
@@ -173,6 +184,9 @@ def any_kind(chance, levels, known, may_encode=True, types=CORE):
         number = chance.choice([it for it in (0, 1, 7, -1, 2 ** 63 - 1, -2 ** 63, *range(100, 140)) if it not in known])
         known[number] = Encoded(number, any_kind(chance, levels, known, False, types), bits, signed)
         return known[number]
+    if levels > 2 and types == ALL and chance.random() < 0.2:
+        parts = [(chance.choice(NAMES), any_kind(chance, levels - 2, known, may_encode, types)) for _ in range(MAP.entry_fields)]
+        return Maps(parts, chance.random() < 0.5)
     if levels > 1 and chance.random() < 0.4:
         if chance.random() < 0.5:
             return Lists(any_kind(chance, levels - 1, known, may_encode, types), chance.random() < 0.5)

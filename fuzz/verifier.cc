@@ -208,6 +208,7 @@ void tell(std::ostream &out, const Field *field) {
     }
     if (auto type = field->type_as_Interval()) out << "unit " << type->unit();
     if (auto type = field->type_as_FixedSizeBinary()) out << "width " << type->byteWidth();
+    if (auto type = field->type_as_Map()) out << "sorted " << type->keysSorted();
     if (auto type = field->type_as_Duration()) out << "unit " << type->unit();
     if (auto by = field->dictionary()) {
         out << " by " << by->id() << " ";

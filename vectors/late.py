@@ -3,11 +3,12 @@ with the core."""
 import copied
 import floating
 import intervals
+import maps
 import worked
 from table import STANDARD
 from told import ALL, CORE, OF_ALL, answers
 
-MODULES = floating, intervals
+MODULES = floating, intervals, maps
 # What the names of the same streams begin with, where they are read with the core.
 OF_CORE = "core/"
 REFUSED = "refuse Unsupported at 0\nend Unsupported at 0\n"
@@ -64,11 +65,11 @@ def copies():
 
 def check(files):
     """What is laid out or answered otherwise than it is written out."""
-    stated = {f"{OF_ALL}{name}": lines for name, lines in intervals.STATED.items()}
     its = [it for module in MODULES for it in module.written_out()]
     its += [(f"{name} with the core", answers(held, CORE), REFUSED) for name, (_, _, held) in vectors().items()
         if not name.startswith(OF_ALL + VERSION_3)]
     its += [(f"the copy of {it}", copied.copy(held, 0, ALL), held) for module in MODULES for it in module.AS_IT_IS
         for held in [module.vectors()[it][2]]]
-    return [*worked.lacking(files, "intervals", stated),
+    stated = {module.__name__: {f"{OF_ALL}{name}": lines for name, lines in module.STATED.items()} for module in (intervals, maps)}
+    return [*(it for name, lines in stated.items() for it in worked.lacking(files, name, lines)),
         *(f"{name}: not as it is written out" for name, held, wanted in its if held != wanted)]

@@ -260,7 +260,7 @@ RULES = {
         "rows_of_the_batch_and_of_its_node", "node_longer_than_the_batch", "rows_of_the_dictionary_and_of_its_node",
             "columns_of_unequal_lengths"]),
     "a struct's child has as many slots as the struct, or more": (["struct_column", "longer_child",
-        "structs_of_structs.changes"], "Layout", ["shorter_child"]),
+        "structs_of_structs.changes"], "Layout", ["shorter_child", "all/fewer_keys_than_entries"]),
     "a buffer's length is not negative": (["no_validity"], "Layout", ["negative_buffer_length"]),
     "a buffer that is not empty begins in the body": (["buffers_that_overlap", "buffers_not_aligned"], "Layout",
         ["negative_buffer_offset", "validity_outside"]),
@@ -276,13 +276,15 @@ RULES = {
         "all/month_day_nanos_too_short", "all/months_for_day_times"]),
     "there is one offset more than slots, or there are no slots": (["one_offset", "no_offsets", "no_large_offsets"], "Layout", [
         "offsets_too_short", "large_offsets_too_short", "no_offsets_for_a_slot", "two_bytes_of_offsets", "three_bytes_of_offsets"]),
-    "the first offset is not negative": (["first_offset_above_zero", "text_behind_two_bytes"], "Layout", [
-        "negative_offset", "negative_large_offset", "list_from_a_negative_offset"]),
+    "the first offset is not negative": (["first_offset_above_zero", "text_behind_two_bytes",
+        "all/maps_after_an_entry"], "Layout", ["negative_offset", "negative_large_offset", "list_from_a_negative_offset",
+        "all/map_from_a_negative_offset"]),
     "no offset falls": (["an_empty_text_behind_two_bytes", "null_of_some_bytes"], "Layout", [
-        "falling_offsets", "falling_offsets_under_a_null", "falling_large_offsets", "falling_large_list"]),
+        "falling_offsets", "falling_offsets_under_a_null", "falling_large_offsets", "falling_large_list",
+        "all/falling_offsets_of_maps"]),
     "the last offset lies in the values or the child": (["list_after_a_gap", "texts_of_a_letter"], "Layout", [
         "offsets_past_the_data", "large_offsets_past_the_data", "large_offset_of_2_32", "list_past_its_child",
-            "large_list_past_its_child"]),
+            "large_list_past_its_child", "all/map_past_its_entries"]),
     "the number of nulls is -1 or that of the bits, of nulls any": (["null_count_not_told", "null_count_of_nulls", "no_validity"],
         "Layout", [
         "null_count_wrong", "null_count_of_minus_2", "no_validity_and_a_null", "validity_of_no_nulls",
@@ -291,7 +293,7 @@ RULES = {
         "letters_of_many_bytes.changes"], "Text", [
         "text_not_utf8", "text_of_a_surrogate", "text_longer_than_it_need_be", "text_cut_off", "large_text_not_utf8",
             "text_of_a_dictionary_not_utf8",
-        "text_in_a_list_not_utf8", "text_under_a_null_struct", "text_that_no_list_reaches"]),
+        "text_in_a_list_not_utf8", "text_under_a_null_struct", "text_that_no_list_reaches", "all/key_of_maps_not_utf8"]),
     "each valid index has a value, also where nothing reaches it": (["index_under_a_null", "negative_index_under_a_null",
         "index_of_255", "null_indices_without_a_dictionary", "index_among_200.changes"], "Index", ["index_above", "index_below", "index_without_a_dictionary",
         "index_of_an_emptied_dictionary", "index_above_a_shorter_dictionary", "index_before_its_delta", "index_of_2_64",

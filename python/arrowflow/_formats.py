@@ -8,12 +8,12 @@ _UNITS = {"s": "s", "m": "ms", "u": "us", "n": "ns"}
 _WORDS = {
     "n": "null", "b": "bool", "c": "int8", "C": "uint8", "s": "int16", "S": "uint16", "i": "int32", "I": "uint32", "l": "int64",
     "L": "uint64", "e": "halffloat", "f": "float", "g": "double", "z": "binary", "Z": "large_binary", "u": "utf8", "U": "large_utf8",
-    "+l": "list", "+L": "large_list", "+s": "struct", "tdD": "date[day]", "tdm": "date[ms]",
+    "+l": "list", "+L": "large_list", "+s": "struct", "+m": "map", "tdD": "date[day]", "tdm": "date[ms]",
     "tiM": "month_interval", "tiD": "day_time_interval", "tin": "month_day_nano_interval"}
 # How the module `struct` unpacks the numbers of a slot, without the order of bytes.
 _CODES = {"c": "b", "C": "B", "s": "h", "S": "H", "i": "i", "I": "I", "l": "q", "L": "Q", "e": "e", "f": "f", "g": "d",
           "tdD": "i", "tdm": "q", "tts": "i", "ttm": "i", "ttu": "q", "ttn": "q", "tiM": "i", "tiD": "ii", "tin": "iiq"}
-_OFFSETS = {"z": "i", "u": "i", "+l": "i", "Z": "q", "U": "q", "+L": "q"}
+_OFFSETS = {"z": "i", "u": "i", "+l": "i", "+m": "i", "Z": "q", "U": "q", "+L": "q"}
 
 
 def words_of(format: str) -> str:

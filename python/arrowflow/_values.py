@@ -6,7 +6,7 @@ import datetime
 import functools
 import re
 import struct
-from typing import TYPE_CHECKING, Any, Callable, Dict, List, Optional
+from typing import TYPE_CHECKING, Any, Callable, Dict, List, Optional, Tuple
 
 from ._formats import code_of, offset_code_of, width_of, zone_of
 
@@ -57,11 +57,22 @@ def _structs(of: "Column", start: int, stop: int) -> List[Dict[str, Any]]:
     return [dict(zip(names, row)) for row in zip(*columns)] if columns else [{} for _ in range(start, stop)]
 
 
+def _entries(of: "Column", start: int, stop: int) -> List[Optional[Tuple[Any, Any]]]:
+    """The entries of maps, each a tuple of its key and its value, whatever their names are, or None if it is null."""
+    valid = of._valid(start, stop)
+    keys, values = (values_in(it, start, stop) for it in of.children)
+    return [pair if valid is None or valid[k] else None for k, pair in enumerate(zip(keys, values))]
+
+
 def _cut(of: "Column", start: int, stop: int, valid: Optional[List[bool]]) -> List[Any]:
-    """Texts, byte strings or lists: what lies between one offset and the next. Nothing is made of a slot without a value."""
+    """Texts, byte strings, lists or maps: what lies between one offset and the next. Nothing is made of a slot without a value."""
     ends = of._offsets(start, stop)
     first, last = ends[0], ends[-1]
-    inside: Any = of._raw(2, first, last) if of.format in "uUzZ" else values_in(of.children[0], first, last)
+    inside: Any
+    if of.format in "uUzZ":
+        inside = of._raw(2, first, last)
+    else:
+        inside = (_entries if of.format == "+m" else values_in)(of.children[0], first, last)
     parts: List[Any] = [inside[ends[k] - first:ends[k + 1] - first] for k in range(stop - start)]
     if valid is not None:
         parts = [part if has else None for part, has in zip(parts, valid)]
