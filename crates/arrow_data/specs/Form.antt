@@ -20,7 +20,7 @@ interval_form YearMonth = forms.Numbers ThirtyTwo true
 interval_form DayTime = forms.FixedBytes 8
 interval_form MonthDayNano = forms.FixedBytes 16
 
--- the form of the values of a type; a floating-point number is the number of its bits
+-- the form of the values of a type; a floating-point number is the number of its bits, a map the list of its entries
 abbrev pub form_of : Tag → Form
 form_of tags.null = forms.Nulls
 form_of tags.boolean = forms.Bits
@@ -39,6 +39,7 @@ form_of tags.large_utf8 = forms.Texts Large
 form_of tags.list = forms.Lists Small
 form_of tags.large_list = forms.Lists Large
 form_of tags.struct = forms.Structs
+form_of (tags.map sorted) = forms.Lists Small
 
 -- the form of a node: a dictionary-encoded one has that of its indices (Columnar Format, "Dictionary-encoded Layout")
 abbrev pub node_form : Tag → Option Encoding → Form

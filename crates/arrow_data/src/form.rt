@@ -114,7 +114,7 @@ pub fn form_of(data_type: &DataType) -> Form
         DataType::FixedSizeBinary(width) => Form::FixedBytes(*width),
         DataType::Utf8 => Form::Texts(OffsetWidth::Small),
         DataType::LargeUtf8 => Form::Texts(OffsetWidth::Large),
-        DataType::List(_) => Form::Lists(OffsetWidth::Small),
+        DataType::List(_) | DataType::Map(..) => Form::Lists(OffsetWidth::Small),
         DataType::LargeList(_) => Form::Lists(OffsetWidth::Large),
         DataType::Struct(_) => Form::Structs,
     }
