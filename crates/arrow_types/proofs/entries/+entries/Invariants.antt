@@ -4,7 +4,7 @@ use Rattle.arrow_types.specs.Schema.{some_lack_entries}
 use Rattle.arrow_types.specs.View.{field_view, fields_view}
 use Rattle.arrow_types.proofs.entries.+entries.Given as goal
 
--- what stands below a field is less than the field, and that less than the fields among which it stands
+-- the fields below a field are fewer than with it, and these fewer than all fields of its list
 abbrev pub decreases-some_lack_entries : goal.decreases-some_lack_entries
 decreases-some_lack_entries l = 2 * count (fields_view l.fields.now)
 
