@@ -18,7 +18,9 @@ pub use Rattle.arrow_meta_reader.specs.Builds
 pub use Rattle.arrow_meta_reader.specs.Judges
 pub use Rattle.arrow_meta_reader.specs.Straight
 pub use Rattle.arrow_meta_reader.specs.Slots
+pub use Rattle.arrow_meta_reader.specs.Types
 pub use Rattle.arrow_meta_writer.specs.Layouts
+pub use Rattle.arrow_meta_writer.specs.TypeSlots
 pub use Rattle.arrow_meta_writer.specs.Written
 pub use Rattle.arrow_meta_writer.specs.Metadata
 pub use Rattle.arrow_meta_writer.specs.Again
