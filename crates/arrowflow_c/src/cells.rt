@@ -20,7 +20,8 @@ pub struct CellC {
     pub what: u32,
     /// The truth value.
     pub truth: bool,
-    /// The number; of a date, a time, a timestamp or a duration that of its units.
+    /// The number; of a date, a time, a timestamp or a duration that of its units, of an interval in
+    /// months that of its months. (Any other interval is a byte string.)
     pub number: i64,
     /// The number, where it is above 2^63 - 1.
     pub large: u64,

@@ -15,7 +15,8 @@ use arrow_types::DataType;
 #[derive(Clone, Copy)]
 pub struct ColumnC<'a> {
     /// 0 no such column, 1 nulls, 2 truth values, 3 numbers, 4 byte strings, 5 texts, 6 byte strings
-    /// of one length, 7 lists, 8 structs, 9 indices, 10 floating-point numbers.
+    /// of one length, 7 lists, 8 structs, 9 indices, 10 floating-point numbers. Intervals in months
+    /// are numbers, all others byte strings of one length.
     pub layout: u32,
     /// Whether the numbers or the indices have a sign.
     pub has_sign: bool,

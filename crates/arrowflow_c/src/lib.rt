@@ -18,7 +18,7 @@
 //! | what a copier does between two calls | `specs/Copied.antt`: `OpensCopier`, `PutsIf`, `EndsCopy`, `TakesIf` |
 //! | the value of a cell | `specs/Cells.antt`: `CellIf` |
 //! | a column as its buffers | `specs/Columns.antt`: `ColumnIf` |
-//! | the schema and its fields | `specs/Fields.antt`: `FieldIf`; `specs/Formats.antt`: `format_of` |
+//! | the schema and its fields | `specs/Fields.antt`: `FieldIf`; `format_of` of `arrowflow_report` |
 //! | what is put into a room piece by piece | `specs/Pens.antt`: `Puts` |
 //! | what a handle owns, and lends | `specs/Owned.antt`, `specs/Lending.antt` |
 #![tactic(auto)]

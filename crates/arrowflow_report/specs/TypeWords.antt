@@ -1,5 +1,5 @@
--- The words of types: the name in the text of a schema, which is this project's own, and the format string (Arrow C data interface, "Data
--- type description -- format strings"). The types are those of Schema.fbs, union "Type".
+-- The words of types (Schema.fbs, union "Type"): the name in the text of a schema, which is this project's own, and the format
+-- string (Arrow C data interface, "Data type description -- format strings"). A row for each type, and for each unit of one.
 use Rattle.std.specs.Prelude.{ℕ, true, false, List, [], ◌++◌, Option, Some, None, codes}
 use Rattle.std.specs.Fmt.{decimal}
 use Rattle.arrow_types.specs.DataType.{Tag, null, boolean, int, floating_point, binary, large_binary, fixed_size_binary, utf8, large_utf8, date, time, timestamp, duration, interval, list, large_list, map, struct}
@@ -10,7 +10,7 @@ use Rattle.arrow_types.specs.declared.data_type.Precision.TheVariants.{Half, Sin
 use Rattle.arrow_types.specs.declared.data_type.TimeUnit.TheVariants as times
 use Rattle.arrowflow_report.specs.Escapes.{escaped}
 
--- a name and a format string
+-- what a row of the table has
 pub record Texts : Type 0 where
   pub name : List ℕ
   pub format : List ℕ
@@ -19,7 +19,7 @@ pub record Texts : Type 0 where
 abbrev pub words : List ℕ → List ℕ → Texts
 words name format = record { name = name; format = format }
 
--- the fixed texts of a type without its children, up to its width or its time zone
+-- the fixed texts of a type without its children: whole, or up to its width or its time zone
 abbrev pub words_of : Tag → Texts
 words_of null = words (codes "null") (codes "n")
 words_of boolean = words (codes "bool") (codes "b")
@@ -62,14 +62,14 @@ words_of (map false) = words (codes "map") (codes "+m")
 words_of (map true) = words (codes "map[sorted]") (codes "+m")
 words_of struct = words (codes "struct") (codes "+s")
 
--- what follows a name: the width, or the time zone if there is one, be it empty
+-- what follows the name: the width, or the time zone if there is one, which may be empty
 abbrev pub name_end : Tag → List ℕ
 name_end (fixed_size_binary width) = decimal width ++ codes "]"
 name_end (timestamp _ None) = codes "]"
 name_end (timestamp _ (Some zone)) = codes ", " ++ escaped zone ++ codes "]"
 name_end _ = []
 
--- what follows a format string: the width, or the time zone if there is one
+-- what follows the format string: the width, or the time zone if there is one
 abbrev pub format_end : Tag → List ℕ
 format_end (fixed_size_binary width) = decimal width
 format_end (timestamp _ (Some zone)) = zone

@@ -6,6 +6,8 @@
 //! exit status that the program ends with. The program opens files, makes one of these calls and
 //! prints what it gives; it adds nothing of its own.
 //!
+//! [`words_of`] and [`int_words`] give the name and the format string of a type, out of one table.
+//!
 //! One loop reads every input, [`drive`], and gives its messages to a [`Consumer`]: what makes the
 //! text of the schema, what tells lines or rows, a list of batches; a copy in `arrowflow_copy`.
 //!
@@ -16,6 +18,7 @@
 //! | what stands in an output so far; batches that are kept | `specs/Telling.antt`: `HasTold`; `specs/Kept.antt`: `HasKept` |
 //! | what is received of bytes | `specs/Session.antt`: `Receives`; `specs/Pieces.antt`: `Feeds` |
 //! | the text of a schema | `specs/SchemaText.antt`: `schema_lines`; `specs/TypeNames.antt`; `specs/Escapes.antt` |
+//! | the names and the format strings of types | `specs/TypeWords.antt`: `words_of`, `type_name`, `format_of` |
 //! | what an input answers with it | `specs/SchemaCall.antt`: `AnswersInput` |
 //! | what is written of a stream, and how that ends | `specs/Reports.antt`: `ReportsInput`; `specs/OfFront.antt`: `IsBegunOf`; `specs/Shown.antt`: `IsTextAt` |
 //! | what a check that writes nothing says of an input | `specs/Quiet.antt`: `ChecksInput` |

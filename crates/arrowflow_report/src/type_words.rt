@@ -7,8 +7,8 @@ ghost use Rattle.arrowflow_report.specs.TypeWords.{words_of};
 
 use arrow_types::{BitWidth, DataType, DateUnit, IntervalUnit, Precision, TimeUnit};
 
-/// The fixed texts of a type: all of them, or up to the width of a fixed size or the time zone of a
-/// timestamp.
+/// The fixed texts of a type: whole, or up to the width of a FixedSizeBinary or the time zone of a
+/// Timestamp.
 #[derive(Clone, Copy, Debug)]
 pub struct TypeWords {
     /// The name in the text of a schema.
@@ -17,7 +17,8 @@ pub struct TypeWords {
     pub format: &'static str,
 }
 
-/// The words of a type without its children: a row for each type, and for each unit of one.
+/// The words of a type without its children. After those of a FixedSizeBinary follow its width, and
+/// after those of a Timestamp its time zone if it has one; the name then ends with `]`.
 pub fn words_of(data_type: &DataType) -> TypeWords
     ensures name { result.name.now ≡ (words_of (type_view data_type.now).tag).name }
     ensures format { result.format.now ≡ (words_of (type_view data_type.now).tag).format }
@@ -59,7 +60,7 @@ pub fn words_of(data_type: &DataType) -> TypeWords
     }
 }
 
-/// The words of whole numbers of this width, with a sign or without one. Nothing follows them.
+/// The words of whole numbers of this width, with a sign or without one.
 pub fn int_words(bits: BitWidth, signed: bool) -> TypeWords
     ensures name { result.name.now ≡ (words_of (int bits signed)).name }
     ensures format { result.format.now ≡ (words_of (int bits signed)).format }
