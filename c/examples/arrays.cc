@@ -115,8 +115,8 @@ std::uint64_t sum_of(const ArrowSchema &schema, const ArrowArray &array) {
     const std::size_t slots = static_cast<std::size_t>(array.length), bits = (slots + 7) / 8;
     add(sum, &array.length, sizeof array.length);
     if (array.n_buffers > 0 && array.buffers[0] != nullptr) add(sum, array.buffers[0], bits);
-    if (format == "+l" || format == "+L" || array.n_buffers == 3) {
-        const std::size_t width = format == "+l" || format == "z" || format == "u" ? 4 : 8;
+    if (format == "+l" || format == "+m" || format == "+L" || array.n_buffers == 3) {
+        const std::size_t width = format == "+L" || format == "Z" || format == "U" ? 8 : 4;
         std::uint64_t end = 0;
         add(sum, array.buffers[1], width * (slots + 1));
         std::memcpy(&end, static_cast<const std::uint8_t *>(array.buffers[1]) + width * slots, width);

@@ -193,7 +193,7 @@ static const char *const type_words[][2] = {
     {"u", "utf8"},         {"U", "large_utf8"},    {"tdD", "date[day]"},   {"tdm", "date[ms]"},    {"tts", "time[s]"},
     {"ttm", "time[ms]"},   {"ttu", "time[us]"},    {"ttn", "time[ns]"},    {"tDs", "duration[s]"}, {"tDm", "duration[ms]"},
     {"tDu", "duration[us]"}, {"tDn", "duration[ns]"}, {"tiM", "month_interval"}, {"tiD", "day_time_interval"},
-    {"tin", "month_day_nano_interval"}, {"+l", "list"}, {"+L", "large_list"}, {"+s", "struct"},
+    {"tin", "month_day_nano_interval"}, {"+l", "list"}, {"+L", "large_list"}, {"+m", "map"}, {"+s", "struct"},
 };
 
 /* The text of a unit of timestamps, after "timestamp[". */
@@ -236,11 +236,13 @@ static void add_field(text *to, arrowflow_reader *reader, size_t *path, size_t d
     add_escaped(to, texts, of.name_len);
     add_word(to, of.is_encoded ? ": dictionary<" : ": ");
     add_type(to, texts + of.name_len, of.format_len);
+    if (of.flags & ARROWFLOW_FLAG_MAP_KEYS_SORTED) add_word(to, "[sorted]");
     if (of.is_encoded) {
         path[depth++] = 0;
         values = field_at(reader, path, depth, &value_texts);
         add_word(to, ", ");
         add_type(to, value_texts + values.name_len, values.format_len);
+        if (values.flags & ARROWFLOW_FLAG_MAP_KEYS_SORTED) add_word(to, "[sorted]");
         snprintf(id, sizeof id, "> id %lld", (long long)of.id);
         add_word(to, id);
         if (of.flags & ARROWFLOW_FLAG_ORDERED) add_word(to, " ordered");

@@ -328,7 +328,7 @@ static void add_array(const struct ArrowSchema *schema, const struct ArrowArray 
     const char *format = schema->format;
     size_t slots = (size_t)array->length, bits = (slots + 7) / 8;
     bool has_offsets = strchr("zuZU", *format) != NULL || (*format == '+' && format[1] != 's');
-    size_t width = strchr("zu", *format) || strcmp(format, "+l") == 0 ? 4 : 8;
+    size_t width = strchr("ZU", *format) || strcmp(format, "+L") == 0 ? 8 : 4;
     add(&array->length, sizeof array->length);
     add(&array->null_count, sizeof array->null_count);
     if (array->n_buffers > 0 && array->buffers[0] != NULL) add(array->buffers[0], bits);

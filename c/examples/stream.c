@@ -43,11 +43,13 @@ static bool is_one_of(const struct ArrowSchema *schema, const char *letters) {
     return schema->format[1] == 0 && strchr(letters, *schema->format) != NULL;
 }
 
-static bool is_list(const struct ArrowSchema *schema) { return is_format(schema, "+l") || is_format(schema, "+L"); }
+static bool is_list(const struct ArrowSchema *schema) {
+    return is_format(schema, "+l") || is_format(schema, "+L") || is_format(schema, "+m");
+}
 
 /* Bytes of an offset, or 0 where there are none. */
 static size_t offset_width(const struct ArrowSchema *schema) {
-    if (is_one_of(schema, "zu") || is_format(schema, "+l")) return 4;
+    if (is_one_of(schema, "zu") || is_format(schema, "+l") || is_format(schema, "+m")) return 4;
     return is_one_of(schema, "ZU") || is_format(schema, "+L") ? 8 : 0;
 }
 

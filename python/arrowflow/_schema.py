@@ -8,7 +8,7 @@ from typing import Any, Dict, Iterator, Optional, Sequence, Tuple, TypeVar, Unio
 from ._formats import words_of, zone_of
 from ._library import ArrowSchema
 
-_ORDERED, _NULLABLE = 1, 2
+_ORDERED, _NULLABLE, _KEYS_SORTED = 1, 2, 4
 Pairs = Tuple[Tuple[bytes, bytes], ...]
 _It = TypeVar("_It")
 
@@ -20,7 +20,8 @@ class Field:
     format           the format string of the Arrow C data interface; of a dictionary-encoded field that of the indices
     nullable         whether slots may be null, as the stream says: it is not enforced
     ordered          whether the order of the dictionary's values means something
-    children         the fields below it: of a list one, of a struct each
+    keys_sorted      of maps: whether the keys of each map are sorted, as the stream says: it is not enforced
+    children         the fields below it: of a list or a map one, of a struct each
     dictionary       the field of the dictionary's values, or None where it is not dictionary-encoded
     metadata_pairs   the custom metadata as pairs of key and value, in bytes, in their order
     """
@@ -28,13 +29,13 @@ class Field:
     def __init__(self, format: str, name: str, flags: int = _NULLABLE, metadata_pairs: Pairs = (),
                  children: "Tuple[Field, ...]" = (), dictionary: "Optional[Field]" = None) -> None:
         self.format, self.name, self.children, self.dictionary = format, name, children, dictionary
-        self.nullable, self.ordered = bool(flags & _NULLABLE), bool(flags & _ORDERED)
+        self.nullable, self.ordered, self.keys_sorted = (bool(flags & it) for it in (_NULLABLE, _ORDERED, _KEYS_SORTED))
         self.metadata_pairs = metadata_pairs
 
     @property
     def type(self) -> str:
         """The type in words, as `arrowflow schema` prints it: "int32", "timestamp[us, Europe/Berlin]", "dictionary<int32, utf8>"."""
-        words = words_of(self.format)
+        words = words_of(self.format) + ("[sorted]" if self.keys_sorted else "")
         return f"dictionary<{words}, {self.dictionary.type}>" if self.dictionary else words
 
     @property
@@ -50,7 +51,7 @@ class Field:
     @property
     def flags(self) -> int:
         """The flags of the Arrow C data interface."""
-        return _NULLABLE * self.nullable + _ORDERED * self.ordered
+        return _NULLABLE * self.nullable + _ORDERED * self.ordered + _KEYS_SORTED * self.keys_sorted
 
     def _key(self) -> Tuple[Any, ...]:
         return self.format, self.name, self.flags, self.metadata_pairs, self.children, self.dictionary

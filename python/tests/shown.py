@@ -9,7 +9,7 @@ NUMBERS = {"c": "b", "C": "B", "s": "h", "S": "H", "i": "i", "I": "I", "l": "q",
 WIDTHS = {"b": 1, "h": 2, "i": 4, "q": 8, "e": 2, "f": 4, "d": 8}
 # The numbers of an interval, each with its bytes and its letters in `show`.
 INTERVALS = {"tiM": ((4, "M"),), "tiD": ((4, "d"), (4, "ms")), "tin": ((4, "M"), (4, "d"), (8, "ns"))}
-OFFSETS = {"z": 4, "u": 4, "+l": 4, "Z": 8, "U": 8, "+L": 8}
+OFFSETS = {"z": 4, "u": 4, "+l": 4, "+m": 4, "Z": 8, "U": 8, "+L": 8}
 EPOCH = datetime.datetime(1970, 1, 1)
 A_SECOND = {"s": 1, "m": 1000, "u": 1000_000, "n": 1000_000_000}
 # A floating-point number as a field, as part of a list or as one of a struct.
@@ -96,6 +96,9 @@ def plain(value, field):
         return tuple(plain(part, it) for part, it in zip(value.values(), field.children))
     if isinstance(value, list):
         return [plain(it, field.children[0]) for it in value]
+    # the entry of a map
+    if isinstance(value, tuple) and field.format == "+s":
+        return tuple(plain(part, it) for part, it in zip(value, field.children))
     return units_of(value, field.format)
 
 

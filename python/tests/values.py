@@ -107,6 +107,20 @@ def intervals():
         yield f"{name} by a dictionary", found, [wanted[2], None, None, wanted[0], wanted[2]]
 
 
+def maps():
+    """Maps, of which one is null and one is empty; with sorted keys the type and the flags say so."""
+    pairs = [[("a", 1), ("b", None)], None, [], [("c", -3)]]
+    laid = frames.lists(pairs, lambda its: frames.structs(its, frames.strings([key for key, _ in its]), frames.numbers([it for _, it in its])))
+    entries = frames.field("entries", frames.STRUCT, [frames.field("key", frames.UTF8), frames.field("value", frames.integer(32, True))])
+    for keys_sorted, name, flags in ((False, "map", 2), (True, "map[sorted]", 6)):
+        kind, below = frames.map_of(entries, keys_sorted)
+        data = frames.schema(frames.field("x", kind, below)) + frames.batch(laid) + frames.END_MARKER
+        column = next(arrowflow.open(data, arrowflow.ALL_TYPES)).column("x")
+        found = column.type, column.field.flags, column.field.keys_sorted, column.to_pylist(), column[3]
+        yield name, found, (name, flags, keys_sorted, pairs, pairs[3])
+        yield f"{name} with the core", raised_by(arrowflow.sanitize, data).kind, arrowflow.Kind.UNSUPPORTED
+
+
 def nobody_else():
     """Rows with one value of a dictionary have lists and dicts of their own."""
     item = frames.field("item", frames.integer(64, True))
