@@ -72,14 +72,19 @@ abbrev pub is_ordered : Option Encoding → Bool
 is_ordered None = false
 is_ordered (Some e) = e.ordered
 
--- whether slots are maps with sorted keys
-abbrev pub has_sorted_keys : Tag → Option Encoding → Bool
-has_sorted_keys (map sorted) None = sorted
-has_sorted_keys _ _ = false
+-- whether a type is that of maps with sorted keys
+abbrev pub is_sorted_map : Tag → Bool
+is_sorted_map (map sorted) = sorted
+is_sorted_map _ = false
+
+-- whether slots are maps with sorted keys, and no indices
+abbrev pub has_sorted_keys : Option Encoding → Tag → Bool
+has_sorted_keys None tag = is_sorted_map tag
+has_sorted_keys (Some e) tag = false
 
 -- ARROW_FLAG_DICTIONARY_ORDERED 1, ARROW_FLAG_NULLABLE 2, ARROW_FLAG_MAP_KEYS_SORTED 4
 abbrev pub flags_of : Head → ℕ
-flags_of h = flag (is_ordered h.encoding) 1 + flag h.nullable 2 + flag (has_sorted_keys h.tag h.encoding) 4
+flags_of h = flag (is_ordered h.encoding) 1 + flag h.nullable 2 + flag (has_sorted_keys h.encoding h.tag) 4
 
 -- the format string of a field: of one that holds indices that of their type
 abbrev pub field_format : Head → List ℕ

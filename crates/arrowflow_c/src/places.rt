@@ -2,9 +2,9 @@
 
 ghost use Rattle.std.specs.Prelude.{◌≡◌, option_map};
 ghost use Rattle.arrow_types.specs.Notes.{pairs_view};
-ghost use Rattle.arrow_types.specs.View.{fields_view, notes_view};
+ghost use Rattle.arrow_types.specs.View.{fields_view, notes_view, type_view};
 ghost use Rattle.arrowflow_c.specs.Fields.{below_by, field_below, field_format, field_in, flags_of};
-ghost use Rattle.arrowflow_c.specs.Fields.{has_sorted_keys, nth_field};
+ghost use Rattle.arrowflow_c.specs.Fields.{has_sorted_keys, is_sorted_map, nth_field};
 ghost use Rattle.arrowflow_c.specs.Pens.{Puts};
 
 use crate::formats::put_type;
@@ -57,15 +57,17 @@ impl<'a> Place<'a> {
 
     /// Whether the slots are maps with sorted keys.
     fn has_sorted_keys(self) -> bool
-        ensures { let head = (field_in self.entry).shape.head
-            in result ≡ has_sorted_keys head.tag head.encoding }
+        ensures { result
+            ≡ has_sorted_keys (field_in self.entry).shape.head.encoding
+            (field_in self.entry).shape.head.tag }
     {
         match self {
             Place::Schema(_) => false,
-            Place::Field(field) if field.dictionary.is_some() => false,
-            Place::Field(field) | Place::Values(field) => {
-                matches!(field.data_type, DataType::Map(_, true))
-            }
+            Place::Field(field) => match field.dictionary {
+                Some(_) => false,
+                None => is_sorted_map(&field.data_type),
+            },
+            Place::Values(field) => is_sorted_map(&field.data_type),
         }
     }
 
@@ -154,5 +156,15 @@ pub(crate) fn place_below<'a>(place: Place<'a>, path: &[usize]) -> Option<Place<
             None => None,
         },
         None => Some(place),
+    }
+}
+
+/// Whether the type is that of maps with sorted keys.
+fn is_sorted_map(data_type: &DataType) -> bool
+    ensures { result ≡ is_sorted_map (type_view data_type.now).tag }
+{
+    match data_type {
+        DataType::Map(_, sorted) => *sorted,
+        _ => false,
     }
 }

@@ -282,7 +282,7 @@ fn copies_are_equal(rt: HostRuntime) {
     }
     let copy = schema.copy(rt.alloc()).expect(&rt, MEMORY);
     assert!(rt; copy == schema);
-    assert!(rt; has_ids(&copy, &[1], 5));
+    assert!(rt; has_ids(&copy, &[1], 6));
 }
 
 // Fields that each differ from `k@0:timestamp.UTC`, and whether their type is the same.
