@@ -1,6 +1,6 @@
 -- The words of types (Schema.fbs, union "Type"): the name in the text of a schema, which is this project's own, and the format
 -- string (Arrow C data interface, "Data type description -- format strings"). A row for each type, and for each unit of one.
-use Rattle.std.specs.Prelude.{ℕ, true, false, List, [], ◌++◌, Option, Some, None, codes}
+use Rattle.std.specs.Prelude.{ℕ, true, false, List, [], ◌++◌, Some, None, codes}
 use Rattle.std.specs.Fmt.{decimal}
 use Rattle.arrow_types.specs.DataType.{Tag, null, boolean, int, floating_point, binary, large_binary, fixed_size_binary, utf8, large_utf8, date, time, timestamp, duration, interval, list, large_list, map, struct}
 use Rattle.arrow_types.specs.declared.data_type.BitWidth.TheVariants.{Eight, Sixteen, ThirtyTwo, SixtyFour}

@@ -17,8 +17,9 @@ pub struct TypeWords {
     pub format: &'static str,
 }
 
-/// The words of a type without its children. After those of a FixedSizeBinary follow its width, and
-/// after those of a Timestamp its time zone if it has one; the name then ends with `]`.
+/// The words of a type without its children. The width of a FixedSizeBinary follows them, and so
+/// does the time zone of a Timestamp if it has one, in the name after `, `; these names end with
+/// `]`.
 pub fn words_of(data_type: &DataType) -> TypeWords
     ensures name { result.name.now ≡ (words_of (type_view data_type.now).tag).name }
     ensures format { result.format.now ≡ (words_of (type_view data_type.now).tag).format }
