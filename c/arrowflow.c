@@ -5,7 +5,6 @@
 #include <stdio.h>
 #include <stdlib.h>
 
-enum { NAME_ROOM = 64 };
 
 /* ---- NULL, which an empty vector's data may be ---- */
 
@@ -112,15 +111,8 @@ arrowflow_culprit arrowflow_fault_column(const uint8_t *bytes, size_t len, arrow
     return arrowflow_proved_fault_column(some(bytes), len, limits);
 }
 
-/* A column's name as a sentence has it, with "?" for control characters; of a long one the first bytes, without
- * a part of a character. Returns its length, or -1 if an allocation failed: the schema is a sound one. */
-static int name_of(const uint8_t *bytes, size_t len, arrowflow_limits limits, size_t column, char name[NAME_ROOM]) {
-    arrowflow_reader *reader;
-    arrowflow_reader_open(limits, &reader);
-    bool is_read = arrowflow_reader_read(reader, bytes, len).message == ARROWFLOW_MESSAGE_SCHEMA;
-    size_t size = arrowflow_reader_field(reader, &column, 1, (uint8_t *)name, NAME_ROOM).name_len;
-    arrowflow_reader_close(reader);
-    if (!is_read) return -1;
+size_t arrowflow_shown_name(const arrowflow_reader *reader, const size_t *path, size_t depth, char name[NAME_ROOM]) {
+    size_t size = arrowflow_reader_field(reader, path, depth, (uint8_t *)name, NAME_ROOM).name_len;
     if (size > NAME_ROOM) {
         size = NAME_ROOM;
         while (size > 0 && ((unsigned char)name[size - 1] & 0xc0) == 0x80) size--;
@@ -128,7 +120,17 @@ static int name_of(const uint8_t *bytes, size_t len, arrowflow_limits limits, si
     }
     for (size_t k = 0; k < size; k++)
         if ((unsigned char)name[k] < ' ' || name[k] == 127) name[k] = '?';
-    return (int)size;
+    return size;
+}
+
+/* A column's name as a sentence has it. Returns its length, or -1 if an allocation failed: the schema is a sound one. */
+static int name_of(const uint8_t *bytes, size_t len, arrowflow_limits limits, size_t column, char name[NAME_ROOM]) {
+    arrowflow_reader *reader;
+    arrowflow_reader_open(limits, &reader);
+    bool is_read = arrowflow_reader_read(reader, bytes, len).message == ARROWFLOW_MESSAGE_SCHEMA;
+    size_t size = arrowflow_shown_name(reader, &column, 1, name);
+    arrowflow_reader_close(reader);
+    return is_read ? (int)size : -1;
 }
 
 int arrowflow_column_text(const uint8_t *bytes, size_t len, arrowflow_limits limits, char *out, size_t room) {

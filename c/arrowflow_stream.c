@@ -16,7 +16,7 @@ _Static_assert(sizeof(size_t) >= 8, "counts of 64 bits are sizes here");
 #error "buffers are little-endian, and the interface asks for those of the machine"
 #endif
 
-enum { PIECE = 65536, ALIGNMENT = 64, ERROR_ROOM = 256, NAME_ROOM = 64, MOST_BUFFERS = 3, SPARES = 8, LARGE = 65536 };
+enum { PIECE = 65536, ALIGNMENT = 64, ERROR_ROOM = 256, MOST_BUFFERS = 3, SPARES = 8, LARGE = 65536 };
 
 /* ---- what the arrays and the schemas own ---- */
 
@@ -599,18 +599,10 @@ static struct kept *keep(struct source *it, int64_t id) {
     return it->kept + k;
 }
 
-/* Says that the values of a dictionary are too long, with the name of the field that the path leads to: its
- * front, without a part of a character, where it is long, and with other signs for control characters. */
+/* Says that the values of a dictionary are too long, with the name of the field that the path leads to. */
 static void tell_overflow(struct source *it, size_t depth, int64_t id) {
     char name[NAME_ROOM];
-    size_t len = arrowflow_reader_field(it->reader, it->path, depth, (uint8_t *)name, sizeof name).name_len;
-    if (len > sizeof name) {
-        len = sizeof name;
-        while (len > 0 && ((unsigned char)name[len - 1] & 0xc0) == 0x80) len--;
-        if (len > 0 && (unsigned char)name[len - 1] >= 0xc0) len--;
-    }
-    for (size_t k = 0; k < len; k++)
-        if ((unsigned char)name[k] < ' ' || name[k] == 127) name[k] = '?';
+    size_t len = arrowflow_shown_name(it->reader, it->path, depth, name);
     snprintf(it->error, sizeof it->error, "field \"%.*s\": the values of dictionary %lld are too long for offsets of 32 bits",
              (int)len, name, (long long)id);
 }

@@ -47,8 +47,17 @@ arrowflow_field arrowflow_proved_reader_field(arrowflow_handle *reader, const si
                                               uint8_t *out, size_t room);
 void arrowflow_proved_reader_close(arrowflow_handle *reader);
 
-/* The end of arrowflow_fault_text's sentence, ", in column 1, \"city\"", or nothing where no column is at fault;
- * -1 where memory is wanting to tell it. In arrowflow.c, and not proved. */
+/* In arrowflow.c, and not proved. */
+
+/* The bytes of a field's name in a sentence, at most. */
+enum { NAME_ROOM = 64 };
+
+/* The name of the field that a path leads to, with "?" for control characters; of a long one the first bytes,
+ * without a part of a character. Returns its length. */
+size_t arrowflow_shown_name(const arrowflow_reader *reader, const size_t *path, size_t depth, char name[NAME_ROOM]);
+
+/* The end of arrowflow_fault_text's sentence, ", in column 1, \"city\"", or nothing if no column is at fault;
+ * -1 if an allocation failed. */
 int arrowflow_column_text(const uint8_t *bytes, size_t len, arrowflow_limits limits, char *out, size_t room);
 
 #endif
