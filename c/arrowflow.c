@@ -5,7 +5,6 @@
 #include <stdio.h>
 #include <stdlib.h>
 
-
 /* ---- NULL, which an empty vector's data may be ---- */
 
 static const uint8_t *some(const uint8_t *bytes) {
