@@ -313,7 +313,8 @@ static void add_schema(const struct ArrowSchema *schema) {
 /* Bytes of a slot of these formats, which the core of the types has. */
 static size_t width_of(const char *format) {
     if (strncmp(format, "w:", 2) == 0) return strtoul(format + 2, NULL, 10);
-    if (strcmp(format, "tdD") == 0 || strcmp(format, "tts") == 0 || strcmp(format, "ttm") == 0) return 4;
+    if (strcmp(format, "tdD") == 0 || strcmp(format, "tts") == 0 || strcmp(format, "ttm") == 0 || strcmp(format, "tiM") == 0) return 4;
+    if (strcmp(format, "tin") == 0) return 16;
     return strchr("cC", *format) ? 1 : strchr("sS", *format) ? 2 : strchr("iI", *format) ? 4 : 8;
 }
 
