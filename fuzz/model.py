@@ -1,5 +1,5 @@
 """What `arrowflow schema` has to print of an input, by a model of its own: written from docs/FORMAT.md, in another
-language, with no code and no definition of the crates; what a type is stands in examples/type_table.py. It reads a whole list of
+language, with no code and no definition of the crates; what a type is comes from examples/type_table.py. It reads a whole list of
 bytes at once and keeps no state.
 
 `answer(bytes)` gives standard output, standard error and the exit status; `first_schema(bytes)` gives what stands behind
