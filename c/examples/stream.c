@@ -95,7 +95,8 @@ static void check_metadata(const char *at) {
 
 static void check_schema(const struct ArrowSchema *schema) {
     WANT(schema->release != NULL && schema->format != NULL && schema->name != NULL);
-    WANT((schema->flags & ~(int64_t)(ARROW_FLAG_DICTIONARY_ORDERED | ARROW_FLAG_NULLABLE)) == 0);
+    int64_t of_maps = is_format(schema, "+m") ? ARROW_FLAG_MAP_KEYS_SORTED : 0;
+    WANT((schema->flags & ~(ARROW_FLAG_DICTIONARY_ORDERED | ARROW_FLAG_NULLABLE | of_maps)) == 0);
     WANT(is_format(schema, "+s") || schema->n_children == (is_list(schema) ? 1 : 0));
     if (schema->metadata != NULL) check_metadata(schema->metadata);
     for (int64_t k = 0; k < schema->n_children; k++) check_schema(schema->children[k]);
